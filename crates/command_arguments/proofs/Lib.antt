@@ -1,6 +1,10 @@
 pub mod AppLemmas
+pub mod CommandNames
+pub mod CommandShapes
 pub mod LawfulArguments
 pub mod TableEnds
+pub mod TableFlags
 pub mod TableRows
+pub mod TableSpots
 pub mod TableTurns
 pub mod WordLemmas

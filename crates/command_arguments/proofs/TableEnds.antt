@@ -13,12 +13,16 @@ use Rattle.clap.specs.Faults.{check_fault, defaults_fault, settle_fault, walk_fa
 use Rattle.clap.specs.Kinds.{Kinds, or_else}
 use Rattle.clap.specs.Takes.{is_given}
 use Rattle.clap.specs.Walk.{Held, Row, Text, Walk, finished, first_of, one_of, row_text, settled, walked, with_default}
-use Rattle.command_arguments.specs.Arguments.{Words, are_flags, are_words, flags_in, is_among, is_flag, no_word, one_or_none}
-use Rattle.command_arguments.specs.Arguments.{one_word, plain_in, spelled}
+use Rattle.command_arguments.specs.ArgumentWords.{Words, are_flags, are_words, flags_in, is_among}
+use Rattle.command_arguments.specs.ArgumentWords.{is_flag, no_word, one_or_none, one_word, plain_in}
+use Rattle.command_arguments.specs.ArgumentWords.{spelled}
 use Rattle.command_arguments.proofs.TableRows.{all_defaulted, at_default, at_flag, default_row, defaulted, firm, flag_row, lacks, lacks_word}
 use Rattle.command_arguments.proofs.TableRows.{no_default_fault, row_at, rules_of, word_row}
-use Rattle.command_arguments.proofs.TableTurns.{AreNames, Fits, Spot, before, behind, given_at, given_more, held_at, open_turn, settled_at}
-use Rattle.command_arguments.proofs.TableTurns.{among_spelled, or_none, settled_is, shape, trailing_turn, waits, walk_at, with_flag, words_at}
+use Rattle.command_arguments.proofs.TableFlags.{AreNames, given_more, or_none}
+use Rattle.command_arguments.proofs.TableSpots.{Fits, Spot, before, behind, given_at, held_at}
+use Rattle.command_arguments.proofs.TableSpots.{settled_at, among_spelled, settled_is, shape, waits}
+use Rattle.command_arguments.proofs.TableSpots.{walk_at, with_flag, words_at}
+use Rattle.command_arguments.proofs.TableTurns.{open_turn, trailing_turn}
 use Rattle.command_arguments.proofs.WordLemmas.{both_false, neither, never}
 
 abbrev end_fault : List Text → Words → Text → Held → Kinds

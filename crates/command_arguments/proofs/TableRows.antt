@@ -20,7 +20,8 @@ use Rattle.clap.specs.Simple.{filled, filled_from, help_rule, with_index}
 use Rattle.clap.specs.Takes.{is_given}
 use Rattle.clap.specs.Walk.{Row, Rule, Text, arg_by_id, arg_by_index, arg_by_long, arg_by_short, at_row}
 use Rattle.clap.specs.Walk.{has_row, more_values, with_default, with_values, without}
-use Rattle.command_arguments.specs.Arguments.{Words, flag_rule, is_among, no_word, one_or_none, one_word, argument_rule, argument_rules}
+use Rattle.command_arguments.specs.ArgumentWords.{Words, is_among, no_word, one_or_none, one_word}
+use Rattle.command_arguments.specs.Arguments.{flag_rule, argument_rule, argument_rules}
 use Rattle.command_arguments.proofs.WordLemmas.{both_false}
 
 -- ---- the rules of a command that is built

@@ -13,7 +13,7 @@ use Rattle.clap.specs.Kinds.{Kinds, or_else}
 use Rattle.clap.specs.Lexer.{has_byte, long_of, long_of_rest, name_and_value, short_of, short_of_rest}
 use Rattle.clap.specs.Lexer.{strip_byte}
 use Rattle.clap.specs.Walk.{Text}
-use Rattle.command_arguments.specs.Arguments.{is_dashes, is_flag, spelled}
+use Rattle.command_arguments.specs.ArgumentWords.{is_dashes, is_flag, spelled}
 
 -- ---- lists of kinds, and tests
 

@@ -1,1 +1,2 @@
+pub mod ArgumentWords
 pub mod Arguments

@@ -24,7 +24,7 @@ use Rattle.recorded_days.specs.declared.actions.Kind.{Kind}
 use Rattle.recorded_days.specs.declared.actions.Kind.TheVariants as kind
 use Rattle.recorded_days.specs.declared.actions.Action.{Action}
 use Rattle.day_weaving.specs.declared.weave_plan.Slot.{Slot}
-use Rattle.day_weaving.proofs.DayFormLemmas.{numbered_at}
+use Rattle.day_weaving.proofs.NumberedLemmas.{numbered_at}
 
 -- Counts.
 

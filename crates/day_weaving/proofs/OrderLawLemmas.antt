@@ -1,22 +1,18 @@
--- An order that is kept has each action of its day once, behind all that are directly before it.
+-- An order that is kept has each action of its day behind all that are directly before it.
 use Rattle.std.proofs.Common.{◌≡◌, ◌<◌, ◌≤◌, ℕ, zero, suc, ◌+◌, ◌-◌, ◌==◌, Bool, true, false, ◌&&◌}
-use Rattle.std.proofs.Common.{nat_lt, ◌||◌, not, List, [], ◌∷◌, take, length, count_by, slice_get, Option, Some}
-use Rattle.std.proofs.Common.{is_some, arith, cond, refl, sym, ap, subst, ◌∙◌, eq-eqb}
-use Rattle.std.specs.List.{list_any}
+use Rattle.std.proofs.Common.{nat_lt, not, List, take, length, count_by, slice_get, Option, Some}
+use Rattle.std.proofs.Common.{is_some, arith, refl, sym, ap, subst, ◌∙◌, eq-eqb}
 use Rattle.std.specs.Option.{option_map_or}
 use Rattle.std.proofs.lemmas.Bool.Decides.{nat_tests}
-use Rattle.std.proofs.lemmas.List.Sums.{sum_by-cons}
 use Rattle.std.proofs.lemmas.Option.{slice_get_within}
 use Rattle.quote_word.specs.declared.settled.Settled.{Settled}
-use Rattle.step_replay.specs.AuditTrail.{is_same_actor}
-use Rattle.venue_places.specs.declared.actors.Actor.{Actor}
 use Rattle.venue_rows.specs.Rows.{Configuration}
 use Rattle.day_weaving.specs.DayForm.{AreNamedOnce, IsWellFormed}
 use Rattle.day_weaving.specs.DayOrder.{ByActor, BySite, ByWord, IsBehind, IsCircle}
 use Rattle.day_weaving.specs.DayOrder.{IsDirectlyBefore, IsFirst, IsNextAtSite, KeepsOrder}
-use Rattle.day_weaving.specs.DayOrder.{OfOneWord, StandsAt, grants, is_as_wished}
-use Rattle.day_weaving.specs.DayOrder.{is_by, is_granted, is_refused, refuses}
-use Rattle.day_weaving.specs.OrderLaws.{ComesBefore, StandsIn, StandsOnce}
+use Rattle.day_weaving.specs.DayOrder.{OfOneWord, StandsAt, grants, is_as_wished, is_by, is_granted}
+use Rattle.day_weaving.specs.DayOrder.{is_refused, refuses}
+use Rattle.day_weaving.specs.OrderLaws.{ComesBefore, StandsIn}
 use Rattle.recorded_days.specs.Records.{ActionRef, RecordedDay, action_in}
 use Rattle.recorded_days.specs.declared.actions.Action.{Action}
 use Rattle.day_weaving.specs.declared.sites.Site.{Site}
@@ -24,196 +20,10 @@ use Rattle.day_weaving.specs.Weaving.{FaultIsTrue, IsDifferentOrMemory}
 use Rattle.day_weaving.specs.declared.weave_plan.Slot.{Slot}
 use Rattle.day_weaving.specs.declared.weaving.WeaveFault.{WeaveFault}
 use Rattle.day_weaving.specs.declared.weaving.WeaveFault.TheVariants as fault
-use Rattle.day_weaving.proofs.DayFormLemmas.{action_within, never_both}
-use Rattle.day_weaving.proofs.MessageLemmas.{one_actor, same_self, taken_one}
-
--- Lists.
-
-counted : {A : Type 0} (p : A → Bool) (x : A) (xs : List A)
-    → count_by p (x ∷ xs) ≡ cond (p x) 1 0 + count_by p xs
-counted p x xs = sum_by-cons (λ (y : _). cond (p y) 1 0) x xs
-
--- more items count no less
-pub mono : {A : Type 0} (p : A → Bool) (xs : List A) (n m : ℕ) → n ≤ m
-    → count_by p (take n xs) ≤ count_by p (take m xs)
-mono p xs zero m le = omega arith
-mono p [] (suc n) m le = omega arith
-mono p (x ∷ xs) (suc n) zero le = absurd (omega arith)
-mono p (x ∷ xs) (suc n) (suc m) le =
-    let rest : n ≤ m = omega arith in
-    let less : count_by p (take n xs) ≤ count_by p (take m xs) = mono p xs n m rest in
-    omega (arith, counted p x (take n xs), counted p x (take m xs), less)
-
--- the place of an item that passes, by how many pass before it
-pub record Nth {A : Type 0} (p : A → Bool) (xs : List A) (j : ℕ) : Type 0 where
-  pub place : ℕ
-  pub item : A
-  pub there : slice_get xs place ≡ Some item
-  pub passes : p item ≡ true
-  pub before : count_by p (take place xs) ≡ j
-
-pub nth : {A : Type 0} (p : A → Bool) (xs : List A) (j : ℕ) → j < count_by p xs → Nth p xs j
-nth p [] j below = absurd (omega arith)
-nth p (x ∷ xs) j below =
-    by_test (λ (i : ℕ) (under : i < count_by p xs). nth p xs i under) (p x) refl j below
-  where
-    by_test : ((i : ℕ) → i < count_by p xs → Nth p xs i) → (b : Bool) → p x ≡ b → (i : ℕ)
-        → i < count_by p (x ∷ xs) → Nth p (x ∷ xs) i
-    by_test later true passes zero under = record {
-      place = 0;
-      item = x;
-      there = refl;
-      passes = passes;
-      before = refl;
-    }
-    by_test later true passes (suc i) under =
-        let one : count_by p (x ∷ xs) ≡ 1 + count_by p xs =
-        counted p x xs ∙ ap (λ (b : Bool). cond b 1 0 + count_by p xs) passes in
-        let rest : i < count_by p xs = omega arith in
-        let found = later i rest in
-        let front : count_by p (x ∷ take found.place xs) ≡ 1 + count_by p (take found.place xs) =
-        counted p x (take found.place xs)
-        ∙ ap (λ (b : Bool). cond b 1 0 + count_by p (take found.place xs)) passes in
-        record {
-          place = suc found.place;
-          item = found.item;
-          there = found.there;
-          passes = found.passes;
-          before = omega (arith, front, found.before);
-        }
-    by_test later false fails i under =
-        let none : count_by p (x ∷ xs) ≡ 0 + count_by p xs =
-        counted p x xs ∙ ap (λ (b : Bool). cond b 1 0 + count_by p xs) fails in
-        let rest : i < count_by p xs = omega arith in
-        let found = later i rest in
-        let front : count_by p (x ∷ take found.place xs) ≡ 0 + count_by p (take found.place xs) =
-        counted p x (take found.place xs)
-        ∙ ap (λ (b : Bool). cond b 1 0 + count_by p (take found.place xs)) fails in
-        record {
-          place = suc found.place;
-          item = found.item;
-          there = found.there;
-          passes = found.passes;
-          before = omega (arith, front, found.before);
-        }
-
--- where none of some items passes, an item of them does not
-none_passes : {A : Type 0} (p : A → Bool) (xs : List A) (n place : ℕ) (x : A)
-    → slice_get xs place ≡ Some x → place < n → list_any p (take n xs) ≡ false → p x ≡ false
-none_passes p [] n place x there below none = cc
-none_passes p (y ∷ ys) zero place x there below none = absurd (omega arith)
-none_passes p (y ∷ ys) (suc n) zero x there below none =
-    let same : y ≡ x = cc in
-    ap p (sym same) ∙ first (p y) (list_any p (take n ys)) none
-  where
-    first : (a b : Bool) → (a || b) ≡ false → a ≡ false
-    first true b both = both
-    first false b both = refl
-none_passes p (y ∷ ys) (suc n) (suc place) x there below none =
-    let rest : place < n = omega arith in
-    none_passes p ys n place x there rest (second (p y) (list_any p (take n ys)) none)
-  where
-    second : (a b : Bool) → (a || b) ≡ false → b ≡ false
-    second true b both = absurd cc
-    second false b both = both
-
--- Actors.
-
-module _ (day : RecordedDay) (slots : List Slot) (keeps : KeepsOrder day slots) where
-  -- how many actions of an actor stand before a place
-  abbrev before : Actor → ℕ → ℕ
-  before by place = count_by (is_by by) (take place slots)
-
-  number_at : (action : ActionRef) (place : ℕ) → StandsIn slots action place
-      → action.1 ≡ before action.0 place + 1
-  number_at action place stands =
-      let turn = (keeps.turns place stands.slot stands.there).of_actor in
-      subst (λ (one : ActionRef). one.1 ≡ before one.0 place + 1) stands.is_it turn
-
-  -- it counts for those behind it
-  counts_at : (action : ActionRef) (place later : ℕ) → StandsIn slots action place → place < later
-      → action.1 ≤ before action.0 later
-  counts_at action place later stands below =
-      let mine : is_by action.0 stands.slot ≡ true =
-      ap (λ (one : ActionRef). is_same_actor one.0 action.0) stands.is_it ∙ same_self action.0 in
-      let one_more : before action.0 (place + 1) ≡ before action.0 place + 1 =
-      taken_one (is_by action.0) slots place stands.slot true stands.there mine in
-      let within : place + 1 ≤ later = omega arith in
-      let grows : before action.0 (place + 1) ≤ before action.0 later =
-      mono (is_by action.0) slots (place + 1) later within in
-      let number : action.1 ≡ before action.0 place + 1 = number_at action place stands in
-      omega arith
-
-  -- the earlier of an actor comes before the later
-  pub by_numbers : (one other : ActionRef) → one.0 ≡ other.0 → one.1 < other.1
-      → ComesBefore slots one other
-  by_numbers one other same earlier place later stands stands_too =
-      by_test (nat_lt place later) refl
-    where
-      by_test : (b : Bool) → nat_lt place later ≡ b → place < later
-      by_test true test = grind (arith, nat_tests)
-      by_test false test =
-          let behind : later ≤ place = grind (arith, nat_tests) in
-          let grows : before other.0 later ≤ before other.0 place =
-          mono (is_by other.0) slots later place behind in
-          let first : one.1 ≡ before other.0 place + 1 =
-          number_at one place stands
-          ∙ ap (λ (by : Actor). before by place + 1) same in
-          let second : other.1 ≡ before other.0 later + 1 = number_at other later stands_too in
-          absurd (omega arith)
-
-  pub stands_once : (action : ActionRef) → is_some (action_in day action) ≡ true
-      → StandsOnce slots action
-  stands_once action is =
-      let among = action_within day action.0 action.1 is in
-      let whole : count_by (is_by action.0) slots ≡ length among.0 =
-      keeps.whole action.0 among.0 among.1 in
-      let below : action.1 - 1 < count_by (is_by action.0) slots =
-      omega (arith, among.2, among.3, whole) in
-      let found = nth (is_by action.0) slots (action.1 - 1) below in
-      let by_it : found.item.action.0 ≡ action.0 =
-      one_actor found.item.action.0 action.0 found.passes in
-      let turn : found.item.action.1 ≡ before found.item.action.0 found.place + 1 =
-      (keeps.turns found.place found.item found.there).of_actor in
-      let counted_by : before found.item.action.0 found.place ≡ action.1 - 1 =
-      ap (λ (by : Actor). before by found.place) by_it ∙ found.before in
-      let least : 0 < action.1 = among.2 in
-      let number : found.item.action.1 ≡ action.1 = omega arith in
-      let here : StandsIn slots action found.place = record {
-        slot = found.item;
-        there = found.there;
-        is_it = ap (λ (by : Actor). (by, found.item.action.1)) by_it
-            ∙ ap (λ (n : ℕ). (action.0, n)) number;
-      } in
-      record {
-        place = found.place;
-        stands = here;
-        nowhere_else = λ other stands. one_place other found.place stands here;
-      }
-    where
-      one_place : (one other : ℕ) → StandsIn slots action one → StandsIn slots action other
-          → one ≡ other
-      one_place one other stands stands_too =
-          by_test (nat_lt one other) (nat_lt other one) refl refl
-        where
-          number : action.1 ≡ before action.0 one + 1
-          number = number_at action one stands
-
-          number_too : action.1 ≡ before action.0 other + 1
-          number_too = number_at action other stands_too
-
-          by_test : (a b : Bool) → nat_lt one other ≡ a → nat_lt other one ≡ b → one ≡ other
-          by_test true b test test_too =
-              let below : one < other = grind (arith, nat_tests) in
-              let most : action.1 ≤ before action.0 other =
-              counts_at action one other stands below in
-              absurd (omega (arith, number_too, most))
-          by_test false true test test_too =
-              let below : other < one = grind (arith, nat_tests) in
-              let most : action.1 ≤ before action.0 one =
-              counts_at action other one stands_too below in
-              absurd (omega (arith, number, most))
-          by_test false false test test_too = grind (arith, nat_tests)
+use Rattle.day_weaving.proofs.DayFormLemmas.{never_both}
+use Rattle.day_weaving.proofs.MessageLemmas.{one_actor}
+use Rattle.day_weaving.proofs.NthLemmas.{mono, none_passes}
+use Rattle.day_weaving.proofs.ActorOrderLemmas.{number_at, by_numbers, stands_once}
 
 -- Desks and rooms.
 

@@ -1,11 +1,10 @@
 -- What is noted of the places where actions stand.
-use Rattle.std.proofs.Common.{length}
+use Rattle.std.proofs.Common.{length, ◌≡◌, ◌<◌, ◌≤◌, ℕ, ◌+◌, ◌-◌, ◌==◌, nat_lt, Bool, true, false}
+use Rattle.std.proofs.Common.{◌⊎◌, inl, inr, Option, Some, None, is_some, arith, refl, sym, ap}
+use Rattle.std.proofs.Common.{subst, ◌∙◌, eq-eqb}
 use Rattle.std.specs.HashMap.{get}
 use borrow.Author.Count.{below_more}
 use Rattle.std.proofs.lemmas.Option.{slice_get_within}
-use Rattle.std.proofs.Common.{◌≡◌, ◌<◌, ◌≤◌, ℕ, ◌+◌, ◌-◌, ◌==◌, nat_lt, Bool, true, false}
-use Rattle.std.proofs.Common.{◌⊎◌, inl, inr}
-use Rattle.std.proofs.Common.{Option, Some, None, is_some, arith, refl, sym, ap, subst, ◌∙◌, eq-eqb}
 use Rattle.std.specs.Prelude.{option_and_then, slice_get, List}
 use Rattle.std.specs.Option.{option_map}
 use Rattle.std.proofs.lemmas.Bool.Decides.{nat_tests}
@@ -14,8 +13,8 @@ use Rattle.venue_rows.specs.declared.investor_rows.InvestorRow.{InvestorRow}
 use Rattle.step_replay.specs.StepFaults.{firms_of}
 use Rattle.venue_places.specs.declared.actors.Actor.{Actor}
 use Rattle.venue_places.specs.declared.actors.Actor.TheVariants as actor
-use Rattle.day_weaving.specs.DayForm.{AreMisnamed, AreNamedOnce, HasFirmsOf, IsNamed}
-use Rattle.day_weaving.specs.DayForm.{NamedNowhere, NamedTwice}
+use Rattle.day_weaving.specs.DayForm.{AreMisnamed, AreNamedOnce, HasFirmsOf, IsNamed, NamedNowhere}
+use Rattle.day_weaving.specs.DayForm.{NamedTwice}
 use Rattle.day_weaving.specs.DayOrder.{StandsAt, order_at}
 use Rattle.day_weaving.specs.OrderCounts.{key_of}
 use Rattle.day_weaving.specs.OrderPlaces.{AreNoted, AreNotedBy, AreNotedOf, AreTrue, Grow}
@@ -25,7 +24,9 @@ use Rattle.recorded_days.specs.Records.{actions_of, room_in}
 use Rattle.recorded_days.specs.declared.actions.Action.{Action}
 use Rattle.day_weaving.specs.declared.sites.Site.{Site}
 use Rattle.day_weaving.specs.declared.sites.Site.TheVariants as site
-use Rattle.day_weaving.proofs.DayFormLemmas.{action_within, firm_beyond, room_of_firm, some_is}
+use Rattle.day_weaving.proofs.DayFormLemmas.{action_within}
+use Rattle.day_weaving.proofs.NumberedLemmas.{some_is}
+use Rattle.day_weaving.proofs.RecordRoomLemmas.{firm_beyond, room_of_firm}
 
 -- Keys.
 

@@ -21,7 +21,8 @@ use Rattle.recorded_days.specs.declared.actions.Action.{Action}
 use Rattle.day_weaving.specs.declared.sites.Site.{Site}
 use Rattle.day_weaving.specs.declared.weave_plan.Slot.{Slot}
 use Rattle.day_weaving.specs.declared.weave_table.Table.{Table}
-use Rattle.day_weaving.proofs.DayFormLemmas.{action_there, action_within, within_some}
+use Rattle.day_weaving.proofs.DayFormLemmas.{action_there, action_within}
+use Rattle.day_weaving.proofs.NumberedLemmas.{within_some}
 use Rattle.day_weaving.proofs.MessageLemmas.{same_self}
 
 -- Tests.

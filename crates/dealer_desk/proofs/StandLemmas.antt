@@ -28,7 +28,7 @@ use Rattle.dealer_desk.proofs.BookLemmas.{came_book, dropped_book, shown_book, q
 use Rattle.dealer_desk.proofs.BookLemmas.{withdrawn_book, late_book, declined_book, told_book}
 use Rattle.dealer_desk.proofs.SoundLemmas.{sound_empty, sound_mapped, sound_requests, sound_shown}
 use Rattle.dealer_desk.proofs.SoundLemmas.{sound_quoted}
-use Rattle.dealer_desk.proofs.TableLemmas.{ended_keeps, ended_lives, late_keeps, late_lives}
+use Rattle.dealer_desk.proofs.QuoteChanges.{ended_keeps, ended_lives, late_keeps, late_lives}
 use Rattle.dealer_desk.proofs.TableReads.{declined_keeps, told_keeps}
 use Rattle.dealer_desk.proofs.TableGrowth.{replaced_none, sum_beside}
 use Rattle.dealer_desk.proofs.IndexLemmas.{closed_keeps}

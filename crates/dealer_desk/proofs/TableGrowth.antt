@@ -1,8 +1,8 @@
--- What a table keeps when a request is closed, and when a request or a quote more comes.
-use Rattle.std.proofs.Common.{◌≡◌, ◌<◌, ◌≤◌, ℕ, zero, suc, ◌+◌, ◌-◌, Bool, true, false, ◌&&◌, ◌||◌}
-use Rattle.std.proofs.Common.{◌==◌, cond, not, List, [], ◌∷◌, ◌++◌, length, map, set, find, Option}
-use Rattle.std.proofs.Common.{Some, None, is_none, option_map, slice_get, get_or, inl, inr, refl}
-use Rattle.std.proofs.Common.{sym, ap, subst, ◌∙◌, arith}
+-- What a table keeps when a request or a quote more comes, and when another quote replaces one.
+use Rattle.std.proofs.Common.{◌≡◌, ◌<◌, ◌≤◌, ℕ, zero, suc, ◌+◌, ◌-◌, Bool, true, false, ◌||◌, ◌==◌}
+use Rattle.std.proofs.Common.{cond, List, [], ◌∷◌, ◌++◌, length, map, set, find, Option, Some, None}
+use Rattle.std.proofs.Common.{option_map, slice_get, get_or, inl, inr, refl, sym, ap, subst, ◌∙◌}
+use Rattle.std.proofs.Common.{arith}
 use Rattle.std.specs.List.{list_any, sum_by, position_or_len}
 use Rattle.std.specs.Option.{option_or}
 use Rattle.std.proofs.Math.Dec.{eqb}
@@ -12,14 +12,13 @@ use Rattle.std.proofs.lemmas.Option.{none-some, same_Some}
 use Rattle.std.proofs.lemmas.List.{map-append, length-map, length-append}
 use Rattle.std.proofs.lemmas.List.Sums.{sum_by-cons, sum_by_push}
 use Rattle.std.proofs.lemmas.List.Folds.{list_any-append, find-append, position_or_len_push}
-use Rattle.venue_rows.specs.declared.dealer_rows.TheConstants.DealerRow.{MOST_QUOTES}
-use Rattle.venue_rows.specs.declared.dealer_rows.TheConstants.DealerRow.{MOST_EXPOSURE}
+use Rattle.venue_rows.specs.declared.dealer_rows.TheConstants.DealerRow.{MOST_QUOTES, MOST_EXPOSURE}
 use Rattle.market_terms.specs.declared.lines.QuoteLine.{QuoteLine}
 use Rattle.dealer_desk.specs.DealerFacts.{standing_request, standing_quote, is_live, is_live_on}
 use Rattle.dealer_desk.specs.DealerFacts.{is_lifted_on, is_droppable, live_quantity}
 use Rattle.dealer_desk.specs.DealerFacts.{quantity_beside}
 use Rattle.dealer_desk.specs.QuoteLines.{line_of}
-use Rattle.dealer_desk.specs.BookChanges.{IsSound, IsLiveNumber, ended_at, closed_on}
+use Rattle.dealer_desk.specs.BookChanges.{IsSound, ended_at}
 use Rattle.dealer_desk.specs.DealerTable.{IsTable, IsRow, live_number_among}
 use Rattle.dealer_desk.specs.declared.accepted.AcceptedQuote.{AcceptedQuote}
 use Rattle.dealer_desk.specs.declared.standing.StandingRequest.{StandingRequest}
@@ -27,102 +26,16 @@ use Rattle.dealer_desk.specs.declared.standing.StandingQuote.{StandingQuote}
 use Rattle.dealer_desk.specs.declared.standing.QuoteEnd.{QuoteEnd}
 use Rattle.dealer_desk.specs.declared.standing.QuoteEnd.TheVariants as end
 use Rattle.market_terms.specs.declared.asks.Ask.{Ask}
-use Rattle.market_terms.specs.declared.closes.Close.{Close}
 use Rattle.market_terms.specs.declared.closes.Close.TheVariants as closes
 use Rattle.dealer_desk.specs.declared.table.RequestRow.{RequestRow}
-use Rattle.dealer_desk.proofs.ListLemmas.{set_at, set_map, pushed_at, any_none, all_fixed}
-use Rattle.dealer_desk.proofs.ListLemmas.{find_stands, fails_where_none, mapped_at, find_none}
-use Rattle.dealer_desk.proofs.ListLemmas.{lone_others, ruled_out}
+use Rattle.dealer_desk.proofs.ListLemmas.{set_at, set_map, pushed_at, any_none, find_stands}
+use Rattle.dealer_desk.proofs.ListLemmas.{mapped_at, find_none, lone_others, ruled_out}
 use Rattle.dealer_desk.proofs.SoundLemmas.{sound_shown, sound_quoted, none_live}
-use Rattle.dealer_desk.proofs.TableLemmas.{and_false, chosen, chosen_first, ended_own, left_false}
-use Rattle.dealer_desk.proofs.TableLemmas.{nothing, or_some, other_number, quantity_live}
-use Rattle.dealer_desk.proofs.TableLemmas.{requests_kept, sum_changed}
+use Rattle.dealer_desk.proofs.QuoteChanges.{and_false, chosen, ended_own, left_false, or_some}
+use Rattle.dealer_desk.proofs.QuoteChanges.{other_number}
+use Rattle.dealer_desk.proofs.TableLemmas.{quantity_live, requests_kept, sum_changed}
 use Rattle.dealer_desk.proofs.TableReads.{read_at}
-
--- The closing of a request.
-
--- what ended already stays
-stays : (was how : Option QuoteEnd) → is_none was ≡ false → option_or was how ≡ was
-stays None how live = cc
-stays (Some by) how live = refl
-
-absurd_test : (c : Bool) → c ≡ true → c ≡ false → true ≡ false
-absurd_test c e h = sym e ∙ h
-
-not_left : (b c : Bool) → c ≡ true → (b && c) ≡ false → b ≡ false
-not_left true c e h = absurd_test c e h
-not_left false c e h = refl
-
-closed_fixed : (b : Bool) (close : Close) (own : StandingQuote) → (b ≡ true → is_live own ≡ false) → cond b (record own { end = option_or own.end (Some (end.Closed close)) }) own ≡ own
-closed_fixed true close own dead = ap (λ (e : Option QuoteEnd). record own { end = e }) (stays own.end (Some (end.Closed close)) (dead refl))
-closed_fixed false close own dead = refl
-
--- a quote that is not live on a request sees nothing of its closing
-pub closed_others : (number : ℕ) (close : Close) (own : StandingQuote) → is_live_on number own ≡ false → closed_on number close own ≡ own
-closed_others number close own apart = closed_fixed (number == own.quote.request) close own (λ so.
-    let same : number ≡ own.quote.request = eqb-true number own.quote.request so in
-    not_left (is_live own) (own.quote.request == number) (eq-eqb own.quote.request number (sym same)) apart)
-
-pub closed_own : (number : ℕ) (close : Close) (own : StandingQuote) → own.quote.request ≡ number → is_live own ≡ true → closed_on number close own ≡ record own { end = Some (end.Closed close) }
-closed_own number close own same live =
-    chosen_first (number == own.quote.request) (record own { end = option_or own.end (Some (end.Closed close)) }) own (eq-eqb number own.quote.request (sym same))
-    ∙ ap (λ (e : Option QuoteEnd). record own { end = option_or e (Some (end.Closed close)) }) (nothing own.end live)
-
--- where no quote on it is live
-pub closed_none : (quotes : List StandingQuote) (number : ℕ) (close : Close) → live_number_among quotes number ≡ None → quotes ≡ map (closed_on number close) quotes
-closed_none quotes number close none = sym (all_fixed (closed_on number close) quotes (λ k y at.
-    closed_others number close y (fails_where_none (is_live_on number) quotes (none_live quotes number none) k y at)))
-
-first_holds : (b c : Bool) → (b && c) ≡ true → b ≡ true
-first_holds true c h = refl
-first_holds false c h = h
-
-second_holds : (b c : Bool) → (b && c) ≡ true → c ≡ true
-second_holds true c h = h
-second_holds false c h = cc
-
--- the live quote on a request, found
-live_found : (requests : List StandingRequest) (quotes : List StandingQuote) (request number : ℕ) → IsSound requests quotes → (found : Option StandingQuote) → find (is_live_on request) quotes ≡ found
-    → option_map (λ (q : StandingQuote). q.quote.number) found ≡ Some number → IsLiveNumber quotes number
-live_found requests quotes request number sound None at is = absurd (none-some number is)
-live_found requests quotes request number sound (Some own) at is =
-    let stands = find_stands (is_live_on request) quotes own at in
-    record {
-      own = own;
-      place = stands.0;
-      number_is = sym (same_Some own.quote.number number is) ∙ sound.quotes_numbered stands.0 own stands.1;
-      stands = stands.1;
-      live = first_holds (is_live own) (own.quote.request == request) stands.2;
-    }
-
-closed_found : (requests : List StandingRequest) (quotes : List StandingQuote) (request number : ℕ) (close : Close) → IsSound requests quotes → (found : Option StandingQuote) → find (is_live_on request) quotes ≡ found
-    → option_map (λ (q : StandingQuote). q.quote.number) found ≡ Some number → map (ended_at number (end.Closed close)) quotes ≡ map (closed_on request close) quotes
-closed_found requests quotes request number close sound None at is = absurd (none-some number is)
-closed_found requests quotes request number close sound (Some own) at is =
-    let stands = find_stands (is_live_on request) quotes own at in
-    let live = first_holds (is_live own) (own.quote.request == request) stands.2 in
-    let on_it : own.quote.request ≡ request = eqb-true own.quote.request request (second_holds (is_live own) (own.quote.request == request) stands.2) in
-    let number_is : number ≡ own.quote.number = sym (same_Some own.quote.number number is) in
-    let place_is : number ≡ stands.0 + 1 = number_is ∙ sound.quotes_numbered stands.0 own stands.1 in
-    sym (ap (set quotes stands.0) (sym (ended_own number (end.Closed close) own number_is live))
-    ∙ set_map (ended_at number (end.Closed close)) quotes stands.0 own stands.1
-    (λ k y there other. chosen (number == y.quote.number) (record y { end = option_or y.end (Some (end.Closed close)) }) y (other_number requests quotes number stands.0 k y sound place_is there other)))
-    ∙ (ap (set quotes stands.0) (sym (closed_own request close own on_it live))
-    ∙ set_map (closed_on request close) quotes stands.0 own stands.1
-    (λ k y there other. closed_others request close y (lone_others (is_live_on request) quotes stands.0 own (sound.lone request) stands.1 stands.2 k y there other)))
-
--- where one is
-pub live_stands : (requests : List StandingRequest) (quotes : List StandingQuote) (request number : ℕ) → IsSound requests quotes → live_number_among quotes request ≡ Some number → IsLiveNumber quotes number
-live_stands requests quotes request number sound is = live_found requests quotes request number sound (find (is_live_on request) quotes) refl is
-
-pub closed_live : (requests : List StandingRequest) (quotes : List StandingQuote) (request number : ℕ) (close : Close) → IsSound requests quotes → live_number_among quotes request ≡ Some number
-    → map (ended_at number (end.Closed close)) quotes ≡ map (closed_on request close) quotes
-closed_live requests quotes request number close sound is = closed_found requests quotes request number close sound (find (is_live_on request) quotes) refl is
-
--- a quote that is known to be lifted is not droppable
-pub lifted_stays : (live : Bool) → (live && not true) ≡ false
-lifted_stays true = refl
-lifted_stays false = refl
+use Rattle.dealer_desk.proofs.TableClosing.{first_holds}
 
 -- a row that is read by the number of its request
 pub row_read : (rows : List RequestRow) (quotes : List StandingQuote) (lines : List QuoteLine) (exposure first number : ℕ) (row : RequestRow)

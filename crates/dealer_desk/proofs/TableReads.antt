@@ -22,8 +22,9 @@ use Rattle.dealer_desk.specs.declared.standing.QuoteEnd.{QuoteEnd}
 use Rattle.dealer_desk.specs.declared.table.RequestRow.{RequestRow}
 use Rattle.dealer_desk.proofs.ListLemmas.{set_at, set_map, within_from, ruled_out, before_place}
 use Rattle.dealer_desk.proofs.SoundLemmas.{sound_requests}
+use Rattle.dealer_desk.proofs.QuoteChanges.{left_false}
 use Rattle.dealer_desk.proofs.TableLemmas.{ended_quotes, ended_table, late_quotes, late_table}
-use Rattle.dealer_desk.proofs.TableLemmas.{left_false, requests_kept}
+use Rattle.dealer_desk.proofs.TableLemmas.{requests_kept}
 
 -- What the code reads and writes.
 

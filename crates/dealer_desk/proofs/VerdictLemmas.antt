@@ -38,7 +38,7 @@ use Rattle.dealer_desk.specs.declared.standing.QuoteEnd.TheVariants as end
 use Rattle.dealer_desk.specs.declared.verdicts.DealerVerdict.{DealerVerdict}
 use Rattle.dealer_desk.specs.declared.verdicts.DealerVerdict.TheVariants as verdict
 use Rattle.dealer_desk.proofs.ListLemmas.{find_stands, within_from}
-use Rattle.dealer_desk.proofs.TableGrowth.{live_stands}
+use Rattle.dealer_desk.proofs.TableClosing.{live_stands}
 use Rattle.dealer_desk.proofs.StandLemmas.{Stands, StandsIn, Fits, fits_book}
 
 -- a number of a request that was shown

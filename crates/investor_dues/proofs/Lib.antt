@@ -1,4 +1,5 @@
 mod ComesLemmas
 mod FollowLemmas
+mod NotedLemmas
 mod PlacedLemmas
 mod ViewLemmas

@@ -1,29 +1,18 @@
--- What an event adds and sends at a desk with own numbers in the place of words.
-use Rattle.std.proofs.Common.{◌≡◌, ℕ, ◌+◌, List, [], ◌∷◌, ◌++◌, map, length}
-use Rattle.std.proofs.Common.{Bool, Option, Some, None, option_map, option_and_then, refl, ap, ◌∙◌}
+-- What an event adds and sends at a desk with own numbers in the place of words: its own message,
+-- and a quote that comes or goes.
+use Rattle.std.proofs.Common.{◌≡◌, ℕ, ◌+◌, List, [], ◌∷◌, ◌++◌, map, length, Bool, Option, Some}
+use Rattle.std.proofs.Common.{None, option_map, option_and_then, refl, ap, ◌∙◌}
 use Rattle.std.specs.Option.{option_to_list}
 use Rattle.quote_messages.specs.declared.out_messages.OutMessage.{OutMessage}
-use Rattle.market_terms.specs.declared.closes.HitRefusal.{HitRefusal}
-use Rattle.market_terms.specs.declared.closes.Reply.{Reply}
 use Rattle.market_terms.specs.declared.rooms.Offer.{Offer}
-use Rattle.market_terms.specs.declared.rooms.ResponseRef.{ResponseRef}
 use Rattle.investor_desk.specs.InvestorFacts.{InvestorFact, InvestorBook, StandingRequest, Came}
-use Rattle.investor_desk.specs.InvestorFacts.{Gone, Offered}
-use Rattle.investor_desk.specs.InvestorFacts.{book_of, offer_numbered, offer_of_dealer}
-use Rattle.investor_desk.specs.InvestorFacts.{offer_with_word, offers_of}
-use Rattle.investor_desk.specs.InvestorFacts.{open_request}
-use Rattle.investor_desk.specs.InvestorFacts.{request_numbered}
+use Rattle.investor_desk.specs.InvestorFacts.{Gone, Offered, book_of, offer_of_dealer}
+use Rattle.investor_desk.specs.InvestorFacts.{offer_with_word, offers_of, open_request}
 use Rattle.investor_desk.specs.InvestorRules.{InvestorMarket, investor_verdict}
-use Rattle.investor_desk.specs.InvestorOutput.{answer_facts, answer_messages, award_of, close_by}
-use Rattle.investor_desk.specs.InvestorOutput.{close_by_answer, closed_facts, decline_messages}
-use Rattle.investor_desk.specs.InvestorOutput.{event_facts, event_messages, expiry_facts}
-use Rattle.investor_desk.specs.InvestorOutput.{expiry_messages, gone_facts, gone_message}
-use Rattle.investor_desk.specs.InvestorOutput.{next_offer}
-use Rattle.investor_desk.specs.InvestorOutput.{offer_facts, offer_message, offer_messages}
-use Rattle.investor_desk.specs.InvestorOutput.{refusal_of}
-use Rattle.investor_desk.specs.InvestorOutput.{response_message}
-use Rattle.investor_desk.specs.InvestorOutput.{uses_number, verdict_facts}
-use Rattle.investor_desk.specs.InvestorOutput.{withdrawal_facts, withdrawal_messages}
+use Rattle.investor_desk.specs.InvestorOutput.{award_of, closed_facts, event_facts, event_messages}
+use Rattle.investor_desk.specs.InvestorOutput.{gone_facts, gone_message, next_offer, offer_facts}
+use Rattle.investor_desk.specs.InvestorOutput.{offer_message, offer_messages, uses_number}
+use Rattle.investor_desk.specs.InvestorOutput.{verdict_facts, withdrawal_facts, withdrawal_messages}
 use Rattle.investor_desk.specs.declared.events.InvestorEvent.{InvestorEvent}
 use Rattle.investor_desk.specs.declared.events.InvestorEvent.TheVariants as event
 use Rattle.investor_desk.specs.declared.standing.RequestClose.{RequestClose}
@@ -32,8 +21,8 @@ use Rattle.investor_desk.specs.declared.verdicts.InvestorVerdict.{InvestorVerdic
 use Rattle.investor_desk.specs.declared.verdicts.InvestorVerdict.TheVariants as verdict
 use Rattle.investor_views.specs.InvestorDues.{number_of, quote_meant}
 use Rattle.investor_views.specs.InvestorView.{offer_due}
-use Rattle.investor_views.proofs.NumberedBook.{dealers_offer, numbered, offered}
-use Rattle.investor_views.proofs.NumberedBook.{open_numbered, shown_same, verdict_alike}
+use Rattle.investor_views.proofs.NumberedBook.{dealers_offer, open_numbered, shown_same}
+use Rattle.investor_views.proofs.NumberedBook.{verdict_alike}
 use Rattle.investor_views.proofs.NumberLemmas.{NumberedFrom, meant_same, open_rises}
 use Rattle.investor_views.proofs.Renamed.{renamed, renamed_book, renamed_fact, renamed_request}
 use Rattle.investor_views.proofs.Renamed.{unnumbered}
@@ -62,12 +51,12 @@ gone_sent : (own : StandingRequest) (found : Option ShownOffer)
 gone_sent own None = refl
 gone_sent own (Some shown) = refl
 
-closed_kept : (request : ℕ) (close : Option RequestClose)
+pub closed_kept : (request : ℕ) (close : Option RequestClose)
     → closed_facts request close ≡ map renamed_fact (closed_facts request close)
 closed_kept request None = refl
 closed_kept request (Some close) = refl
 
-award_same : (found : Option ShownOffer)
+pub award_same : (found : Option ShownOffer)
     → option_map award_of (option_map renamed found) ≡ option_map award_of found
 award_same None = refl
 award_same (Some shown) = refl
@@ -81,17 +70,17 @@ gone_numbered : (count request : ℕ) (found : Option ShownOffer)
 gone_numbered count request None = tt
 gone_numbered count request (Some shown) = tt
 
-closed_numbered : (count request : ℕ) (close : Option RequestClose)
+pub closed_numbered : (count request : ℕ) (close : Option RequestClose)
     → NumberedFrom count (closed_facts request close)
 closed_numbered count request None = tt
 closed_numbered count request (Some close) = tt
 
 module _ (market : InvestorMarket) (facts : List InvestorFact) where
   -- the book, and the same with own numbers
-  abbrev book : InvestorBook
+  abbrev pub book : InvestorBook
   book = book_of facts
 
-  abbrev again : InvestorBook
+  abbrev pub again : InvestorBook
   again = renamed_book book
 
   -- A message of the investor's own.
@@ -233,104 +222,3 @@ module _ (market : InvestorMarket) (facts : List InvestorFact) where
               ∙ gone_told (open_request book request) refl;
           numbered_on = gone_on (open_request book request);
         }
-
-  -- A decline.
-
-  declined_messages : (dealer : List ℕ) (found : Option StandingRequest)
-      → decline_messages dealer (option_map renamed_request found) ≡ decline_messages dealer found
-  declined_messages dealer None = refl
-  declined_messages dealer (Some own) = refl
-
-  pub declined_answers : (request : ℕ) (dealer : List ℕ) (moment : ℕ)
-      → Answers market facts (event.DealerDeclined request dealer moment)
-      (event.DealerDeclined request dealer moment)
-  unfolding event_facts event_messages
-  declined_answers request dealer moment = record {
-    facts_are = refl;
-    messages_are = ap (decline_messages dealer) (open_numbered book request)
-        ∙ declined_messages dealer (open_request book request);
-    numbered_on = tt;
-  }
-
-  -- An answer.
-
-  module _ (request : ℕ) (response : ResponseRef) (reply : Reply) where
-    closed_by : (quote : Option ℕ) → close_by again quote ≡ close_by book quote
-    closed_by None = refl
-    closed_by (Some quote) =
-        ap (option_map award_of) (offered book quote) ∙ award_same (offer_numbered book quote)
-
-    closes_so : (refused : Option HitRefusal)
-        → close_by_answer again response refused ≡ close_by_answer book response refused
-    closes_so None = closed_by response.k
-    closes_so (Some refusal) = refl
-
-    answered_facts : (found : Option StandingRequest)
-        → answer_facts again request response reply (option_map renamed_request found)
-        ≡ map renamed_fact (answer_facts book request response reply found)
-    answered_facts None = refl
-    answered_facts (Some own) =
-        ap (closed_facts request) (closes_so (refusal_of reply))
-        ∙ closed_kept request (close_by_answer book response (refusal_of reply))
-
-    answer_kind : (own : StandingRequest) (quote : Option ℕ) (refused : Option HitRefusal)
-        → response_message (renamed_request own) response.id quote refused
-        ≡ response_message own response.id quote refused
-    answer_kind own None refused = refl
-    answer_kind own (Some quote) refused = refl
-
-    answered_messages : (found : Option StandingRequest)
-        → answer_messages response reply (option_map renamed_request found)
-        ≡ answer_messages response reply found
-    answered_messages None = refl
-    answered_messages (Some own) =
-        ap (λ (m : OutMessage). m ∷ []) (answer_kind own response.k (refusal_of reply))
-
-    answered_on : (found : Option StandingRequest)
-        → NumberedFrom (length (offers_of facts)) (answer_facts book request response reply found)
-    answered_on None = tt
-    answered_on (Some own) =
-        closed_numbered (length (offers_of facts)) request
-        (close_by_answer book response (refusal_of reply))
-
-    pub answered_answers : (moment : ℕ)
-        → Answers market facts (event.Answered request response reply moment)
-        (event.Answered request response reply moment)
-    unfolding event_facts event_messages
-    answered_answers moment = record {
-      facts_are = ap (answer_facts again request response reply) (numbered book request)
-          ∙ answered_facts (request_numbered book request);
-      messages_are = ap (answer_messages response reply) (numbered book request)
-          ∙ answered_messages (request_numbered book request);
-      numbered_on = answered_on (request_numbered book request);
-    }
-
-  -- An expiry.
-
-  module _ (request : ℕ) where
-    expired_facts : (found : Option StandingRequest)
-        → expiry_facts request (option_map renamed_request found)
-        ≡ map renamed_fact (expiry_facts request found)
-    expired_facts None = refl
-    expired_facts (Some own) = refl
-
-    expired_messages : (found : Option StandingRequest)
-        → expiry_messages (option_map renamed_request found) ≡ expiry_messages found
-    expired_messages None = refl
-    expired_messages (Some own) = refl
-
-    expired_on : (found : Option StandingRequest)
-        → NumberedFrom (length (offers_of facts)) (expiry_facts request found)
-    expired_on None = tt
-    expired_on (Some own) = tt
-
-    pub expired_answers : (moment : ℕ)
-        → Answers market facts (event.Closed request moment) (event.Closed request moment)
-    unfolding event_facts event_messages
-    expired_answers moment = record {
-      facts_are = ap (expiry_facts request) (numbered book request)
-          ∙ expired_facts (request_numbered book request);
-      messages_are = ap (λ (o : Option StandingRequest). expiry_messages o) (numbered book request)
-          ∙ expired_messages (request_numbered book request);
-      numbered_on = expired_on (request_numbered book request);
-    }

@@ -2,6 +2,7 @@ mod ArrivalLemmas
 mod DayLemmas
 mod DeskLemmas
 mod ItemLemmas
+mod ClosingItems
 mod ListLemmas
 mod NumberedBook
 mod NumberLemmas

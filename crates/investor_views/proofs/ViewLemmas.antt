@@ -21,9 +21,8 @@ use Rattle.investor_views.specs.DeskView.{coming_of, event_dues, event_dues_from
 use Rattle.investor_views.specs.InvestorDues.{due_by, dues_from, number_of, quote_meant}
 use Rattle.investor_views.specs.InvestorView.{after_due, coming_by, offer_due, sent_at}
 use Rattle.investor_views.proofs.DeskLemmas.{desk_push}
-use Rattle.investor_views.proofs.ItemLemmas.{Answers, answered_answers, came_answers}
-use Rattle.investor_views.proofs.ItemLemmas.{declined_answers, expired_answers, gone_answers}
-use Rattle.investor_views.proofs.ItemLemmas.{own_answers}
+use Rattle.investor_views.proofs.ClosingItems.{answered_answers, declined_answers, expired_answers}
+use Rattle.investor_views.proofs.ItemLemmas.{Answers, came_answers, gone_answers, own_answers}
 use Rattle.investor_views.proofs.NumberedBook.{book_same, knows_same}
 use Rattle.investor_views.proofs.NumberLemmas.{NumberedFrom, numbered_both}
 use Rattle.investor_views.proofs.Renamed.{renamed_book, renamed_fact, unnumbered}

@@ -1,92 +1,26 @@
 -- Lines of an input as they come: their parts, and what one line more brings.
-use Rattle.std.proofs.Common.{◌≡◌, ℕ, ◌+◌, ◌<◌, ◌≤◌, ◌==◌, ◌||◌, Bool, true, false, List, [], ◌∷◌, ◌++◌, length, take, drop, suc, fold}
-use Rattle.std.proofs.Common.{cond, refl, sym, ap, ap₂, ◌∙◌, arith, inl, inr, append_assoc, add-one}
-use Rattle.std.proofs.Math.Nat.{add_comm}
-use Rattle.std.specs.List.{count_by, list_any, before_first, after_first, position_or_len}
-use Rattle.std.proofs.lemmas.Bool.{cases_Bool, false≢true}
+use Rattle.std.proofs.Common.{◌≡◌, ℕ, ◌+◌, ◌≤◌, Bool, true, false, List, [], ◌∷◌, ◌++◌, length}
+use Rattle.std.proofs.Common.{fold, refl, sym, ap, ap₂, ◌∙◌, arith, inl, inr, append_assoc}
+use Rattle.std.specs.List.{list_any, before_first, after_first}
+use Rattle.std.proofs.lemmas.Bool.{cases_Bool}
 use Rattle.std.proofs.lemmas.List.{length-append, append-nil}
 use Rattle.std.proofs.lemmas.Grind.{flat_map-append, fold-append}
 use Rattle.std.proofs.lemmas.List.Folds.{list_any-append}
-use Rattle.std.proofs.lemmas.List.Sums.{sum_by_push}
 use Rattle.venue_rows.specs.Rows.{ConfigValues, Configuration, values_of}
 use Rattle.input_lines.specs.DueText.{Lines}
-use Rattle.input_lines.specs.Lines.{is_skipped, lines_of, spoken_from}
-use Rattle.venue_text.specs.LiveInput.{are_divided, as_part, configuration_in, lines_text, numbered_from, numbered_in, steps_in, taken_in, taken_of, text_in}
+use Rattle.input_lines.specs.Lines.{is_skipped, spoken_from}
+use Rattle.venue_text.specs.LiveInput.{are_divided, as_part, configuration_in, lines_text}
+use Rattle.venue_text.specs.LiveInput.{numbered_from, numbered_in, steps_in, taken_in, taken_of}
+use Rattle.venue_text.specs.LiveInput.{text_in}
 use Rattle.venue_text.specs.LiveLines.{Taken, line_text, nothing_taken, with_any_line, with_line}
-use Rattle.input_lines.specs.VenueParts.{InputPart, is_divided, is_divider, part_before, part_behind, spoken_in, text_of, text_of_lines}
+use Rattle.input_lines.specs.VenueParts.{InputPart, is_divided, is_divider, part_before}
+use Rattle.input_lines.specs.VenueParts.{part_behind, spoken_in, text_of, text_of_lines}
 use Rattle.venue_text.specs.declared.live_form.LiveForm.{LiveForm}
-use Rattle.live_runs.specs.LiveRuns.{are_four, behind_one, first_taken, second_configuration, second_day, second_taken}
+use Rattle.live_runs.specs.LiveRuns.{are_four, behind_one, first_taken, second_configuration}
+use Rattle.live_runs.specs.LiveRuns.{second_day, second_taken}
 use Rattle.live_runs.specs.LiveStages.{taken_at}
-
--- The first element of a list that passes a test.
-
-stop_here : {X : Type 0} (p : X → Bool) (x : X) (xs : List X) → p x ≡ true → position_or_len p (x ∷ xs) ≡ 0
-stop_here p x xs here = rw here refl
-
-skip_one : {X : Type 0} (p : X → Bool) (x : X) (xs : List X) → p x ≡ false → position_or_len p (x ∷ xs) ≡ suc (position_or_len p xs)
-skip_one p x xs other = rw other (add_comm 1 (position_or_len p xs) ∙ add-one (position_or_len p xs))
-
-before_here : {X : Type 0} (p : X → Bool) (x : X) (xs : List X) → p x ≡ true → before_first p (x ∷ xs) ≡ []
-before_here p x xs here = ap (λ n. take n (x ∷ xs)) (stop_here p x xs here)
-
-after_here : {X : Type 0} (p : X → Bool) (x : X) (xs : List X) → p x ≡ true → after_first p (x ∷ xs) ≡ xs
-after_here p x xs here = ap (λ n. drop (n + 1) (x ∷ xs)) (stop_here p x xs here)
-
-before_skip : {X : Type 0} (p : X → Bool) (x : X) (xs : List X) → p x ≡ false → before_first p (x ∷ xs) ≡ x ∷ before_first p xs
-before_skip p x xs other = ap (λ n. take n (x ∷ xs)) (skip_one p x xs other)
-
-after_skip : {X : Type 0} (p : X → Bool) (x : X) (xs : List X) → p x ≡ false → after_first p (x ∷ xs) ≡ after_first p xs
-after_skip p x xs other =
-    let n = position_or_len p xs in
-    let place : position_or_len p (x ∷ xs) + 1 ≡ suc (n + 1) = ap (λ m. m + 1) (skip_one p x xs other) ∙ omega arith in
-    ap (λ m. drop m (x ∷ xs)) place
-
--- more elements behind a list that has one
-pub record PartsStay {X : Type 0} (p : X → Bool) (xs more : List X) : Type 0 where
-  pub before : before_first p (xs ++ more) ≡ before_first p xs
-  pub after : after_first p (xs ++ more) ≡ after_first p xs ++ more
-  pub any : list_any p (xs ++ more) ≡ true
-  pub count : length xs ≡ length (before_first p xs) + 1 + length (after_first p xs)
-
-pub parts_stay : {X : Type 0} (p : X → Bool) (xs more : List X) → list_any p xs ≡ true → PartsStay p xs more
-parts_stay p [] more some = absurd (false≢true some)
-parts_stay p (x ∷ xs) more some =
-    elim (cases_Bool (p x)) [
-      | inl here ↦ record {
-        before = before_here p x (xs ++ more) here ∙ sym (before_here p x xs here);
-        after = after_here p x (xs ++ more) here ∙ ap (λ l. l ++ more) (sym (after_here p x xs here));
-        any = rw here refl;
-        count = rw (before_here p x xs here, after_here p x xs here) (omega arith);
-      }
-      | inr other ↦
-          (let behind = parts_stay p xs more (rw other at some) in
-          record {
-            before = before_skip p x (xs ++ more) other ∙ ap (λ l. x ∷ l) behind.before ∙ sym (before_skip p x xs other);
-            after = after_skip p x (xs ++ more) other ∙ behind.after ∙ ap (λ l. l ++ more) (sym (after_skip p x xs other));
-            any = rw other behind.any;
-            count = rw (before_skip p x xs other, after_skip p x xs other) (omega (arith, behind.count));
-          })
-    ]
-
--- elements behind those of which none passes
-pub before_more : {X : Type 0} (p : X → Bool) (xs more : List X) → list_any p xs ≡ false → before_first p (xs ++ more) ≡ xs ++ before_first p more
-before_more p [] more none = refl
-before_more p (x ∷ xs) more none =
-    elim (cases_Bool (p x)) [
-      | inl here ↦ (let never : true ≡ false = rw here at none in cc)
-      | inr other ↦ before_skip p x (xs ++ more) other ∙ ap (λ l. x ∷ l) (before_more p xs more (rw other at none))
-    ]
-
-pub after_more : {X : Type 0} (p : X → Bool) (xs more : List X) → list_any p xs ≡ false → after_first p (xs ++ more) ≡ after_first p more
-after_more p [] more none = refl
-after_more p (x ∷ xs) more none =
-    elim (cases_Bool (p x)) [
-      | inl here ↦ (let never : true ≡ false = rw here at none in cc)
-      | inr other ↦ after_skip p x (xs ++ more) other ∙ after_more p xs more (rw other at none)
-    ]
-
-any_or : (a b : Bool) → a ≡ false → (a || b) ≡ b
-any_or a b e = rw e refl
+use Rattle.live_runs.proofs.PartLemmas.{before_here, after_here, parts_stay, before_more}
+use Rattle.live_runs.proofs.PartLemmas.{after_more}
 
 -- Lines that divide, and lines behind them.
 
@@ -346,63 +280,3 @@ module _ (form : LiveForm) (config : Configuration) (lines : List (List ℕ)) (l
       ∙ texts_more form config first (numbered_in part) (length lines + 1, line)
       ∙ ap (λ (t : Taken). text_in form config lines ++ line_text form config t (length lines + 1) line)
       (any_lines (values_of config) first part.first part.lines)
-
--- Bytes.
-
-abbrev is_end : ℕ → Bool
-is_end c = c == 10
-
--- the line feeds among bytes
-pub feeds_end : (bytes : List ℕ) → count_by is_end (bytes ++ 10 ∷ []) ≡ count_by is_end bytes + 1
-feeds_end bytes = sum_by_push (λ c. cond (is_end c) 1 0) bytes 10
-
-pub feeds_stay : (bytes : List ℕ) (c : ℕ) → (c == 10) ≡ false → count_by is_end (bytes ++ c ∷ []) ≡ count_by is_end bytes
-feeds_stay bytes c goes =
-    sum_by_push (λ x. cond (is_end x) 1 0) bytes c ∙ ap (λ b. count_by is_end bytes + cond b 1 0) goes ∙ omega arith
-
-onto : (c : ℕ) (text front : List ℕ) (parts : List (List ℕ)) → (c == 10) ≡ false → lines_of text ≡ front ∷ parts → lines_of (c ∷ text) ≡ (c ∷ front) ∷ parts
-onto c text front parts goes is = rw (goes, is) refl
-
-none_in : (c : ℕ) (text : List ℕ) → list_any is_end (c ∷ text) ≡ false → ((c == 10) ≡ false) × (list_any is_end text ≡ false)
-none_in c text none =
-    elim (cases_Bool (c == 10)) [
-      | inl here ↦ (let never : true ≡ false = rw here at none in cc)
-      | inr other ↦ (other, rw other at none)
-    ]
-
--- a line that has begun, and its end
-pub line_closed : (begun tail : List ℕ) → list_any is_end begun ≡ false → lines_of (begun ++ 10 ∷ tail) ≡ begun ∷ lines_of tail
-line_closed [] tail none = refl
-line_closed (c ∷ begun) tail none =
-    let parts = none_in c begun none in
-    onto c (begun ++ 10 ∷ tail) begun (lines_of tail) parts.0 (line_closed begun tail parts.1)
-
--- a last line without its end
-pub line_last : (c : ℕ) (begun : List ℕ) → list_any is_end (c ∷ begun) ≡ false → lines_of (c ∷ begun) ≡ (c ∷ begun) ∷ []
-line_last c [] none = let parts = none_in c [] none in rw parts.0 refl
-line_last c (d ∷ begun) none =
-    let parts = none_in c (d ∷ begun) none in
-    onto c (d ∷ begun) (d ∷ begun) [] parts.0 (line_last d begun parts.1)
-
--- a line that goes on is at least as long as what has begun and its next byte
-pub record GoesOn (begun : List ℕ) (all : List (List ℕ)) : Type 0 where
-  pub line : List ℕ
-  pub behind : List (List ℕ)
-  pub is : all ≡ line ∷ behind
-  pub long : length begun < length line
-
-first_of : (c : ℕ) (tail : List ℕ) (lines : List (List ℕ)) → lines_of tail ≡ lines → (c == 10) ≡ false → GoesOn [] (lines_of (c ∷ tail))
-first_of c tail [] is goes = record { line = c ∷ []; behind = []; is = rw (goes, is) refl; long = omega arith }
-first_of c tail (line ∷ behind) is goes = record { line = c ∷ line; behind = behind; is = rw (goes, is) refl; long = omega arith }
-
-pub line_goes_on : (begun : List ℕ) (c : ℕ) (tail : List ℕ) → list_any is_end begun ≡ false → (c == 10) ≡ false → GoesOn begun (lines_of (begun ++ c ∷ tail))
-line_goes_on [] c tail none goes = first_of c tail (lines_of tail) refl goes
-line_goes_on (d ∷ begun) c tail none goes =
-    let parts = none_in d begun none in
-    let behind = line_goes_on begun c tail parts.1 goes in
-    record {
-      line = d ∷ behind.line;
-      behind = behind.behind;
-      is = onto d (begun ++ c ∷ tail) behind.line behind.behind parts.0 behind.is;
-      long = (let more = behind.long in omega (arith, more));
-    }

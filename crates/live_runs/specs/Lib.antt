@@ -1,4 +1,5 @@
 pub mod LineForms
+pub mod LiveCalls
 pub mod LiveRuns
 pub mod LiveStages
 pub mod Written

@@ -6,7 +6,7 @@ ghost use Rattle.std.specs.Io.KnownBytes.{Appends};
 ghost use Rattle.std.specs.Option.{option_to_list};
 ghost use Rattle.live_runs.specs.LineForms.{meant_form};
 ghost use Rattle.live_runs.specs.LiveRuns as spec;
-ghost use Rattle.live_runs.specs.LiveStages as stages;
+ghost use Rattle.live_runs.specs.LiveCalls as stages;
 ghost use Rattle.live_runs.specs.Written.{GainsPart};
 
 use crate::line_forms::LineForm;

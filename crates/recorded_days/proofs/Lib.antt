@@ -1,3 +1,6 @@
+mod AskingSeen
 mod DayDueLemmas
+mod DaySeenLemmas
 mod DayViewLemmas
 mod DeskLemmas
+mod NoticeSeen

@@ -1,9 +1,13 @@
 pub mod AwardLemmas
 pub mod BookLemmas
 pub mod FactLemmas
+pub mod KeptFacts
 pub mod KeptLemmas
 pub mod CoverLemmas
 pub mod EndLemmas
+pub mod RankedLists
 pub mod RankLemmas
+pub mod EarliestLemmas
+pub mod KeptBookLemmas
 pub mod KeptRoomLemmas
 pub mod LiftLemmas

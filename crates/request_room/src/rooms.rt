@@ -365,7 +365,7 @@ impl Room {
     }
 
     /// The end by an award of the quote that this word means.
-    #[tactic(auto, using(crate::proofs::KeptRoomLemmas::no_cover))]
+    #[tactic(auto, using(crate::proofs::KeptBookLemmas::no_cover))]
     fn award_of(&self, w: u32) -> End
         ensures { result ≡ spec.award_of (room_after self.now) w }
     {

@@ -1,13 +1,12 @@
 -- What the lock of a dealer's desk keeps through an action there.
-use Rattle.std.proofs.Common.{◌≡◌, refl, ◌∙◌, sym, ap, subst, ℕ, Bool, true, false, List, [], ◌∷◌, ◌++◌, map}
-use Rattle.std.proofs.Common.{Option, Some, None, All, is_some, if◌then◌else◌}
+use Rattle.std.proofs.Common.{◌≡◌, refl, ◌∙◌, sym, ap, subst, ℕ, Bool, true, false, List, [], ◌++◌}
+use Rattle.std.proofs.Common.{map, Option, Some, None, All, if◌then◌else◌}
 use Rattle.std.proofs.lemmas.List.{map-append}
-use Rattle.std.proofs.lemmas.List.Elements.{All-append, All-cons, All-head, All-nil, All-tail}
-use Rattle.std.specs.Option.{option_map}
-use Rattle.dealer_desk.specs.DealerFacts.{book_of, number_to_drop}
-use Rattle.dealer_desk.specs.DealerOutput.{DeskEvents, settled_words, asked_by, asked_word, book_at}
-use Rattle.dealer_desk.specs.DealerOutput.{dealer_output, desk_after, facts_at, may_close, verdict_at}
-use Rattle.dealer_desk.specs.DealerOutput.{with_event, with_notice_in, word_asked}
+use Rattle.std.proofs.lemmas.List.Elements.{All-append, All-nil}
+use Rattle.dealer_desk.specs.DealerFacts.{number_to_drop}
+use Rattle.dealer_desk.specs.DealerOutput.{DeskEvents, settled_words, asked_by, book_at}
+use Rattle.dealer_desk.specs.DealerOutput.{dealer_output, desk_after, facts_at, may_close}
+use Rattle.dealer_desk.specs.DealerOutput.{verdict_at, with_event, with_notice_in, word_asked}
 use Rattle.dealer_desk.specs.declared.events.DealerEvent.{DealerEvent}
 use Rattle.dealer_desk.specs.declared.events.DealerEvent.TheVariants as event
 use Rattle.market_terms.specs.declared.asks.Ask.{Ask}
@@ -17,93 +16,17 @@ use Rattle.quote_word.specs.Board.{BoardName, Front, SettlesOnBoard}
 use Rattle.quote_word.specs.SettleLog.{entry_of}
 use Rattle.quote_word.specs.declared.settled.Settled.{Settled}
 use Rattle.quote_word.specs.declared.settled.Settled.TheVariants.{Withdrawn}
-use Rattle.quote_word.specs.declared.settled.Settlement.{Settlement}
 use Rattle.step_replay.specs.Actions.{dealer_of, first_word}
 use Rattle.recorded_days.specs.DayDues.{AnswersAre, AreAnswered, IsAnswered, day_due_list}
 use Rattle.step_replay.specs.DealerView.{dealer_view}
 use Rattle.venue_rows.specs.Rows.{Configuration, dealer_numbered}
 use Rattle.venue_rows.specs.declared.dealer_rows.DealerRow.{DealerRow}
 use Rattle.venue_steps.specs.DealerSteps.{desk_after_drop, desk_after_own, drop_word, own_word}
-use Rattle.venue_steps.specs.Words.{AsksAtMost, SettlesSo, settlement_in, has_word, word_of, word_to_ask}
+use Rattle.venue_steps.specs.Words.{AsksAtMost, settlement_in, has_word, word_of, word_to_ask}
 use Rattle.session_worker.specs.Locks.{KeepsDealer, StandsIn, answers_at, by_word}
 use Rattle.session_worker.proofs.LockLemmas.{IsLater, answers_stay, as_late, asks_later, entry_seen}
-
--- Laws of the layers below.
-
--- the words that were asked grow event by event
-abbrev pub AsksEventByEvent : Type 0
-AsksEventByEvent = (date : List ℕ) (row : DealerRow) (events : List DealerEvent) (more : DealerEvent)
-    → settled_words (desk_after date row (events ++ more ∷ [])).facts
-    ≡ settled_words (desk_after date row events).facts
-    ++ asked_by date row (book_of (desk_after date row events).facts) more
-
--- a settlement exactly where a word is asked, event by event
-abbrev pub AnsweredOneByOne : Type 0
-AnsweredOneByOne = (desk : DeskEvents) (now : DealerEvent)
-    → AreAnswered desk → IsAnswered desk now → AreAnswered (with_event desk now)
-
--- both
-pub record DeskLaws : Type 0 where
-  pub asks : AsksEventByEvent
-  pub answered : AnsweredOneByOne
-
--- what a desk sent is the dealer view of what was due by its events
-abbrev pub SentTheirView : Type 0
-SentTheirView = (date : List ℕ) (row : DealerRow) (events : List DealerEvent)
-    (word_is : ℕ → Option Settled)
-    → AreAnswered (record { date = date; row = row; events = events })
-    → AnswersAre word_is (record { date = date; row = row; events = events })
-    → dealer_output date row events ≡ dealer_view date row (day_due_list date row events)
-
--- Answers.
-
--- the settlement of the word that is asked stands in the log from which it is taken
-pub answer_stands : (first quote : ℕ) (log : List Settlement) (found : Option Settled)
-    → entry_of (word_of first quote) log ≡ found
-    → All (StandsIn log) (map (by_word first) (asked_word (Some quote) found))
-answer_stands first quote log None is = All-nil (StandsIn log)
-answer_stands first quote log (Some settled) is =
-    All-cons (StandsIn log) (word_of first quote, settled) [] is (All-nil (StandsIn log))
-
--- the same where a word is asked or none
-pub asked_stands : (first : ℕ) (log : List Settlement) (quote : Option ℕ)
-    → All (StandsIn log) (map (by_word first)
-    (asked_word quote (settlement_in (λ w. entry_of w log) (option_map (word_of first) quote))))
-asked_stands first log None = All-nil (StandsIn log)
-asked_stands first log (Some quote) =
-    answer_stands first quote log (entry_of (word_of first quote) log) refl
-
--- an exchange leaves an entry
-pub exchange_answers : (seen : Front) (word : ℕ) (wish : Settled) (settlement : Option Settled)
-    (later : Front) → SettlesSo SettlesOnBoard seen word wish settlement later → is_some settlement ≡ true
-exchange_answers seen word wish (Some settlement) later e = refl
-exchange_answers seen word wish None later e = elim e [ ]
-
--- there is an answer where a word is asked that the board has, and else none
-pub asked_answers : (first : ℕ) (seen later : Front) (count : ℕ) (wish : Settled) (quote : Option ℕ)
-    → has_word count (option_map (word_of first) quote) ≡ true
-    → AsksAtMost SettlesOnBoard entry_seen seen
-    (word_to_ask count (option_map (word_of first) quote)) wish later
-    → is_some (settlement_in (entry_seen later) (option_map (word_of first) quote)) ≡ is_some quote
-asked_answers first seen later count wish None has asks = refl
-asked_answers first seen later count wish (Some quote) has asks =
-    let word = word_of first quote in
-    let asked : word_to_ask count (Some word) ≡ Some word =
-    ap (λ so. if so then Some word else None) has in
-    exchange_answers seen word wish (entry_seen later word) later
-    (subst (λ w. AsksAtMost SettlesOnBoard entry_seen seen w wish later) asked asks)
-
--- the answers by the own numbers of the quotes
-pub answers_by_quote : (first : ℕ) (log : List Settlement) (answers : List (ℕ × Settled))
-    → All (StandsIn log) (map (by_word first) answers)
-    → All (λ (asked : ℕ × Settled). entry_of (word_of first asked.0) log ≡ Some asked.1) answers
-answers_by_quote first log [] stand =
-    All-nil (λ (asked : ℕ × Settled). entry_of (word_of first asked.0) log ≡ Some asked.1)
-answers_by_quote first log (settlement ∷ later) stand =
-    All-cons (λ (asked : ℕ × Settled). entry_of (word_of first asked.0) log ≡ Some asked.1) settlement
-    later (All-head (StandsIn log) (by_word first settlement) (map (by_word first) later) stand)
-    (answers_by_quote first log later
-    (All-tail (StandsIn log) (by_word first settlement) (map (by_word first) later) stand))
+use Rattle.session_worker.proofs.DealerAnswers.{DeskLaws, SentTheirView, asked_stands}
+use Rattle.session_worker.proofs.DealerAnswers.{asked_answers, answers_by_quote}
 
 -- Events.
 

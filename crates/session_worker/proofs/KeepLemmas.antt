@@ -31,9 +31,10 @@ use Rattle.session_worker.specs.KeptDays.{RoomStands, RoomsStand, answers_to, na
 use Rattle.session_worker.specs.KeptDays.{rooms_of, rooms_of_venue, without_rooms}
 use Rattle.session_worker.specs.Locks.{KeepsDealer, StandsIn, answers_at, answers_in}
 use Rattle.session_worker.proofs.AwardLemmas.{awards_stand}
-use Rattle.session_worker.proofs.DealerLockLemmas.{SentTheirView, view_is_seen}
+use Rattle.session_worker.proofs.DealerAnswers.{SentTheirView}
+use Rattle.session_worker.proofs.DealerLockLemmas.{view_is_seen}
 use Rattle.session_worker.proofs.LockLemmas.{answers_stay, some_is_none, some_same}
-use Rattle.session_worker.proofs.RoomLemmas.{each_like, inboxes_like}
+use Rattle.session_worker.proofs.RoomNames.{each_like, inboxes_like}
 
 -- what holds of each item of a list, and of one item more behind them
 pub each_more : {X : Type 0} (P : ℕ → X → Type 0) (xs : List X) (x : X)

@@ -2,12 +2,15 @@ pub mod ActionLemmas
 pub mod AwardLemmas
 pub mod BroughtLemmas
 pub mod CheckLemmas
+pub mod DealerAnswers
 pub mod DealerLockLemmas
 pub mod FaultLemmas
 pub mod InboxLemmas
 pub mod KeepLemmas
 pub mod LockLemmas
+pub mod MovedLists
 pub mod RoomLemmas
+pub mod RoomNames
 pub mod ShiftLemmas
 pub mod SweptLemmas
 pub mod ToldLemmas

@@ -35,7 +35,7 @@ use Rattle.step_replay.specs.DealerTrail.{DealerEntry, book_by, rooms_by, entrie
 use Rattle.step_replay.specs.EachLemmas.{Every, every_both, every_weaker}
 use Rattle.step_replay.specs.VenueFacts.{Fact, of_dealer}
 use Rattle.silence_laws.proofs.FilterLemmas.{every_map}
-use Rattle.silence_laws.proofs.QuietInvestor.{hits}
+use Rattle.silence_laws.proofs.QuietVerdicts.{hits}
 use Rattle.silence_laws.proofs.Quiet.{is_no_award, IsQuoting, IsPlain}
 
 -- what a dealer's steps lead to is no hit and no award

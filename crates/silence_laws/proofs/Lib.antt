@@ -1,10 +1,17 @@
 mod FilterLemmas
 mod HitMessages
+mod HitVerdicts
 mod LeftDuties
 mod OthersLeave
 mod Quiet
 mod QuietActions
+mod QuietAlike
+mod QuietBook
+mod QuietDesks
 mod QuietInvestor
+mod QuietPlaces
+mod QuietQueues
 mod QuietRoom
 mod QuietSteps
+mod QuietVerdicts
 mod SilenceLemmas

@@ -33,7 +33,8 @@ use Rattle.silence_laws.proofs.FilterLemmas.{none_kept, kept_in}
 use Rattle.silence_laws.proofs.LeftDuties.{said_quoting, drop_quoting, post_quoting}
 use Rattle.silence_laws.proofs.LeftDuties.{unpost_quoting, decline_quoting}
 use Rattle.silence_laws.proofs.Quiet.{IsQuoting, stays, stays_in_room, stays_at_desk}
-use Rattle.silence_laws.proofs.QuietActions.{IsHushed, anothers, hushed_for, known_hushed}
+use Rattle.silence_laws.proofs.QuietActions.{known_hushed}
+use Rattle.silence_laws.proofs.QuietAlike.{IsHushed, anothers, hushed_for}
 use Rattle.silence_laws.proofs.QuietInvestor as investor
 
 -- An action of which nothing stays, and which leaves what a dealer's steps lead to.

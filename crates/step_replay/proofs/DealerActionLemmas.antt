@@ -46,7 +46,8 @@ use Rattle.step_replay.specs.declared.floor.DealerPlace.{DealerPlace}
 use Rattle.step_replay.specs.declared.floor.Floor.{Floor}
 use Rattle.step_replay.proofs.FloorLemmas.{Found, dealer_found, by_found, idle_stands}
 use Rattle.step_replay.proofs.FloorLemmas.{unasked_stands, event_stands, leaving, show_does}
-use Rattle.step_replay.proofs.AskLemmas.{asks_does, withdraws_by}
+use Rattle.step_replay.proofs.AskLemmas.{asks_does}
+use Rattle.step_replay.proofs.AskedWords.{withdraws_by}
 use Rattle.step_replay.proofs.LiftingLemmas.{IsDueSo}
 use Rattle.step_replay.specs.SeenLemmas.{settled_undue, verdict_undue}
 

@@ -26,8 +26,8 @@ use Rattle.step_replay.specs.DealerView.{view_after, view_at_start, with_event_a
 use Rattle.step_replay.specs.RowOfWords.{AreWordsOf, GrowsByEvents, Happens, IsOfRow, Row}
 use Rattle.step_replay.specs.RowOfWords.{StandsFor}
 use Rattle.step_replay.specs.RowOfWords.{settlement_in, with_asked, with_lifting, with_wish}
-use Rattle.step_replay.proofs.RowLemmas.{asked_stands, asks_at, lifting_desk, lifting_words}
-use Rattle.step_replay.proofs.RowLemmas.{unasked}
+use Rattle.step_replay.proofs.RowLemmas.{asked_stands, asks_at, unasked}
+use Rattle.step_replay.proofs.RowLiftings.{lifting_desk, lifting_words}
 
 -- Items.
 

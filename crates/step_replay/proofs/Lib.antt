@@ -1,12 +1,17 @@
 mod AskLemmas
+mod AskedWords
 mod ComingLemmas
 mod DealerActionLemmas
 mod DoneLemmas
 mod DueListLemmas
 mod DutyLemmas
+mod FirmMessages
+mod FirmSent
 mod FloorLemmas
 mod FollowLemmas
 mod HitLemmas
+mod HitRefused
+mod HitSettled
 mod InvestorActionLemmas
 mod InvestorOpeningLemmas
 mod InvestorPlaceLemmas
@@ -18,6 +23,7 @@ mod LiveEffects
 mod LiveLemmas
 mod LiveSteps
 mod OneListLemmas
+mod OpenDeadlines
 mod OpenRoomLemmas
 mod OpenRoomStands
 mod OpeningLemmas
@@ -26,9 +32,11 @@ mod RoomEffects
 mod RoomOrder
 mod RoomPlaceLemmas
 mod RowLemmas
+mod RowLiftings
 mod StartLemmas
 mod SteppedLemmas
 mod SweepLemmas
 mod SweptLemmas
+mod SweptRooms
 mod TurnLemmas
 mod WorldLemmas

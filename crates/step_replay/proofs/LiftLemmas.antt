@@ -29,7 +29,7 @@ use Rattle.step_replay.specs.RowOfWords.{word_if}
 use Rattle.step_replay.specs.Standing.{DealerStands, WordsStand, Stands, word_is}
 use Rattle.step_replay.specs.declared.floor.DealerPlace.{DealerPlace}
 use Rattle.step_replay.specs.declared.floor.Floor.{Floor}
-use Rattle.step_replay.proofs.AskLemmas.{words_apart}
+use Rattle.step_replay.proofs.AskedWords.{words_apart}
 use Rattle.step_replay.proofs.FloorLemmas.{at_dealer_stands}
 use Rattle.step_replay.proofs.LiftingLemmas.{dues_after_lifting, within_after_lifting}
 use Rattle.step_replay.specs.OwnerLemmas.{same_value}

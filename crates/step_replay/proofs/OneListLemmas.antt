@@ -11,7 +11,8 @@ use Rattle.step_replay.specs.InvestorTrail as investor_trail
 use Rattle.step_replay.specs.LiveDays.{is_dealer, sent_by_facts}
 use Rattle.step_replay.specs.StepFaults.{firms_of}
 use Rattle.step_replay.specs.VenueFacts.{Fact, of_dealer, of_investor}
-use Rattle.step_replay.proofs.LiveLemmas.{dealer_day_count, dealer_day_get, has_item, has_no_item, investor_day_get}
+use Rattle.step_replay.proofs.FirmSent.{dealer_day_count, dealer_day_get, has_item, has_no_item}
+use Rattle.step_replay.proofs.FirmSent.{investor_day_get}
 use Rattle.step_replay.proofs.WorldLemmas.{get_first, get_second}
 
 -- the messages of the day of a firm, where there is one

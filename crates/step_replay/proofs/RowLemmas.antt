@@ -1,27 +1,21 @@
 -- What becomes of the row of words that stands for a view, exchange by exchange.
-use Rattle.std.proofs.Common.{◌≡◌, ◌≢◌, ◌≤◌, ◌<◌, ℕ, ◌-◌, ◌==◌, nat_le}
-use Rattle.std.proofs.Common.{Bool, true, false, ◌&&◌, ◌||◌, not, if◌then◌else◌}
-use Rattle.std.proofs.Common.{List, [], ◌∷◌, ◌++◌, length}
-use Rattle.std.proofs.Common.{Option, Some, None, IfSome, option_map}
-use Rattle.std.proofs.Common.{refl, sym, ap, ◌∙◌, subst, arith, eq-eqb}
+use Rattle.std.proofs.Common.{◌≡◌, ◌≢◌, ◌≤◌, ◌<◌, ℕ, ◌-◌, ◌==◌, nat_le, Bool, true, false, ◌&&◌}
+use Rattle.std.proofs.Common.{◌||◌, if◌then◌else◌, List, [], ◌∷◌, length, Option, Some, None}
+use Rattle.std.proofs.Common.{IfSome, option_map, refl, sym, ap, ◌∙◌, subst, arith, eq-eqb}
 use Rattle.std.proofs.lemmas.Bool.Decides.{nat_tests}
-use Rattle.std.proofs.lemmas.List.Folds.{list_any-append}
 use Rattle.std.specs.List.{list_any}
-use Rattle.quote_word.specs.PlainWords.{settlement_of, after_exchange, entry_in}
+use Rattle.quote_word.specs.PlainWords.{settlement_of, entry_in}
 use Rattle.quote_word.specs.PlainWordsLaws.{exchange_answers_entry, exchange_keeps_others}
 use Rattle.quote_word.specs.declared.settled.Settled.{Settled}
 use Rattle.quote_word.specs.declared.settled.Settled.TheVariants.{Withdrawn, Lifted}
-use Rattle.dealer_desk.specs.DealerOutput.{DeskEvents, asked_by, asked_word, book_at}
-use Rattle.dealer_desk.specs.DealerOutput.{with_event}
+use Rattle.dealer_desk.specs.DealerOutput.{DeskEvents, asked_by, asked_word, book_at, with_event}
 use Rattle.dealer_desk.specs.DeskLaws.{says_withdrawn}
 use Rattle.dealer_desk.specs.declared.events.DealerEvent.{DealerEvent}
-use Rattle.step_replay.specs.DealerView.{DealerView, answer_to}
-use Rattle.step_replay.specs.DealerView.{is_lifted, is_withdrawn_at}
+use Rattle.step_replay.specs.DealerView.{DealerView, answer_to, is_lifted, is_withdrawn_at}
 use Rattle.step_replay.specs.DealerView.{with_event_at_desk}
-use Rattle.step_replay.specs.RowOfWords.{AreWordsOf, GrowsByEvents, IsOfRow, Row}
-use Rattle.step_replay.specs.RowOfWords.{StandsFor}
-use Rattle.step_replay.specs.RowOfWords.{settlement_in, with_asked, with_wish}
-use Rattle.step_replay.specs.RowOfWords.{withdraws_by, word_if, word_of}
+use Rattle.step_replay.specs.RowOfWords.{AreWordsOf, GrowsByEvents, IsOfRow, Row, StandsFor}
+use Rattle.step_replay.specs.RowOfWords.{settlement_in, with_asked, with_wish, withdraws_by}
+use Rattle.step_replay.specs.RowOfWords.{word_if, word_of}
 
 -- Tests.
 
@@ -29,24 +23,24 @@ or_false : (b : Bool) → (b || false) ≡ b
 or_false true = refl
 or_false false = refl
 
-or_true : (b here : Bool) → here ≡ true → (b || (here || false)) ≡ true
+pub or_true : (b here : Bool) → here ≡ true → (b || (here || false)) ≡ true
 or_true true here is = refl
 or_true false true is = refl
 or_true false false is = is
 
-or_none : (b c here : Bool) → here ≡ false → (b || ((c && here) || false)) ≡ b
+pub or_none : (b c here : Bool) → here ≡ false → (b || ((c && here) || false)) ≡ b
 or_none b true true is = cc
 or_none b true false is = or_false b
 or_none b false here is = or_false b
 
 -- a quote of the row by its test
-in_row : (quote count : ℕ) → (nat_le 1 quote && nat_le quote count) ≡ true → IsOfRow count quote
+pub in_row : (quote count : ℕ) → (nat_le 1 quote && nat_le quote count) ≡ true → IsOfRow count quote
 in_row quote count is = (grind (arith, nat_tests), grind (arith, nat_tests))
 
 -- One exchange, on the word of a quote.
 
 -- the word of the quote is what is answered
-same_after : (words : Row) (quote : ℕ) (wish : Settled) → IsOfRow (length words) quote
+pub same_after : (words : Row) (quote : ℕ) (wish : Settled) → IsOfRow (length words) quote
     → entry_in (with_wish words quote wish) (quote - 1)
     ≡ Some (settlement_of (entry_in words (quote - 1)) wish)
 same_after words quote wish within =
@@ -58,7 +52,7 @@ same_after words quote wish within =
     (record { answered = refl; changed = refl })
 
 -- and no other quote's word changes
-other_after : (words : Row) (quote other : ℕ) (wish : Settled)
+pub other_after : (words : Row) (quote other : ℕ) (wish : Settled)
     → 1 ≤ quote → 1 ≤ other → other ≢ quote
     → entry_in (with_wish words quote wish) (other - 1) ≡ entry_in words (other - 1)
 other_after words quote other wish low low_too differs =
@@ -200,104 +194,3 @@ asked_stands grows view words (Some quote) more asks count within are =
           (answers_agree view words quote are within);
       words_are = asked_words grows view words quote (more settlement) (asks settlement) count within are;
     }
-
--- A lifting.
-
--- where the word is settled, nothing changes
-settled_stays : (lifted withdrawn : Bool) (words : Row) (place : ℕ) (wish : Settled)
-    → withdrawn ≡ true → after_exchange (word_if lifted withdrawn) words place wish ≡ words
-settled_stays true withdrawn words place wish is = refl
-settled_stays false true words place wish is = refl
-settled_stays false false words place wish is = cc
-
--- where it is not withdrawn, the word is lifted afterwards
-answer_to_lifting : (lifted withdrawn : Bool) → withdrawn ≡ false
-    → settlement_of (word_if lifted withdrawn) Lifted ≡ Lifted
-answer_to_lifting true withdrawn is = refl
-answer_to_lifting false true is = cc
-answer_to_lifting false false is = refl
-
-word_lifted : (lifted withdrawn : Bool) → lifted ≡ true → word_if lifted withdrawn ≡ Some Lifted
-word_lifted true withdrawn is = refl
-word_lifted false withdrawn is = cc
-
--- the view with one lifting more that counts
-abbrev pub with_lifted : DealerView → ℕ → DealerView
-with_lifted view quote = record view { lifted = view.lifted ++ quote ∷ [] }
-
-module _ (view : DealerView) (words : Row) (quote : ℕ)
-    (count : length words ≡ view.desk.row.quotes) (within : IsOfRow view.desk.row.quotes quote)
-    (are : AreWordsOf view words) where
-  -- the word of a quote behind the lifting, in the row and by the view
-  abbrev lifted_entry : ℕ → Option Settled
-  lifted_entry other = entry_in (with_wish words quote Lifted) (other - 1)
-
-  abbrev lifted_word : ℕ → Option Settled
-  lifted_word other = word_of (with_lifted view quote) other
-
-  -- whether a quote is lifted then
-  lifted_now : (other : ℕ)
-      → is_lifted (with_lifted view quote) other
-      ≡ (is_lifted view other || ((quote == other) || false))
-  lifted_now other = list_any-append (λ lifted. lifted == other) view.lifted (quote ∷ [])
-
-  withdrawn_before : is_withdrawn_at view.desk quote ≡ true
-      → AreWordsOf view (with_wish words quote Lifted)
-  withdrawn_before is =
-      let exchange : Option Settled → Row = λ e. after_exchange e words (quote - 1) Lifted in
-      let stays = ap exchange (are quote within) ∙ settled_stays (is_lifted view quote)
-      (is_withdrawn_at view.desk quote) words (quote - 1) Lifted is in
-      subst (AreWordsOf view) (sym stays) are
-
-  lifted_word_is : is_withdrawn_at view.desk quote ≡ false → lifted_entry quote ≡ lifted_word quote
-  lifted_word_is is =
-      let withdrawn = is_withdrawn_at view.desk quote in
-      let same : (quote == quote) ≡ true = eq-eqb quote quote refl in
-      same_after words quote Lifted (within.0, rw count within.1)
-      ∙ ap (λ (entry : Option Settled). Some (settlement_of entry Lifted)) (are quote within)
-      ∙ ap (λ (settlement : Settled). Some settlement)
-      (answer_to_lifting (is_lifted view quote) withdrawn is)
-      ∙ sym (word_lifted (is_lifted (with_lifted view quote) quote) withdrawn
-      (lifted_now quote ∙ or_true (is_lifted view quote) (quote == quote) same))
-
-  left_word_is : (other : ℕ) → other ≢ quote → (quote == other) ≡ false
-      → IsOfRow view.desk.row.quotes other → lifted_entry other ≡ lifted_word other
-  left_word_is other differs test inside =
-      other_after words quote other Lifted within.0 inside.0 differs
-      ∙ are other inside
-      ∙ ap (λ (lifted : Bool). word_if lifted (is_withdrawn_at view.desk other))
-      (sym (lifted_now other ∙ or_none (is_lifted view other) true (quote == other) test))
-
-  each_lifted_is : is_withdrawn_at view.desk quote ≡ false → (other : ℕ) (same : Bool)
-      → (quote == other) ≡ same → IsOfRow view.desk.row.quotes other
-      → lifted_entry other ≡ lifted_word other
-  each_lifted_is is other true test inside =
-      let equal : quote ≡ other = grind (arith, nat_tests) in
-      let P : ℕ → Type 0 = λ n. lifted_entry n ≡ lifted_word n in
-      subst P equal (lifted_word_is is)
-  each_lifted_is is other false test inside =
-      let differs : other ≢ quote = grind (arith, nat_tests) in
-      left_word_is other differs test inside
-
-  lifted_words : is_withdrawn_at view.desk quote ≡ false
-      → AreWordsOf (with_lifted view quote) (with_wish words quote Lifted)
-  lifted_words is other inside = each_lifted_is is other (quote == other) refl inside
-
--- by whether the quote has a word, and whether it was withdrawn
-pub lifting_words : (view : DealerView) (words : Row) (quote : ℕ) (has_word withdrawn : Bool)
-    → (nat_le 1 quote && nat_le quote view.desk.row.quotes) ≡ has_word
-    → is_withdrawn_at view.desk quote ≡ withdrawn
-    → length words ≡ view.desk.row.quotes → AreWordsOf view words
-    → AreWordsOf (if has_word && not withdrawn then with_lifted view quote else view)
-    (if has_word then with_wish words quote Lifted else words)
-lifting_words view words quote false withdrawn has is count are = are
-lifting_words view words quote true true has is count are =
-    withdrawn_before view words quote count (in_row quote view.desk.row.quotes has) are is
-lifting_words view words quote true false has is count are =
-    lifted_words view words quote count (in_row quote view.desk.row.quotes has) are is
-
--- no lifting changes the desk
-pub lifting_desk : (view : DealerView) (quote : ℕ) (counts : Bool)
-    → view.desk ≡ (if counts then with_lifted view quote else view).desk
-lifting_desk view quote true = refl
-lifting_desk view quote false = refl

@@ -1,3 +1,4 @@
 mod DayLemmas
+mod DutyFits
 mod FitLemmas
 mod ReplayFits

@@ -12,14 +12,15 @@ use Rattle.std.specs.Option.{IfSome}
 use Rattle.input_lines.specs.Lines.{lines_of}
 use Rattle.input_lines.specs.declared.faults.ProgramFault.TheVariants.{Memory}
 use Rattle.live_runs.specs.LineForms.{LineForm, meant_form}
-use Rattle.command_arguments.specs.Arguments.{Command, arguments_fault, command_of, is_help, is_mistake, may_be_help, may_be_mistake}
+use Rattle.command_arguments.specs.Arguments.{Command, arguments_fault, command_of, is_help}
+use Rattle.command_arguments.specs.Arguments.{is_mistake, may_be_help, may_be_mistake}
 use Rattle.venue_commands.specs.Runs.{EndsAsAsked, EndsBy, EndsInCommand, EndsInMemory, EndsOf, EndsTold, line_form, word_of}
 use Rattle.live_runs.specs.LiveRuns.{EndsInLive, EndsOver}
 use Rattle.live_runs.specs.Written.{Streams, Written}
 use Rattle.live_runs.specs.declared.line_forms.LineForm.{LineForm as RustForm}
 use Rattle.live_runs.proofs.StreamLemmas.{keeps_same}
 use Rattle.command_arguments.proofs.LawfulArguments.{lawful_arguments}
-use Rattle.live_runs.proofs.LiveLemmas.{answers_nothing}
+use Rattle.live_runs.proofs.TwoDayLemmas.{answers_nothing}
 
 first_or : (a b : Bool) → (a || false) ≡ true → (a || b) ≡ true
 first_or true b h = refl

@@ -4,7 +4,8 @@ use Rattle.std.proofs.Common.{◌≡◌, ◌≢◌, ℕ, ◌-◌, ◌<◌, ◌�
 use Rattle.std.proofs.Common.{true, nat_lt, inl, inr, Result, Ok, Err, ◌⊎◌}
 use Rattle.std.proofs.lemmas.List.{append-nil, length-append}
 use Rattle.input_lines.specs.declared.lines.TheConstants.{MOST_INPUT}
-use Rattle.command_arguments.specs.Arguments.{Command, alone, blotter, compare, compared, day, due, investor_compare, investor_due, kept, live, replay}
+use Rattle.command_arguments.specs.Arguments.{Command, alone, blotter, compare, compared, day, due}
+use Rattle.command_arguments.specs.Arguments.{investor_compare, investor_due, kept, live, replay}
 use Rattle.live_runs.specs.Written.{Gains, GainsPart, IsReadOf, Written}
 use Rattle.venue_commands.specs.Runs.{FaultLeaves, HasPrinted, HasPrintedPart, IsFaultOf, IsTextOf}
 use Rattle.input_lines.specs.declared.faults.ProgramFault.{ProgramFault}

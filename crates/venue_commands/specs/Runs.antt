@@ -21,10 +21,10 @@ use Rattle.venue_text.specs.ReplayText.{IsReplayed}
 use Rattle.input_lines.specs.declared.faults.ProgramFault.{ProgramFault}
 use Rattle.input_lines.specs.declared.faults.ProgramFault.TheVariants.{Read, Memory, Write}
 use Rattle.live_runs.specs.LineForms.{LineForm, answered, compared_for, kept_for}
-use Rattle.command_arguments.specs.Arguments.{Command, alone, arguments_fault, blotter}
-use Rattle.command_arguments.specs.Arguments.{command_of, compare, compared, day, due, kept, live}
-use Rattle.command_arguments.specs.Arguments.{investor_compare, investor_due}
-use Rattle.command_arguments.specs.Arguments.{may_be_help, may_be_mistake, replay}
+use Rattle.command_arguments.specs.Arguments.{Command, alone, arguments_fault, blotter, command_of}
+use Rattle.command_arguments.specs.Arguments.{compare, compared, day, due, kept, live}
+use Rattle.command_arguments.specs.Arguments.{investor_compare, investor_due, may_be_help}
+use Rattle.command_arguments.specs.Arguments.{may_be_mistake, replay}
 use Rattle.live_runs.specs.LiveRuns.{EndsInLive}
 use Rattle.venue_commands.specs.ThreadedDays.{IsDay, IsDayFault}
 use Rattle.live_runs.specs.Written.{Streams, Written, Gains, GainsPart, IsUntouched}

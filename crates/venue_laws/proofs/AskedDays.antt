@@ -46,7 +46,7 @@ use Rattle.step_replay.specs.declared.steps.Step.{Step}
 use Rattle.step_replay.specs.declared.steps.Step.TheVariants as step
 use Rattle.venue_laws.proofs.AskedGrids.{FactBearsGrid, DutyBearsGrid, every_append}
 use Rattle.venue_laws.proofs.AskedGrids.{every_found, every_drop, every_through}
-use Rattle.venue_laws.proofs.AskedSteps.{Bears, nothing_bears, if_bears, by_bears, left_bears}
+use Rattle.venue_laws.proofs.AskedDuties.{Bears, nothing_bears, if_bears, by_bears, left_bears}
 use Rattle.venue_laws.proofs.AskedSteps.{desk_bears, market_bears, duty_bears, sweep_bears}
 
 -- The ask of an accepted request.

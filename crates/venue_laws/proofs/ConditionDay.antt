@@ -39,25 +39,28 @@ use Rattle.step_replay.specs.declared.steps.Step.{Step}
 use Rattle.step_replay.specs.declared.steps.Step.TheVariants as step
 use Rattle.venue_laws.proofs.ConditionDesks.{RequestFit, VerdictFit, verdict_fits}
 use Rattle.venue_laws.proofs.ConditionFirst.{BringsFirst, dealer_first, desk_first, dropped_first}
-use Rattle.venue_laws.proofs.ConditionFirst.{follows_free, frees_once, investor_first, known_first}
+use Rattle.venue_laws.proofs.ConditionFirst.{follows_free, investor_first, known_first}
 use Rattle.venue_laws.proofs.ConditionFirst.{market_first, nothing_first, said_first, so_first}
 use Rattle.venue_laws.proofs.ConditionFirst.{when_first}
+use Rattle.venue_laws.proofs.FreeDuties.{frees_once}
 use Rattle.venue_laws.proofs.ConditionInvariant.{DutyFit, Fit, investor_facts}
-use Rattle.venue_laws.proofs.ConditionOnce.{Once, OnceOk, begins, did_in}
-use Rattle.venue_laws.proofs.ConditionOnce.{just_done, once_after, readies, same_grows, tells_it}
-use Rattle.venue_laws.proofs.ConditionOnce.{turn_grows, venue_with}
+use Rattle.venue_laws.proofs.ConditionAfter.{just_done, once_after, same_grows, turn_grows}
+use Rattle.venue_laws.proofs.ConditionOnce.{Once, OnceOk, begins, did_in, readies, tells_it}
+use Rattle.venue_laws.proofs.ConditionOnce.{venue_with}
 use Rattle.venue_laws.proofs.ConditionQuotes.{AsksOfDay, DropsOfDay}
 use Rattle.venue_laws.proofs.ConditionEnds.{awards_in}
-use Rattle.venue_laws.proofs.ConditionTable.{day_fits, pending_fit}
-use Rattle.venue_laws.proofs.ConditionTurns.{by_investor, expired_first, hit_first, none_of}
-use Rattle.venue_laws.proofs.ConditionTurns.{opened_first, passed_first, told_first, unless_first}
+use Rattle.venue_laws.proofs.ConditionSteps.{day_fits}
+use Rattle.venue_laws.proofs.ConditionTable.{pending_fit}
+use Rattle.venue_laws.proofs.ConditionClosed.{expired_first, hit_first, passed_first}
+use Rattle.venue_laws.proofs.ConditionTurns.{by_investor, none_of, opened_first, told_first}
+use Rattle.venue_laws.proofs.ConditionTurns.{unless_first}
 use Rattle.step_replay.specs.EachLemmas.{Each}
 use Rattle.step_replay.specs.GrowthLemmas.{same_room}
 use Rattle.venue_laws.proofs.KnownLemmas.{both_so, known_asked}
 use Rattle.venue_laws.proofs.VenueDay.{venue_ok}
 use Rattle.venue_laws.proofs.VenueInvariant.{VenueOk, duties_by, number_for, shows}
-use Rattle.venue_laws.proofs.VenueRooms.{room_self}
-use Rattle.venue_laws.proofs.VenueShow.{LoneQuotes}
+use Rattle.venue_laws.proofs.VenueRoomFacts.{room_self}
+use Rattle.venue_laws.proofs.LiveQuotes.{LoneQuotes}
 
 module _ (config : Configuration) where
   module _ (venue : AuditTrail) (stood : VenueOk config venue)

@@ -41,9 +41,9 @@ use Rattle.investor_desk.specs.declared.standing.ShownOffer.{ShownOffer}
 use Rattle.investor_desk.specs.declared.verdicts.InvestorVerdict.{InvestorVerdict}
 use Rattle.investor_desk.specs.declared.verdicts.InvestorVerdict.TheVariants as verdict
 use Rattle.step_replay.specs.EachLemmas.{Every, every_weaker}
-use Rattle.venue_laws.proofs.KnownLemmas.{DeskFit, asked, asked_fit, asked_is, asked_known}
-use Rattle.venue_laws.proofs.KnownLemmas.{found_holds, offered_fit, plain_fit, shown_known}
-use Rattle.venue_laws.proofs.VenueDesk.{none_holds}
+use Rattle.venue_laws.proofs.KnownDesks.{DeskFit, asked_fit, offered_fit, plain_fit, shown_known}
+use Rattle.venue_laws.proofs.KnownLemmas.{asked, asked_is, asked_known, found_holds}
+use Rattle.venue_laws.proofs.AcceptedQuotes.{none_holds}
 
 -- What a verdict says.
 

@@ -38,7 +38,7 @@ use Rattle.venue_laws.proofs.ConditionDesks.{event_fits}
 use Rattle.venue_laws.proofs.ConditionInvariant.{DutyFit, FactFit, Fit, Fits, investor_facts}
 use Rattle.venue_laws.proofs.ConditionInvariant.{investor_facts_grown}
 use Rattle.step_replay.specs.EachLemmas.{Every, every_both}
-use Rattle.venue_laws.proofs.KnownLemmas.{DeskFit}
+use Rattle.venue_laws.proofs.KnownDesks.{DeskFit}
 use Rattle.step_replay.specs.PlaceLemmas.{investor_at_dealer, investor_in_room, other_investor}
 use Rattle.step_replay.specs.PlaceLemmas.{own_investor}
 

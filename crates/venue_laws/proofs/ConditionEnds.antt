@@ -42,8 +42,8 @@ use Rattle.venue_laws.proofs.ConditionInvariant.{opened_stays}
 use Rattle.step_replay.specs.EachLemmas.{Every, every_both}
 use Rattle.step_replay.specs.GrowthLemmas.{said_after}
 use Rattle.step_replay.specs.PlaceLemmas.{investor_grown, investor_in_room, own_room, room_grown}
-use Rattle.venue_laws.proofs.VenueDesk.{none_holds}
-use Rattle.venue_laws.proofs.VenueRooms.{both_true, every_map, none_some, not_so}
+use Rattle.venue_laws.proofs.AcceptedQuotes.{none_holds}
+use Rattle.venue_laws.proofs.VenueRoomFacts.{both_true, every_map, none_some, not_so}
 use Rattle.venue_laws.proofs.ConditionRooms.{in_room_fits, room_now}
 
 -- what an award says

@@ -28,10 +28,11 @@ use Rattle.step_replay.specs.VenueFacts.{Fact, AtDealer, InRoom, AtInvestor, of_
 use Rattle.venue_places.specs.declared.actors.Actor.{Actor}
 use Rattle.venue_places.specs.declared.actors.Actor.TheVariants as actor
 use Rattle.step_replay.specs.EachLemmas.{Every, every_both, every_weaker}
-use Rattle.venue_laws.proofs.KnownLemmas.{DeskFit, knows_grown}
+use Rattle.venue_laws.proofs.KnownDesks.{DeskFit}
+use Rattle.venue_laws.proofs.KnownLemmas.{knows_grown}
 use Rattle.step_replay.specs.PlaceLemmas.{investor_grown}
-use Rattle.venue_laws.proofs.VenueInvariant.{end_grown, named_later, request_grown}
-use Rattle.venue_laws.proofs.VenueSteps.{left_by}
+use Rattle.venue_laws.proofs.VenueGrowth.{end_grown, named_later, request_grown}
+use Rattle.venue_laws.proofs.VenueTurns.{left_by}
 
 -- the facts of an investor's desk
 abbrev pub investor_facts : List Fact → ℕ → List InvestorFact

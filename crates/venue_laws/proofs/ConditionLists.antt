@@ -19,8 +19,7 @@ use Rattle.step_replay.specs.VenueFacts.{fact_in_room, of_dealer, of_room}
 use Rattle.venue_places.specs.declared.actors.Actor.{Actor}
 use Rattle.venue_laws.proofs.ConditionInvariant.{DutyFit}
 use Rattle.venue_laws.proofs.ConditionInvariant.{TellsBy}
-use Rattle.venue_laws.proofs.ConditionOnce.{EntryDone, ToldBy}
-use Rattle.venue_laws.proofs.ConditionOnce.{tells_it}
+use Rattle.venue_laws.proofs.ConditionOnce.{EntryDone, ToldBy, tells_it}
 use Rattle.venue_laws.proofs.CountLemmas.{number_within}
 use Rattle.step_replay.specs.EachLemmas.{Every}
 use Rattle.step_replay.specs.GrowthLemmas.{same_room, some_same}

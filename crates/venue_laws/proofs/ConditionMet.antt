@@ -1,12 +1,7 @@
 -- A duty that is left meets the test of its action, by what stands in a venue.
-use Rattle.std.proofs.Common.{◌≡◌, ◌≤◌, ℕ, zero, suc, ◌+◌, ◌-◌, ◌==◌, Bool, true, false, ◌&&◌, ◌||◌}
-use Rattle.std.proofs.Common.{nat_le, nat_lt, List, [], ◌∷◌, count_by, find, filter_map, take}
-use Rattle.std.proofs.Common.{Option, Some, None, IfSome, option_map, is_some, is_none, cond}
-use Rattle.std.proofs.Common.{if◌then◌else◌, refl, sym, ap, ◌∙◌, subst, arith}
-use Rattle.std.specs.Prelude.{slice_get}
-use Rattle.std.specs.List.{list_any}
-use Rattle.std.proofs.lemmas.Bool.Decides.{nat_tests}
-use Rattle.std.proofs.lemmas.List.Sums.{sum_by-cons}
+use Rattle.std.proofs.Common.{◌≡◌, ℕ, Bool, true, false, ◌&&◌, ◌||◌, nat_le, nat_lt, List, [], ◌∷◌}
+use Rattle.std.proofs.Common.{count_by, filter_map, take, Option, Some, None, option_map, is_some}
+use Rattle.std.proofs.Common.{is_none, refl, sym, ap, ◌∙◌, subst}
 use Rattle.market_terms.specs.declared.closes.HitRefusal.{HitRefusal}
 use Rattle.market_terms.specs.declared.duties.Duty.{Duty}
 use Rattle.market_terms.specs.declared.duties.Duty.TheVariants as duty
@@ -17,17 +12,15 @@ use Rattle.venue_rows.specs.declared.investor_rows.InvestorRow.{InvestorRow}
 use Rattle.dealer_desk.specs.DealerFacts.{number_to_drop}
 use Rattle.dealer_desk.specs.DealerOutput.{is_same_room}
 use Rattle.investor_desk.specs.InvestorOutput.{market_of}
-use Rattle.request_room.specs.Book.{book_of, hit_checks, hit_refusal, quote_meant, takes_out}
-use Rattle.request_room.specs.Book.{word_or}
-use Rattle.request_room.specs.RoomFacts.{Opened, Posted, RoomFact, first_said, is_named, is_vacant}
+use Rattle.request_room.specs.Book.{book_of, hit_checks, hit_refusal, quote_meant, word_or}
+use Rattle.request_room.specs.RoomFacts.{Opened, RoomFact, first_said, is_named, is_vacant}
 use Rattle.request_room.specs.RoomFacts.{opened_for, request_of}
 use Rattle.request_room.specs.declared.quotes.PostedQuote.{PostedQuote as BookQuote}
 use Rattle.request_room.specs.declared.requests.RoomRequest.{RoomRequest}
 use Rattle.venue_steps.specs.InvestorSteps.{replies_to}
 use Rattle.venue_steps.specs.RoomSteps.{hit_word, word_asked_by}
 use Rattle.venue_steps.specs.Words.{has_word}
-use Rattle.step_replay.specs.Actions.{Dealer, acting_dealer, dealer_of, has_word_for, quotes_of}
-use Rattle.step_replay.specs.Actions.{word_for, words_of}
+use Rattle.step_replay.specs.Actions.{Dealer, acting_dealer, dealer_of, has_word_for, words_of}
 use Rattle.step_replay.specs.AuditTrail.{AuditTrail, is_same_actor, pending}
 use Rattle.venue_laws.specs.Conditions.{has_word_asked, holds_for, is_heard, is_heard_on, is_known}
 use Rattle.venue_laws.specs.Conditions.{is_known_to, is_met, is_room, may_drop}
@@ -35,20 +28,19 @@ use Rattle.step_replay.specs.DealerTrail.{book_by}
 use Rattle.step_replay.specs.VenueFacts.{AtDealer, AtInvestor, Fact, InRoom, fact_in_room}
 use Rattle.step_replay.specs.VenueFacts.{of_dealer, of_room}
 use Rattle.venue_places.specs.declared.actors.Actor.{Actor}
-use Rattle.venue_laws.proofs.ConditionInvariant.{ByDealer, ByNamed, DutyFit, FactFit, Fit}
-use Rattle.venue_laws.proofs.ConditionInvariant.{IsOpened, KnownIn, OpenedFit}
-use Rattle.venue_laws.proofs.ConditionQuotes.{AsksOfDay, DropsOfDay, OfRow, asks_of_day}
-use Rattle.venue_laws.proofs.ConditionQuotes.{drops_of_day}
+use Rattle.venue_laws.proofs.ConditionInvariant.{ByDealer, ByNamed, DutyFit, FactFit, Fit, IsOpened}
+use Rattle.venue_laws.proofs.ConditionInvariant.{KnownIn, OpenedFit}
+use Rattle.venue_laws.proofs.ConditionQuotes.{AsksOfDay, DropsOfDay, asks_of_day, drops_of_day}
 use Rattle.step_replay.specs.EachLemmas.{Every}
 use Rattle.step_replay.specs.GrowthLemmas.{names_some, same_room, some_same}
 use Rattle.venue_laws.proofs.KnownLemmas.{both_so}
-use Rattle.step_replay.specs.OwnerLemmas.{same_value}
-use Rattle.venue_laws.proofs.VenueDesk.{none_holds}
+use Rattle.venue_laws.proofs.AcceptedQuotes.{none_holds}
 use Rattle.venue_laws.proofs.VenueInvariant.{DutyOk, PostOk, RoomOk, VenueOk, duties_by}
 use Rattle.venue_laws.proofs.VenueRooms.{all_known}
-use Rattle.venue_laws.proofs.VenueShow.{LoneQuotes}
-use Rattle.venue_laws.proofs.VenueSteps.{next_of}
+use Rattle.venue_laws.proofs.LiveQuotes.{LoneQuotes}
+use Rattle.venue_laws.proofs.VenueTurns.{next_of}
 use Rattle.venue_laws.proofs.VenueTable.{at_split, duties_ok}
+use Rattle.venue_laws.proofs.ConditionWords.{word_in_rows, word_within, has_asked, posted_in}
 
 -- Whether the test of a duty asks for what goes on to be so once it is, as a room that hears the
 -- dealer. The others ask for what is yet to come: a room that is vacant or opening, a request that
@@ -59,86 +51,6 @@ is_lasting (duty.Show dealer room ask moment) = false
 is_lasting (duty.Ready room moment) = false
 is_lasting (duty.Tell dealer room close moment) = false
 is_lasting other = true
-
--- Words.
-
-word_in_rows : (rows : List DealerRow) (place : ℕ) (row : DealerRow) (quote : ℕ)
-    → slice_get rows place ≡ Some row → (nat_le 1 quote && nat_le quote row.quotes) ≡ true
-    → nat_lt (quotes_of (take place rows) + (quote - 1)) (quotes_of rows) ≡ true
-word_in_rows [] place row quote at within = cc
-word_in_rows (first ∷ rows) zero row quote at within =
-    let same : first.quotes ≡ row.quotes =
-    ap (λ (r : DealerRow). r.quotes) (same_value first row at) in
-    let sum : quotes_of (first ∷ rows) ≡ first.quotes + quotes_of rows =
-    sum_by-cons (λ (r : DealerRow). r.quotes) first rows in
-    let least : 1 ≤ quote = grind (arith, nat_tests) in
-    let most : quote ≤ row.quotes = grind (arith, nat_tests) in
-    let less : nat_lt (0 + (quote - 1)) (first.quotes + quotes_of rows) ≡ true =
-    grind (arith, nat_tests) in
-    subst (λ (n : ℕ). nat_lt (0 + (quote - 1)) n ≡ true) (sym sum) less
-word_in_rows (first ∷ rows) (suc place) row quote at within =
-    let front = quotes_of (take place rows) in
-    let sum : quotes_of (first ∷ rows) ≡ first.quotes + quotes_of rows =
-    sum_by-cons (λ (r : DealerRow). r.quotes) first rows in
-    let sum_front : quotes_of (first ∷ take place rows) ≡ first.quotes + front =
-    sum_by-cons (λ (r : DealerRow). r.quotes) first (take place rows) in
-    let later : nat_lt (front + (quote - 1)) (quotes_of rows) ≡ true =
-    word_in_rows rows place row quote at within in
-    let less : nat_lt (first.quotes + front + (quote - 1)) (first.quotes + quotes_of rows) ≡ true =
-    grind (arith, nat_tests) in
-    subst (λ (n : ℕ). nat_lt (quotes_of (first ∷ take place rows) + (quote - 1)) n ≡ true) (sym sum)
-    (subst (λ (n : ℕ). nat_lt (n + (quote - 1)) (first.quotes + quotes_of rows) ≡ true)
-    (sym sum_front) less)
-
-module _ (config : Configuration) (dealer : ℕ) (row : DealerRow)
-    (is : dealer_numbered config dealer ≡ Some row) where
-  word_within : (quote : ℕ) → (nat_le 1 quote && nat_le quote row.quotes) ≡ true
-      → has_word_for config (dealer_of dealer row) quote ≡ true
-  word_within quote within = word_in_rows config.dealers dealer row quote is within
-
-  within_row : (quote : ℕ) → OfRow row quote → (nat_le 1 quote && nat_le quote row.quotes) ≡ true
-  within_row quote of =
-      let least : 1 ≤ quote = of.0 in
-      let most : quote ≤ row.quotes = of.1 in
-      grind (arith, nat_tests)
-
-  pub has_asked : (asked : Option ℕ) → IfSome asked (OfRow row)
-      → has_word (words_of config) (option_map (word_for config (dealer_of dealer row)) asked)
-      ≡ true
-  has_asked None of = refl
-  has_asked (Some quote) of = word_within quote (within_row quote of)
-
--- a quote of the book was posted
-posted_in : (P : RoomFact → Type 0) (word : ℕ) (facts : List RoomFact) (quote : BookQuote)
-    → quote_meant (book_of facts) word ≡ Some quote → Every P facts
-    → (quote.word ≡ word) × P (Posted quote)
-posted_in P word [] quote is every = cc
-posted_in P word (Posted other ∷ facts) quote is every =
-    by_out (list_any (takes_out other) facts) is
-    (λ found. posted_in P word facts quote found every.1)
-  where
-    means : BookQuote → Bool
-    means q = q.word == word
-
-    by_test : (b : Bool) → means other ≡ b
-        → cond b (Some other) (find means (book_of facts)) ≡ Some quote
-        → (find means (book_of facts) ≡ Some quote → (quote.word ≡ word) × P (Posted quote))
-        → (quote.word ≡ word) × P (Posted quote)
-    by_test true test found later =
-        let same : other ≡ quote = some_same other quote found in
-        let words : other.word ≡ word = grind (arith, nat_tests) in (
-          ap (λ (q : BookQuote). q.word) (sym same) ∙ words,
-          subst (λ (q : BookQuote). P (Posted q)) same every.0,
-        )
-    by_test false test found later = later found
-
-    by_out : (b : Bool)
-        → quote_meant (if b then book_of facts else other ∷ book_of facts) word ≡ Some quote
-        → (find means (book_of facts) ≡ Some quote → (quote.word ≡ word) × P (Posted quote))
-        → (quote.word ≡ word) × P (Posted quote)
-    by_out true found later = later found
-    by_out false found later = by_test (means other) refl found later
-posted_in P word (fact ∷ facts) quote is every = posted_in P word facts quote is every.1
 
 -- Rooms.
 

@@ -30,19 +30,18 @@ use Rattle.venue_laws.proofs.ConditionInvariant.{TellsBy}
 use Rattle.venue_laws.proofs.ConditionInvariant.{closer}
 use Rattle.venue_laws.proofs.ConditionMet.{first_opened, is_lasting, known_opened, met}
 use Rattle.venue_laws.proofs.ConditionOnce.{EntryDone, FactDone, Once, OnceOk, ToldBy, begins}
-use Rattle.venue_laws.proofs.ConditionOnce.{did_in}
-use Rattle.venue_laws.proofs.ConditionOnce.{readies, tells_it}
+use Rattle.venue_laws.proofs.ConditionOnce.{did_in, readies, tells_it}
 use Rattle.venue_laws.proofs.ConditionQuotes.{DropsOfDay}
 use Rattle.venue_laws.proofs.ConditionTable.{duties_fit}
 use Rattle.venue_laws.proofs.CountLemmas.{numbered_shown}
 use Rattle.step_replay.specs.EachLemmas.{Every, each_of}
 use Rattle.step_replay.specs.GrowthLemmas.{names_some, some_same}
 use Rattle.venue_laws.proofs.KnownLemmas.{both_so}
-use Rattle.venue_laws.proofs.NoticeLemmas.{told_or_closable}
+use Rattle.venue_laws.proofs.ShownRequests.{told_or_closable}
 use Rattle.venue_laws.proofs.VenueInvariant.{DutyOk, IsDealer, TellsIn, VenueOk, duties_by}
 use Rattle.venue_laws.proofs.VenueInvariant.{number_for, shows}
 use Rattle.venue_laws.proofs.VenueRooms.{ended_in, is_dealer_named, ready_in}
-use Rattle.venue_laws.proofs.VenueSteps.{next_of}
+use Rattle.venue_laws.proofs.VenueTurns.{next_of}
 use Rattle.venue_laws.proofs.ConditionLists.{at_dealer_all, every_take, in_room_all, not_both}
 use Rattle.venue_laws.proofs.ConditionLists.{one_number, ready_done, room_found, rooms_all}
 use Rattle.venue_laws.proofs.ConditionLists.{tells_by, three, told_done}

@@ -34,7 +34,7 @@ use Rattle.venue_laws.proofs.ConditionEffects.{desk_fits, when_fits}
 use Rattle.venue_laws.proofs.ConditionInvariant.{ByDealer, DutyFit, FactFit, Fit, Fits}
 use Rattle.step_replay.specs.EachLemmas.{Every, every_both}
 use Rattle.step_replay.specs.SeenLemmas.{Seen}
-use Rattle.venue_laws.proofs.VenueInvariant.{named_later}
+use Rattle.venue_laws.proofs.VenueGrowth.{named_later}
 
 -- The words of a dealer's day.
 

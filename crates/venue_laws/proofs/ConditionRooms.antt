@@ -36,7 +36,7 @@ use Rattle.venue_laws.proofs.ConditionInvariant.{named_stays, opened_stays}
 use Rattle.step_replay.specs.EachLemmas.{every_both}
 use Rattle.step_replay.specs.GrowthLemmas.{said_after}
 use Rattle.step_replay.specs.PlaceLemmas.{own_room, room_grown}
-use Rattle.venue_laws.proofs.VenueRooms.{both_true, every_map, named_in}
+use Rattle.venue_laws.proofs.VenueRoomFacts.{both_true, every_map, named_in}
 
 none_is : {A : Type 0} (o : Option A) → is_none o ≡ true → o ≡ None
 none_is None is = refl

@@ -1,19 +1,14 @@
--- Each action does what happens once for the first time, line by line of the market's table.
-use Rattle.std.proofs.Common.{◌≡◌, ℕ, ◌==◌, Bool, true, false, ◌&&◌, ◌||◌, not}
-use Rattle.std.proofs.Common.{List, [], ◌∷◌, ◌++◌, map}
-use Rattle.std.proofs.Common.{Option, Some, None, is_none, is_some, if◌then◌else◌}
-use Rattle.std.proofs.Common.{refl, sym, ap, ◌∙◌, subst}
-use Rattle.std.specs.Prelude.{Result, Ok, Err}
+-- Each action does what happens once for the first time: a room is opened, a dealer is told.
+use Rattle.std.proofs.Common.{◌≡◌, ℕ, ◌==◌, Bool, true, false, ◌&&◌, ◌||◌, not, List, [], ◌∷◌, ◌++◌}
+use Rattle.std.proofs.Common.{map, Option, Some, None, is_none, is_some, if◌then◌else◌, refl, sym}
+use Rattle.std.proofs.Common.{ap, ◌∙◌, subst}
 use Rattle.std.specs.List.{list_any}
 use Rattle.std.proofs.lemmas.List.Folds.{list_any-append}
 use Rattle.market_terms.specs.declared.asks.Ask.{Ask}
 use Rattle.market_terms.specs.declared.closes.Close.{Close}
-use Rattle.market_terms.specs.declared.closes.HitRefusal.{HitRefusal}
 use Rattle.market_terms.specs.declared.duties.Duty.{Duty}
 use Rattle.market_terms.specs.declared.duties.Duty.TheVariants as duty
-use Rattle.market_terms.specs.declared.rooms.ResponseRef.{ResponseRef}
 use Rattle.market_terms.specs.declared.rooms.RoomRef.{RoomRef}
-use Rattle.quote_word.specs.declared.settled.Settled.{Settled}
 use Rattle.venue_rows.specs.Rows.{Configuration}
 use Rattle.venue_rows.specs.declared.dealer_rows.DealerRow.{DealerRow}
 use Rattle.dealer_desk.specs.DealerFacts.{Told}
@@ -21,39 +16,29 @@ use Rattle.dealer_desk.specs.DealerOutput.{closable, is_same_room}
 use Rattle.dealer_desk.specs.DealerOutput as dealer_output
 use Rattle.dealer_desk.specs.declared.events.DealerEvent.{DealerEvent}
 use Rattle.dealer_desk.specs.declared.events.DealerEvent.TheVariants as event
-use Rattle.request_room.specs.Book.{end_by, event_facts, expired, hit_outcome, is_past_deadline}
-use Rattle.request_room.specs.Book.{may_expire, passed, reply_of, where_so}
-use Rattle.request_room.specs.RoomFacts.{Ended, Opened, RoomFact}
-use Rattle.request_room.specs.RoomFacts.{end_of, is_ended, is_named, is_open}
-use Rattle.request_room.specs.RoomFacts.{is_ready, is_vacant, names, request_of}
+use Rattle.request_room.specs.Book.{event_facts, where_so}
+use Rattle.request_room.specs.RoomFacts.{Opened, RoomFact, end_of, is_ended, is_named, is_vacant}
+use Rattle.request_room.specs.RoomFacts.{names, request_of}
 use Rattle.request_room.specs.declared.ends.End.{End}
 use Rattle.request_room.specs.declared.requests.RoomRequest.{RoomRequest}
-use Rattle.venue_steps.specs.RoomSteps.{close_for, dealers_of, reply_to_pass}
-use Rattle.venue_steps.specs.RoomSteps.{shown_then_ready, told_in, told_of_hit, told_to_each}
-use Rattle.step_replay.specs.Actions.{Effect, QuoteRef}
-use Rattle.step_replay.specs.Actions.{at_dealer, dealer_of}
-use Rattle.step_replay.specs.Actions.{duty_effect, hit_with, lifting, nothing}
-use Rattle.step_replay.specs.Actions.{opened, quote_with_word}
-use Rattle.step_replay.specs.Actions.{sweep_effect, told_of}
+use Rattle.venue_steps.specs.RoomSteps.{shown_then_ready}
+use Rattle.step_replay.specs.Actions.{Effect, at_dealer, dealer_of, nothing, opened, told_of}
 use Rattle.step_replay.specs.AuditTrail.{AuditTrail}
 use Rattle.step_replay.specs.DealerTrail.{book_by}
 use Rattle.step_replay.specs.VenueFacts.{Fact, InRoom, of_dealer, of_room}
 use Rattle.venue_places.specs.declared.actors.Actor.{Actor}
 use Rattle.venue_places.specs.declared.actors.Actor.TheVariants as actor
-use Rattle.venue_laws.proofs.ConditionFirst.{BringsFirst, SaidNow, desk_first}
-use Rattle.venue_laws.proofs.ConditionFirst.{free_once}
-use Rattle.venue_laws.proofs.ConditionFirst.{is_free, nothing_first}
+use Rattle.venue_laws.proofs.ConditionFirst.{BringsFirst, SaidNow, desk_first, nothing_first}
 use Rattle.venue_laws.proofs.ConditionFirst.{when_first}
 use Rattle.venue_laws.proofs.ConditionInvariant.{DutyFit, Fit, OpensIn}
-use Rattle.venue_laws.proofs.ConditionMet.{opened_in}
-use Rattle.venue_laws.proofs.ConditionOnce.{FactDone, OnceOk, begins, each_once, none_any}
-use Rattle.venue_laws.proofs.ConditionOnce.{once_stays, readies, tells_it}
+use Rattle.venue_laws.proofs.ConditionAfter.{each_once, none_any}
+use Rattle.venue_laws.proofs.ConditionOnce.{OnceOk, begins, once_stays, readies, tells_it}
 use Rattle.venue_laws.proofs.ConditionTable.{duties_fit}
-use Rattle.step_replay.specs.EachLemmas.{Each, Every, each_append, every_both, every_weaker}
+use Rattle.step_replay.specs.EachLemmas.{Every, each_append, every_weaker}
 use Rattle.step_replay.specs.GrowthLemmas.{same_room}
-use Rattle.venue_laws.proofs.VenueInvariant.{VenueOk, duties_by, number_for, number_for_grown}
-use Rattle.venue_laws.proofs.VenueInvariant.{shows}
-use Rattle.venue_laws.proofs.VenueRooms.{both_true, none_some, not_so}
+use Rattle.venue_laws.proofs.VenueGrowth.{number_for_grown}
+use Rattle.venue_laws.proofs.VenueInvariant.{VenueOk, duties_by, number_for, shows}
+use Rattle.venue_laws.proofs.VenueRoomFacts.{both_true}
 
 none_is : {A : Type 0} (o : Option A) → is_none o ≡ true → o ≡ None
 none_is None is = refl
@@ -67,7 +52,7 @@ module _ (config : Configuration) (venue : AuditTrail) (stood : VenueOk config v
   abbrev queue : List Duty
   queue = duties_by by venue.caused
 
-  abbrev known : RoomRef → List RoomFact
+  abbrev pub known : RoomRef → List RoomFact
   known room = of_room room venue.facts
 
   -- what no duty of the queue does
@@ -110,7 +95,7 @@ module _ (config : Configuration) (venue : AuditTrail) (stood : VenueOk config v
             cc
     unreadied other fits = refl
 
-  untold : (room : RoomRef) → end_of (known room) ≡ None → (dealer : ℕ) (left : Duty)
+  pub untold : (room : RoomRef) → end_of (known room) ≡ None → (dealer : ℕ) (left : Duty)
       → DutyFit config venue.facts by left → tells_it dealer room left ≡ false
   untold room none dealer (duty.Tell other at close moment) fits =
       by_test (other == dealer) (is_same_room at room) refl
@@ -176,131 +161,6 @@ module _ (config : Configuration) (venue : AuditTrail) (stood : VenueOk config v
             done = (by_investor room (begins room) opens.by_is done, tt);
           }
       by_test false vacant = record { order = tt; done = tt }
-
-  -- Ends.
-
-  told_order : (front : List Duty) (room : RoomRef) (end : End) (moment : ℕ)
-      → ((dealer : ℕ) → list_any (tells_it dealer room) front ≡ false)
-      → Each OnceOk front (told_in (known room) room end moment)
-  told_order front room end moment clear = by_request (request_of (known room)) refl
-    where
-      tell : ℕ → Duty
-      tell dealer = duty.Tell dealer room (close_for end dealer) moment
-
-      by_request : (request : Option RoomRequest) → request_of (known room) ≡ request
-          → Each OnceOk front (told_to_each room end (dealers_of request) moment)
-      by_request None found = tt
-      by_request (Some request) found =
-          each_once tell (λ dealer. tells_it dealer room)
-          (λ dealer other differs. ap (λ (b : Bool). b && is_same_room room room) differs)
-          (λ before dealer rest none. none) front request.dealers
-          (opened_in config venue stood fit room request found).distinct
-          (λ dealer named. clear dealer)
-
-  ended_order : (room : RoomRef) (end : End) (moment : ℕ) (head : Duty) → is_free head ≡ true
-      → ((dealer : ℕ) → tells_it dealer room head ≡ false) → is_open (known room) ≡ true
-      → Each OnceOk queue (head ∷ told_in (known room) room end moment)
-  ended_order room end moment head free silent was_open =
-      let none = none_some (end_of (known room)) (not_so (is_ended (known room))
-      (both_true (is_ready (known room)) (not (is_ended (known room))) was_open).1) in (
-        free_once queue head (told_in (known room) room end moment) free,
-        told_order (queue ++ head ∷ []) room end moment
-            (λ dealer. list_any-append (tells_it dealer room) queue (head ∷ [])
-            ∙ ap (λ (b : Bool). b || (tells_it dealer room head || false))
-            (none_of (tells_it dealer room) (untold room none dealer))
-            ∙ ap (λ (b : Bool). b || false) (silent dealer)),
-      )
-
-  pub passed_first : (room : RoomRef) (response : ResponseRef) (moment : ℕ)
-      → Brings (duty_effect config venue.facts by (duty.Pass room response moment))
-  unfolding event_facts duty_effect
-  passed_first room response moment =
-      when_first config venue by did _ _ (λ test. by_test (is_open (known room)) refl)
-    where
-      effect : Bool → Effect
-      effect b = record {
-        facts = map (InRoom room) (where_so b (Ended passed moment));
-        duties = duty.Answer room response (reply_to_pass b) moment
-            ∷ (if b then told_in (known room) room passed moment else []);
-      }
-
-      by_test : (b : Bool) → is_open (known room) ≡ b → Brings (effect b)
-      by_test true is = record {
-        order = ended_order room passed moment
-            (duty.Answer room response (reply_to_pass true) moment) refl (λ dealer. refl) is;
-        done = (tt, tt);
-      }
-      by_test false is = record { order = (tt, tt); done = tt }
-
-  pub expired_first : (room : RoomRef) (moment : ℕ)
-      → Brings (sweep_effect config venue.facts room moment)
-  unfolding event_facts sweep_effect
-  expired_first room moment =
-      when_first config venue by did _ _ (λ test. by_test (may_expire (known room) moment) refl)
-    where
-      effect : Bool → Effect
-      effect b = record {
-        facts = map (InRoom room) (where_so b (Ended expired moment));
-        duties = if b then duty.Close room moment ∷ told_in (known room) room expired moment
-            else [];
-      }
-
-      by_test : (b : Bool) → may_expire (known room) moment ≡ b → Brings (effect b)
-      by_test true is = record {
-        order = ended_order room expired moment (duty.Close room moment) refl (λ dealer. refl)
-            (both_true (is_open (known room))
-            (is_past_deadline (request_of (known room)) moment) is).0;
-        done = (tt, tt);
-      }
-      by_test false is = record { order = tt; done = tt }
-
-  lifting_done : (now : List Fact) (found : Option QuoteRef) (outcome : Result End HitRefusal)
-      → Every (FactDone now did) (lifting found outcome)
-  lifting_done now None outcome = tt
-  lifting_done now (Some hit) (Ok award) = (tt, tt)
-  lifting_done now (Some hit) (Err why) = tt
-
-  pub hit_first : (room : RoomRef) (response : ResponseRef) (word moment : ℕ)
-      (settlement : Option Settled)
-      → ((award : End) → hit_outcome (known room) word moment settlement ≡ Ok award
-      → is_open (known room) ≡ true)
-      → Brings (hit_with config venue.facts room response word moment settlement)
-  unfolding event_facts
-  hit_first room response word moment settlement was_open =
-      by_outcome (hit_outcome (known room) word moment settlement) refl
-    where
-      added : Result End HitRefusal → List Fact
-      added outcome = lifting (quote_with_word config word) outcome
-          ++ map (InRoom room) (end_by outcome moment)
-
-      effect : Result End HitRefusal → Effect
-      effect outcome = record {
-        facts = added outcome;
-        duties = duty.Answer room response (reply_of outcome) moment
-            ∷ told_of_hit (known room) room moment outcome;
-      }
-
-      ended : (now : List Fact) (outcome : Result End HitRefusal)
-          → Every (FactDone now did) (map (InRoom room) (end_by outcome moment))
-      ended now (Ok award) = (tt, tt)
-      ended now (Err why) = tt
-
-      all_done : (now : List Fact) (outcome : Result End HitRefusal)
-          → Every (FactDone now did) (added outcome)
-      all_done now outcome =
-          every_both (FactDone now did) (lifting (quote_with_word config word) outcome)
-          (map (InRoom room) (end_by outcome moment))
-          (lifting_done now (quote_with_word config word) outcome) (ended now outcome)
-
-      by_outcome : (outcome : Result End HitRefusal)
-          → hit_outcome (known room) word moment settlement ≡ outcome → Brings (effect outcome)
-      by_outcome (Ok award) is = record {
-        order = ended_order room award moment
-            (duty.Answer room response (reply_of (Ok award)) moment) refl (λ dealer. refl)
-            (was_open award is);
-        done = all_done _ (Ok award);
-      }
-      by_outcome (Err why) is = record { order = (tt, tt); done = all_done _ (Err why) }
 
   -- At a dealer.
 

@@ -31,11 +31,11 @@ use Rattle.step_replay.specs.Actions.{shown_to, told_of, told_to}
 use Rattle.venue_laws.proofs.Erasing.{erase, erase_close, erase_entry, erase_book, erase_duty}
 use Rattle.venue_laws.proofs.Erasing.{erase_room_fact, erase_investor_entry}
 use Rattle.venue_laws.proofs.ErasedLists.{filter_map_erased, map_swap}
-use Rattle.venue_laws.proofs.ErasedBook.{closable_same}
+use Rattle.venue_laws.proofs.ErasedRules.{closable_same}
 use Rattle.venue_laws.proofs.ErasedEntries as entries
 use Rattle.venue_laws.proofs.ErasedInvestor.{knows_same}
-use Rattle.venue_laws.proofs.ErasedShown.{erase_event, event_same}
-use Rattle.venue_laws.proofs.ErasedShown.{book_by_same as investor_book_same}
+use Rattle.venue_laws.proofs.ErasedEvents.{erase_event}
+use Rattle.venue_laws.proofs.ErasedShown.{event_same, book_by_same as investor_book_same}
 
 -- two actions add and leave the same, but for what is erased
 pub record AreAlike (own : ℕ) (one other : Effect) : Type 0 where

@@ -44,8 +44,9 @@ use Rattle.venue_places.specs.declared.actors.Actor.{Actor}
 use Rattle.venue_laws.proofs.Erasing.{erase_entry, erase_verdict, erase_duty}
 use Rattle.venue_laws.proofs.Erasing.{erase_room_fact}
 use Rattle.venue_laws.proofs.ErasedLists.{list_of}
-use Rattle.venue_laws.proofs.ErasedBook as book
+use Rattle.venue_laws.proofs.ErasedRules as book
 use Rattle.venue_laws.proofs.ErasedEntries as entries
+use Rattle.venue_laws.proofs.ErasedVerdicts as verdicts
 use Rattle.venue_laws.proofs.ErasedRoom.{hears_same, happens_same, post_happens}
 use Rattle.venue_laws.proofs.ErasedDuties.{open_left, post_left, unpost_left, decline_left}
 use Rattle.venue_laws.proofs.ErasedDuties.{pass_left}
@@ -57,7 +58,8 @@ use Rattle.venue_laws.proofs.ErasedActions.{investor_same, if_alike, done_alike}
 use Rattle.venue_laws.proofs.ErasedActions.{market_alike, desk_alike, room_alike, investor_alike}
 use Rattle.venue_laws.proofs.ErasedActions.{known_alike, rooms_known, book_known, shown_alike}
 use Rattle.venue_laws.proofs.ErasedActions.{told_alike}
-use Rattle.venue_laws.proofs.ErasedDrops.{dropped_alike, hit_alike}
+use Rattle.venue_laws.proofs.ErasedDrops.{dropped_alike}
+use Rattle.venue_laws.proofs.ErasedHits.{hit_alike}
 
 module _ (config : Configuration) (own : ℕ) (facts : List Fact) where
   -- the facts without prices
@@ -238,7 +240,7 @@ module _ (config : Configuration) (own : ℕ) (facts : List Fact) where
 
     answer_is : settlement_of trail v ≡ settlement_of after w
     answer_is =
-        ap (option_map (answer_to_dealer trail)) (entries.asked_alike v w alike)
+        ap (option_map (answer_to_dealer trail)) (verdicts.asked_alike v w alike)
         ∙ sym (ap (λ (l : List DealerEntry). option_map (answer_to_dealer l) (word_asked w))
         (dealer_same config own facts dealer.number)
         ∙ entries.answers_same (is_own config own facts dealer.number) trail (word_asked w))
@@ -247,7 +249,7 @@ module _ (config : Configuration) (own : ℕ) (facts : List Fact) where
     left_is =
         list_of erase_duty _
         ∙ ap (λ (d : Option Duty). option_to_list d)
-        (entries.duty_alike v w alike (rooms_by trail) moment (settlement_of trail v)
+        (verdicts.duty_alike v w alike (rooms_by trail) moment (settlement_of trail v)
         ∙ ap (λ (settlement : Option Settled). option_map erase_duty
         (dealer_output.verdict_duty (rooms_by trail) moment w settlement)) answer_is
         ∙ ap (λ (rooms : List RoomRef). option_map erase_duty
@@ -262,7 +264,7 @@ module _ (config : Configuration) (own : ℕ) (facts : List Fact) where
         (dealer_receives config known dealer moment others u)) (sym verdict_is)
         (if_alike config own facts _ _ _ _
         (ap (λ (q : Option ℕ). has_word (words_of config) (option_map (word_for config dealer) q))
-        (entries.asked_alike v w alike))
+        (verdicts.asked_alike v w alike))
         (desk_alike config own facts dealer
         (at_desk.Received moment bytes (settlement_of trail v))
         (at_desk.Received moment others (settlement_of after w))

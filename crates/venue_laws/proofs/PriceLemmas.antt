@@ -1,37 +1,29 @@
 -- Blindness to prices: two days that are one but for the prices of other dealers stay one without
 -- prices, step by step.
-use Rattle.std.proofs.Common.{◌≡◌, ℕ, ◌==◌, Bool, true, false, List, [], ◌∷◌, ◌++◌, map, filter_map}
-use Rattle.std.proofs.Common.{drop, count_by, fold, Option, Some, None, option_map, is_some}
-use Rattle.std.proofs.Common.{refl, sym, ap, ◌∙◌, subst, if◌then◌else◌, ◌⊎◌, inl, inr, eq-eqb}
+use Rattle.std.proofs.Common.{◌≡◌, ℕ, ◌==◌, false, List, [], ◌∷◌, ◌++◌, map, filter_map, drop}
+use Rattle.std.proofs.Common.{count_by, fold, Option, Some, None, option_map, is_some, refl, sym}
+use Rattle.std.proofs.Common.{ap, ◌∙◌, subst, if◌then◌else◌, ◌⊎◌, inl, inr}
 use Rattle.std.proofs.lemmas.List.{map-append, drop-map}
-use Rattle.market_terms.specs.declared.closes.Close.{Close}
-use Rattle.market_terms.specs.declared.closes.Close.TheVariants as closes
 use Rattle.market_terms.specs.declared.duties.Duty.{Duty}
 use Rattle.fix_fields.specs.Frame.{Field, IsFrame, frame_of}
 use Rattle.venue_rows.specs.Rows.{Configuration, dealer_numbered}
 use Rattle.venue_rows.specs.declared.dealer_rows.DealerRow.{DealerRow}
-use Rattle.dealer_desk.specs.DealerFacts.{Came, Shown, Told, Dropped}
 use Rattle.investor_desk.specs.InvestorOutput.{market_for}
-use Rattle.step_replay.specs.DealerTrail.{DealerEntry, AtDesk, Lifted, book_by}
-use Rattle.step_replay.specs.DueList.{due_by, due_list}
+use Rattle.step_replay.specs.DealerTrail.{book_by}
 use Rattle.step_replay.specs.VenueFacts.{Fact, of_dealer}
 use Rattle.step_replay.specs.Actions.{Effect, dealer_of, done_by, done_for, received_by_dealer}
-use Rattle.step_replay.specs.Actions.{received_by_investor, duty_effect, message_effect, sweep_effect}
+use Rattle.step_replay.specs.Actions.{received_by_investor, duty_effect, message_effect}
+use Rattle.step_replay.specs.Actions.{sweep_effect}
 use Rattle.step_replay.specs.AuditTrail.{AuditTrail, Caused, no_steps, duty_of, is_same_actor}
 use Rattle.step_replay.specs.AuditTrail.{pending, with_effect, after_turn, after_step, audit_trail}
-use Rattle.step_replay.specs.AuditTrail.{due_to}
 use Rattle.venue_laws.specs.PriceAlike.{DiffersInPrices, IsPricedByAnother, IsPriceAlike}
-use Rattle.venue_laws.specs.PriceAlike.{IsCoverAgainstDoneAway, IsOneButForCover}
-use Rattle.step_replay.specs.declared.dues.Due.{Due}
-use Rattle.step_replay.specs.declared.dues.Due.TheVariants as due
 use Rattle.venue_places.specs.declared.actors.Actor.{Actor}
 use Rattle.venue_places.specs.declared.actors.Actor.TheVariants as actor
 use Rattle.step_replay.specs.declared.steps.Step.{Step}
 use Rattle.step_replay.specs.declared.steps.Step.TheVariants as step
-use Rattle.venue_laws.proofs.Erasing.{erase, erase_close, erase_entry, erase_duty, erase_caused}
-use Rattle.venue_laws.proofs.Erasing.{erase_due}
+use Rattle.venue_laws.proofs.Erasing.{erase, erase_duty, erase_caused}
 use Rattle.venue_laws.proofs.ErasedLists.{filter_map_erased, map_swap, map_cond}
-use Rattle.venue_laws.proofs.ErasedActions.{AreAlike, dealer_same}
+use Rattle.venue_laws.proofs.ErasedActions.{AreAlike}
 use Rattle.venue_laws.proofs.ErasedSteps.{duty_alike, message_alike, sweep_alike, said_alike}
 use Rattle.venue_laws.proofs.AskedGrids.{book_bears}
 use Rattle.venue_laws.proofs.AskedDays.{DayBears, step_bears}
@@ -255,94 +247,10 @@ module _ (config : Configuration) (own : ℕ) where
         (step_bears config one more bears)
         (either_step one other more more_too bears before alike.0) alike.1
 
-    all_days : (steps others : List Step) → IsPriceAlike config own steps others
+    pub all_days : (steps others : List Step) → IsPriceAlike config own steps others
         → AreDays own (audit_trail config steps) (audit_trail config others)
     unfolding audit_trail
     all_days steps others alike =
         days_same no_steps no_steps steps others
         (record { facts_bear = tt; caused_bear = tt })
         (record { facts_are = refl; caused_are = refl; done_are = refl }) alike
-
--- Due lists.
-
-due_same : (entry : DealerEntry)
-    → due_by (erase_entry true entry) ≡ option_map erase_due (due_by entry)
-due_same (AtDesk (Came moment bytes used)) = refl
-due_same (AtDesk (Shown ask moment)) = refl
-due_same (AtDesk (Told request close moment)) = refl
-due_same (AtDesk (Dropped last moment)) = refl
-due_same (AtDesk fact) = refl
-due_same (Lifted quote) = refl
-due_same entry = refl
-
-due_list_is : (config : Configuration) (own : ℕ) (facts : List Fact)
-    → map erase_due (due_list (of_dealer own facts))
-    ≡ due_list (of_dealer own (map (erase own) facts))
-due_list_is config own facts =
-    let same : (own == own) ≡ true = eq-eqb own own refl in
-    sym (ap (λ (l : List DealerEntry). due_list l)
-    (dealer_same config own facts own
-    ∙ ap (λ (b : Bool). map (erase_entry b) (of_dealer own facts)) same)
-    ∙ filter_map_erased (erase_entry true) due_by due_by erase_due due_same (of_dealer own facts))
-
--- two items are one, but that Cover may stand against Done Away
-abbrev pub AreItems : Due → Due → Type 0
-AreItems one other =
-    (one ≡ other) ⊎ IsCoverAgainstDoneAway one other ⊎ IsCoverAgainstDoneAway other one
-
-same_notice : (request again moment later : ℕ) (one other : Close) → request ≡ again
-    → moment ≡ later → one ≡ other
-    → due.Closed request one moment ≡ due.Closed again other later
-same_notice request again moment later one other requests moments closes =
-    ap (λ (r : ℕ). due.Closed r one moment) requests
-    ∙ ap (λ (c : Close). due.Closed again c moment) closes
-    ∙ ap (λ (m : ℕ). due.Closed again other m) moments
-
-notices : (request again moment later : ℕ) (one other : Close) → request ≡ again
-    → moment ≡ later → erase_close one ≡ erase_close other
-    → AreItems (due.Closed request one moment) (due.Closed again other later)
-notices request again moment later closes.Cover closes.Cover requests moments same =
-    inl (same_notice request again moment later closes.Cover closes.Cover requests moments refl)
-notices request again moment later closes.Cover closes.DoneAway requests moments same =
-    inr (inl (requests, moments))
-notices request again moment later closes.DoneAway closes.Cover requests moments same =
-    inr (inr (sym requests, sym moments))
-notices request again moment later closes.Cover other requests moments same = cc
-notices request again moment later one closes.Cover requests moments same = cc
-notices request again moment later one other requests moments same =
-    inl (same_notice request again moment later one other requests moments same)
-
-items : (one other : Due) → erase_due one ≡ erase_due other → AreItems one other
-items (due.Closed request one moment) (due.Closed again other later) same =
-    let requests : request ≡ again = cc in
-    let moments : moment ≡ later = cc in
-    let ends : erase_close one ≡ erase_close other = cc in
-    notices request again moment later one other requests moments ends
-items (due.Closed request one moment) other same = cc
-items one (due.Closed again other later) same = cc
-items one other same = inl same
-
-lists : (dues others : List Due) → map erase_due dues ≡ map erase_due others
-    → IsOneButForCover dues others
-lists [] [] same = tt
-lists [] (other ∷ others) same = cc
-lists (one ∷ dues) [] same = cc
-lists (one ∷ dues) (other ∷ others) same =
-    let first : erase_due one ≡ erase_due other = cc in
-    let later : map erase_due dues ≡ map erase_due others = cc in
-    (items one other first, lists dues others later)
-
--- what is due is one but for the cover
-pub is_blind : ((bytes : List ℕ) (fields : List Field) → IsFrame bytes fields
-    → frame_of bytes ≡ Some fields) → (config : Configuration) (steps others : List Step) (own : ℕ)
-    → IsPriceAlike config own steps others
-    → IsOneButForCover (due_to own (audit_trail config steps))
-    (due_to own (audit_trail config others))
-is_blind reads config steps others own alike =
-    let day = audit_trail config steps in
-    let other = audit_trail config others in
-    lists (due_to own day) (due_to own other)
-    (due_list_is config own day.facts
-    ∙ ap (λ (l : List Fact). due_list (of_dealer own l))
-    (all_days config own reads steps others alike).facts_are
-    ∙ sym (due_list_is config own other.facts))

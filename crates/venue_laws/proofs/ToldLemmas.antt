@@ -28,7 +28,8 @@ use Rattle.step_replay.specs.GrowthLemmas.{In, same_room, some_same}
 use Rattle.step_replay.specs.QueueLemmas.{same_actor}
 use Rattle.venue_laws.proofs.VenueInvariant.{ClosedIn, DoneOk, EntryOk, FactOk, IsDealer, VenueOk}
 use Rattle.venue_laws.proofs.VenueInvariant.{WasTold, done_by, duties_by}
-use Rattle.venue_laws.proofs.VenueRooms.{ended_in, every_in, is_dealer_named}
+use Rattle.venue_laws.proofs.VenueRoomFacts.{every_in}
+use Rattle.venue_laws.proofs.VenueRooms.{ended_in, is_dealer_named}
 
 -- The only notice of a request.
 

@@ -52,10 +52,12 @@ use Rattle.venue_laws.proofs.VenueDesk.{said_brings}
 use Rattle.venue_laws.proofs.VenueEnds.{expired_brings}
 use Rattle.venue_laws.proofs.VenueInvariant.{DoneOk, DutyOk, InOrder, IsDealer, VenueOk, duties_by}
 use Rattle.venue_laws.proofs.VenueInvariant as ran
-use Rattle.venue_laws.proofs.VenuePlain.{Brings, Fine, dealer_brings, if_brings}
-use Rattle.venue_laws.proofs.VenuePlain.{market_brings, nothing_brings, plain_fine}
-use Rattle.venue_laws.proofs.VenueShow.{LoneQuotes}
-use Rattle.venue_laws.proofs.VenueSteps.{Basic, KeepsDesks, NextOf, effect_ok, next_of, turn_ok}
+use Rattle.venue_laws.proofs.PlainFacts.{Fine, plain_fine}
+use Rattle.venue_laws.proofs.VenuePlain.{Brings, dealer_brings, if_brings, market_brings}
+use Rattle.venue_laws.proofs.VenuePlain.{nothing_brings}
+use Rattle.venue_laws.proofs.LiveQuotes.{LoneQuotes}
+use Rattle.venue_laws.proofs.VenueSteps.{Basic, KeepsDesks, effect_ok, turn_ok}
+use Rattle.venue_laws.proofs.VenueTurns.{NextOf, next_of}
 use Rattle.venue_laws.proofs.VenueTable.{Does, at_split, basic_is_kept, duties_ok, turn_does}
 
 -- A request names dealers of the venue.

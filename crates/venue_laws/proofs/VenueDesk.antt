@@ -1,48 +1,29 @@
 -- What happens at a dealer's desk brings what stands in a venue.
-use Rattle.std.proofs.Common.{◌≡◌, ◌≤◌, ℕ, ◌+◌, ◌-◌, Bool, true, false, ◌&&◌, nat_le}
-use Rattle.std.proofs.Common.{List, [], ◌∷◌, ◌++◌, map, find, option_to_list}
-use Rattle.std.proofs.Common.{Option, Some, None, option_map, if◌then◌else◌, cond, inl, inr}
-use Rattle.std.proofs.Common.{refl, sym, ap, ◌∙◌, subst, arith}
-use Rattle.std.proofs.lemmas.Bool.Decides.{nat_tests}
+use Rattle.std.proofs.Common.{◌≡◌, ◌≤◌, ℕ, ◌+◌, ◌-◌, Bool, true, false, ◌&&◌, nat_le, List, [], ◌∷◌}
+use Rattle.std.proofs.Common.{◌++◌, map, option_to_list, Option, Some, None, option_map}
+use Rattle.std.proofs.Common.{if◌then◌else◌, inl, inr, refl, sym, ap, ◌∙◌, subst, arith}
 use Rattle.std.proofs.lemmas.List.Elements.{filter_map-append}
-use Rattle.market_terms.specs.Checks.{first_refusal}
 use Rattle.market_terms.specs.declared.duties.Duty.{Duty}
 use Rattle.market_terms.specs.declared.duties.Duty.TheVariants as duty
 use Rattle.market_terms.specs.declared.rooms.RoomRef.{RoomRef}
-use Rattle.quote_messages.specs.declared.arrivals.Arrival.{Arrival}
-use Rattle.quote_messages.specs.declared.arrivals.Arrival.TheVariants as arrival
-use Rattle.quote_messages.specs.Arrivals.{dealer_arrival}
-use Rattle.quote_messages.specs.declared.quotes.CancelScope.{CancelScope}
-use Rattle.quote_messages.specs.declared.quotes.CancelScope.TheVariants as cancels
-use Rattle.quote_messages.specs.declared.quotes.DealerMessage.{DealerMessage}
-use Rattle.quote_messages.specs.declared.quotes.DealerMessage.TheVariants as message
-use Rattle.quote_messages.specs.declared.quotes.Quote.{Quote}
-use Rattle.quote_messages.specs.declared.reject_reasons.QuoteRejectReason.{QuoteRejectReason}
 use Rattle.quote_word.specs.declared.settled.Settled.{Settled}
 use Rattle.venue_rows.specs.Rows.{Configuration, dealer_numbered}
 use Rattle.venue_rows.specs.declared.dealer_rows.DealerRow.{DealerRow}
-use Rattle.dealer_desk.specs.DealerFacts.{Came, DealerBook, DealerFact, Dropped, Quoted, Shown}
-use Rattle.dealer_desk.specs.DealerFacts.{book_of, standing_request}
-use Rattle.dealer_desk.specs.DealerFacts.{requests_from, request_named, quotes_accepted}
-use Rattle.dealer_desk.specs.DealerFacts.{number_to_drop, quote_to_drop, expected_number}
-use Rattle.dealer_desk.specs.DealerRules.{dealer_verdict, arrival_verdict, message_verdict}
-use Rattle.dealer_desk.specs.DealerRules.{quote_verdict, quote_refusal, quote_answer}
-use Rattle.dealer_desk.specs.DealerRules.{quote_checks, cancel_verdict, cancel_of, cancel_answer}
-use Rattle.dealer_desk.specs.DealerRules.{cancel_checks, decline_verdict}
-use Rattle.dealer_desk.specs.DealerRules.{decline_answer}
+use Rattle.dealer_desk.specs.DealerFacts.{Came, DealerFact, Dropped, Quoted, number_to_drop}
+use Rattle.dealer_desk.specs.DealerFacts.{quote_to_drop}
+use Rattle.dealer_desk.specs.DealerRules.{dealer_verdict}
 use Rattle.dealer_desk.specs.DealerOutput.{event_facts, verdict_facts, settled_facts, goes_through}
-use Rattle.dealer_desk.specs.DealerOutput.{verdict_duty, unpost_dropped, post_of}
-use Rattle.dealer_desk.specs.DealerOutput.{is_withdrawn, room_of, uses_number}
+use Rattle.dealer_desk.specs.DealerOutput.{verdict_duty, unpost_dropped, post_of, is_withdrawn}
+use Rattle.dealer_desk.specs.DealerOutput.{room_of, uses_number}
 use Rattle.dealer_desk.specs.declared.accepted.AcceptedQuote.{AcceptedQuote}
 use Rattle.dealer_desk.specs.declared.events.DealerEvent.{DealerEvent}
 use Rattle.dealer_desk.specs.declared.events.DealerEvent.TheVariants as event
 use Rattle.dealer_desk.specs.declared.standing.StandingQuote.{StandingQuote}
-use Rattle.dealer_desk.specs.declared.standing.StandingRequest.{StandingRequest}
 use Rattle.dealer_desk.specs.declared.standing.Withdrawal.TheVariants as by_way
 use Rattle.dealer_desk.specs.declared.verdicts.DealerVerdict.{DealerVerdict}
 use Rattle.dealer_desk.specs.declared.verdicts.DealerVerdict.TheVariants as verdict
-use Rattle.step_replay.specs.Actions.{Effect, settlement_of, answer_to_drop, dealer_of}
-use Rattle.step_replay.specs.Actions.{drop_at, dropped_by, left_by, left_by_drop, nothing}
+use Rattle.step_replay.specs.Actions.{Effect, settlement_of, answer_to_drop, dealer_of, drop_at}
+use Rattle.step_replay.specs.Actions.{dropped_by, left_by, left_by_drop, nothing}
 use Rattle.step_replay.specs.Actions.{received_by_dealer}
 use Rattle.step_replay.specs.AuditTrail.{AuditTrail}
 use Rattle.step_replay.specs.DealerTrail.{AtDesk, DealerEntry, Sent, ShownIn, book_by, entries_of}
@@ -51,132 +32,15 @@ use Rattle.step_replay.specs.VenueFacts.{AtDealer, Fact, of_dealer}
 use Rattle.venue_places.specs.declared.actors.Actor.TheVariants as actor
 use Rattle.step_replay.specs.EachLemmas.{Every, every_both}
 use Rattle.step_replay.specs.GrowthLemmas.{AreNumbered, In, in_right}
-use Rattle.venue_laws.proofs.NoticeLemmas.{settled_silent, verdict_silent}
+use Rattle.venue_laws.proofs.SilentEntries.{settled_silent, verdict_silent}
 use Rattle.step_replay.specs.OwnerLemmas.{same_value}
 use Rattle.step_replay.specs.PlaceLemmas.{dealer_grown, own_trail}
 use Rattle.step_replay.specs.TrailLemmas.{facts_added}
+use Rattle.venue_laws.proofs.VenueGrowth.{number_for_grown}
 use Rattle.venue_laws.proofs.VenueInvariant.{VenueOk, number_for}
-use Rattle.venue_laws.proofs.VenueInvariant.{number_for_grown}
-use Rattle.venue_laws.proofs.VenuePlain.{Brings, Fine, desk_plain, event_plain}
-use Rattle.venue_laws.proofs.VenuePlain.{if_brings, nothing_brings, plain_fine}
-
--- What an accepted quote says.
-
--- the first refusal of some checks is none, where none of them holds
-pub none_holds : {A : Type 0} (checks : List (Bool × A)) → first_refusal checks ≡ None
-    → Every (λ (check : Bool × A). check.0 ≡ false) checks
-none_holds [] none = tt
-none_holds {A} (check ∷ checks) none =
-    by_test check.0 refl none (λ later. none_holds checks later)
-  where
-    by_test : (b : Bool) → check.0 ≡ b
-        → (if b then Some check.1 else first_refusal checks) ≡ None
-        → (first_refusal checks ≡ None → Every (λ (c : Bool × A). c.0 ≡ false) checks)
-        → (check.0 ≡ false) × Every (λ (c : Bool × A). c.0 ≡ false) checks
-    by_test true test found later = cc
-    by_test false test found later = (test, later found)
-
--- an accepted quote is one of the day's, on a request from 1 on
-abbrev AcceptOk : DealerRow → DealerVerdict → Type 0
-AcceptOk row (verdict.QuoteAccepted name id quote replaced) =
-    (1 ≤ quote.request) × ((nat_le 1 quote.number && nat_le quote.number row.quotes) ≡ true)
-AcceptOk row other = Unit {0}
-
-least_number : (first : ℕ) (test : StandingRequest → Bool) (facts : List DealerFact)
-    (request : StandingRequest) → find test (requests_from first facts) ≡ Some request
-    → first ≤ request.number
-least_number first test [] request is = cc
-least_number first test (Shown ask moment ∷ later) request is =
-    by_test (test shown) refl is (λ found. least_number (first + 1) test later request found)
-  where
-    shown : StandingRequest
-    shown = standing_request first ask later
-
-    by_test : (b : Bool) → test shown ≡ b
-        → cond b (Some shown) (find test (requests_from (first + 1) later)) ≡ Some request
-        → (find test (requests_from (first + 1) later) ≡ Some request
-        → first + 1 ≤ request.number)
-        → first ≤ request.number
-    by_test true is_it found later_on =
-        let same : first ≡ request.number =
-        ap (λ (r : StandingRequest). r.number) (same_value shown request found) in
-        omega arith
-    by_test false is_it found later_on =
-        let least : first + 1 ≤ request.number = later_on found in
-        omega arith
-least_number first test (fact ∷ later) request is = least_number first test later request is
-
-module _ (row : DealerRow) (facts : List DealerFact) (moment : ℕ) where
-  -- the book by these facts
-  abbrev book : DealerBook
-  book = book_of facts
-
-  quote_accepts : (quote : Quote) (request : Option StandingRequest)
-      → request_named book quote.request ≡ request
-      → (refusal : Option QuoteRejectReason) → quote_refusal row book moment quote request ≡ refusal
-      → AcceptOk row (quote_answer book moment quote request refusal)
-  unfolding request_named quote_refusal
-  quote_accepts quote None named None refused = tt
-  quote_accepts quote None named (Some reason) refused = tt
-  quote_accepts quote (Some request) named (Some reason) refused = tt
-  quote_accepts quote (Some request) named None refused =
-      let least : 1 ≤ request.number = least_number 1 _ facts request named in
-      let checks = none_holds (quote_checks row book moment quote (Some request)) refused in
-      let few : nat_le row.quotes (quotes_accepted book) ≡ false =
-      checks.1.1.1.1.1.1.1.1.1.1.0 in
-      let within : (nat_le 1 (quotes_accepted book + 1)
-      && nat_le (quotes_accepted book + 1) row.quotes) ≡ true = of_day (quotes_accepted book) few in
-      (least, within)
-    where
-      of_day : (n : ℕ) → nat_le row.quotes n ≡ false
-          → (nat_le 1 (n + 1) && nat_le (n + 1) row.quotes) ≡ true
-      of_day n few = grind (arith, nat_tests)
-
-  cancel_accepts : (id : List ℕ) (own : StandingQuote) (refusal : Option QuoteRejectReason)
-      → AcceptOk row (cancel_answer id own refusal)
-  cancel_accepts id own (Some reason) = tt
-  cancel_accepts id own None = tt
-
-  found_accepts : (id : List ℕ) (own : Option StandingQuote) → AcceptOk row (cancel_of id own)
-  found_accepts id None = tt
-  found_accepts id (Some own) = cancel_accepts id own (first_refusal (cancel_checks own))
-
-  if_accepts : (b : Bool) (one other : DealerVerdict) → AcceptOk row one → AcceptOk row other
-      → AcceptOk row (if b then one else other)
-  if_accepts true one other first second = first
-  if_accepts false one other first second = second
-
-  scope_accepts : (scope : CancelScope) → AcceptOk row (cancel_verdict book scope)
-  unfolding cancel_verdict
-  scope_accepts (cancels.One id) = found_accepts id _
-  scope_accepts (cancels.All id) =
-      if_accepts _ (verdict.Refused _) (verdict.DropsFollow (quotes_accepted book)) tt tt
-  scope_accepts (cancels.Other cancel_type id) = tt
-
-  decline_accepts : (name : List ℕ) (request : Option StandingRequest)
-      (refusal : Option QuoteRejectReason) → AcceptOk row (decline_answer name request refusal)
-  decline_accepts name request (Some reason) = tt
-  decline_accepts name None None = tt
-  decline_accepts name (Some request) None = tt
-
-  message_accepts : (said : DealerMessage) → AcceptOk row (message_verdict row book moment said)
-  unfolding quote_verdict decline_verdict
-  message_accepts (message.Quote quote) = quote_accepts quote _ refl _ refl
-  message_accepts (message.Cancel cancel) = scope_accepts cancel.scope
-  message_accepts (message.Decline decline) = decline_accepts decline.request _ _
-
-  arrival_accepts : (came : Arrival DealerMessage)
-      → AcceptOk row (arrival_verdict row book moment came)
-  arrival_accepts arrival.Dropped = tt
-  arrival_accepts (arrival.OutOfSequence reject) = tt
-  arrival_accepts (arrival.Rejected reject) = tt
-  arrival_accepts (arrival.Taken said) = message_accepts said
-
-  verdict_accepts : (date : List ℕ) (bytes : List ℕ)
-      → AcceptOk row (dealer_verdict date row book moment bytes)
-  unfolding dealer_verdict
-  verdict_accepts date bytes =
-      arrival_accepts (dealer_arrival date row (expected_number book) bytes)
+use Rattle.venue_laws.proofs.PlainFacts.{Fine, event_plain, plain_fine}
+use Rattle.venue_laws.proofs.VenuePlain.{Brings, desk_plain, if_brings, nothing_brings}
+use Rattle.venue_laws.proofs.AcceptedQuotes.{AcceptOk, verdict_accepts}
 
 module _ (config : Configuration) (venue : AuditTrail) where
   -- the trail of a dealer

@@ -1,12 +1,8 @@
 -- What an effect has to bring for what stands in a venue to stand after it.
-use Rattle.std.proofs.Common.{◌≡◌, ◌≤◌, ℕ, zero, suc, ◌+◌, Bool, true, false, cond}
-use Rattle.std.proofs.Common.{List, [], ◌∷◌, ◌++◌, map, length, take, drop, count_by}
-use Rattle.std.proofs.Common.{Option, Some, None, if◌then◌else◌}
-use Rattle.std.proofs.Common.{refl, sym, ap, ◌∙◌, subst, arith}
-use Rattle.std.proofs.lemmas.Bool.Decides.{nat_tests}
+use Rattle.std.proofs.Common.{◌≡◌, ◌≤◌, ℕ, suc, ◌+◌, Bool, true, false, List, [], ◌∷◌, ◌++◌, length}
+use Rattle.std.proofs.Common.{take, count_by, Option, Some, None, refl, sym, ap, ◌∙◌, subst, arith}
 use Rattle.std.proofs.lemmas.List.{append-nil, length-append, take-append-le}
 use Rattle.std.proofs.lemmas.List.Elements.{filter_map-append}
-use Rattle.std.proofs.lemmas.List.Sums.{sum_by-append}
 use Rattle.market_terms.specs.declared.duties.Duty.{Duty}
 use Rattle.market_terms.specs.declared.duties.Duty.TheVariants as duty
 use Rattle.market_terms.specs.declared.closes.Close.TheVariants as closes
@@ -14,25 +10,25 @@ use Rattle.dealer_desk.specs.DealerFacts.{Told}
 use Rattle.venue_rows.specs.Rows.{Configuration, dealer_numbered}
 use Rattle.venue_rows.specs.declared.dealer_rows.DealerRow.{DealerRow}
 use Rattle.step_replay.specs.Actions.{Effect}
-use Rattle.step_replay.specs.AuditTrail.{AuditTrail, Caused, duty_of, is_same_actor, with_effect}
-use Rattle.step_replay.specs.AuditTrail.{pending}
+use Rattle.step_replay.specs.AuditTrail.{AuditTrail, Caused, is_same_actor, with_effect, pending}
 use Rattle.step_replay.specs.DealerTrail.{AtDesk, DealerEntry, message_in, rooms_by, room_in}
 use Rattle.venue_laws.specs.Notices.{next_sent}
 use Rattle.step_replay.specs.VenueFacts.{Fact, of_dealer}
 use Rattle.venue_places.specs.declared.actors.Actor.{Actor}
-use Rattle.venue_places.specs.declared.actors.Actor.TheVariants as actor
 use Rattle.venue_laws.proofs.CountLemmas.{AreCounted}
-use Rattle.step_replay.specs.EachLemmas.{Each, Every, Stays, each_append, each_weaker}
-use Rattle.step_replay.specs.EachLemmas.{every_both, every_weaker}
+use Rattle.step_replay.specs.EachLemmas.{Each, Every, Stays, each_append, each_weaker, every_both}
+use Rattle.step_replay.specs.EachLemmas.{every_weaker}
 use Rattle.step_replay.specs.GrowthLemmas.{AreNumbered}
-use Rattle.venue_laws.proofs.NoticeLemmas.{Noticed}
+use Rattle.venue_laws.proofs.NoticedLemmas.{Noticed}
 use Rattle.step_replay.specs.PlaceLemmas.{dealer_grown}
 use Rattle.step_replay.specs.QueueLemmas.{same_actor}
 use Rattle.step_replay.specs.SeenLemmas.{Seen}
+use Rattle.venue_laws.proofs.VenueGrowth.{done_stays, duty_stays, fact_stays, order_stays}
 use Rattle.venue_laws.proofs.VenueInvariant.{CausedOk, DeskOk, DoneOk, DutyOk, FactOk, InOrder}
 use Rattle.venue_laws.proofs.VenueInvariant.{NamesLifted, QueueOk, VenueOk, done_by, duties_by}
-use Rattle.venue_laws.proofs.VenueInvariant.{done_stays, duty_stays, fact_stays, order_stays}
 use Rattle.step_replay.specs.WordLemmas.{IsOneOf}
+use Rattle.venue_laws.proofs.VenueTurns.{next_of, actors_are, actors_turned, left_by, own_left}
+use Rattle.venue_laws.proofs.VenueTurns.{other_left, left_grown, turn_more}
 
 -- what every event at a desk keeps
 pub record Basic (date : List ℕ) (row : DealerRow) (trail : List DealerEntry) : Type 0 where
@@ -40,80 +36,6 @@ pub record Basic (date : List ℕ) (row : DealerRow) (trail : List DealerEntry) 
   pub one_of : IsOneOf trail
   pub noticed : Noticed trail
   pub counted : AreCounted trail
-
--- Lists.
-
--- the first that is left of a list
-pub record NextOf (n : ℕ) {A : Type 0} (xs : List A) (x : A) (rest : List A) : Type 0 where
-  pub within : suc n ≤ length xs
-  pub taken : take (suc n) xs ≡ take n xs ++ x ∷ []
-  pub parts : xs ≡ take n xs ++ x ∷ rest
-
-pub next_of : {A : Type 0} (n : ℕ) (xs : List A) (x : A) (rest : List A) → drop n xs ≡ x ∷ rest
-    → NextOf n xs x rest
-next_of zero [] x rest is = cc
-next_of zero (y ∷ xs) x rest is =
-    let least : 1 ≤ length (y ∷ xs) = omega arith in
-    record { within = least; taken = ap (take 1) is; parts = is }
-next_of (suc n) [] x rest is = cc
-next_of (suc n) (y ∷ xs) x rest is =
-    let later = next_of n xs x rest is in
-    let within : suc n ≤ length xs = later.within in
-    let more : suc (suc n) ≤ length (y ∷ xs) = omega arith in
-    record {
-      within = more;
-      taken = ap (λ l. y ∷ l) later.taken;
-      parts = ap (λ l. y ∷ l) later.parts;
-    }
-
--- Actors.
-
-pub actors_are : (one other : Actor) → is_same_actor one other ≡ true → one ≡ other
-actors_are (actor.Firm one) (actor.Firm other) is =
-    let same : one ≡ other = grind (arith, nat_tests) in
-    ap actor.Firm same
-actors_are (actor.Firm one) actor.Clock is = cc
-actors_are actor.Clock (actor.Firm other) is = cc
-actors_are actor.Clock actor.Clock is = refl
-
-actors_turned : (one other : Actor) → is_same_actor one other ≡ false
-    → is_same_actor other one ≡ false
-actors_turned (actor.Firm one) (actor.Firm other) is = grind (arith, nat_tests)
-actors_turned (actor.Firm one) actor.Clock is = refl
-actors_turned actor.Clock (actor.Firm other) is = refl
-actors_turned actor.Clock actor.Clock is = is
-
--- duties as an actor left them
-abbrev pub left_by : Actor → List Duty → List Caused
-left_by by duties = map (λ duty. record { by = by; duty = duty }) duties
-
-own_left : (by : Actor) (duties : List Duty) → duties_by by (left_by by duties) ≡ duties
-own_left by [] = refl
-own_left by (duty ∷ duties) = rw (same_actor by) (ap (λ l. duty ∷ l) (own_left by duties))
-
-other_left : (by other : Actor) → is_same_actor by other ≡ false → (duties : List Duty)
-    → duties_by other (left_by by duties) ≡ []
-other_left by other differs [] = refl
-other_left by other differs (duty ∷ duties) = rw differs (other_left by other differs duties)
-
-left_grown : (by other : Actor) (caused : List Caused) (duties left : List Duty)
-    → duties_by other (left_by by duties) ≡ left
-    → duties_by other (caused ++ left_by by duties) ≡ duties_by other caused ++ left
-left_grown by other caused duties left is =
-    filter_map-append (duty_of other) caused (left_by by duties)
-    ∙ ap (λ l. duties_by other caused ++ l) is
-
-turn_more : (by other : Actor) (done : List Actor) (b : Bool) → is_same_actor other by ≡ b
-    → count_by (is_same_actor other) (done ++ by ∷ [])
-    ≡ count_by (is_same_actor other) done + (if b then 1 else 0)
-turn_more by other done b is =
-    sum_by-append (λ (a : Actor). cond (is_same_actor other a) 1 0) done (by ∷ [])
-    ∙ ap (λ n. count_by (is_same_actor other) done + n) (one_more b is)
-  where
-    one_more : (c : Bool) → is_same_actor other by ≡ c
-        → count_by (is_same_actor other) (by ∷ []) ≡ (if c then 1 else 0)
-    one_more true same = rw same refl
-    one_more false same = rw same refl
 
 -- An effect.
 

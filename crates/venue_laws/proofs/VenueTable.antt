@@ -20,7 +20,8 @@ use Rattle.venue_steps.specs.RoomSteps.{hit_word}
 use Rattle.venue_laws.proofs.CountLemmas.{AreCounted, counted_is_kept}
 use Rattle.step_replay.specs.EachLemmas.{Every}
 use Rattle.step_replay.specs.IsolationLemmas.{seen_is_kept}
-use Rattle.venue_laws.proofs.NoticeLemmas.{Noticed, noticed_is_kept}
+use Rattle.venue_laws.proofs.NoticeLemmas.{noticed_is_kept}
+use Rattle.venue_laws.proofs.NoticedLemmas.{Noticed}
 use Rattle.step_replay.specs.SeenLemmas.{Seen}
 use Rattle.step_replay.specs.StepLemmas.{IsKept}
 use Rattle.venue_laws.proofs.VenueDesk.{dropped_brings}
@@ -33,8 +34,10 @@ use Rattle.venue_laws.proofs.VenuePlain.{Brings, dealer_brings, if_brings, inves
 use Rattle.venue_laws.proofs.VenuePlain.{known_brings, nothing_brings}
 use Rattle.venue_laws.proofs.VenueRooms.{declined_brings, ended_in, opened_brings, posted_brings}
 use Rattle.venue_laws.proofs.VenueRooms.{ready_in, readied_brings, unposted_brings}
-use Rattle.venue_laws.proofs.VenueShow.{LoneQuotes, shown_brings, told_brings}
-use Rattle.venue_laws.proofs.VenueSteps.{Basic, actors_are}
+use Rattle.venue_laws.proofs.LiveQuotes.{LoneQuotes}
+use Rattle.venue_laws.proofs.VenueShow.{shown_brings, told_brings}
+use Rattle.venue_laws.proofs.VenueSteps.{Basic}
+use Rattle.venue_laws.proofs.VenueTurns.{actors_are}
 use Rattle.step_replay.specs.WordLemmas.{IsOneOf, one_is_kept}
 
 -- What every event at a desk keeps.

@@ -4,3 +4,5 @@ pub mod Notices
 pub mod PriceAlike
 pub mod PricedDays
 pub mod WorkedDays
+pub mod WorkedParts
+pub mod WorkedVenue

@@ -6,8 +6,9 @@ use Rattle.step_replay.specs.AuditTrail.{audit_trail, due_to}
 use Rattle.step_replay.specs.declared.dues.Due.{Due}
 use Rattle.step_replay.specs.declared.dues.Due.TheVariants as due
 use Rattle.step_replay.specs.declared.steps.Step.{Step}
-use Rattle.venue_laws.specs.WorkedDays.{venue, say, turn, moment, asks_three, first_quotes}
 use Rattle.venue_laws.specs.WorkedDays.{request_shown, quote_sent}
+use Rattle.venue_laws.specs.WorkedParts.{say, turn, moment, asks_three, first_quotes}
+use Rattle.venue_laws.specs.WorkedVenue.{venue}
 
 -- the quote of DLR2 above that of DLR1, and below it
 abbrev pub dear : String

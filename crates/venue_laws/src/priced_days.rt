@@ -2,7 +2,7 @@
 ghost use Rattle.std.specs.Prelude.{◌≡◌};
 ghost use Rattle.venue_laws.specs.PriceAlike.{IsPriceAlike};
 ghost use Rattle.venue_laws.specs.PricedDays as days;
-ghost use Rattle.venue_laws.specs.WorkedDays.{venue};
+ghost use Rattle.venue_laws.specs.WorkedVenue.{venue};
 
 use fix_fields::frame_of_is_the_reading;
 use market_terms::Close;

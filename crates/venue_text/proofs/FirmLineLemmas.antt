@@ -35,7 +35,8 @@ use Rattle.venue_text.specs.declared.kept_days.Asked.TheVariants as by_number
 use Rattle.venue_text.proofs.DayLemmas.{length_names, messages_at}
 use Rattle.input_lines.specs.FirmLemmas.{firm_is_known, same_firm}
 use Rattle.venue_text.proofs.LiveGrowth.{messages_grow, no_messages}
-use Rattle.venue_text.proofs.LiveLemmas.{any_lines, any_skipped, any_spoken}
+use Rattle.venue_text.proofs.LiveLemmas.{any_skipped, any_spoken}
+use Rattle.venue_text.proofs.UnmarkedLemmas.{any_lines}
 
 -- The messages that a line brings stand behind those before.
 

@@ -14,3 +14,4 @@ pub mod ReadBackItems
 pub mod ReadBackLists
 pub mod ReadBackParts
 pub mod ReadBackShown
+pub mod UnmarkedLemmas

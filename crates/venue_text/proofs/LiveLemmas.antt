@@ -1,6 +1,7 @@
 -- A day that goes on: what its lines bring and what is printed for them.
-use Rattle.std.proofs.Common.{◌≡◌, ◌<◌, ℕ, ◌+◌, Bool, List, [], ◌∷◌, ◌++◌, take, drop, length, get_or, sym, ap, ap₂, subst, refl, ◌∙◌}
-use Rattle.std.proofs.Common.{Result, Ok, Err, true, false, fold, Option, Some, None, inl, inr}
+use Rattle.std.proofs.Common.{◌≡◌, ◌<◌, ℕ, ◌+◌, Bool, List, [], ◌∷◌, ◌++◌, take, drop, length}
+use Rattle.std.proofs.Common.{get_or, sym, ap, ap₂, subst, refl, ◌∙◌, Result, Ok, Err, true, false}
+use Rattle.std.proofs.Common.{Option, Some, None, inl, inr}
 use Rattle.std.proofs.Math.Seq.{drop-append_seam}
 use Rattle.std.proofs.lemmas.Bool.{cases_Bool}
 use Rattle.std.specs.Option.{option_to_list}
@@ -13,19 +14,16 @@ use Rattle.step_replay.specs.LiveDays.{Sent, live_messages}
 use Rattle.step_replay.specs.LiveStanding.{Answers, AnswersSweeps, IsAt}
 use Rattle.step_replay.specs.declared.live.LiveVenue.{LiveVenue}
 use Rattle.step_replay.specs.declared.steps.Step.{Step}
-use Rattle.input_lines.specs.DueText.{Lines}
-use Rattle.input_lines.specs.Lines.{is_skipped, spoken_from}
+use Rattle.input_lines.specs.Lines.{is_skipped}
 use Rattle.venue_text.specs.LiveAnswers.{AreTold, Gives, Goes, Sends}
-use Rattle.venue_text.specs.LiveInput.{as_part, lines_text, numbered_from, numbered_in, taken_in, taken_of, text_in}
-use Rattle.venue_text.specs.LiveLines.{Taken, done_mark, fault_in, gained_messages, line_fault, line_text, live_steps_of}
-use Rattle.venue_text.specs.LiveLines.{live_text, nothing_taken, read_text, sent_line, sent_text, told_text}
-use Rattle.venue_text.specs.LiveLines.{with_any_line, with_line, with_read}
+use Rattle.venue_text.specs.LiveLines.{Taken, done_mark, fault_in, gained_messages, line_fault}
+use Rattle.venue_text.specs.LiveLines.{line_text, live_steps_of, live_text, read_text, sent_line}
+use Rattle.venue_text.specs.LiveLines.{sent_text, told_text, with_any_line, with_read}
 use Rattle.input_lines.specs.StepLines.{Heard, Read, sweeps_at, venue_rooms}
-use Rattle.input_lines.specs.VenueParts.{part_behind}
 use Rattle.input_lines.specs.declared.faults.ProgramFault.{ProgramFault}
 use Rattle.venue_text.specs.declared.live_form.LiveForm.{LiveForm}
 use Rattle.venue_text.specs.declared.live_lines.LiveDay.{LiveDay}
-use Rattle.venue_text.proofs.LiveGrowth.{messages_grow, no_text}
+use Rattle.venue_text.proofs.LiveGrowth.{messages_grow}
 use Rattle.input_lines.specs.RoomLemmas.{rooms_are}
 
 pub told_none : (config : Configuration) (taken : List Step) (venue : LiveVenue)
@@ -291,91 +289,3 @@ pub all_ok : {A E : Type 0} (r : Result A E) (P Q R S : A → Type 0) → IfOk r
     → ((x : A) → P x → Q x → R x → S x) → IfOk r S
 all_ok (Ok x) P Q R S p q r f = f x p q r
 all_ok (Err e) P Q R S p q r f = tt
-
--- All lines.
-
--- lines that are skipped bring nothing
-pub any_lines : (config : ConfigValues) (taken : Taken) (k : ℕ) (lines : List (List ℕ))
-    → fold (with_any_line config) taken (numbered_from k lines)
-    ≡ fold (with_line config) taken (spoken_from k lines)
-any_lines config taken k [] = refl
-any_lines config taken k (line ∷ lines) =
-    go (is_skipped line) refl (λ then. any_lines config then (k + 1) lines)
-  where
-    go : (b : Bool) → is_skipped line ≡ b
-        → ((then : Taken) → fold (with_any_line config) then (numbered_from (k + 1) lines)
-        ≡ fold (with_line config) then (spoken_from (k + 1) lines))
-        → fold (with_any_line config) taken (numbered_from k (line ∷ lines))
-        ≡ fold (with_line config) taken (spoken_from k (line ∷ lines))
-    go true skipped later =
-        let one : with_any_line config taken (k, line) ≡ taken = rw skipped refl in
-        let none : spoken_from k (line ∷ lines) ≡ spoken_from (k + 1) lines = rw skipped refl in
-        ap (λ (t : Taken). fold (with_any_line config) t (numbered_from (k + 1) lines)) one
-        ∙ later taken
-        ∙ ap (λ (l : Lines). fold (with_line config) taken l) (sym none)
-    go false spoken later =
-        let then = with_line config taken (k, line) in
-        let one : with_any_line config taken (k, line) ≡ then = rw spoken refl in
-        let some : spoken_from k (line ∷ lines) ≡ (k, line) ∷ spoken_from (k + 1) lines =
-        rw spoken refl in
-        ap (λ (t : Taken). fold (with_any_line config) t (numbered_from (k + 1) lines)) one
-        ∙ later then
-        ∙ ap (λ (l : Lines). fold (with_line config) taken l) (sym some)
-
--- without marks
-abbrev unmarked : Bool → LiveForm
-unmarked frames = record { frames = frames; marks = false }
-
-module _ (frames : Bool) (config : Configuration) where
-  read_unmarked : (taken : Taken) (k : ℕ) (read : Read)
-      → live_text frames config taken.steps ++ read_text (unmarked frames) config taken k read
-      ≡ live_text frames config (with_read taken read).steps
-  read_unmarked taken k (Ok read) =
-      ap (λ (l : List ℕ). live_text frames config taken.steps ++ l)
-      (append-nil (sent_text frames config (gained_messages config taken.steps read.0)))
-      ∙ sym (text_grows frames config taken.steps read.0)
-  read_unmarked taken k (Err fault) = append-nil (live_text frames config taken.steps)
-
-  line_unmarked : (taken : Taken) (k : ℕ) (line : List ℕ)
-      → live_text frames config taken.steps ++ line_text (unmarked frames) config taken k line
-      ≡ live_text frames config (with_any_line (values_of config) taken (k, line)).steps
-  line_unmarked taken k line =
-      elim (cases_Bool (is_skipped line)) [
-        | inl skipped ↦
-            ap (λ (l : List ℕ). live_text frames config taken.steps ++ l)
-            (text_skipped config taken k line (unmarked frames) skipped)
-            ∙ append-nil (live_text frames config taken.steps)
-            ∙ ap (λ (t : Taken). live_text frames config t.steps)
-            (sym (any_skipped config taken k line skipped))
-        | inr spoken ↦
-            ap (λ (l : List ℕ). live_text frames config taken.steps ++ l)
-            (text_spoken config taken k line (unmarked frames) spoken)
-            ∙ read_unmarked taken k (live_steps_of (values_of config) taken.heard k line)
-            ∙ ap (λ (t : Taken). live_text frames config t.steps)
-            (sym (any_spoken config taken k line spoken))
-      ]
-
-  lines_unmarked : (taken : Taken) (lines : List (ℕ × List ℕ))
-      → live_text frames config taken.steps ++ lines_text (unmarked frames) config taken lines
-      ≡ live_text frames config (fold (with_any_line (values_of config)) taken lines).steps
-  lines_unmarked taken [] = append-nil (live_text frames config taken.steps)
-  lines_unmarked taken (line ∷ later) =
-      sym (append_assoc (live_text frames config taken.steps)
-      (line_text (unmarked frames) config taken line.0 line.1)
-      (lines_text (unmarked frames) config (with_any_line (values_of config) taken line) later))
-      ∙ ap (λ (l : List ℕ). l
-      ++ lines_text (unmarked frames) config (with_any_line (values_of config) taken line) later)
-      (line_unmarked taken line.0 line.1)
-      ∙ lines_unmarked (with_any_line (values_of config) taken line) later
-
-  pub day_unmarked : (lines : List (List ℕ)) → text_in (unmarked frames) config lines
-      ≡ live_text frames config (taken_in config lines).steps
-  unfolding taken_of
-  day_unmarked lines =
-      let part = part_behind (as_part lines) in
-      let first = nothing_taken (values_of config) in
-      ap (λ (l : List ℕ). l ++ text_in (unmarked frames) config lines)
-      (sym (no_text frames config))
-      ∙ lines_unmarked first (numbered_in part)
-      ∙ ap (λ (t : Taken). live_text frames config t.steps)
-      (any_lines (values_of config) first part.first part.lines)

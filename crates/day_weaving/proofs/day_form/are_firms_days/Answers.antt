@@ -1,6 +1,6 @@
 use Rattle.std.proofs.Common.{◌<◌, ap, arith, is_some}
 use Rattle.step_replay.specs.StepFaults.{firms_of}
-use Rattle.day_weaving.proofs.DayFormLemmas.{firm_within}
+use Rattle.day_weaving.proofs.RecordRoomLemmas.{firm_within}
 use Rattle.day_weaving.proofs.day_form.are_firms_days.Goals as goal
 
 pub returns-then-not-is_firms_day-clause-no : goal.returns-then-not-is_firms_day-clause-no

@@ -1,6 +1,6 @@
 use Rattle.std.proofs.Common.{◌≡◌, ◌<◌, ◌≤◌, ap, arith, get_or, length, refl, subst}
 use Rattle.std.proofs.lemmas.Option.{slice_get_read, slice_get_within}
-use Rattle.day_weaving.proofs.DayFormLemmas.{few_more, rooms_known, too_many_rooms}
+use Rattle.day_weaving.proofs.RecordRoomLemmas.{few_more, rooms_known, too_many_rooms}
 use Rattle.day_weaving.proofs.day_form.has_firms_of.Goals as goal
 
 pub returns-then-has_more_rooms-clause-no : goal.returns-then-has_more_rooms-clause-no

@@ -1,5 +1,5 @@
 use Rattle.std.proofs.Common.{◌≡◌, length}
-use Rattle.day_weaving.proofs.DayFormLemmas.{FewRooms}
+use Rattle.day_weaving.proofs.RecordRoomLemmas.{FewRooms}
 use Rattle.day_weaving.proofs.day_form.has_firms_of.Given as goal
 
 abbrev pub invariant-loop-at : goal.invariant-loop-at

@@ -2,7 +2,8 @@ use Rattle.std.proofs.Common.{sym, ◌∙◌}
 use Rattle.std.specs.List.{list_any}
 use Rattle.std.proofs.lemmas.Option.{IfSome_then}
 use Rattle.day_weaving.specs.DayForm.{AreMisnamed, IsMalformed, Misnamed, takes_message}
-use Rattle.day_weaving.proofs.DayFormLemmas.{none_then, not_true}
+use Rattle.day_weaving.proofs.DayFormLemmas.{not_true}
+use Rattle.day_weaving.proofs.NumberedLemmas.{none_then}
 use Rattle.day_weaving.proofs.day_form.well_formed_places.Goals as goal
 
 pub returns-clause-yes : goal.returns-clause-yes

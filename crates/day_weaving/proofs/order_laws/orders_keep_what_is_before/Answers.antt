@@ -1,4 +1,5 @@
-use Rattle.day_weaving.proofs.OrderLawLemmas.{comes_before, no_circle, stands_once}
+use Rattle.day_weaving.proofs.ActorOrderLemmas.{stands_once}
+use Rattle.day_weaving.proofs.OrderLawLemmas.{comes_before, no_circle}
 use Rattle.day_weaving.proofs.order_laws.orders_keep_what_is_before.Goals as goal
 
 pub returns-clause-once : goal.returns-clause-once

@@ -1,6 +1,6 @@
 use Rattle.std.proofs.Common.{◌<◌, arith, length}
 use Rattle.std.proofs.lemmas.Option.{slice_get_within}
-use Rattle.day_weaving.proofs.WayLemmas.{all_placed}
+use Rattle.day_weaving.proofs.SearchEnds.{all_placed}
 use Rattle.day_weaving.proofs.weave_order.order_of.Goals as goal
 
 pub loop-index-init : goal.loop-index-init

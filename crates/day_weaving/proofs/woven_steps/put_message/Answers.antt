@@ -8,7 +8,7 @@ use Rattle.step_replay.specs.declared.steps.Step.TheVariants as step
 use Rattle.day_weaving.specs.OrderCounts.{SetsCount, count_in, inbound_at}
 use Rattle.recorded_days.specs.Records.{FirmLists, RecordedDay, firm_in}
 use Rattle.recorded_days.specs.declared.actions.Inbound.{Inbound}
-use Rattle.day_weaving.proofs.StepLemmas.{inbox_at}
+use Rattle.day_weaving.proofs.InboxLemmas.{inbox_at}
 use Rattle.day_weaving.proofs.woven_steps.put_message.Goals as goal
 
 -- what is read of the inbox is the message that is wanted

@@ -5,7 +5,7 @@ use Rattle.day_weaving.specs.Weaving.{IsStepOfKind}
 use Rattle.recorded_days.specs.declared.actions.Kind.{Kind}
 use Rattle.day_weaving.proofs.MessageLemmas.{came_more, came_stays, is_message, no_message}
 use Rattle.day_weaving.proofs.MessageLemmas.{turn_is}
-use Rattle.day_weaving.proofs.StepLemmas.{has_message, swept_room}
+use Rattle.day_weaving.proofs.InboxLemmas.{has_message, swept_room}
 use Rattle.day_weaving.proofs.woven_steps.put_step.Goals as goal
 
 pub returns-in_ok-put_message-in-In-clause-step : goal.returns-in_ok-put_message-in-In-clause-step

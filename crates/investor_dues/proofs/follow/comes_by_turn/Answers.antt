@@ -1,7 +1,7 @@
 use Rattle.std.proofs.Common.{None, Some}
 use Rattle.step_replay.specs.AuditTrail.{audit_trail}
 use Rattle.investor_dues.proofs.ComesLemmas.{duty_brings, nothing_waits}
-use Rattle.investor_dues.proofs.FollowLemmas.{turn_known}
+use Rattle.investor_dues.proofs.NotedLemmas.{turn_known}
 use Rattle.investor_dues.proofs.follow.comes_by_turn.Goals as goal
 
 pub returns-in_default : goal.returns-in_default

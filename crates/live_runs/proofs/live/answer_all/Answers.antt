@@ -1,6 +1,9 @@
 use Rattle.std.proofs.Common.{◌++◌, rules, take}
 use Rattle.std.specs.Io.KnownBytes.{IsAtEnd}
-use Rattle.live_runs.proofs.LiveLemmas.{all_answered, all_ended, all_failed, all_unread, consumes_end, consumes_more, feeds_both, same_fault}
+use Rattle.live_runs.proofs.GainLemmas.{same_fault}
+use Rattle.live_runs.proofs.ByteLemmas.{feeds_both}
+use Rattle.live_runs.proofs.RunLemmas.{all_answered, all_ended, all_failed, all_unread}
+use Rattle.live_runs.proofs.RunLemmas.{consumes_end, consumes_more}
 use Rattle.live_runs.proofs.StreamLemmas.{keeps_same}
 use Rattle.live_runs.proofs.live.answer_all.Goals as goal
 

@@ -1,6 +1,6 @@
 use Rattle.std.proofs.Common.{List, ℕ}
 use Rattle.std.specs.Io.KnownBytes.{Consumes}
-use Rattle.live_runs.specs.LiveStages.{Feeds}
+use Rattle.live_runs.specs.LiveCalls.{Feeds}
 use Rattle.live_runs.proofs.live.answer_all.Given as goal
 
 abbrev pub invariant-loop : goal.invariant-loop

@@ -2,7 +2,8 @@ use Rattle.std.proofs.Common.{List, ℕ, refl, subst}
 use Rattle.std.specs.Io.KnownBytes.{Appends}
 use Rattle.input_lines.specs.declared.faults.ProgramFault.TheVariants.{Memory}
 use Rattle.live_runs.specs.Written.{GainsPart}
-use Rattle.live_runs.proofs.LiveLemmas.{day_answered, day_out_of_memory, day_unprinted, same_fault}
+use Rattle.live_runs.proofs.GainLemmas.{same_fault}
+use Rattle.live_runs.proofs.DayLineLemmas.{day_answered, day_out_of_memory, day_unprinted}
 use Rattle.live_runs.proofs.StreamLemmas.{keeps_same}
 use Rattle.live_runs.proofs.live.answer_step.Goals as goal
 

@@ -2,8 +2,9 @@ use Rattle.std.proofs.Common.{◌≡◌, ◌≢◌, List, ℕ, rules, subst, tru
 use Rattle.input_lines.specs.VenueParts.{is_divider}
 use Rattle.input_lines.specs.declared.faults.ProgramFault.TheVariants.{Memory}
 use Rattle.live_runs.specs.LineForms.{meant_form}
-use Rattle.live_runs.specs.LiveStages.{OpensNone}
-use Rattle.live_runs.proofs.LiveLemmas.{bad_by, same_fault}
+use Rattle.live_runs.specs.LiveCalls.{OpensNone}
+use Rattle.live_runs.proofs.GainLemmas.{same_fault}
+use Rattle.live_runs.proofs.RefusalLemmas.{bad_by}
 use Rattle.live_runs.proofs.live.next_stage.Goals as goal
 
 pub returns-in_err-stage-clause-err : goal.returns-in_err-stage-clause-err

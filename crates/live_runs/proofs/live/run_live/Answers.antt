@@ -1,5 +1,5 @@
 use Rattle.live_runs.specs.LineForms.{meant_form}
-use Rattle.live_runs.proofs.LiveLemmas.{run_answered, run_failed}
+use Rattle.live_runs.proofs.RunLemmas.{run_answered, run_failed}
 use Rattle.live_runs.proofs.live.run_live.Goals as goal
 
 pub returns-in_default : goal.returns-in_default

@@ -1,4 +1,4 @@
-use Rattle.request_room.proofs.KeptLemmas.{room_after_push, room_after_nothing}
+use Rattle.request_room.proofs.KeptFacts.{room_after_push, room_after_nothing}
 use Rattle.request_room.proofs.laws.facts_after_one_event_more.Goals as goal
 
 pub returns-clause-begins : goal.returns-clause-begins

@@ -8,7 +8,7 @@ use Rattle.session_worker.specs.KeptDays.{DealerKeeps, DealersKeep, DealersStand
 use Rattle.session_worker.proofs.FaultLemmas.{dealer_among, same_fault}
 use Rattle.session_worker.proofs.KeepLemmas.{dealer_later, dealers_grow, dealers_later}
 use Rattle.session_worker.proofs.KeepLemmas.{dealers_stand_more}
-use Rattle.session_worker.proofs.RoomLemmas.{all_moved, both_ended, both_shorter, counted_on, moved}
+use Rattle.session_worker.proofs.MovedLists.{all_moved, both_ended, both_shorter, counted_on, moved}
 use Rattle.session_worker.proofs.joined.dealer_days.Goals as goal
 
 -- one dealer more, at the place of its number

@@ -8,7 +8,7 @@ use Rattle.session_worker.specs.DayChecks.{came_from_investor}
 use Rattle.session_worker.specs.KeptDays.{InvestorKeeps, InvestorsKeep, names_of}
 use Rattle.session_worker.proofs.FaultLemmas.{investor_among, one_among, same_fault}
 use Rattle.session_worker.proofs.KeepLemmas.{investors_grow}
-use Rattle.session_worker.proofs.RoomLemmas.{all_moved, both_ended, both_shorter, counted_on, moved}
+use Rattle.session_worker.proofs.MovedLists.{all_moved, both_ended, both_shorter, counted_on, moved}
 use Rattle.session_worker.proofs.RoomLemmas.{names_ended, names_moved}
 use Rattle.session_worker.proofs.joined.investor_days.Goals as goal
 

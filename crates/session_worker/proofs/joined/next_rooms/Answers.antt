@@ -1,6 +1,7 @@
 use Rattle.std.proofs.Common.{◌≡◌, ◌∙◌, sym, drop, ◌∷◌}
 use Rattle.std.specs.Vec.Iter.{into_iter_items}
-use Rattle.session_worker.proofs.RoomLemmas.{drop_next, own_more}
+use Rattle.session_worker.proofs.MovedLists.{drop_next}
+use Rattle.session_worker.proofs.RoomLemmas.{own_more}
 use Rattle.session_worker.proofs.joined.next_rooms.Goals as goal
 
 -- one room more is taken

@@ -1,6 +1,6 @@
 use Rattle.std.proofs.Common.{◌≡◌, drop, map, take}
 use Rattle.std.specs.Vec.Iter.{into_iter_items}
-use Rattle.session_worker.proofs.RoomLemmas.{day_in}
+use Rattle.session_worker.proofs.RoomNames.{day_in}
 use Rattle.session_worker.proofs.joined.next_rooms.Given as goal
 
 abbrev pub invariant-loop : goal.invariant-loop

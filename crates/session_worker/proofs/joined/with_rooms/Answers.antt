@@ -6,8 +6,9 @@ use Rattle.std.specs.Vec.Iter.{into_iter_items}
 use Rattle.recorded_days.specs.Records.{InvestorLists}
 use Rattle.session_worker.specs.KeptDays.{names_by, names_from, names_of, requests_of, rooms_of}
 use Rattle.session_worker.specs.KeptDays.{without_rooms}
-use Rattle.session_worker.proofs.RoomLemmas.{both_shorter, ended_too, moved, names_left, none_left}
-use Rattle.session_worker.proofs.RoomLemmas.{no_rooms, rooms_put}
+use Rattle.session_worker.proofs.MovedLists.{both_shorter, ended_too, moved, none_left}
+use Rattle.session_worker.proofs.RoomLemmas.{no_rooms}
+use Rattle.session_worker.proofs.RoomNames.{names_left, rooms_put}
 use Rattle.session_worker.proofs.joined.with_rooms.Goals as goal
 
 -- one investor more has its rooms

@@ -4,7 +4,7 @@ use Rattle.step_replay.specs.AuditTrail.{audit_trail}
 use Rattle.step_replay.specs.LiveDays.{live_steps, live_trail}
 use Rattle.step_replay.specs.IsolationLemmas.{is_sent_its_view}
 use Rattle.step_replay.proofs.LiveEffects.{dealer_within}
-use Rattle.step_replay.proofs.LiveLemmas.{own_part}
+use Rattle.step_replay.proofs.FirmMessages.{own_part}
 use Rattle.step_replay.proofs.OneListLemmas.{sent_on_its_day}
 use Rattle.step_replay.proofs.laws.dealers_are_given_their_view.Goals as goal
 

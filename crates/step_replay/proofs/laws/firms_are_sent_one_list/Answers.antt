@@ -1,6 +1,6 @@
 use Rattle.step_replay.specs.AuditTrail.{audit_trail}
 use Rattle.step_replay.specs.LiveDays.{live_trail}
-use Rattle.step_replay.proofs.LiveLemmas.{own_part}
+use Rattle.step_replay.proofs.FirmMessages.{own_part}
 use Rattle.step_replay.proofs.OneListLemmas.{sent_on_its_day}
 use Rattle.step_replay.proofs.laws.firms_are_sent_one_list.Goals as goal
 

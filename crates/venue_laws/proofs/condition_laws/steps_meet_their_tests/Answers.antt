@@ -2,7 +2,8 @@ use Rattle.step_replay.specs.AuditTrail.{audit_trail}
 use Rattle.venue_laws.proofs.ConditionDay.{day_once}
 use Rattle.venue_laws.proofs.ConditionMet.{message_met, pending_ok}
 use Rattle.venue_laws.proofs.ConditionMetOnce.{all_met, pending_once}
-use Rattle.venue_laws.proofs.ConditionTable.{day_fits, pending_fit}
+use Rattle.venue_laws.proofs.ConditionSteps.{day_fits}
+use Rattle.venue_laws.proofs.ConditionTable.{pending_fit}
 use Rattle.venue_laws.proofs.VenueDay.{venue_ok}
 use Rattle.venue_laws.proofs.condition_laws.steps_meet_their_tests.Goals as goal
 

@@ -28,7 +28,8 @@ use Rattle.fix_fields.specs.Frame.{Field}
 use Rattle.venue_laws.specs.PriceAlike.{DiffersInPrices, IsPricedByAnother}
 use Rattle.step_replay.specs.declared.steps.Step.TheVariants as step
 use Rattle.venue_laws.specs.PricedDays.{dear, cheap}
-use Rattle.venue_laws.specs.WorkedDays.{venue, dlr2, with_soh, message, moment}
+use Rattle.venue_laws.specs.WorkedParts.{with_soh, message, moment}
+use Rattle.venue_laws.specs.WorkedVenue.{venue, dlr2}
 use Rattle.venue_laws.proofs.priced_days.definitions_give_the_priced_days.Goals as goal
 
 -- the fields of the quote of DLR2

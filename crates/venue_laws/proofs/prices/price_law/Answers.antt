@@ -1,4 +1,4 @@
-use Rattle.venue_laws.proofs.PriceLemmas.{is_blind}
+use Rattle.venue_laws.proofs.BlindDues.{is_blind}
 use Rattle.venue_laws.proofs.prices.price_law.Goals as goal
 
 pub returns : goal.returns

@@ -1,4 +1,5 @@
-use Rattle.venue_text.proofs.LiveLemmas.{day_unmarked, gained_is}
+use Rattle.venue_text.proofs.LiveLemmas.{gained_is}
+use Rattle.venue_text.proofs.UnmarkedLemmas.{day_unmarked}
 use Rattle.venue_text.proofs.live_laws.without_marks_a_day_is_its_messages.Goals as goal
 
 pub returns-clause-gained : goal.returns-clause-gained

@@ -3,7 +3,8 @@ use Rattle.std.proofs.lemmas.Option.{slice_get_read}
 use Rattle.day_weaving.specs.OrderSearch.{HasCome, steps_left}
 use Rattle.day_weaving.specs.declared.weave_plan.Slot.{Slot}
 use Rattle.day_weaving.proofs.WaitLemmas.{come_of}
-use Rattle.day_weaving.proofs.WayLemmas.{few_steps, no_steps, same_slot}
+use Rattle.day_weaving.proofs.SearchEnds.{few_steps, no_steps}
+use Rattle.day_weaving.proofs.WaySteps.{same_slot}
 use Rattle.day_weaving.proofs.weave_search.Search.bring.Goals as goal
 
 pub loop-init : goal.loop-init

@@ -3,7 +3,7 @@ use Rattle.std.specs.Map.{lookup}
 use Rattle.std.specs.Prelude.{unwrap_or}
 use Rattle.day_weaving.specs.OrderCounts.{count_in}
 use Rattle.day_weaving.specs.declared.weave_search.Mark.TheVariants as mark
-use Rattle.day_weaving.proofs.WayLemmas.{begins}
+use Rattle.day_weaving.proofs.SearchEnds.{begins}
 use Rattle.day_weaving.proofs.weave_search.Search.new.Goals as goal
 
 pub returns : goal.returns

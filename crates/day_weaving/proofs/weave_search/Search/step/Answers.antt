@@ -2,9 +2,9 @@ use Rattle.std.proofs.Common.{◌≡◌, ◌<◌, ◌-◌, None, Some, arith, le
 use Rattle.day_weaving.specs.DayOrder.{IsCircle}
 use Rattle.day_weaving.specs.OrderSearch.{IsLeftBefore, index_in}
 use Rattle.recorded_days.specs.Records.{ActionRef}
-use Rattle.day_weaving.proofs.SearchLemmas.{inside}
-use Rattle.day_weaving.proofs.WayLemmas.{first_pushed, last_is, later_pushed, top_is, top_placed}
-use Rattle.day_weaving.proofs.WayLemmas.{top_slot, way_circle, way_within}
+use Rattle.day_weaving.proofs.MarkLemmas.{inside}
+use Rattle.day_weaving.proofs.WaySteps.{first_pushed, last_is, later_pushed, top_is, top_placed}
+use Rattle.day_weaving.proofs.WaySteps.{top_slot, way_circle, way_within}
 use Rattle.day_weaving.proofs.weave_search.Search.step.Goals as goal
 
 pub returns-in_default-clause-stands : goal.returns-in_default-clause-stands

@@ -6,7 +6,7 @@ use Rattle.dealer_desk.specs.declared.standing.StandingRequest.{StandingRequest}
 use Rattle.dealer_desk.specs.declared.standing.QuoteEnd.TheVariants as end
 use Rattle.dealer_desk.specs.declared.standing.Withdrawal.TheVariants as by
 use Rattle.dealer_desk.proofs.BookLemmas.{withdrawn_book}
-use Rattle.dealer_desk.proofs.TableLemmas.{ended_keeps}
+use Rattle.dealer_desk.proofs.QuoteChanges.{ended_keeps}
 use Rattle.dealer_desk.proofs.IndexLemmas.{book_with, same_book, view_after, index_changed}
 use Rattle.dealer_desk.proofs.index.DealerIndex.cancel.Goals as goal
 

@@ -1,8 +1,8 @@
 use Rattle.std.proofs.Common.{◌≡◌, ◌≤◌, ◌-◌, ℕ, Some, None, sym, ap, subst, ◌∙◌}
 use Rattle.dealer_desk.specs.DealerFacts.{exposure_beside, quote_numbered}
 use Rattle.dealer_desk.specs.DealerTable.{IndexView}
-use Rattle.dealer_desk.proofs.ReaderLemmas.{beside_none, beside_missing, beside_ended}
-use Rattle.dealer_desk.proofs.ReaderLemmas.{beside_standing}
+use Rattle.dealer_desk.proofs.LiveReaders.{beside_none, beside_missing, beside_ended}
+use Rattle.dealer_desk.proofs.LiveReaders.{beside_standing}
 use Rattle.dealer_desk.proofs.index.DealerIndex.exposure_beside.Goals as goal
 
 pub returns-in_default-clause-value : goal.returns-in_default-clause-value

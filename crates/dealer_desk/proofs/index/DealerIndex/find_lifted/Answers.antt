@@ -4,7 +4,7 @@ use Rattle.dealer_desk.specs.BookChanges.{IsLiveNumber, late_at}
 use Rattle.dealer_desk.specs.DealerTable.{IndexView, requests_in}
 use Rattle.dealer_desk.specs.declared.standing.StandingRequest.{StandingRequest}
 use Rattle.dealer_desk.proofs.BookLemmas.{late_book}
-use Rattle.dealer_desk.proofs.TableLemmas.{late_keeps}
+use Rattle.dealer_desk.proofs.QuoteChanges.{late_keeps}
 use Rattle.dealer_desk.proofs.IndexLemmas.{book_with, same_book, view_after, index_changed}
 use Rattle.dealer_desk.proofs.index.DealerIndex.find_lifted.Goals as goal
 

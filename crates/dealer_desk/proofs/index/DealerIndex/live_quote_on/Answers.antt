@@ -4,8 +4,9 @@ use Rattle.dealer_desk.specs.DealerFacts.{live_quote_on, live_number_on, quote_n
 use Rattle.dealer_desk.specs.DealerFacts.{request_numbered}
 use Rattle.dealer_desk.specs.DealerTable.{IndexView, requests_in}
 use Rattle.dealer_desk.specs.declared.standing.StandingQuote.{StandingQuote}
-use Rattle.dealer_desk.proofs.ReaderLemmas.{request_number, live_missing_request, live_missing}
-use Rattle.dealer_desk.proofs.ReaderLemmas.{live_within, live_found_by, quote_found}
+use Rattle.dealer_desk.proofs.LiveReaders.{request_number, live_missing_request, live_missing}
+use Rattle.dealer_desk.proofs.LiveReaders.{live_within, live_found_by}
+use Rattle.dealer_desk.proofs.ReaderLemmas.{quote_found}
 use Rattle.dealer_desk.proofs.index.DealerIndex.live_quote_on.Goals as goal
 
 pub returns-in_err-row : goal.returns-in_err-row

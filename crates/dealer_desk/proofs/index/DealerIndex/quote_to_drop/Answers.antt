@@ -2,8 +2,8 @@ use Rattle.std.proofs.Common.{◌≡◌, Some, None, option_map, Bor, sym, ap, s
 use Rattle.dealer_desk.specs.DealerFacts.{quote_to_drop}
 use Rattle.dealer_desk.specs.DealerTable.{IndexView, requests_in}
 use Rattle.dealer_desk.specs.declared.standing.StandingQuote.{StandingQuote}
-use Rattle.dealer_desk.proofs.ReaderLemmas.{drop_missing, drop_beyond, drop_found, stands_looked}
-use Rattle.dealer_desk.proofs.ReaderLemmas.{nothing_looked}
+use Rattle.dealer_desk.proofs.LiveReaders.{drop_missing, drop_beyond, drop_found, stands_looked}
+use Rattle.dealer_desk.proofs.LiveReaders.{nothing_looked}
 use Rattle.dealer_desk.proofs.index.DealerIndex.quote_to_drop.Goals as goal
 
 pub returns-in_err-own : goal.returns-in_err-own

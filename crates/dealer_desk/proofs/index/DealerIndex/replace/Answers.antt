@@ -11,8 +11,9 @@ use Rattle.dealer_desk.specs.declared.standing.QuoteEnd.{QuoteEnd}
 use Rattle.dealer_desk.specs.declared.standing.QuoteEnd.TheVariants as end
 use Rattle.dealer_desk.specs.declared.standing.Withdrawal.TheVariants as by
 use Rattle.dealer_desk.proofs.BookLemmas.{quoted_book, withdrawn_book}
-use Rattle.dealer_desk.proofs.TableLemmas.{ended_keeps}
-use Rattle.dealer_desk.proofs.TableGrowth.{live_stands, replaced_none}
+use Rattle.dealer_desk.proofs.QuoteChanges.{ended_keeps}
+use Rattle.dealer_desk.proofs.TableClosing.{live_stands}
+use Rattle.dealer_desk.proofs.TableGrowth.{replaced_none}
 use Rattle.dealer_desk.proofs.IndexLemmas.{book_with, same_book, view_after, index_changed}
 use Rattle.dealer_desk.proofs.IndexLemmas.{index_pushed, fits_live, fits_beside, fits_id}
 use Rattle.dealer_desk.proofs.GrowthLemmas.{id_stays_new}

@@ -1,6 +1,7 @@
 use Rattle.std.proofs.Common.{map, sym, ◌∙◌}
 use Rattle.dealer_desk.specs.declared.table.RequestRow.{RequestRow}
-use Rattle.dealer_desk.proofs.TableGrowth.{row_read, live_stands, closed_none, closed_live}
+use Rattle.dealer_desk.proofs.TableClosing.{live_stands, closed_none, closed_live}
+use Rattle.dealer_desk.proofs.TableGrowth.{row_read}
 use Rattle.dealer_desk.proofs.table.Table.close_live.Goals as goal
 
 pub returns-in_default-clause-quotes : goal.returns-in_default-clause-quotes

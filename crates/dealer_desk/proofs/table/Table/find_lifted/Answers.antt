@@ -2,7 +2,7 @@ use Rattle.std.proofs.Common.{ℕ, ◌-◌, ◌≤◌, true, length, slice_get, 
 use Rattle.dealer_desk.specs.DealerFacts.{is_live}
 use Rattle.dealer_desk.proofs.TableReads.{is_read, find_lifted_table, find_lifted_quotes, row_kept}
 use Rattle.dealer_desk.proofs.TableReads.{none_before, first_within}
-use Rattle.dealer_desk.proofs.TableGrowth.{lifted_stays}
+use Rattle.dealer_desk.proofs.TableClosing.{lifted_stays}
 use Rattle.dealer_desk.proofs.table.Table.find_lifted.Goals as goal
 
 pub next_droppable-self-requires-clause-within : goal.next_droppable-self-requires-clause-within

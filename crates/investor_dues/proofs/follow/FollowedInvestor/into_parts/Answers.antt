@@ -1,5 +1,5 @@
 use Rattle.std.proofs.Common.{◌∙◌}
-use Rattle.investor_dues.proofs.FollowLemmas.{whole_due}
+use Rattle.investor_dues.proofs.NotedLemmas.{whole_due}
 use Rattle.investor_dues.proofs.follow.FollowedInvestor.into_parts.Goals as goal
 
 pub returns-clause-dues : goal.returns-clause-dues

@@ -1,6 +1,6 @@
 use Rattle.std.proofs.Common.{◌++◌, ◌∷◌, [], ◌∙◌, ap, refl}
 use Rattle.investor_views.specs.declared.dues.InvestorDue.{InvestorDue}
-use Rattle.investor_dues.proofs.FollowLemmas.{noted_none, noted_some}
+use Rattle.investor_dues.proofs.NotedLemmas.{noted_none, noted_some}
 use Rattle.investor_dues.proofs.follow.FollowedInvestor.note.Goals as goal
 
 pub returns-in_default : goal.returns-in_default

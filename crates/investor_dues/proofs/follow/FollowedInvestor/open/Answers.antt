@@ -1,5 +1,6 @@
 use Rattle.std.proofs.Common.{refl}
-use Rattle.investor_dues.proofs.FollowLemmas.{begins, opened}
+use Rattle.investor_dues.proofs.FollowLemmas.{begins}
+use Rattle.investor_dues.proofs.NotedLemmas.{opened}
 use Rattle.investor_dues.proofs.follow.FollowedInvestor.open.Goals as goal
 
 pub returns-clause-ok : goal.returns-clause-ok

@@ -1,7 +1,8 @@
 use Rattle.std.proofs.Common.{option_map, refl, sym, subst}
 use Rattle.step_replay.specs.SteppedStanding.{IsAfter}
 use Rattle.investor_dues.specs.Followed.{meant}
-use Rattle.investor_dues.proofs.FollowLemmas.{firm_noted, step_followed, venue_noted}
+use Rattle.investor_dues.proofs.FollowLemmas.{step_followed}
+use Rattle.investor_dues.proofs.NotedLemmas.{firm_noted, venue_noted}
 use Rattle.investor_dues.proofs.follow.FollowedInvestor.step.Goals as goal
 
 pub returns-clause-firm : goal.returns-clause-firm

@@ -1,6 +1,7 @@
 use Rattle.std.proofs.Common.{◌∙◌, ap}
 use Rattle.step_replay.specs.Queues.{is_known}
-use Rattle.investor_dues.proofs.FollowLemmas.{step_and_turns, step_known}
+use Rattle.investor_dues.proofs.FollowLemmas.{step_and_turns}
+use Rattle.investor_dues.proofs.NotedLemmas.{step_known}
 use Rattle.investor_dues.proofs.follow.FollowedInvestor.step_live.Goals as goal
 
 pub returns-clause-ok : goal.returns-clause-ok

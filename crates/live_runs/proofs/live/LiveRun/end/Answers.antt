@@ -1,5 +1,6 @@
 use Rattle.std.proofs.Common.{sym}
-use Rattle.live_runs.proofs.LiveLemmas.{empty_line, end_bare, end_fails, end_here, end_last, end_last_bare, same_fault}
+use Rattle.live_runs.proofs.GainLemmas.{empty_line, same_fault}
+use Rattle.live_runs.proofs.EndLemmas.{end_bare, end_fails, end_here, end_last, end_last_bare}
 use Rattle.live_runs.proofs.live.LiveRun.end.Goals as goal
 
 pub returns-in_err-close-clause-err : goal.returns-in_err-close-clause-err

@@ -1,5 +1,6 @@
 use Rattle.std.proofs.lemmas.List.{take_more}
-use Rattle.live_runs.proofs.LiveLemmas.{feeds_fail_at, same_fault}
+use Rattle.live_runs.proofs.GainLemmas.{same_fault}
+use Rattle.live_runs.proofs.ByteLemmas.{feeds_fail_at}
 use Rattle.live_runs.proofs.live.LiveRun.feed.Goals as goal
 
 pub returns-in_err-feed_byte-clause-err : goal.returns-in_err-feed_byte-clause-err

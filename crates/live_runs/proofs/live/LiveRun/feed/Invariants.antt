@@ -1,5 +1,5 @@
 use Rattle.std.proofs.Common.{take}
-use Rattle.live_runs.specs.LiveStages.{Feeds}
+use Rattle.live_runs.specs.LiveCalls.{Feeds}
 use Rattle.live_runs.proofs.live.LiveRun.feed.Given as goal
 
 abbrev pub invariant-loop-byte : goal.invariant-loop-byte

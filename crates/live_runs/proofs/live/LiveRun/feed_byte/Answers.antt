@@ -1,6 +1,7 @@
 use Rattle.std.proofs.Common.{◌≡◌, ◌==◌, false, rules}
 use Rattle.std.proofs.lemmas.Bool.Decides.{nat_tests}
-use Rattle.live_runs.proofs.LiveLemmas.{put_fails, same_fault, take_end, take_fails}
+use Rattle.live_runs.proofs.GainLemmas.{same_fault}
+use Rattle.live_runs.proofs.ByteLemmas.{put_fails, take_end, take_fails}
 use Rattle.live_runs.proofs.live.LiveRun.feed_byte.Goals as goal
 
 pub returns-in_err-output_line-clause-err : goal.returns-in_err-output_line-clause-err

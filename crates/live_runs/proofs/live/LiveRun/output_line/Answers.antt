@@ -1,4 +1,4 @@
-use Rattle.live_runs.proofs.LiveLemmas.{line_past}
+use Rattle.live_runs.proofs.ByteLemmas.{line_past}
 use Rattle.live_runs.proofs.live.LiveRun.output_line.Goals as goal
 
 pub returns-then-number-gt-MOST_LINES-clause-err : goal.returns-then-number-gt-MOST_LINES-clause-err

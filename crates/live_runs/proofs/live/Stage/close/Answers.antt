@@ -3,7 +3,9 @@ use Rattle.std.specs.Io.KnownBytes.{Appends}
 use Rattle.input_lines.specs.declared.faults.ProgramFault.TheVariants.{Memory, Parts}
 use Rattle.live_runs.specs.Written.{GainsPart}
 use Rattle.live_runs.specs.declared.live.Stage.TheVariants as stage
-use Rattle.live_runs.proofs.LiveLemmas.{closes_in_memory, last_bare, last_between, last_both, last_both_unprinted, last_first, last_unprinted, same_fault}
+use Rattle.live_runs.proofs.GainLemmas.{same_fault}
+use Rattle.live_runs.proofs.EndLemmas.{closes_in_memory, last_bare, last_between, last_both}
+use Rattle.live_runs.proofs.EndLemmas.{last_both_unprinted, last_first, last_unprinted}
 use Rattle.live_runs.proofs.live.Stage.close.Goals as goal
 
 pub returns-in-Configuration-clause-err : goal.returns-in-Configuration-clause-err

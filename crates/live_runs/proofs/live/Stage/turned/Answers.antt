@@ -1,7 +1,8 @@
 use Rattle.std.proofs.Common.{ap}
 use Rattle.investor_texts.specs.SoughtDays.{whom_meant}
 use Rattle.live_runs.specs.LineForms.{meant_form}
-use Rattle.live_runs.proofs.LiveLemmas.{same_fault, turn_refused}
+use Rattle.live_runs.proofs.GainLemmas.{same_fault}
+use Rattle.live_runs.proofs.RefusalLemmas.{turn_refused}
 use Rattle.live_runs.proofs.live.Stage.turned.Goals as goal
 
 pub returns-in_err-other-in-Between-clause-err : goal.returns-in_err-other-in-Between-clause-err

@@ -2,7 +2,7 @@ use Rattle.std.proofs.Common.{◌∙◌, ap, Some}
 use Rattle.std.specs.Option.{option_map}
 use Rattle.request_room.specs.RoomFacts.{request_of}
 use Rattle.request_room.specs.Book.{book_of, cover_for, room_after}
-use Rattle.request_room.proofs.KeptRoomLemmas.{cover_is}
+use Rattle.request_room.proofs.KeptBookLemmas.{cover_is}
 use Rattle.request_room.proofs.rooms.Room.cover_for.Goals as goal
 
 pub returns : goal.returns

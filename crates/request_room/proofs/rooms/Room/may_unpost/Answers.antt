@@ -1,6 +1,6 @@
 use Rattle.std.proofs.Common.{◌&&◌, ◌∙◌, ap}
 use Rattle.request_room.specs.Book.{book_of, stands, room_after}
-use Rattle.request_room.proofs.KeptRoomLemmas.{stands_is}
+use Rattle.request_room.proofs.KeptBookLemmas.{stands_is}
 use Rattle.request_room.proofs.rooms.Room.may_unpost.Goals as goal
 
 pub returns-then-takes_quotes : goal.returns-then-takes_quotes

@@ -1,6 +1,6 @@
 use Rattle.std.proofs.Common.{◌∙◌, ap}
 use Rattle.request_room.specs.Book.{book_of, quote_meant, room_after}
-use Rattle.request_room.proofs.KeptRoomLemmas.{meant_is}
+use Rattle.request_room.proofs.KeptBookLemmas.{meant_is}
 use Rattle.request_room.proofs.rooms.Room.quote_meant.Goals as goal
 
 pub returns : goal.returns

@@ -1,5 +1,5 @@
 use Rattle.session_worker.proofs.BroughtLemmas.{dealer_brought}
-use Rattle.session_worker.proofs.DealerLockLemmas.{DeskLaws}
+use Rattle.session_worker.proofs.DealerAnswers.{DeskLaws}
 use Rattle.session_worker.proofs.dealers.LockedDealer.bring.Goals as goal
 
 -- no word is asked

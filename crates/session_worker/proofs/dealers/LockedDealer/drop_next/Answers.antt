@@ -4,7 +4,8 @@ use Rattle.venue_steps.specs.DealerSteps.{drop_word}
 use Rattle.venue_steps.specs.Words.{word_to_ask}
 use Rattle.session_worker.specs.Watched.{Watched, asked_of}
 use Rattle.session_worker.specs.Locks.{DealerUnderLock, KeepsDealer}
-use Rattle.session_worker.proofs.DealerLockLemmas.{DeskLaws, drop_kept, refused_kept}
+use Rattle.session_worker.proofs.DealerAnswers.{DeskLaws}
+use Rattle.session_worker.proofs.DealerLockLemmas.{drop_kept, refused_kept}
 use Rattle.session_worker.proofs.LockLemmas.{entry_seen}
 use Rattle.session_worker.proofs.WatchedLemmas.{asked_is_noted, asks_on_board}
 use Rattle.session_worker.proofs.WatchedLemmas.{counted_by, noted_by}

@@ -1,5 +1,5 @@
 use Rattle.step_replay.specs.LiveDays.{live_trail}
-use Rattle.step_replay.proofs.OpenRoomStands.{earliest_is}
+use Rattle.step_replay.proofs.OpenDeadlines.{earliest_is}
 use Rattle.step_replay.proofs.live.LiveVenue.next_deadline.Goals as goal
 
 pub returns : goal.returns

@@ -5,7 +5,8 @@ use Rattle.std.proofs.lemmas.Map.Iter.{iter_end, iter_turn}
 use Rattle.market_terms.specs.declared.rooms.RoomRef.{RoomRef}
 use Rattle.step_replay.specs.LiveDays.{Sent, live_messages, live_trail}
 use Rattle.step_replay.specs.VenueRooms.{sweeps_at}
-use Rattle.step_replay.proofs.SweptLemmas.{SweptSo, room_known, swept_all, swept_more, swept_none}
+use Rattle.step_replay.proofs.SweptLemmas.{SweptSo, swept_all, swept_more, swept_none}
+use Rattle.step_replay.proofs.SweptRooms.{room_known}
 use Rattle.step_replay.proofs.live.LiveVenue.sweep.Goals as goal
 
 pub loop-room-init : goal.loop-room-init

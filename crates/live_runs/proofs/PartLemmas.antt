@@ -1,0 +1,76 @@
+-- The parts of a list before and behind its first element that passes a test.
+use Rattle.std.proofs.Common.{◌≡◌, ◌+◌, ◌||◌, Bool, true, false, List, [], ◌∷◌, ◌++◌, length, take}
+use Rattle.std.proofs.Common.{drop, suc, refl, sym, ap, ◌∙◌, arith, inl, inr, add-one}
+use Rattle.std.proofs.Math.Nat.{add_comm}
+use Rattle.std.specs.List.{list_any, before_first, after_first, position_or_len}
+use Rattle.std.proofs.lemmas.Bool.{cases_Bool, false≢true}
+
+-- The first element of a list that passes a test.
+
+stop_here : {X : Type 0} (p : X → Bool) (x : X) (xs : List X) → p x ≡ true → position_or_len p (x ∷ xs) ≡ 0
+stop_here p x xs here = rw here refl
+
+skip_one : {X : Type 0} (p : X → Bool) (x : X) (xs : List X) → p x ≡ false → position_or_len p (x ∷ xs) ≡ suc (position_or_len p xs)
+skip_one p x xs other = rw other (add_comm 1 (position_or_len p xs) ∙ add-one (position_or_len p xs))
+
+pub before_here : {X : Type 0} (p : X → Bool) (x : X) (xs : List X) → p x ≡ true → before_first p (x ∷ xs) ≡ []
+before_here p x xs here = ap (λ n. take n (x ∷ xs)) (stop_here p x xs here)
+
+pub after_here : {X : Type 0} (p : X → Bool) (x : X) (xs : List X) → p x ≡ true → after_first p (x ∷ xs) ≡ xs
+after_here p x xs here = ap (λ n. drop (n + 1) (x ∷ xs)) (stop_here p x xs here)
+
+before_skip : {X : Type 0} (p : X → Bool) (x : X) (xs : List X) → p x ≡ false → before_first p (x ∷ xs) ≡ x ∷ before_first p xs
+before_skip p x xs other = ap (λ n. take n (x ∷ xs)) (skip_one p x xs other)
+
+after_skip : {X : Type 0} (p : X → Bool) (x : X) (xs : List X) → p x ≡ false → after_first p (x ∷ xs) ≡ after_first p xs
+after_skip p x xs other =
+    let n = position_or_len p xs in
+    let place : position_or_len p (x ∷ xs) + 1 ≡ suc (n + 1) = ap (λ m. m + 1) (skip_one p x xs other) ∙ omega arith in
+    ap (λ m. drop m (x ∷ xs)) place
+
+-- more elements behind a list that has one
+pub record PartsStay {X : Type 0} (p : X → Bool) (xs more : List X) : Type 0 where
+  pub before : before_first p (xs ++ more) ≡ before_first p xs
+  pub after : after_first p (xs ++ more) ≡ after_first p xs ++ more
+  pub any : list_any p (xs ++ more) ≡ true
+  pub count : length xs ≡ length (before_first p xs) + 1 + length (after_first p xs)
+
+pub parts_stay : {X : Type 0} (p : X → Bool) (xs more : List X) → list_any p xs ≡ true → PartsStay p xs more
+parts_stay p [] more some = absurd (false≢true some)
+parts_stay p (x ∷ xs) more some =
+    elim (cases_Bool (p x)) [
+      | inl here ↦ record {
+        before = before_here p x (xs ++ more) here ∙ sym (before_here p x xs here);
+        after = after_here p x (xs ++ more) here ∙ ap (λ l. l ++ more) (sym (after_here p x xs here));
+        any = rw here refl;
+        count = rw (before_here p x xs here, after_here p x xs here) (omega arith);
+      }
+      | inr other ↦
+          (let behind = parts_stay p xs more (rw other at some) in
+          record {
+            before = before_skip p x (xs ++ more) other ∙ ap (λ l. x ∷ l) behind.before ∙ sym (before_skip p x xs other);
+            after = after_skip p x (xs ++ more) other ∙ behind.after ∙ ap (λ l. l ++ more) (sym (after_skip p x xs other));
+            any = rw other behind.any;
+            count = rw (before_skip p x xs other, after_skip p x xs other) (omega (arith, behind.count));
+          })
+    ]
+
+-- elements behind those of which none passes
+pub before_more : {X : Type 0} (p : X → Bool) (xs more : List X) → list_any p xs ≡ false → before_first p (xs ++ more) ≡ xs ++ before_first p more
+before_more p [] more none = refl
+before_more p (x ∷ xs) more none =
+    elim (cases_Bool (p x)) [
+      | inl here ↦ (let never : true ≡ false = rw here at none in cc)
+      | inr other ↦ before_skip p x (xs ++ more) other ∙ ap (λ l. x ∷ l) (before_more p xs more (rw other at none))
+    ]
+
+pub after_more : {X : Type 0} (p : X → Bool) (xs more : List X) → list_any p xs ≡ false → after_first p (xs ++ more) ≡ after_first p more
+after_more p [] more none = refl
+after_more p (x ∷ xs) more none =
+    elim (cases_Bool (p x)) [
+      | inl here ↦ (let never : true ≡ false = rw here at none in cc)
+      | inr other ↦ after_skip p x (xs ++ more) other ∙ after_more p xs more (rw other at none)
+    ]
+
+any_or : (a b : Bool) → a ≡ false → (a || b) ≡ b
+any_or a b e = rw e refl

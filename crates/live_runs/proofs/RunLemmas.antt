@@ -1,0 +1,164 @@
+-- All of an input, and how a run ends over it.
+use Rattle.std.proofs.Common.{◌≡◌, ℕ, ◌+◌, ◌==◌, List, [], ◌++◌, Option, Some, None, refl, sym, ap}
+use Rattle.std.proofs.Common.{subst, ◌∙◌, inl, inr, append_assoc, take}
+use Rattle.std.specs.Io.KnownBytes.{Consumes, IsAtEnd, Keeps}
+use Rattle.std.specs.List.{list_any}
+use Rattle.std.specs.Option.{IfSome}
+use Rattle.std.specs.Prelude.{Vec}
+use Rattle.std.specs.declared.alloc.Global.{Global}
+use Rattle.std.proofs.lemmas.List.{append-nil}
+use Rattle.input_lines.specs.Faults.{told_line}
+use Rattle.input_lines.specs.Lines.{lines_of}
+use Rattle.input_lines.specs.declared.faults.ProgramFault.{ProgramFault}
+use Rattle.input_lines.specs.declared.faults.ProgramFault.TheVariants.{Input, Config, Day, Firm}
+use Rattle.input_lines.specs.declared.faults.ProgramFault.TheVariants.{Form, Memory, Parts}
+use Rattle.input_lines.specs.declared.faults.ProgramFault.TheVariants.{Read as NotRead, Stream}
+use Rattle.input_lines.specs.declared.faults.ProgramFault.TheVariants.{UnknownFirm, UnknownRoom}
+use Rattle.input_lines.specs.declared.faults.ProgramFault.TheVariants.{Weave, Write}
+use Rattle.live_runs.specs.LineForms.{LineForm, answered, meant_form}
+use Rattle.live_runs.specs.LiveRuns.{EndsWith, EndsDay, EndsInAnswers, EndsInLive, HasAnswered}
+use Rattle.live_runs.specs.LiveCalls.{Start, AnswersAll, EndFails, Ends, FailsIn, FeedFails, Feeds}
+use Rattle.live_runs.specs.LiveCalls.{StandsFirst}
+use Rattle.live_runs.specs.LiveStages.{StageIs}
+use Rattle.live_runs.specs.Written.{GainsPart, Written}
+use Rattle.live_runs.specs.declared.line_forms.LineForm.{LineForm as RustForm}
+use Rattle.live_runs.specs.declared.live.LiveRun.{LiveRun}
+use Rattle.live_runs.specs.declared.live.Stage.{Stage}
+use Rattle.live_runs.specs.declared.live.Stage.TheVariants as stage
+use Rattle.live_runs.proofs.StreamLemmas.{keeps_same}
+use Rattle.live_runs.proofs.StageLemmas.{answered_by, still}
+use Rattle.live_runs.proofs.EndLemmas.{ended_is}
+
+-- All of the input.
+
+-- a fault of lines
+ends_with : (fault : ProgramFault) (form : LineForm) (input : List ℕ) (left : Option (List ℕ)) (out err : Written)
+    → EndsDay form fault (lines_of input) out err → EndsWith form fault input left out err
+ends_with NotRead form input left out err ends = absurd ends.is_fault
+ends_with Input form input left out err ends = ends
+ends_with Parts form input left out err ends = ends
+ends_with (Config fault) form input left out err ends = ends
+ends_with Firm form input left out err ends = ends
+ends_with (Form line) form input left out err ends = ends
+ends_with (UnknownFirm line) form input left out err ends = ends
+ends_with (UnknownRoom line) form input left out err ends = ends
+ends_with (Stream line) form input left out err ends = ends
+ends_with (Day what) form input left out err ends = ends
+ends_with (Weave why) form input left out err ends = ends
+ends_with Memory form input left out err ends = ends
+ends_with Write form input left out err ends = ends
+
+module _ (first mid : LiveRun) (bytes : List ℕ) (o o' o'' e e' e'' : Option (List ℕ))
+    (fed : Feeds bytes first mid (record { before = o; after = o' }) (record { before = e; after = e' })) where
+  pub all_answered : (known now : Option (List ℕ)) → Consumes known now bytes → IsAtEnd now
+      → Ends mid (record { before = o'; after = o'' }) (record { before = e'; after = e'' })
+      → IfSome known (λ all. AnswersAll all first (record { before = o; after = o'' }) (record { before = e; after = e'' }))
+  all_answered None now read end ends = tt
+  all_answered (Some all) None read end ends = absurd read
+  all_answered (Some all) (Some ys) read end ends = λ form past start stands.
+      let same : past ++ bytes ≡ past ++ all = ap (λ (l : List ℕ). past ++ l) (sym (append-nil bytes) ∙ ap (λ (l : List ℕ). bytes ++ l) (sym end) ∙ sym read) in
+      subst (λ (t : List ℕ). EndsInAnswers form (lines_of t) (record { before = start.out; after = o'' }) (record { before = start.err; after = e'' }))
+      same (ends form (past ++ bytes) start (fed form past start stands))
+
+  pub all_ended : (fault : ProgramFault) (known now : Option (List ℕ)) → Consumes known now bytes → IsAtEnd now
+      → EndFails mid fault (record { before = o'; after = o'' }) (record { before = e'; after = e'' })
+      → IfSome known (λ all. FailsIn all now fault first (record { before = o; after = o'' }) (record { before = e; after = e'' }))
+  all_ended fault None now read end ends = tt
+  all_ended fault (Some all) None read end ends = absurd read
+  all_ended fault (Some all) (Some ys) read end ends = λ form past start stands.
+      let same : past ++ bytes ≡ past ++ all = ap (λ (l : List ℕ). past ++ l) (sym (append-nil bytes) ∙ ap (λ (l : List ℕ). bytes ++ l) (sym end) ∙ sym read) in
+      ends_with fault form (past ++ all) (Some ys) (record { before = start.out; after = o'' }) (record { before = start.err; after = e'' })
+      (subst (λ (t : List ℕ). EndsDay form fault (lines_of t) (record { before = start.out; after = o'' }) (record { before = start.err; after = e'' }))
+      same (ends form (past ++ bytes) start (fed form past start stands)))
+
+  pub all_failed : (fault : ProgramFault) (more : List ℕ) (known now : Option (List ℕ)) → Consumes known now (bytes ++ more)
+      → FeedFails more mid fault (record { before = o'; after = o'' }) (record { before = e'; after = e'' })
+      → IfSome known (λ all. FailsIn all now fault first (record { before = o; after = o'' }) (record { before = e; after = e'' }))
+  all_failed fault more None now read fails = tt
+  all_failed fault more (Some all) None read fails = absurd read
+  all_failed fault more (Some all) (Some ys) read fails = λ form past start stands.
+      let same : ((past ++ bytes) ++ more) ++ ys ≡ past ++ all =
+      append_assoc (past ++ bytes) more ys ∙ append_assoc past bytes (more ++ ys)
+      ∙ ap (λ (l : List ℕ). past ++ l) (sym (append_assoc bytes more ys) ∙ sym read) in
+      ends_with fault form (past ++ all) (Some ys) (record { before = start.out; after = o'' }) (record { before = start.err; after = e'' })
+      (subst (λ (t : List ℕ). EndsDay form fault (lines_of t) (record { before = start.out; after = o'' }) (record { before = start.err; after = e'' }))
+      same (fails form (past ++ bytes) start (fed form past start stands) ys))
+
+-- the reader failed: all lines that it gave were answered
+pub all_unread : (first mid : LiveRun) (bytes : List ℕ) (o o' e e' known now later : Option (List ℕ))
+    → Feeds bytes first mid (record { before = o; after = o' }) (record { before = e; after = e' }) → Consumes known now bytes → Keeps now later
+    → IfSome known (λ all. FailsIn all later NotRead first (record { before = o; after = o' }) (record { before = e; after = e' }))
+all_unread first mid bytes o o' e e' None now later fed read kept = tt
+all_unread first mid bytes o o' e e' (Some all) None later fed read kept = absurd read
+all_unread first mid bytes o o' e e' (Some all) (Some ys) None fed read kept = absurd kept
+all_unread first mid bytes o o' e e' (Some all) (Some ys) (Some zs) fed read kept = λ form past start stands.
+    let come = fed form past start stands in
+    record {
+      got = past ++ bytes;
+      rest = zs;
+      split = ap (λ (l : List ℕ). past ++ l) (read ∙ ap (λ (l : List ℕ). bytes ++ l) (sym kept)) ∙ sym (append_assoc past bytes zs);
+      is_left = refl;
+      answered = subst (λ (l : List (List ℕ)). HasAnswered form l (record { before = start.out; after = o' }) (record { before = start.err; after = e' }))
+          (sym (ended_is (past ++ bytes) come.lines mid.line.items come.cut))
+          (answered_by form come.lines mid.stage _ _ come.come.stage_is);
+    }
+
+consumes_both : (known mid now : Option (List ℕ)) (a b : List ℕ) → Consumes known mid a → Consumes mid now b → Consumes known now (a ++ b)
+consumes_both None mid now a b one two = tt
+consumes_both (Some all) None now a b one two = absurd one
+consumes_both (Some all) (Some ys) None a b one two = absurd two
+consumes_both (Some all) (Some ys) (Some zs) a b one two = one ∙ ap (λ (l : List ℕ). a ++ l) two ∙ sym (append_assoc a b zs)
+
+pub consumes_none : (known : Option (List ℕ)) → Consumes known known []
+consumes_none None = tt
+consumes_none (Some all) = refl
+
+pub consumes_more : (known mid now : Option (List ℕ)) (a b : List ℕ) → Consumes known mid a → Consumes mid now b → Consumes known now (a ++ b)
+consumes_more = consumes_both
+
+pub consumes_end : (known mid now : Option (List ℕ)) (bytes more : List ℕ) (count : ℕ) → Consumes known mid bytes → Consumes mid now (take count more)
+    → count ≡ 0 → Consumes known now bytes
+consumes_end known mid now bytes more count one two none =
+    subst (Consumes known now) (append-nil bytes)
+    (consumes_both known mid now bytes [] one (subst (λ (n : ℕ). Consumes mid now (take n more)) none two))
+
+-- How the run ends.
+
+pub first_stands : (form : RustForm) (run : LiveRun) → run.number ≡ 1 → run.form ≡ form → run.line.items ≡ [] → (t : Vec ℕ Global)
+    → run.stage ≡ stage.Configuration t → t.items ≡ [] → StandsFirst (meant_form form) run
+first_stands form run number form_same line t at empty start = record {
+  lines = [];
+  cut = record { count = refl; closed = λ tail. ap (λ (l : List ℕ). lines_of (l ++ tail)) (sym line); goes_on = ap (list_any (λ (c : ℕ). c == 10)) line };
+  come = record {
+    number_is = number;
+    form_is = ap (λ (f : RustForm). meant_form f) form_same;
+    stage_is = subst (λ (s : Stage). StageIs (meant_form form) [] s (still start.out) (still start.err)) (sym at)
+        (record {
+          nothing = record { undivided = refl; left = keeps_same start.out; untold = keeps_same start.err };
+          text_is = empty;
+        });
+  };
+}
+
+pub run_answered : (form : LineForm) (argument : List ℕ) (run : LiveRun) (known left : Option (List ℕ)) (out err : Written) → StandsFirst form run
+    → IfSome known (λ all. AnswersAll all run out err)
+    → EndsInLive form argument 0 (record { input = known; left = left; out = out; err = err })
+run_answered form argument run None left out err first answers = (inl refl, tt)
+run_answered form argument run (Some all) left out err first answers =
+    let start : Start = record { out = out.before; err = err.before } in
+    (inl refl, inl (refl, answers form [] start (first start)))
+
+pub run_failed : (form : LineForm) (argument : List ℕ) (run : LiveRun) (known left o o' e e' e'' : Option (List ℕ)) (fault : ProgramFault) (status : ℕ)
+    → StandsFirst form run
+    → IfSome known (λ all. FailsIn all left fault run (record { before = o; after = o' }) (record { before = e; after = e' }))
+    → status ≡ 1 → GainsPart (told_line argument fault) (record { before = e'; after = e'' })
+    → EndsInLive form argument status (record {
+      input = known;
+      left = left;
+      out = record { before = o; after = o' };
+      err = record { before = e; after = e'' };
+    })
+run_failed form argument run None left o o' e e' e'' fault status first fails one told = (inr one, tt)
+run_failed form argument run (Some all) left o o' e e' e'' fault status first fails one told =
+    let start : Start = record { out = o; err = e } in
+    (inr one, inr (one, record { fault = fault; mid = e'; ends = fails form [] start (first start); told = told }))

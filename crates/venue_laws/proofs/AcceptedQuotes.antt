@@ -1,0 +1,146 @@
+-- What the verdict of a dealer's desk says where it accepts a quote.
+use Rattle.std.proofs.Common.{◌≡◌, ◌≤◌, ℕ, ◌+◌, Bool, true, false, ◌&&◌, nat_le, List, [], ◌∷◌}
+use Rattle.std.proofs.Common.{find, Option, Some, None, if◌then◌else◌, cond, refl, ap, arith}
+use Rattle.std.proofs.lemmas.Bool.Decides.{nat_tests}
+use Rattle.market_terms.specs.Checks.{first_refusal}
+use Rattle.quote_messages.specs.declared.arrivals.Arrival.{Arrival}
+use Rattle.quote_messages.specs.declared.arrivals.Arrival.TheVariants as arrival
+use Rattle.quote_messages.specs.Arrivals.{dealer_arrival}
+use Rattle.quote_messages.specs.declared.quotes.CancelScope.{CancelScope}
+use Rattle.quote_messages.specs.declared.quotes.CancelScope.TheVariants as cancels
+use Rattle.quote_messages.specs.declared.quotes.DealerMessage.{DealerMessage}
+use Rattle.quote_messages.specs.declared.quotes.DealerMessage.TheVariants as message
+use Rattle.quote_messages.specs.declared.quotes.Quote.{Quote}
+use Rattle.quote_messages.specs.declared.reject_reasons.QuoteRejectReason.{QuoteRejectReason}
+use Rattle.venue_rows.specs.declared.dealer_rows.DealerRow.{DealerRow}
+use Rattle.dealer_desk.specs.DealerFacts.{DealerBook, DealerFact, Shown, book_of, standing_request}
+use Rattle.dealer_desk.specs.DealerFacts.{requests_from, request_named, quotes_accepted}
+use Rattle.dealer_desk.specs.DealerFacts.{expected_number}
+use Rattle.dealer_desk.specs.DealerRules.{dealer_verdict, arrival_verdict, message_verdict}
+use Rattle.dealer_desk.specs.DealerRules.{quote_verdict, quote_refusal, quote_answer, quote_checks}
+use Rattle.dealer_desk.specs.DealerRules.{cancel_verdict, cancel_of, cancel_answer, cancel_checks}
+use Rattle.dealer_desk.specs.DealerRules.{decline_verdict, decline_answer}
+use Rattle.dealer_desk.specs.declared.standing.StandingQuote.{StandingQuote}
+use Rattle.dealer_desk.specs.declared.standing.StandingRequest.{StandingRequest}
+use Rattle.dealer_desk.specs.declared.verdicts.DealerVerdict.{DealerVerdict}
+use Rattle.dealer_desk.specs.declared.verdicts.DealerVerdict.TheVariants as verdict
+use Rattle.step_replay.specs.EachLemmas.{Every}
+use Rattle.step_replay.specs.OwnerLemmas.{same_value}
+
+-- What an accepted quote says.
+
+-- the first refusal of some checks is none, where none of them holds
+pub none_holds : {A : Type 0} (checks : List (Bool × A)) → first_refusal checks ≡ None
+    → Every (λ (check : Bool × A). check.0 ≡ false) checks
+none_holds [] none = tt
+none_holds {A} (check ∷ checks) none =
+    by_test check.0 refl none (λ later. none_holds checks later)
+  where
+    by_test : (b : Bool) → check.0 ≡ b
+        → (if b then Some check.1 else first_refusal checks) ≡ None
+        → (first_refusal checks ≡ None → Every (λ (c : Bool × A). c.0 ≡ false) checks)
+        → (check.0 ≡ false) × Every (λ (c : Bool × A). c.0 ≡ false) checks
+    by_test true test found later = cc
+    by_test false test found later = (test, later found)
+
+-- an accepted quote is one of the day's, on a request from 1 on
+abbrev pub AcceptOk : DealerRow → DealerVerdict → Type 0
+AcceptOk row (verdict.QuoteAccepted name id quote replaced) =
+    (1 ≤ quote.request) × ((nat_le 1 quote.number && nat_le quote.number row.quotes) ≡ true)
+AcceptOk row other = Unit {0}
+
+least_number : (first : ℕ) (test : StandingRequest → Bool) (facts : List DealerFact)
+    (request : StandingRequest) → find test (requests_from first facts) ≡ Some request
+    → first ≤ request.number
+least_number first test [] request is = cc
+least_number first test (Shown ask moment ∷ later) request is =
+    by_test (test shown) refl is (λ found. least_number (first + 1) test later request found)
+  where
+    shown : StandingRequest
+    shown = standing_request first ask later
+
+    by_test : (b : Bool) → test shown ≡ b
+        → cond b (Some shown) (find test (requests_from (first + 1) later)) ≡ Some request
+        → (find test (requests_from (first + 1) later) ≡ Some request
+        → first + 1 ≤ request.number)
+        → first ≤ request.number
+    by_test true is_it found later_on =
+        let same : first ≡ request.number =
+        ap (λ (r : StandingRequest). r.number) (same_value shown request found) in
+        omega arith
+    by_test false is_it found later_on =
+        let least : first + 1 ≤ request.number = later_on found in
+        omega arith
+least_number first test (fact ∷ later) request is = least_number first test later request is
+
+module _ (row : DealerRow) (facts : List DealerFact) (moment : ℕ) where
+  -- the book by these facts
+  abbrev pub book : DealerBook
+  book = book_of facts
+
+  quote_accepts : (quote : Quote) (request : Option StandingRequest)
+      → request_named book quote.request ≡ request
+      → (refusal : Option QuoteRejectReason) → quote_refusal row book moment quote request ≡ refusal
+      → AcceptOk row (quote_answer book moment quote request refusal)
+  unfolding request_named quote_refusal
+  quote_accepts quote None named None refused = tt
+  quote_accepts quote None named (Some reason) refused = tt
+  quote_accepts quote (Some request) named (Some reason) refused = tt
+  quote_accepts quote (Some request) named None refused =
+      let least : 1 ≤ request.number = least_number 1 _ facts request named in
+      let checks = none_holds (quote_checks row book moment quote (Some request)) refused in
+      let few : nat_le row.quotes (quotes_accepted book) ≡ false =
+      checks.1.1.1.1.1.1.1.1.1.1.0 in
+      let within : (nat_le 1 (quotes_accepted book + 1)
+      && nat_le (quotes_accepted book + 1) row.quotes) ≡ true = of_day (quotes_accepted book) few in
+      (least, within)
+    where
+      of_day : (n : ℕ) → nat_le row.quotes n ≡ false
+          → (nat_le 1 (n + 1) && nat_le (n + 1) row.quotes) ≡ true
+      of_day n few = grind (arith, nat_tests)
+
+  cancel_accepts : (id : List ℕ) (own : StandingQuote) (refusal : Option QuoteRejectReason)
+      → AcceptOk row (cancel_answer id own refusal)
+  cancel_accepts id own (Some reason) = tt
+  cancel_accepts id own None = tt
+
+  found_accepts : (id : List ℕ) (own : Option StandingQuote) → AcceptOk row (cancel_of id own)
+  found_accepts id None = tt
+  found_accepts id (Some own) = cancel_accepts id own (first_refusal (cancel_checks own))
+
+  if_accepts : (b : Bool) (one other : DealerVerdict) → AcceptOk row one → AcceptOk row other
+      → AcceptOk row (if b then one else other)
+  if_accepts true one other first second = first
+  if_accepts false one other first second = second
+
+  scope_accepts : (scope : CancelScope) → AcceptOk row (cancel_verdict book scope)
+  unfolding cancel_verdict
+  scope_accepts (cancels.One id) = found_accepts id _
+  scope_accepts (cancels.All id) =
+      if_accepts _ (verdict.Refused _) (verdict.DropsFollow (quotes_accepted book)) tt tt
+  scope_accepts (cancels.Other cancel_type id) = tt
+
+  decline_accepts : (name : List ℕ) (request : Option StandingRequest)
+      (refusal : Option QuoteRejectReason) → AcceptOk row (decline_answer name request refusal)
+  decline_accepts name request (Some reason) = tt
+  decline_accepts name None None = tt
+  decline_accepts name (Some request) None = tt
+
+  message_accepts : (said : DealerMessage) → AcceptOk row (message_verdict row book moment said)
+  unfolding quote_verdict decline_verdict
+  message_accepts (message.Quote quote) = quote_accepts quote _ refl _ refl
+  message_accepts (message.Cancel cancel) = scope_accepts cancel.scope
+  message_accepts (message.Decline decline) = decline_accepts decline.request _ _
+
+  arrival_accepts : (came : Arrival DealerMessage)
+      → AcceptOk row (arrival_verdict row book moment came)
+  arrival_accepts arrival.Dropped = tt
+  arrival_accepts (arrival.OutOfSequence reject) = tt
+  arrival_accepts (arrival.Rejected reject) = tt
+  arrival_accepts (arrival.Taken said) = message_accepts said
+
+  pub verdict_accepts : (date : List ℕ) (bytes : List ℕ)
+      → AcceptOk row (dealer_verdict date row book moment bytes)
+  unfolding dealer_verdict
+  verdict_accepts date bytes =
+      arrival_accepts (dealer_arrival date row (expected_number book) bytes)

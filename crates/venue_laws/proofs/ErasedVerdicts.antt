@@ -1,0 +1,115 @@
+-- What a verdict says, whatever its price.
+use Rattle.std.proofs.Common.{◌≡◌, ℕ, Bool, true, false, List, [], ◌∷◌, ◌++◌, map, Option, Some}
+use Rattle.std.proofs.Common.{None, option_map, refl, sym, ap, ◌∙◌, if◌then◌else◌}
+use Rattle.std.proofs.lemmas.List.{map-append}
+use Rattle.market_terms.specs.declared.rooms.RoomRef.{RoomRef}
+use Rattle.quote_word.specs.declared.settled.Settled.{Settled}
+use Rattle.quote_word.specs.declared.settled.Settled.TheVariants as settled
+use Rattle.dealer_desk.specs.DealerFacts.{Came, Quoted}
+use Rattle.dealer_desk.specs.DealerOutput.{word_asked, uses_number, verdict_facts, settled_facts}
+use Rattle.dealer_desk.specs.DealerOutput.{answer_facts, goes_through, came, verdict_message}
+use Rattle.dealer_desk.specs.DealerOutput.{verdict_duty, room_of, post_of}
+use Rattle.dealer_desk.specs.declared.accepted.AcceptedQuote.{AcceptedQuote}
+use Rattle.dealer_desk.specs.declared.standing.Withdrawal.{Withdrawal}
+use Rattle.dealer_desk.specs.declared.standing.Withdrawal.TheVariants as by
+use Rattle.dealer_desk.specs.declared.verdicts.DealerVerdict.{DealerVerdict}
+use Rattle.dealer_desk.specs.declared.verdicts.DealerVerdict.TheVariants as verdict
+use Rattle.venue_laws.proofs.Erasing.{erase_quote, erase_fact, erase_verdict, erase_duty}
+
+pub asked_same : (v : DealerVerdict) → word_asked (erase_verdict v) ≡ word_asked v
+asked_same (verdict.QuoteAccepted request id quote replaced) = refl
+asked_same other = refl
+
+uses_same : (v : DealerVerdict) → uses_number (erase_verdict v) ≡ uses_number v
+uses_same (verdict.QuoteAccepted request id quote replaced) = refl
+uses_same other = refl
+
+answers_fact_same : (own : Bool) (quote : ℕ) (how : Withdrawal) (settlement : Option Settled)
+    → map (erase_fact own) (answer_facts quote how settlement) ≡ answer_facts quote how settlement
+answers_fact_same own quote how None = refl
+answers_fact_same own quote how (Some settled.Withdrawn) = refl
+answers_fact_same own quote how (Some settled.Lifted) = refl
+
+settled_same : (own : Bool) (asked : Option ℕ) (how : Withdrawal) (settlement : Option Settled)
+    → map (erase_fact own) (settled_facts asked how settlement) ≡ settled_facts asked how settlement
+settled_same own None how settlement = refl
+settled_same own (Some quote) how settlement = answers_fact_same own quote how settlement
+
+quoted_same : (own b : Bool) (quote : AcceptedQuote)
+    → map (erase_fact own) (if b then Quoted (erase_quote quote) ∷ [] else [])
+    ≡ map (erase_fact own) (if b then Quoted quote ∷ [] else [])
+quoted_same own true quote = refl
+quoted_same own false quote = refl
+
+verdict_facts_same : (own : Bool) (v : DealerVerdict) (settlement : Option Settled)
+    → map (erase_fact own) (verdict_facts (erase_verdict v) settlement)
+    ≡ map (erase_fact own) (verdict_facts v settlement)
+verdict_facts_same own (verdict.QuoteAccepted request id quote replaced) settlement =
+    let settled = settled_facts replaced by.Replacement settlement in
+    map-append (erase_fact own) settled
+    (if goes_through replaced settlement then Quoted (erase_quote quote) ∷ [] else [])
+    ∙ ap (λ l. map (erase_fact own) settled ++ l)
+    (quoted_same own (goes_through replaced settlement) quote)
+    ∙ sym (map-append (erase_fact own) settled
+    (if goes_through replaced settlement then Quoted quote ∷ [] else []))
+verdict_facts_same own other settlement = refl
+
+message_same : (v : DealerVerdict) (settlement : Option Settled)
+    → verdict_message (erase_verdict v) settlement ≡ verdict_message v settlement
+message_same (verdict.QuoteAccepted request id quote replaced) settlement = refl
+message_same other settlement = refl
+
+posted_same : (b : Bool) (quote : AcceptedQuote) (room : Option RoomRef)
+    → option_map erase_duty (if b then option_map (post_of (erase_quote quote)) room else None)
+    ≡ option_map erase_duty (if b then option_map (post_of quote) room else None)
+posted_same true quote None = refl
+posted_same true quote (Some room) = refl
+posted_same false quote room = refl
+
+pub verdict_duty_same : (rooms : List RoomRef) (moment : ℕ) (v : DealerVerdict)
+    (settlement : Option Settled)
+    → option_map erase_duty (verdict_duty rooms moment (erase_verdict v) settlement)
+    ≡ option_map erase_duty (verdict_duty rooms moment v settlement)
+verdict_duty_same rooms moment (verdict.QuoteAccepted request id quote replaced) settlement =
+    posted_same (goes_through replaced settlement) quote (room_of rooms quote.request)
+verdict_duty_same rooms moment other settlement = refl
+
+-- Two verdicts that are one but for the price.
+
+module _ (v w : DealerVerdict) (alike : erase_verdict v ≡ erase_verdict w) where
+  pub asked_alike : word_asked v ≡ word_asked w
+  asked_alike = sym (asked_same v) ∙ ap word_asked alike ∙ asked_same w
+
+  pub duty_alike : (rooms : List RoomRef) (moment : ℕ) (settlement : Option Settled)
+      → option_map erase_duty (verdict_duty rooms moment v settlement)
+      ≡ option_map erase_duty (verdict_duty rooms moment w settlement)
+  duty_alike rooms moment settlement =
+      sym (verdict_duty_same rooms moment v settlement)
+      ∙ ap (λ (u : DealerVerdict). option_map erase_duty (verdict_duty rooms moment u settlement)) alike
+      ∙ verdict_duty_same rooms moment w settlement
+
+  pub message_alike : (settlement : Option Settled) → verdict_message v settlement ≡ verdict_message w settlement
+  message_alike settlement =
+      sym (message_same v settlement) ∙ ap (λ (u : DealerVerdict). verdict_message u settlement) alike
+      ∙ message_same w settlement
+
+  facts_alike : (own : Bool) (settlement : Option Settled)
+      → map (erase_fact own) (verdict_facts v settlement)
+      ≡ map (erase_fact own) (verdict_facts w settlement)
+  facts_alike own settlement =
+      sym (verdict_facts_same own v settlement)
+      ∙ ap (λ (u : DealerVerdict). map (erase_fact own) (verdict_facts u settlement)) alike
+      ∙ verdict_facts_same own w settlement
+
+  pub came_alike : (own : Bool) (moment : ℕ) (bytes others : List ℕ) (settlement : Option Settled)
+      → (if own then bytes else []) ≡ (if own then others else [])
+      → map (erase_fact own) (came moment bytes v settlement)
+      ≡ map (erase_fact own) (came moment others w settlement)
+  came_alike own moment bytes others settlement same =
+      ap (λ (kept : List ℕ). Came moment kept (uses_number v)
+      ∷ map (erase_fact own) (verdict_facts v settlement)) same
+      ∙ ap (λ (used : Bool). Came moment (if own then others else []) used
+      ∷ map (erase_fact own) (verdict_facts v settlement))
+      (sym (uses_same v) ∙ ap uses_number alike ∙ uses_same w)
+      ∙ ap (λ l. Came moment (if own then others else []) (uses_number w) ∷ l)
+      (facts_alike own settlement)
