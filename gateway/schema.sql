@@ -14,15 +14,15 @@ INSERT INTO form (number) VALUES (1);
 --     program HEX         the SHA-256 of the program's file
 --     configuration HEX   the SHA-256 of the configuration
 --     %%
--- each with a line feed behind it, and then the configuration, byte for byte.
+-- each with a line feed after it, and then the configuration, byte for byte.
 --
 -- Every other line is a step line of `rfq_venue live`, without its line feed: `hex FIRM TIME HEX` or
--- `clock TIME`. Fed behind the configuration, `%%` and one line `#`, place P is line C + 2 + P of the
+-- `clock TIME`. Fed after the configuration, `%%` and one line `#`, place P is line C + 2 + P of the
 -- venue's input, C being the lines of the configuration.
 --
 -- The chain: hash is the SHA-256 of the text
 --     BEFORE PLACE TERM MOMENT FIRM NUMBER LENGTH
--- (one space between, a line feed behind; BEFORE in small hexadecimal digits, FIRM and NUMBER `-` where
+-- (one space between, a line feed after; BEFORE in small hexadecimal digits, FIRM and NUMBER `-` where
 -- there is none, LENGTH the bytes of line) and the bytes of line. before is the hash of the place before,
 -- and 32 zero bytes at place 0.
 CREATE TABLE entry (

@@ -19,7 +19,7 @@ INSERT INTO speaker VALUES (1, 0, 'nobody', 0, '-infinity', '-infinity');
 -- five seconds. Gives the new term and the connection of the one before, which has to be ended once this is committed:
 -- it can commit nothing any more. Gives no row where the other is there, or may be: then it is to be asked again.
 --
--- What was committed before in an older term is seen behind this, and is where this is: on two machines, if the server
+-- What was committed before in an older term is seen after this, and is where this is: on two machines, if the server
 -- has synchronous standbys.
 CREATE FUNCTION take_over(name TEXT) RETURNS TABLE (new_term INTEGER, old_backend INTEGER, old_began TIMESTAMPTZ)
 LANGUAGE plpgsql SET lock_timeout TO '1s' AS $$

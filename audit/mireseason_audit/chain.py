@@ -75,7 +75,7 @@ class ChainReader:
         self._note(Entries.of([entry]))
 
     def _note(self, block: Entries) -> None:
-        """Keeps what is left of entries behind them. Their places are one behind the other."""
+        """Keeps what is left of entries once they are through. Their places are one after the other."""
         found = self.found
         found.entries += len(block.places)
         self._before = block.entry(-1)
@@ -113,7 +113,7 @@ class ChainReader:
         return True
 
     def _moved_numbers(self, block: Entries) -> Numbers | None:
-        """The numbers of the sessions behind some entries; None where one does not rise."""
+        """The numbers of the sessions after some entries; None where one does not rise."""
         moved = dict(self.found.numbers)
         for firm, number, place in zip(block.firms, block.numbers, block.places):
             if firm is not None and number is not None:
@@ -225,7 +225,7 @@ def write_day(log: Log, day: Day, path: Path, step: Step) -> None:
 
 
 def lines_before(day: Day) -> int:
-    """How many lines of the file stand in front of that of the first entry behind place 0."""
+    """How many lines of the file stand in front of that of the first entry after place 0."""
     return day.head.count(b"\n")
 
 

@@ -181,7 +181,7 @@ def stranger_findings(verdict: Verdict) -> list[Finding]:
 
 
 def target_findings(targets: dict[str, int], numbers: Numbers) -> list[Finding]:
-    """A session expects a number behind that of each message that came."""
+    """A session expects a number after that of each message that came."""
     found = []
     for firm, (number, place) in sorted(numbers.items()):
         if targets.get(firm, 0) <= number:

@@ -46,7 +46,7 @@ class Exchange(NamedTuple):
         return [told for told in self.told if told.firm.name == self.firm]
 
 
-NOWHERE = 1 << 63  # behind all places
+NOWHERE = 1 << 63  # after all places
 
 
 class Waiting:

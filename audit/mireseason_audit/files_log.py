@@ -58,7 +58,7 @@ class TwoFiles:
         return SqliteSource(path, has_chain=False, title=self.day.name)
 
     def _entries(self) -> Iterator[tuple[int, str, str | None, bytes]]:
-        """The configuration as the line of place 0, and the lines behind it."""
+        """The configuration as the line of place 0, and the lines after it."""
         with self.day.open("rb") as file:
             yield 0, "", None, self._configuration(file)
             for place, line in enumerate(file, 1):

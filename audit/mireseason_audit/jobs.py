@@ -305,7 +305,7 @@ def kept(log: Log, firm: str, files: Files, step: Step) -> Iterator[Messages]:
 
 
 def due_texts(blocks: Iterable[bytes]) -> Iterator[Iterator[bytes]]:
-    """Due texts that stand one behind the other, each in pieces.
+    """Due texts that stand one after the other, each in pieces.
 
     A text begins with its date. No other line begins so, since each begins with the word that says
     what it is, and a message that has a line feed is written in hexadecimal digits.

@@ -32,7 +32,7 @@ class Log(Closing):
 
     @abstractmethod
     def line_blocks(self) -> Iterator[list[bytes]]:
-        """The lines of the entries behind place 0, in their order."""
+        """The lines of the entries after place 0, in their order."""
 
     @abstractmethod
     def places(self) -> Iterator[int]:

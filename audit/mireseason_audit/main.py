@@ -115,7 +115,7 @@ def source_of(words: argparse.Namespace, venue: Venue, folder: Path) -> Source:
 
 
 def connection_of(log: str) -> str:
-    """What libpq is given: the words behind `postgres:`, or an address, which begins so."""
+    """What libpq is given: the words after `postgres:`, or an address, which begins so."""
     return log if log.startswith(ADDRESSES) else log.removeprefix("postgres:")
 
 

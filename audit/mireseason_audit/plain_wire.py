@@ -18,10 +18,10 @@ from .wire import IN_FRONT_OF, header_fault, with_number
 FRONTS = {b"35=" + kind: before for kind, before in IN_FRONT_OF.items()}
 REJECTED = b"\x0135=3\x01"
 LEAVES = b"\x0152="
-# What stands behind the type of a message, up to the moment at which it leaves.
+# What stands after the type of a message, up to the moment at which it leaves.
 COUNTED = b"\x0134=%d\x0149=VENUE\x0152="
-ADDRESSED = b"\x0156=%b\x011181="  # what stands behind that moment, up to the venue's number
-END_BYTES = 8  # 10=ccc, with an SOH before it and behind it
+ADDRESSED = b"\x0156=%b\x011181="  # what stands after that moment, up to the venue's number
+END_BYTES = 8  # 10=ccc, with an SOH before it and after it
 SUMMED = 256  # bytes, of whose Adler-32 the last byte is one more than that of their sum
 # The end of a message, by the last byte of the Adler-32 of all in front of it: with the SOH that
 # begins it the sum is one more, too.

@@ -64,7 +64,7 @@ class Growing:
         return self.path.open("rb")
 
     def _looks(self) -> Iterator[None]:
-        """The moments to read what is there; behind the last of them nothing more comes."""
+        """The moments to read what is there; after the last of them nothing more comes."""
         is_whole = False
         while not is_whole:
             is_whole = self.whole.exists()  # before it is read: what is read then is the rest

@@ -1,7 +1,7 @@
 """What a session sent of the venue's messages, against `sent`: the translation of
 gateway/README.md, read back.
 
-A message on the wire has the venue's number in ApplSeqNum (1181), first behind the header, and
+A message on the wire has the venue's number in ApplSeqNum (1181), first after the header, and
 its moment in TransactTime (60), whose place depends on the type; the rest of its body is the
 venue's, byte for byte.
 """
@@ -33,7 +33,7 @@ class Parts(NamedTuple):
     kind: bytes
     number: bytes
     moment: bytes
-    body: bytes  # all fields behind 52, with an SOH before each and none behind the last
+    body: bytes  # all fields after 52, with an SOH before each and none after the last
 
 
 FRAME = re.compile(

@@ -30,7 +30,7 @@ def has_room(file: int, size: int, part: int) -> bool:
 
 
 class Disk:
-    """ext4 in a file. What was not synchronised is not in the file but by chance, so that behind a
+    """ext4 in a file. What was not synchronised is not in the file but by chance, so that after a
     cut of power there is what was synchronised, and little else."""
 
     def __init__(self, image: Path, mount: Path, megabytes: int) -> None:
@@ -66,7 +66,7 @@ class Disk:
                     size += part
 
     def empty(self) -> None:
-        """For good: what is gone stays gone behind a cut of power, too."""
+        """For good: what is gone stays gone after a cut of power, too."""
         self.ballast.unlink(missing_ok=True)
         with self.opened() as place:
             os.fsync(place)

@@ -36,7 +36,7 @@ class Service:
                 env={**os.environ, **self.environment}, start_new_session=True)
 
     def look(self) -> None:
-        """Starts it again a little behind its end."""
+        """Starts it again a little after its end."""
         if not self.wanted or self.is_running():
             self._ended = 0.0
             return

@@ -232,7 +232,7 @@ void Connection::take_messages() {
 void Connection::take(const std::string &message) {
     {
         const std::lock_guard<std::mutex> lock(mutex_);
-        // The session has ended the connection: what comes behind that is not looked at.
+        // The session has ended the connection: what comes after that is not looked at.
         if (closing_) {
             return;
         }

@@ -20,7 +20,7 @@ struct Delivery {
     std::uint32_t place = 0;  // of the entry that it answers
     std::string frame;        // the venue's
     std::string type;         // 35
-    std::string body;         // all that stands behind the header on the wire
+    std::string body;         // all that stands after the header on the wire
 };
 
 // What a Logon says of who sent it.
@@ -131,7 +131,7 @@ class Engine {
     // The same, but where that had to wait for the session's connection, whose thread may wait for
     // its firm: then false, and nothing was done.
     bool deliver_at_once(const Delivery &delivery);
-    // A session settles between its Logon and the answer to the TestRequest behind it: then the
+    // A session settles between its Logon and the answer to the TestRequest after it: then the
     // firm may be filling a gap, and messages had better wait. Until when at the latest; a moment
     // that has passed where it does not.
     std::chrono::steady_clock::time_point settles_until(const std::string &session) const;

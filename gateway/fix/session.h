@@ -31,7 +31,7 @@ class FirmSession final : private FIX::Application, private FIX::Log {
     // the connection has the session: so a stranger keeps no firm out of its own. False where it
     // does not have it: what came is no message, or another connection has it and stays.
     bool admit(Connection &connection, const std::string &bytes);
-    // Ends what the connection had. No call of this session reaches the connection behind it.
+    // Ends what the connection had. No call of this session reaches the connection after it.
     void detach(Connection &connection);
 
     // A message as it came.

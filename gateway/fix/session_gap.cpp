@@ -24,7 +24,7 @@ bool FirmSession::is_next_or_kept(int number) {
         events_.dropped("gap", name_);
         if (*ahead_.rbegin() < expected) {
             // The firm has passed over all that the engine keeps, and keeps until the connection
-            // ends: with no room for a message behind the new gap it would never ask for that.
+            // ends: with no room for a message after the new gap it would never ask for that.
             end("too much is kept that was passed over");
         }
         return false;

@@ -30,7 +30,7 @@ void FirmSession::reject(const FIX::Header &header, int tag, int reason, const s
     }
 }
 
-// To the engine it is a gap that is filled: it counts it, and goes on with what it keeps behind it.
+// To the engine it is a gap that is filled: it counts it, and goes on with what it keeps after it.
 void FirmSession::pass_over(int number) {
     FIX::Message fill;
     FIX::Header &header = fill.getHeader();

@@ -43,14 +43,14 @@ void FirmSession::take_resend_request(const FIX::Message &request, Connection &c
         settled_at_ = settled_by_;
     }
     if (resend(request, last_sent, connection) && fills_gap) {
-        // The one behind the Logon was part of the gap, and is left out of it like all of the
+        // The one after the Logon was part of the gap, and is left out of it like all of the
         // session's.
         ask_whether_settled();
     }
 }
 
 // The engine reads a whole gap into memory before it sends the first message of it; given piece by
-// piece, a gap of any length takes little. Whether the session stands behind it.
+// piece, a gap of any length takes little. Whether the session stands after it.
 bool FirmSession::resend(FIX::Message request, int last_sent, Connection &connection) {
     const int asked = number_in(request, FIX::FIELD::EndSeqNo);
     const int last = asked == 0 ? last_sent : std::min(asked, last_sent);

@@ -6,7 +6,7 @@ namespace gateway {
 
 namespace {
 
-// What marks a message of the venue: ApplSeqNum stands first behind its header. No field that a
+// What marks a message of the venue: ApplSeqNum stands first after its header. No field that a
 // session echoes can have it, since none has SOH.
 const std::string marks_body = "\x01"
                                "1181=";
@@ -14,11 +14,11 @@ const std::string marks_body = "\x01"
 // `10=`, three digits and SOH.
 constexpr std::size_t trailer = 7;
 
-// The greatest number that a firm may go on with: behind it there is room for all messages of a day
+// The greatest number that a firm may go on with: after it there is room for all messages of a day
 // in the engine's numbers, and in the log's.
 constexpr int greatest_target = 1000000000;
 
-// The value behind `TAG=` in a header, empty without one.
+// The value after `TAG=` in a header, empty without one.
 std::string value_in(const std::string &bytes, const std::string &field) {
     const std::size_t begin = bytes.find("\x01" + field);
     if (begin == std::string::npos) {

@@ -16,7 +16,7 @@ namespace gateway {
 //
 // A message of the session itself (Logon, Heartbeat, ..) leaves only when it is on disk, and with
 // it all that had lower numbers. A message of the venue need not be: whatever left and was lost can
-// only be messages of the venue behind all that is on disk, and the venue gives them again, in
+// only be messages of the venue after all that is on disk, and the venue gives them again, in
 // their order, before any session logs on. So each gets its number again.
 class SessionStore final : public FIX::MessageStore {
   public:

@@ -23,7 +23,7 @@ class Comparison {
     // A process of the venue begins. What the log has of its messages now is held against them.
     void begin();
     // Whether the venue's next message to a firm is one that the log had not then; body is what of
-    // it stands on the wire behind the header. Throws std::runtime_error that names the firm and
+    // it stands on the wire after the header. Throws std::runtime_error that names the firm and
     // the number where it is another than the log has, or went otherwise, or is not the next one.
     bool is_new(const std::string &firm, std::uint32_t number, const std::string &frame,
                 const std::string &body);

@@ -35,7 +35,7 @@ class Feeder final : private Committed::Reader {
     Feeder(const Feeder &) = delete;
     Feeder &operator=(const Feeder &) = delete;
 
-    // Feeds no further entry, and ends the process's input behind the last one; of any thread.
+    // Feeds no further entry, and ends the process's input after the last one; of any thread.
     void stop() { thread_.request_stop(); }
     // Stops, and waits until it has. What it could not go on for, if that was no end of the
     // process.

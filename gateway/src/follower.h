@@ -18,7 +18,7 @@ namespace gateway {
 // when the database says that the other gateway has gone.
 class Follower {
   public:
-    // may_take_over is asked before the database is, behind each look.
+    // may_take_over is asked before the database is, after each look.
     Follower(Database &database, std::shared_ptr<spdlog::logger> events,
              std::function<bool()> may_take_over);
 

@@ -51,7 +51,7 @@ void Gateway::start() {
                   !settings.certificate.empty(), starts.size());
 }
 
-// Each venue's log on a thread of its own. The logs are taken over one behind the other, so that
+// Each venue's log on a thread of its own. The logs are taken over one after the other, so that
 // of two gateways that begin at once one speaks for all.
 void Gateway::follow() {
     std::vector<std::jthread> threads;

@@ -101,7 +101,7 @@ class Log {
     Ticket append_here(Entry entry, std::string_view verb, std::string_view rest,
                        std::chrono::steady_clock::time_point received, Committer committer);
     bool has_room() const;
-    // Waits for room; the lock is held before and behind.
+    // Waits for room; the lock is held before and after.
     void wait_for_room(std::unique_lock<std::mutex> &lock);
     void throw_if_failed() const;
     void write(const std::stop_token &stop);
@@ -115,7 +115,7 @@ class Log {
     bool is_pressing() const;
     // What is to be committed now. The lock is held.
     Filling take(bool all);
-    // Commits what is to be committed now. The lock is held before and behind; nobody else writes.
+    // Commits what is to be committed now. The lock is held before and after; nobody else writes.
     void commit_some(std::unique_lock<std::mutex> &lock, bool all);
     void write_rows(Filling &filling);
     // Hands the entries on to the venue, and returns the last one's place, if there is one.

@@ -38,7 +38,7 @@ class Mailbox {
   private:
     void run(const std::stop_token &stop);
     void wait_while_settling(std::unique_lock<std::mutex> &lock, const std::stop_token &stop);
-    // Without the lock, which is held before and behind. What `deliver` returned, or false where it
+    // Without the lock, which is held before and after. What `deliver` returned, or false where it
     // failed.
     bool hand_over(std::unique_lock<std::mutex> &lock, const std::function<bool()> &deliver);
 

@@ -22,7 +22,7 @@ class Metrics {
 
     // A transaction of the log, what it had and how long it took.
     void committed(std::size_t entries, std::size_t messages, Duration took);
-    // An entry, from the receipt of its message to its commit, and to the venue's mark behind it.
+    // An entry, from the receipt of its message to its commit, and to the venue's mark after it.
     void logged(Duration since_receipt);
     void answered(Duration since_receipt);
     // A message of the venue that was handed to a firm's session.

@@ -26,7 +26,7 @@ std::string text_of(Moment moment);
 // Reads HH:MM:SS.sss, and nothing else.
 std::optional<Moment> moment_of(std::string_view text);
 
-// The UTC clock of one day. It never goes back: behind a clock that was set back it stands until
+// The UTC clock of one day. It never goes back: after a clock that was set back it stands until
 // the old moment is passed. Where the machine's clock is set to another day it stands too, so that
 // nothing is told that is due at the end of this one. Any thread may ask.
 class DayClock {

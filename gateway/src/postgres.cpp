@@ -150,7 +150,7 @@ class WritingConnection {
         connection_->prepare("speak and be seen", "SELECT speak_and_be_seen($1)");
     }
 
-    // Two gateways that begin at once make them one behind the other.
+    // Two gateways that begin at once make them one after the other.
     static void make_tables(pqxx::nontransaction &work, const std::string &schema) {
         const std::string tables =
             fmt::format("SELECT FROM pg_tables WHERE schemaname = {}", work.quote(schema));

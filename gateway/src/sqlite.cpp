@@ -135,7 +135,7 @@ class SqliteReader final : public LogReader {
 };
 
 // A write-ahead log that has its length beforehand is synchronised in half the time of one that
-// grows. SQLite reads it up to the first frame that is none, and begins it anew behind each
+// grows. SQLite reads it up to the first frame that is none, and begins it anew after each
 // checkpoint.
 constexpr std::size_t usual_length = 8 << 20;
 

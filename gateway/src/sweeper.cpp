@@ -21,7 +21,7 @@ constexpr auto longest_sleep = 1000ms;
 constexpr auto look = 10ms;
 
 // How long messages are held at most: a firm whose session ends may wait for them, and the thread
-// that reads the venue for that firm. Behind it they go on, and are held again.
+// that reads the venue for that firm. After it they go on, and are held again.
 constexpr auto longest_hold = 500ms;
 
 } // namespace
@@ -62,7 +62,7 @@ void Sweeper::sweep(Answers::Deadline due, const std::stop_token &stop) {
     }
 }
 
-// Its answer is waited for behind the hold: what the venue gives for it may have to wait for a firm
+// Its answer is waited for after the hold: what the venue gives for it may have to wait for a firm
 // that waits for the log.
 void Sweeper::sweep_held(const std::stop_token &stop) {
     std::optional<std::uint32_t> swept;

@@ -11,7 +11,7 @@
 
 namespace gateway {
 
-// Commits a sweep when a deadline has come, behind the entry whose mark told it: what came since
+// Commits a sweep when a deadline has come, after the entry whose mark told it: what came since
 // may have ended the request. Where messages come so fast that there is always one, they are held
 // until the venue has answered those before. So no sweep is committed for which nothing is due.
 class Sweeper {

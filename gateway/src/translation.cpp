@@ -30,7 +30,7 @@ int tag_number(std::string_view tag) {
     return number;
 }
 
-// The tag in front of which TransactTime (60) stands; none where it stands behind all others.
+// The tag before which TransactTime (60) stands; none where it stands after all others.
 std::string_view stands_before_time(std::string_view type) {
     if (type == "S") {
         return "537";

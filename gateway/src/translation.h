@@ -24,7 +24,7 @@ std::variant<std::string, NoFrame> for_venue(std::string_view message, unsigned 
 std::string cancel_of_all(std::string_view firm, std::string_view trader, unsigned number,
                           std::string_view moment);
 
-// A message of the venue for the wire: all that stands behind the header. The venue's 34 stands in
+// A message of the venue for the wire: all that stands after the header. The venue's 34 stands in
 // ApplSeqNum (1181), its 52 in TransactTime (60), each in its place by the dictionary of `fix/`;
 // all other fields are the venue's, byte for byte and in their order.
 struct ForWire {

@@ -230,7 +230,7 @@ std::vector<SessionStart> VenueDay::session_starts() {
             const FirmState &state = found->second;
             start.sender = state.outgoing + 1;
             start.carried = state.sent > 0 ? state.outgoing : 0;
-            // A message that is in the log came, whether the number behind it was committed or not.
+            // A message that is in the log came, whether the number after it was committed or not.
             start.target = std::max(state.session.target, state.last_number + 1);
         }
         starts.push_back(start);

@@ -46,7 +46,7 @@ class VenueDay final : private SessionHost, private VenueListener {
     void follow(const std::function<bool()> &may);
     // Whether it has, or is about to: nobody else writes the log.
     bool has_term() const { return has_term_; }
-    // Where the firms' sessions begin, behind follow().
+    // Where the firms' sessions begin, after follow().
     std::vector<SessionStart> session_starts();
     // Has what the log lacks handed to the engine, unless the gateway is to stop.
     void start(Engine &engine);

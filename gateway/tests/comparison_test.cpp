@@ -31,7 +31,7 @@ std::string on_the_wire(const std::string &type, std::uint32_t number, const std
         body);
 }
 
-// F's session: a Logon, and behind it the messages of the venue.
+// F's session: a Logon, and after it the messages of the venue.
 Batch day() {
     Batch rows;
     rows.outgoing.push_back({"F", 1, {}, on_the_wire("A", 1, with_soh("98=0|108=30|"))});

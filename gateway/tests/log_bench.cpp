@@ -2,7 +2,7 @@
 //
 // usage: log_bench CONNECTION LOGS THREADS SECONDS
 //
-// LOGS logs, each a schema that is dropped behind it; in each of them THREADS threads that append a
+// LOGS logs, each a schema that is dropped after it; in each of them THREADS threads that append a
 // message of 200 bytes and wait until it is committed, again and again. Prints the messages a
 // second of all logs together, and how long one waited.
 #include "check.h"

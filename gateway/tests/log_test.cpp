@@ -113,14 +113,14 @@ void many_threads(Database &database) {
         }
         writers.clear();
         log.flush();
-        check(!log.append_clock_behind(threads * messages - 1), "a sweep behind an entry");
+        check(!log.append_clock_behind(threads * messages - 1), "a sweep after an entry");
         same(threads * messages + 1, log.append_clock_behind(threads * messages).value_or(0),
-             "a sweep behind the last entry");
+             "a sweep after the last entry");
     }
     check_rows(*database.reader());
 }
 
-// A log behind the last entry of a day.
+// A log after the last entry of a day.
 struct DayThatGoesOn {
     explicit DayThatGoesOn(Database &database)
         : start(start_of(database)), last(start.last.place),
@@ -142,7 +142,7 @@ struct DayThatGoesOn {
     Log log;
 };
 
-// While messages are held a sweep is not, and they come behind it.
+// While messages are held a sweep is not, and they come after it.
 void a_held_log(Database &database) {
     DayThatGoesOn day(database);
     Log &log = day.log;
@@ -156,9 +156,8 @@ void a_held_log(Database &database) {
     writer.join();
     log.flush();
     const auto entries = database.reader()->entries(last + 1, 9);
-    same<std::size_t>(2, entries.size(), "entries behind the hold");
-    check(!entries[0].firm && entries[1].firm == "F0",
-          "the message does not come behind the sweep");
+    same<std::size_t>(2, entries.size(), "entries after the hold");
+    check(!entries[0].firm && entries[1].firm == "F0", "the message does not come after the sweep");
 }
 
 // What the caller commits is in the log when the call returns, and what it does not is soon.

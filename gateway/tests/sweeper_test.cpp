@@ -1,4 +1,4 @@
-// The clock of the venue: a deadline that has come, messages that always are behind it, and a venue
+// The clock of the venue: a deadline that has come, messages that always come after it, and a venue
 // that does not answer meanwhile, or not the sweep.
 //
 // usage: sweeper_test
@@ -74,7 +74,7 @@ std::size_t sweeps_of(MemoryDatabase &database) {
     return sweeps;
 }
 
-// Behind the entry whose mark told the deadline, and once.
+// After the entry whose mark told the deadline, and once.
 void a_deadline_that_has_come() {
     DayWithADeadline day;
     {
@@ -87,7 +87,7 @@ void a_deadline_that_has_come() {
     }
     const std::vector<Entry> entries = day.database.entries();
     same<std::size_t>(2, entries.size(), "entries");
-    check(entries[0].firm && !entries[1].firm, "no sweep behind the message");
+    check(entries[0].firm && !entries[1].firm, "no sweep after the message");
 }
 
 // Messages are held for the sweep, but for no longer than a while: the venue may not answer before
@@ -111,7 +111,7 @@ void a_venue_that_does_not_answer() {
         const bool went_on = firm.wait_for(longest) == std::future_status::ready;
         is_over = true;
         check(went_on, "a firm waits for a venue that does not answer");
-        same<std::size_t>(0, sweeps_of(day.database), "sweeps behind other messages");
+        same<std::size_t>(0, sweeps_of(day.database), "sweeps after other messages");
     }
 }
 
@@ -125,7 +125,7 @@ std::uint32_t once_it_waits(const std::atomic<std::uint32_t> &number) {
     return seen;
 }
 
-// Messages go on behind a sweep: the venue may not answer it before one of them is in the log.
+// Messages go on after a sweep: the venue may not answer it before one of them is in the log.
 void a_sweep_that_is_not_answered() {
     DayWithADeadline day;
     day.log.append_message("F", 2, "x");

@@ -31,7 +31,7 @@ class Schema {
         work.exec("DROP SCHEMA " + name_ + " CASCADE");
     }
 
-    // more is put behind the connection string.
+    // more is put after the connection string.
     std::unique_ptr<Database> open(const std::string &gateway, const std::string &more = "") const {
         return open_postgres({text_ + more, name_, gateway});
     }
@@ -78,7 +78,7 @@ void one_speaks(Schema &schema) {
     const auto writer = first->writer();
     writer->commit(batch_of(0, 1));
     writer->be_seen();
-    check(!second->take_over(), "two gateways speak behind a commit");
+    check(!second->take_over(), "two gateways speak after a commit");
     same<std::size_t>(1, second->reader()->entries(0, 9).size(), "entries that the second reads");
     const std::string other = thrown_by([&] { writer->commit(batch_of(1, 2)); });
     check(other.find("term 2 is over") != std::string::npos, "an entry of another term: " + other);
@@ -87,14 +87,14 @@ void one_speaks(Schema &schema) {
 // The connection of a gateway that has gone is closed, and that of one that hangs is not.
 void terms_rise(Schema &schema) {
     auto second = schema.open("second");
-    same(2U, second->take_over().value_or(0), "the term behind a gateway that has gone");
+    same(2U, second->take_over().value_or(0), "the term after a gateway that has gone");
     second->writer()->commit(batch_of(1, 2));
     const auto third = schema.open("third");
     // Nothing but the take-over itself comes in the three seconds that are left of its five.
     schema.run("UPDATE speaker SET seen = clock_timestamp() - interval '2 seconds'");
     check(!third->take_over(), "a gateway takes over from one that is there");
     schema.run("UPDATE speaker SET seen = seen - interval '4 seconds'");
-    same(3U, third->take_over().value_or(0), "the term behind a gateway that hangs");
+    same(3U, third->take_over().value_or(0), "the term after a gateway that hangs");
     third->writer()->commit(batch_of(2, 3));
     check(!thrown_by([&] { second->writer()->commit(batch_of(3, 2)); }).empty(),
           "a gateway whose term is over writes");
@@ -157,11 +157,11 @@ std::uint32_t term_of(Database &next) {
 void hangs_in_a_transaction(Schema &schema) {
     const Hanging hanging(schema, 4);
     const auto next = next_of(schema);
-    same(5U, term_of(*next), "the term behind a gateway that hangs in a commit");
+    same(5U, term_of(*next), "the term after a gateway that hangs in a commit");
     next->writer()->commit(batch_of(3, 5));
 }
 
-// Its server is at work when it is looked at, and it hangs behind that.
+// Its server is at work when it is looked at, and it hangs after that.
 void hangs_behind_its_work(Schema &schema) {
     const std::string work = "SELECT pg_advisory_lock(7)";
     schema.run(work);
@@ -174,7 +174,7 @@ void hangs_behind_its_work(Schema &schema) {
     check(!next->take_over(), "a gateway takes over from one whose server is at work");
     schema.run("SELECT pg_advisory_unlock(7)");
     done.get();
-    same(7U, term_of(*next), "the term behind a gateway that hangs behind its work");
+    same(7U, term_of(*next), "the term after a gateway that hangs after its work");
     next->writer()->commit(batch_of(4, 7));
 }
 

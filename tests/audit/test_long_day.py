@@ -65,10 +65,11 @@ def timed(words: list[str], input_: Path | None = None) -> tuple[float, int]:
     return took, watch.most
 
 
-def best(times: int, words: list[str], input_: Path | None = None) -> tuple[float, int]:
-    """The shortest of some runs, and the most memory of any."""
-    runs = [timed(words, input_) for _ in range(times)]
-    return min(took for took, _ in runs), max(most for _, most in runs)
+def best(times: int, *commands: tuple[list[str], Path | None]) -> list[tuple[float, int]]:
+    """Of each command, with its input, the shortest of some runs, and the most memory of any. They
+    take turns, so that a machine that is busy for a while is so for all."""
+    rounds = [[timed(*command) for command in commands] for _ in range(times)]
+    return [(min(took for took, _ in runs), max(most for _, most in runs)) for runs in zip(*rounds)]
 
 
 class LongDay(unittest.TestCase):
@@ -80,16 +81,19 @@ class LongDay(unittest.TestCase):
             subprocess.run([*words, *venue_words()], check=True)
             day.write_bytes(day_text(log))
             venue = ["--venue", shlex.join(venue_words())]
-            replay, _ = best(3, [*venue_words(), "replay", "--live", "--frames"], day)
-            check, memory = best(3, [str(AUDIT), "check", str(log), *venue])
+            replayed = [*venue_words(), "replay", "--live", "--frames"]
+            checked = [str(AUDIT), "check", str(log), *venue]
+            (replay, _), (check, memory) = best(3, (replayed, day), (checked, None))
             page, more = timed([str(AUDIT), "page", str(log), str(place / "pages"), *venue])
+            load = os.getloadavg()[0]
             text = "%d messages: replay --live %.2f s; check %.2f s, %d MB; page %.1f s, %d MB"
             sizes = (FRAMES, replay, check, memory // 1000, page, more // 1000)
-            print((text + "; load %.1f") % (*sizes, os.getloadavg()[0]))
+            print((text + "; load %.1f") % (*sizes, load))
             self.assertLess(max(memory, more), MEGABYTES * 1000)
             if FRAMES >= 100_000:  # of a shorter day the processes that are started are the most
-                self.assertLess(check, TIMES * replay)
-                self.assertLess(page, PAGE_SECONDS)
+                busy = "at a load of %.1f" % load  # the times are those of a machine that is free
+                self.assertLess(check, TIMES * replay, busy)
+                self.assertLess(page, PAGE_SECONDS, busy)
 
 
 if __name__ == "__main__":

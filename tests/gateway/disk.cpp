@@ -1,7 +1,7 @@
 // Stands between a process and its database's files, by LD_PRELOAD: it keeps what is on the disk
-// behind each sync, makes syncs slow, and makes the disk full from a given sync on.
+// after each sync, makes syncs slow, and makes the disk full from a given sync on.
 //
-//     DISK_COPIES=FOLDER  behind each sync of a file *.db or *.db-wal: a copy of the file,
+//     DISK_COPIES=FOLDER  after each sync of a file *.db or *.db-wal: a copy of the file,
 //                         FOLDER/N.db or FOLDER/N.wal, and a line `N KIND BEGAN ENDED` in
 //                         FOLDER/syncs, the nanoseconds of the monotonic clock at which the sync
 //                         began and ended. N counts the syncs from 1, and goes on where a process

@@ -38,7 +38,7 @@ class Port:
     def __init__(self) -> None:
         self._held = socket.socket()
         self._held.bind(("127.0.0.1", 0))
-        # Behind bind(), so that no other socket shares it: now one with the same option, as a server's, may have it too.
+        # After bind(), so that no other socket shares it: now one with the same option, as a server's, may have it too.
         self._held.setsockopt(socket.SOL_SOCKET, socket.SO_REUSEADDR, 1)
         self.number: int = self._held.getsockname()[1]
 

@@ -37,7 +37,7 @@ def as_received(frame: bytes, numbers: list[int]) -> tuple[tuple[int, bytes], ..
 
 
 def is_well_placed(message: Received) -> bool:
-    """Whether 1181 is the first field behind the header, and 60 stands where the dictionary has it."""
+    """Whether 1181 is the first field after the header, and 60 stands where the dictionary has it."""
     tags = [tag for tag, _ in message.fields if tag not in SESSION_TAGS]
     behind = [*tags, None][tags.index(VENUE_MOMENT) + 1]
     return tags[0] == VENUE_NUMBER and behind == BEHIND_MOMENT.get(message.kind)

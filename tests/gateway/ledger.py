@@ -119,14 +119,14 @@ def printed(words: list[str], day: bytes) -> bytes:
 
 @dataclass(frozen=True)
 class Mark:
-    """Where the venue stands behind an entry."""
+    """Where the venue stands after an entry."""
 
     given: dict[str, int]  # how many messages each firm was given until then
     deadline: str | None  # the earliest of a room that has not ended
 
 
 def marks(program: list[str], day: bytes) -> list[Mark]:
-    """The marks behind the entries of a day, by their places; behind place 0 nothing has come about."""
+    """The marks after the entries of a day, by their places; after place 0 nothing has come about."""
     found, given = [Mark({}, None)], {}
     for line in printed([*program, "live", "--frames", "--marks"], day).splitlines():
         words = line.decode(errors="replace").split(" ")

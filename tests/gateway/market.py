@@ -13,7 +13,7 @@ Fields = list[tuple[int, bytes]]
 
 @dataclass(frozen=True)
 class Act:
-    """A message that a firm sends: its type and the fields behind the header, the trader (50) among them."""
+    """A message that a firm sends: its type and the fields after the header, the trader (50) among them."""
 
     firm: Firm
     kind: str

@@ -1,4 +1,4 @@
-"""Days that are drawn by seeds and played one behind the other: the words that all have, and how
+"""Days that are drawn by seeds and played one after the other: the words that all have, and how
 what is wrong with each is told.
 """
 

@@ -14,7 +14,7 @@
 //           admin HEX        a Reject of the engine itself or a Logout came
 // PLAYER_VENUE  in the environment: the venue (57) that its Logons name
 // RECEIVED  a line for each message of the venue: the nanoseconds of the monotonic clock and,
-//           behind one space, its bytes as they came, in hexadecimal digits
+//           after one space, its bytes as they came, in hexadecimal digits
 //
 // QuickFIX's headers are those of C++14, so this file is too.
 #include <quickfix/Application.h>

@@ -1,6 +1,6 @@
 #!/bin/sh
 # Runs a command with a PostgreSQL server of its own, as another user than root and in a folder that is
-# removed behind it, and ends the server. Each word `{}` of the command becomes the connection string of
+# removed after it, and ends the server. Each word `{}` of the command becomes the connection string of
 # libpq. usage: tests/gateway/postgres.sh COMMAND ..
 set -eu
 bin=$(ls -d /usr/lib/postgresql/*/bin 2>/dev/null | sort -V | tail -n 1)

@@ -12,7 +12,7 @@ from ledger import Ledger, answers, answers_to, marks
 from wait import LONG, until, within
 
 MODEL = [sys.executable, str(Path(__file__).resolve().parent.parent / "model" / "program.py")]
-LOOKS = 30  # how often a day is looked at until no deadline comes behind its last message: more than there are of a minute
+LOOKS = 30  # how often a day is looked at until no deadline comes after its last message: more than there are of a minute
 
 
 def wait_all_on(door: Door, firms: list[Firm], limit: float = 2 * LONG) -> None:
@@ -38,7 +38,7 @@ def wait_still(door: Door, seconds: float) -> None:
 
 
 def settled(door: Door, firms: list[Firm], still: float = 0.3) -> list[str]:
-    """The faults of a day, whose gateway has ended behind this, and whose firms' messages were all waited for."""
+    """The faults of a day, whose gateway has ended after this, and whose firms' messages were all waited for."""
     for _ in range(LOOKS):
         wait_all_on(door, firms)
         within(LONG, lambda: not any(True for firm in firms for _ in unlogged(firm, door.ledger())))

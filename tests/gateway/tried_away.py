@@ -23,7 +23,7 @@ DEADLINE = 110  # seconds: a clock that is set forward by these is still one who
 
 
 def reject_for_one_away(stage: Stage) -> None:
-    """A dealer that ends behind its message gets the Reject at its next Logon."""
+    """A dealer that ends after its message gets the Reject at its next Logon."""
     stage.open(*stage.firms)
     number = stage.say(stage.dealer, "Z", [(298, b"4")], trader="T9")
     stage.dealer.kill()
@@ -93,7 +93,7 @@ def deadline_passes(stage: Stage) -> None:
     clocks = [entry for entry in stage.door.ledger().entries if entry.is_clock]
     check(len(clocks) == 1, "%d clock lines" % len(clocks))
     before, after = milliseconds(clocks[0].moment) - milliseconds(stage.deadline), milliseconds(end.value(60)[9:].decode())
-    check(0 <= before < 1000 * LONG, "the clock line is %d ms behind the deadline" % before)
+    check(0 <= before < 1000 * LONG, "the clock line is %d ms after the deadline" % before)
     check(after == milliseconds(clocks[0].moment), "60 of the end is %r" % end.value(60))
     stage.whole()
 
@@ -194,7 +194,7 @@ def one_whose_line_is_cut(stage: Stage) -> None:
     stage.open(stage.other)
     with Wire(stage.door.port) as gone:
         gone.logon(DEALER.name.encode(), DEALER.password.encode(), heartbeat=b"300")
-        check(gone.read_kind(b"1") is not None, "no TestRequest behind the Logon")
+        check(gone.read_kind(b"1") is not None, "no TestRequest after the Logon")
         number = gone.number
         cut(gone)
         until("it can come again", LONG, lambda: logs_on(stage, number))

@@ -32,8 +32,8 @@ def endless_logon(stage: Stage) -> None:
         with Wire(stage.door.port) as wire:
             wire.raw(begin)
             taken = sum(wire.raw(b"z" * 65536) for _ in range(1024) if not wire.closed_within(0))
-            check(taken < 1024 or wire.closed_within(LOGON_SECONDS + SLACK), "64 MiB behind %r are taken" % begin)
-        check(stage.memory() - before < MOST_GROWTH, "%d bytes of memory more behind %r" % (stage.memory() - before, begin))
+            check(taken < 1024 or wire.closed_within(LOGON_SECONDS + SLACK), "64 MiB after %r are taken" % begin)
+        check(stage.memory() - before < MOST_GROWTH, "%d bytes of memory more after %r" % (stage.memory() - before, begin))
     stage.ping(stage.other)
 
 

@@ -142,7 +142,7 @@ def cut(sync: Sync, database: Path, final: Ledger, counts: list[dict[str, int]],
 
 class Numbers:
     """Under which number of a session the store that is left sends each message of the venue: those that it lacks come
-    behind all that it has, in their order, since nothing of the session itself is sent before it is synced."""
+    after all that it has, in their order, since nothing of the session itself is sent before it is synced."""
 
     def __init__(self, database: Path, firm: str) -> None:
         stored = rows(database, "SELECT number, sent FROM outgoing WHERE firm = '%s' ORDER BY number" % firm)

@@ -110,7 +110,7 @@ def resent_as_it_was(stage: Stage) -> None:
 
 
 def resent_after_a_crash(stage: Stage) -> None:
-    """The same behind a SIGKILL of the gateway: what is sent again comes from its log."""
+    """The same after a SIGKILL of the gateway: what is sent again comes from its log."""
     stage.open(stage.other, stage.investor)
     with on_a_wire(stage) as wire:
         first, number = answered_messages(wire), wire.number
@@ -167,7 +167,7 @@ def asked_for_no_gap(stage: Stage) -> None:
     """A ResendRequest of numbers that were never sent, or that end before they begin: the session's Reject, which uses up its number."""
     stage.open(stage.other, stage.investor)
     with on_a_wire(stage) as wire:
-        sent = 2  # a Logon, and the TestRequest behind it
+        sent = 2  # a Logon, and the TestRequest after it
         for first, last, tag in ((sent + 1, 0, b"7"), (sent, sent - 1, b"16")):
             number = wire.number
             wire.raw(wire.message(b"2", b"DLR1", [(7, b"%d" % first), (16, b"%d" % last)]))

@@ -15,7 +15,7 @@ BEFORE_MIDNIGHT = (20, 120, 600)  # seconds: where a busy machine has not all fi
 
 
 def ended_day(stage: Stage) -> None:
-    """A gateway that has ended behind an auction; its firms try to log on all the time."""
+    """A gateway that has ended after an auction; its firms try to log on all the time."""
     stage.open(*stage.firms)
     stage.auction()
     check(stage.door.stop() == 0, "the gateway does not end well")
@@ -225,7 +225,7 @@ def midnight(stage: Stage) -> None:
                 return ended_at_midnight(day, seconds)
         finally:
             day.close()
-    raise Wrong("not all firms are logged on %d s behind the start: %s" % (BEFORE_MIDNIGHT[-1], day.door.last_words()))
+    raise Wrong("not all firms are logged on %d s after the start: %s" % (BEFORE_MIDNIGHT[-1], day.door.last_words()))
 
 
 def ended_at_midnight(stage: Stage, seconds: int) -> None:

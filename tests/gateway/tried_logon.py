@@ -59,7 +59,7 @@ def grown(before: dict[str, float], after: dict[str, float]) -> list[str]:
 
 
 def refused_without_end(stage: Stage) -> None:
-    """Wrong passwords one behind the other: some are told of in a minute, and the others closed, so that no stranger fills the log."""
+    """Wrong passwords one after the other: some are told of in a minute, and the others closed, so that no stranger fills the log."""
     stage.open(stage.other)
     told = 0
     while told == stage.counters().get(REFUSED, 0):
@@ -321,7 +321,7 @@ def tls_begun_anew(stage: Stage) -> None:
 
 
 def certificate_of_another_firm(stage: Stage) -> None:
-    """The right password behind another firm's certificate."""
+    """The right password with another firm's certificate."""
     with_tls(stage)
     stage.open(stage.investor)
     before = stage.counters()

@@ -124,7 +124,7 @@ def poss_resend(stage: Stage) -> None:
 
 
 def unknown_trader(stage: Stage) -> None:
-    """The venue's Reject names the session's number, also behind a message that never came to the venue."""
+    """The venue's Reject names the session's number, also after a message that never came to the venue."""
     stage.open(*stage.firms)
     stage.ping(stage.dealer)
     stage.say(stage.dealer, "Z", [(298, b"5"), (117, b"none"), (TEXT, b"x" * 5000)])
@@ -143,7 +143,7 @@ def on_a_wire(stage: Stage, number: int = 1) -> Wire:
     wire.number = number
     wire.logon(DEALER.name.encode(), DEALER.password.encode())
     check(wire.read_kind(b"A") is not None, "no Logon on a wire")
-    wire.read_kind(b"1", limit=1)  # a TestRequest, if one comes behind the Logon
+    wire.read_kind(b"1", limit=1)  # a TestRequest, if one comes after the Logon
     return wire
 
 
@@ -221,7 +221,7 @@ def no_frames(stage: Stage) -> None:
         with on_a_wire(stage, number) as wire:
             wire.raw(bytes_of(wire))
             wire.raw(wire.message(b"Z", b"DLR1", cancel(b"n%d" % place)))
-            check(answered(wire, b"n%d" % place).value(297) == b"9", "the message behind no frame %d is not answered" % place)
+            check(answered(wire, b"n%d" % place).value(297) == b"9", "the message after no frame %d is not answered" % place)
             number = wire.number
         check(stage.entries_of(stage.dealer) == before + 1, "no frame %d is in the log" % place)
     stage.whole()
@@ -237,7 +237,7 @@ def no_numbers_of_the_venue(stage: Stage) -> None:
             name = b"n%d" % place
             wire.raw(wire.message(b"Z", b"DLR1", cancel(name)))
             message = answered(wire, name)
-            check(message.value(297) == b"9", "behind %r the answer is %r" % (tail, message.raw))
+            check(message.value(297) == b"9", "after %r the answer is %r" % (tail, message.raw))
     ledger = stage.door.ledger()
     wanted = answers(list(stage.door.programs.venue), ledger.day())["DLR1"]
     check(not any(b"\x01371=34\x01" in frame for frame in wanted), "the venue was given a number that it does not expect")

@@ -54,7 +54,7 @@ class Wire:
 
     def message(self, kind: bytes, name: bytes, fields: Fields, sending: bytes | None = None, number: int | None = None,
                 tail: bytes = b"") -> bytes:
-        """A message in the session's next number; `tail` is bytes behind the fields, as they are."""
+        """A message in the session's next number; `tail` is bytes after the fields, as they are."""
         if number is None:
             number, self.number = self.number, self.number + 1
         head = [(35, kind), (49, name), (56, b"VENUE"), (34, b"%d" % number), (52, sending or now())]

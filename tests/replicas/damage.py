@@ -20,7 +20,7 @@ ALONE_SECONDS = 4.0
 @dataclass
 class Damage:
     what: str
-    steps: list[tuple[float, Callable[[], None]]]  # seconds behind its begin, and what is done then
+    steps: list[tuple[float, Callable[[], None]]]  # seconds after its begin, and what is done then
     silenced: str = ""  # a gateway that is cut off from the database: it has to end by itself
     began: float = 0.0
 
@@ -36,7 +36,7 @@ class Damage:
 
 @dataclass
 class Course:
-    """What is done to the hosts of a machine, one thing behind the other."""
+    """What is done to the hosts of a machine, one thing after the other."""
 
     machine: Machine
     order: list[Callable[[], Damage]] = field(default_factory=list)  # the next one in front

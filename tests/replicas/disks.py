@@ -3,7 +3,7 @@
 
 usage: disks.py [--images FOLDER]
 
-What was synchronised stands behind a cut, what was not is gone, and a disk that was full and was
+What was synchronised stands after a cut, what was not is gone, and a disk that was full and was
 emptied is empty.
 """
 

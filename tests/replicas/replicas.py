@@ -212,7 +212,7 @@ def one_day(words: argparse.Namespace, folder: Path, seed: int) -> list[str]:
     day, began = Day(words, folder, seed), time.monotonic()
     try:
         day.open()
-        print("day %d: all up behind %.0f s" % (seed, time.monotonic() - began), flush=True)
+        print("day %d: all up after %.0f s" % (seed, time.monotonic() - began), flush=True)
         day.play()
         found = day.settled()
         day.tell()
