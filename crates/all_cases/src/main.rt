@@ -12,9 +12,10 @@ mod process;
 mod runs;
 mod streams;
 
-use case_lines::{CaseFault, Report, place_of};
-use commands::run_commands;
+use case_lines::{CaseFault, CaseFile, Report};
+use commands::Commands;
 use places::run_place;
+use std::alloc::Global;
 use std::marker::Sync;
 use std::process::ExitCode;
 use std::rt::{Env, Files};
@@ -57,13 +58,13 @@ fn run_text<H: Threads + Wait + Sync + AllocGlobal + Drop>(
     text: &str,
     report: &mut Report,
 ) -> Result<(), CaseFault> {
-    let alloc = rt.alloc();
-    match place_of(text) {
-        Some("commands") => run_commands(rt, alloc, text, report),
-        Some(place) => run_place(alloc, place, text, report),
-        None => {
-            report.refuse("", "names no place")?;
-            Ok(())
-        }
+    let Some(file) = CaseFile::of(rt.alloc(), text) else {
+        report.refuse("", "names no place")?;
+        return Ok(());
+    };
+    if file.place() != "commands" {
+        return run_place(&file, report);
     }
+    file.run(|alloc: Global| Ok(Commands::new(rt, alloc)), report)?;
+    Ok(())
 }

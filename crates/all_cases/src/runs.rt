@@ -35,22 +35,26 @@ impl Paces {
     }
 }
 
-/// Runs the program with these arguments over an input.
-pub(crate) fn ran<H: Threads + Wait + Sync>(
-    rt: &H,
-    alloc: Global,
-    words: &[&str],
-    bytes: &[u8],
-    paces: Paces,
-) -> Ended {
-    let mut input = Source::new(bytes, paces.input);
-    let mut out = Sink::new(alloc, paces.out);
-    let mut err = Sink::new(alloc, paces.err);
-    let status = run_program(rt, alloc, words, &mut input, &mut out, &mut err);
-    Ended {
-        status,
-        out: out.into_held(),
-        err: err.into_held(),
+/// The program, over an input.
+#[derive(Drop)]
+pub(crate) struct Program<'a, H: Threads + Wait + Sync> {
+    pub(crate) rt: &'a H,
+    pub(crate) alloc: Global,
+    pub(crate) input: &'a [u8],
+}
+
+impl<'a, H: Threads + Wait + Sync> Program<'a, H> {
+    /// Runs it with these arguments.
+    pub(crate) fn ran(&self, words: &[&str], paces: Paces) -> Ended {
+        let mut input = Source::new(self.input, paces.input);
+        let mut out = Sink::new(self.alloc, paces.out);
+        let mut err = Sink::new(self.alloc, paces.err);
+        let status = run_program(self.rt, self.alloc, words, &mut input, &mut out, &mut err);
+        Ended {
+            status,
+            out: out.into_held(),
+            err: err.into_held(),
+        }
     }
 }
 

@@ -1,10 +1,7 @@
-//! A file of cases is run.
-use crate::call::Call;
-use crate::expanded::expanded;
+//! The lines of a file of cases, as far as they were run.
+use crate::answers::push_line;
 use crate::faults::CaseFault;
-use crate::place::Place;
 use crate::report::Report;
-use crate::words::Words;
 use std::alloc::Global;
 
 /// How far a case has come.
@@ -17,9 +14,9 @@ enum Stage {
     Failed,
 }
 
-/// What a line asks of who makes the calls.
+/// What a line asks for.
 #[derive(Clone, Copy, Debug, PartialEq, Eq)]
-pub enum Step<'a> {
+pub(crate) enum Step<'a> {
     /// Nothing.
     Nothing,
     /// A case begins: nothing is left of the case before it.
@@ -28,9 +25,9 @@ pub enum Step<'a> {
     Call(&'a str),
 }
 
-/// A file of cases that is run line by line, by whoever makes its calls.
+/// A file of cases that is run line by line.
 #[derive(Drop)]
-pub struct Running<'a> {
+pub(crate) struct Running<'a> {
     stage: Stage,
     name: &'a str,
     /// The last call, empty before the first one, and why it could not be made.
@@ -40,100 +37,9 @@ pub struct Running<'a> {
     wanted: String,
 }
 
-/// The place that a file of cases is for: the first of its lines that say something names it.
-pub fn place_of(file: &str) -> Option<&str> {
-    file.lines().find_map(|line| line.strip_prefix("place "))
-}
-
-/// Runs the cases of a file, each with a new place.
-pub fn run_file<P: Place>(alloc: Global, file: &str, report: &mut Report) -> Result<(), CaseFault> {
-    let Some(text) = text_of_cases(alloc, file, report)? else {
-        return Ok(());
-    };
-    let mut running = Running::new(alloc);
-    let mut place = None;
-    for line in text.as_str().lines() {
-        let step = running.take(line, report)?;
-        take_step::<P>(alloc, step, &mut place, &mut running)?;
-    }
-    running.end(report)
-}
-
-/// Makes what a line asks for.
-fn take_step<P: Place>(
-    alloc: Global,
-    step: Step<'_>,
-    place: &mut Option<P>,
-    running: &mut Running<'_>,
-) -> Result<(), CaseFault> {
-    match step {
-        Step::Nothing => Ok(()),
-        Step::Begin => {
-            *place = Some(P::new(alloc)?);
-            Ok(())
-        }
-        Step::Call(line) => {
-            running.hear(made(alloc, line, place));
-            Ok(())
-        }
-    }
-}
-
-/// What a place answers to the call that a line is.
-fn made<P: Place>(alloc: Global, line: &str, place: &mut Option<P>) -> Result<String, CaseFault> {
-    let Some(place) = place else {
-        return Err(CaseFault::NotOpen);
-    };
-    if let Some(repeated) = line.strip_prefix("repeat ") {
-        return made_often(alloc, repeated, place);
-    }
-    made_once(alloc, line, place)
-}
-
-/// `FROM TO CALL`: makes CALL once for each number from FROM to TO, which stands in it for `<n>`. It
-/// gives what the last one answers.
-fn made_often<P: Place>(alloc: Global, line: &str, place: &mut P) -> Result<String, CaseFault> {
-    let mut words = Words::of(line);
-    let from = words.number()?;
-    let to = words.number()?;
-    let call = words.rest();
-    let mut last = String::new(alloc);
-    for n in from..=to {
-        let number = format!(in alloc; "{n}")?;
-        let call = call.replace(alloc, "<n>", number.as_str())?;
-        last = made_once(alloc, call.as_str(), place)?;
-    }
-    Ok(last)
-}
-
-/// What a place answers to one call, each word of which it has to read.
-fn made_once<P: Place>(alloc: Global, line: &str, place: &mut P) -> Result<String, CaseFault> {
-    let mut call = Call::of(alloc, line);
-    place.call(&mut call)?;
-    call.words.end()?;
-    let Call { answer, .. } = call;
-    Ok(answer)
-}
-
-/// The lines of a file, without comments, names and blocks. A file at fault is told, and has none.
-pub fn text_of_cases(
-    alloc: Global,
-    file: &str,
-    report: &mut Report,
-) -> Result<Option<String>, CaseFault> {
-    let mut at = String::new(alloc);
-    match expanded(alloc, file, &mut at) {
-        Ok(text) => Ok(Some(text)),
-        Err(fault) => {
-            report.refuse(at.as_str(), fault.word())?;
-            Ok(None)
-        }
-    }
-}
-
 impl<'a> Running<'a> {
     /// Before the first line.
-    pub fn new(alloc: Global) -> Running<'a> {
+    pub(crate) fn new(alloc: Global) -> Running<'a> {
         Running {
             stage: Stage::Outside,
             name: "",
@@ -145,7 +51,7 @@ impl<'a> Running<'a> {
     }
 
     /// What the last call answered, or why it could not be made.
-    pub fn hear(&mut self, made: Result<String, CaseFault>) {
+    pub(crate) fn hear(&mut self, made: Result<String, CaseFault>) {
         match made {
             Ok(answer) => self.answer = answer,
             Err(fault) => self.fault = Some(fault),
@@ -153,7 +59,11 @@ impl<'a> Running<'a> {
     }
 
     /// The next line, and what it asks for.
-    pub fn take(&mut self, line: &'a str, report: &mut Report) -> Result<Step<'a>, CaseFault> {
+    pub(crate) fn take(
+        &mut self,
+        line: &'a str,
+        report: &mut Report,
+    ) -> Result<Step<'a>, CaseFault> {
         if line.is_empty() {
             self.end(report)?;
             return Ok(Step::Nothing);
@@ -189,8 +99,7 @@ impl<'a> Running<'a> {
 
     /// A line of the answer that the last call should give.
     fn want(&mut self, answer: &str) -> Result<Step<'a>, CaseFault> {
-        self.wanted.push_str(answer)?;
-        self.wanted.push('\n')?;
+        push_line(&mut self.wanted, answer)?;
         Ok(Step::Nothing)
     }
 
@@ -211,7 +120,7 @@ impl<'a> Running<'a> {
     }
 
     /// The case ends, where one goes on.
-    pub fn end(&mut self, report: &mut Report) -> Result<(), CaseFault> {
+    pub(crate) fn end(&mut self, report: &mut Report) -> Result<(), CaseFault> {
         if self.stage == Stage::Going {
             self.settle(report)?;
         }

@@ -1,17 +1,10 @@
 //! Lines of an answer.
-use case_lines::{CaseFault, day, push_bytes, push_text};
+use case_lines::{CaseFault, day, push_bytes_line, push_line, push_text};
 use fix_fields::{Moment, moment_text};
 use input_lines::{Parts, ProgramFault, fault_line};
 use market_terms::RoomRef;
 use quote_messages::SentMessage;
 use step_replay::{Actor, ReplayFault, Step};
-
-/// Puts a line.
-pub(crate) fn put(answer: &mut String, line: &str) -> Result<(), CaseFault> {
-    answer.push_str(line)?;
-    answer.push('\n')?;
-    Ok(())
-}
 
 /// Puts a text of lines, with what is no printed character escaped, and so a space at a line's end.
 pub(crate) fn put_text(answer: &mut String, text: &[u8]) -> Result<(), CaseFault> {
@@ -26,11 +19,11 @@ fn put_escaped(answer: &mut String, line: &[u8]) -> Result<(), CaseFault> {
     match line {
         [front @ .., b' '] => {
             push_text(answer, front)?;
-            put(answer, "\\x20")
+            push_line(answer, "\\x20")
         }
         _ => {
             push_text(answer, line)?;
-            put(answer, "")
+            push_line(answer, "")
         }
     }
 }
@@ -68,17 +61,10 @@ pub(crate) fn put_count(answer: &mut String, count: usize, what: &str) -> Result
     Ok(())
 }
 
-/// Puts a message as its bytes, with a bar for each SOH.
-pub(crate) fn put_bytes(answer: &mut String, bytes: &[u8]) -> Result<(), CaseFault> {
-    push_bytes(answer, bytes)?;
-    answer.push('\n')?;
-    Ok(())
-}
-
 /// Puts messages, each as its bytes.
 pub(crate) fn put_frames(answer: &mut String, messages: &[SentMessage]) -> Result<(), CaseFault> {
     for message in messages {
-        put_bytes(answer, message.as_bytes())?;
+        push_bytes_line(answer, message.as_bytes())?;
     }
     Ok(())
 }
@@ -98,7 +84,7 @@ fn put_step(answer: &mut String, step: &Step) -> Result<(), CaseFault> {
         Step::In(firm, moment, message) => {
             write!(answer, "in {firm} ")?;
             put_time(answer, *moment)?;
-            put_bytes(answer, message.as_bytes())
+            push_bytes_line(answer, message.as_bytes())
         }
         Step::Turn(by) => put_turn(answer, *by),
         Step::Expire(room, moment) => put_sweep(answer, *room, *moment),
@@ -121,5 +107,5 @@ fn put_sweep(answer: &mut String, room: RoomRef, moment: Moment) -> Result<(), C
         return Err(CaseFault::Condition);
     };
     let stamp = moment_text(&date, moment);
-    put(answer, &stamp.as_str()[9..])
+    push_line(answer, &stamp.as_str()[9..])
 }

@@ -1,6 +1,5 @@
 //! Circles of actions.
-use crate::answers::put;
-use case_lines::CaseFault;
+use case_lines::{CaseFault, push_line};
 use std::alloc::Global;
 use step_replay::Actor;
 
@@ -10,7 +9,7 @@ pub(crate) fn put_cycle(
     answer: &mut String,
     actions: &[(Actor, u64)],
 ) -> Result<(), CaseFault> {
-    put(answer, "cycle")?;
+    push_line(answer, "cycle")?;
     let mut keys = Vec::new(alloc);
     for (by, number) in actions {
         keys.push((rank_of(*by), *number))?;

@@ -1,6 +1,8 @@
 //! Streams of bytes as inboxes.
-use crate::answers::{put, put_bytes, put_time};
-use case_lines::{Call, CaseFault, Place, piped_bytes_of, stream_fault_name};
+use crate::answers::put_time;
+use case_lines::{
+    Call, CaseFault, Place, piped_bytes_of, push_bytes_line, push_line, stream_fault_name,
+};
 use fix_fields::Moment;
 use quote_messages::Message;
 use recorded_days::Inbound;
@@ -20,11 +22,6 @@ pub(crate) struct Inboxes {
 }
 
 impl Place for Inboxes {
-    fn new(alloc: Global) -> Result<Self, CaseFault> {
-        let pieces = Vec::new(alloc);
-        Ok(Inboxes { pieces })
-    }
-
     fn call(&mut self, call: &mut Call<'_>) -> Result<(), CaseFault> {
         match call.name {
             "piece" => {
@@ -40,6 +37,12 @@ impl Place for Inboxes {
 }
 
 impl Inboxes {
+    /// Before the first call.
+    pub(crate) fn new(alloc: Global) -> Result<Self, CaseFault> {
+        let pieces = Vec::new(alloc);
+        Ok(Inboxes { pieces })
+    }
+
     /// A piece comes.
     fn put(&mut self, moment: Moment, bytes: Vec<u8>) -> Result<(), CaseFault> {
         let bytes = Message::new(bytes);
@@ -68,11 +71,11 @@ impl Inboxes {
         let (inbox, fault) = inbox_of(alloc, self.pieces.as_slice())?;
         for inbound in inbox.as_slice() {
             put_time(answer, inbound.moment)?;
-            put_bytes(answer, inbound.bytes.as_bytes())?;
+            push_bytes_line(answer, inbound.bytes.as_bytes())?;
         }
         match fault {
             None => Ok(()),
-            Some(fault) => put(answer, stream_fault_name(fault)),
+            Some(fault) => push_line(answer, stream_fault_name(fault)),
         }
     }
 }

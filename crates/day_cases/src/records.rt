@@ -1,12 +1,12 @@
 //! Recorded days that are made by lines.
-use crate::answers::{put, put_count, put_steps, put_text};
+use crate::answers::{put_count, put_steps, put_text};
 use crate::cycles::put_cycle;
 use crate::desk_events::{bring, comes_to_desk};
 use crate::empty_days::{empty_dealer, empty_investor, empty_room};
 use crate::events::{event_in, is_event};
 use crate::values::{actor_in, kind_in, message_of, settled_named};
 use crate::venues::Venue;
-use case_lines::{Call, CaseFault, Place, Words};
+use case_lines::{Call, CaseFault, Place, Words, push_line};
 use day_weaving::{WeaveFault, weave};
 use dealer_desk::DealerEvent;
 use investor_desk::InvestorDesk;
@@ -61,17 +61,6 @@ pub(crate) struct Records {
 }
 
 impl Place for Records {
-    fn new(alloc: Global) -> Result<Self, CaseFault> {
-        Ok(Records {
-            venue: Venue::new(alloc),
-            dealers: Vec::new(alloc),
-            investors: Vec::new(alloc),
-            clock: Vec::new(alloc),
-            desk: None,
-            record: None,
-        })
-    }
-
     fn call(&mut self, call: &mut Call<'_>) -> Result<(), CaseFault> {
         match call.name {
             "begin" => self.begin(call.alloc),
@@ -85,6 +74,18 @@ impl Place for Records {
 }
 
 impl Records {
+    /// Before the first call.
+    pub(crate) fn new(alloc: Global) -> Result<Self, CaseFault> {
+        Ok(Records {
+            venue: Venue::new(alloc),
+            dealers: Vec::new(alloc),
+            investors: Vec::new(alloc),
+            clock: Vec::new(alloc),
+            desk: None,
+            record: None,
+        })
+    }
+
     /// A call that puts something into the record.
     fn changes(&mut self, call: &mut Call<'_>) -> Result<(), CaseFault> {
         if is_event(call.name) {
@@ -298,7 +299,7 @@ impl Records {
     /// How many messages a firm was sent.
     fn tell_count(&self, firm: u16, answer: &mut String) -> Result<(), CaseFault> {
         let Some(sent) = self.record()?.sent(firm) else {
-            return put(answer, "none");
+            return push_line(answer, "none");
         };
         put_count(answer, sent.len(), "messages")
     }
@@ -308,7 +309,7 @@ impl Records {
         let config = self.venue.config()?;
         let dues = self.record()?.due(alloc, config, firm)?;
         let Some(dues) = &dues else {
-            return put(answer, "none");
+            return push_line(answer, "none");
         };
         let text = due_lines(alloc, dues.as_slice())?;
         put_text(answer, text.as_slice())
@@ -340,7 +341,7 @@ fn put_weave_fault(
     fault: &WeaveFault,
 ) -> Result<(), CaseFault> {
     match fault {
-        WeaveFault::Malformed => put(answer, "malformed"),
+        WeaveFault::Malformed => push_line(answer, "malformed"),
         WeaveFault::Cycle(actions) => put_cycle(alloc, answer, actions.as_slice()),
         WeaveFault::Differs(firm) => {
             writeln!(answer, "differs {firm}")?;

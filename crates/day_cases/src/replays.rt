@@ -1,10 +1,8 @@
 //! Days that are replayed.
-use crate::answers::{
-    put, put_bytes, put_count, put_frames, put_replay_fault, put_steps, put_text,
-};
+use crate::answers::{put_count, put_frames, put_replay_fault, put_steps, put_text};
 use crate::venues::Venue;
 use blotter::blotter_text;
-use case_lines::{Call, CaseFault, Place};
+use case_lines::{Call, CaseFault, Place, push_bytes_line, push_line};
 use market_terms::FirmLines;
 use quote_messages::SentMessage;
 use std::alloc::Global;
@@ -44,14 +42,6 @@ pub(crate) struct Replays {
 }
 
 impl Place for Replays {
-    fn new(alloc: Global) -> Result<Self, CaseFault> {
-        Ok(Replays {
-            venue: Venue::new(alloc),
-            world: None,
-            live: None,
-        })
-    }
-
     fn call(&mut self, call: &mut Call<'_>) -> Result<(), CaseFault> {
         if asks_of_firm(call.name) {
             let firm = call.words.firm()?;
@@ -76,6 +66,15 @@ fn asks_of_firm(word: &str) -> bool {
 }
 
 impl Replays {
+    /// Before the first call.
+    pub(crate) fn new(alloc: Global) -> Result<Self, CaseFault> {
+        Ok(Replays {
+            venue: Venue::new(alloc),
+            world: None,
+            live: None,
+        })
+    }
+
     /// What a call asks of a firm.
     fn tell(&self, call: &mut Call<'_>, firm: u16) -> Result<(), CaseFault> {
         match call.name {
@@ -108,7 +107,7 @@ impl Replays {
     /// What a firm was sent, as lines.
     fn tell_sent(&self, alloc: Global, firm: u16, answer: &mut String) -> Result<(), CaseFault> {
         let Some(messages) = self.world()?.sent(firm) else {
-            return put(answer, "none");
+            return push_line(answer, "none");
         };
         let name = self.venue.name(firm)?;
         let text = messages_text(alloc, false, &name, messages)?;
@@ -118,7 +117,7 @@ impl Replays {
     /// What a firm was sent, as frames.
     fn tell_frames(&self, firm: u16, answer: &mut String) -> Result<(), CaseFault> {
         let Some(messages) = self.world()?.sent(firm) else {
-            return put(answer, "none");
+            return push_line(answer, "none");
         };
         put_frames(answer, messages)
     }
@@ -126,23 +125,23 @@ impl Replays {
     /// The last message of a firm.
     fn tell_last(&self, firm: u16, answer: &mut String) -> Result<(), CaseFault> {
         let Some(messages) = self.world()?.sent(firm) else {
-            return put(answer, "none");
+            return push_line(answer, "none");
         };
         let Some(last) = messages.last() else {
-            return put(answer, "no message");
+            return push_line(answer, "no message");
         };
-        put_bytes(answer, last.as_bytes())
+        push_bytes_line(answer, last.as_bytes())
     }
 
     /// How much a firm was sent, and how many lines its blotter has.
     fn tell_count(&self, firm: u16, answer: &mut String) -> Result<(), CaseFault> {
         let world = self.world()?;
         let Some(messages) = world.sent(firm) else {
-            return put(answer, "none");
+            return push_line(answer, "none");
         };
         put_count(answer, messages.len(), "messages")?;
         let Some(lines) = world.lines(firm) else {
-            return put(answer, "none");
+            return push_line(answer, "none");
         };
         put_count(answer, length_of(&lines), "lines")
     }
@@ -150,7 +149,7 @@ impl Replays {
     /// A firm's blotter.
     fn tell_blotter(&self, alloc: Global, firm: u16, answer: &mut String) -> Result<(), CaseFault> {
         let Some(lines) = self.world()?.lines(firm) else {
-            return put(answer, "none");
+            return push_line(answer, "none");
         };
         let text = blotter_text(alloc, &lines)?;
         put_text(answer, text.as_bytes())
@@ -172,16 +171,16 @@ impl Replays {
     fn tell_view(&self, alloc: Global, firm: u16, answer: &mut String) -> Result<(), CaseFault> {
         let config = self.venue.config()?;
         let Some(row) = config.dealer(firm) else {
-            return put(answer, "none");
+            return push_line(answer, "none");
         };
         let Some(sent) = self.world()?.sent(firm) else {
-            return put(answer, "none");
+            return push_line(answer, "none");
         };
         let Ok(dues) = due(alloc, config, self.venue.steps.as_slice(), firm) else {
             return Err(CaseFault::Condition);
         };
         let view = alone(alloc, config.date(), row, dues.as_slice())?;
-        put(
+        push_line(
             answer,
             if are_same(sent, view.as_slice()) {
                 "sent"
@@ -254,7 +253,7 @@ fn are_same(some: &[SentMessage], others: &[SentMessage]) -> bool {
 fn put_told(answer: &mut String, told: &[SentTo]) -> Result<(), CaseFault> {
     for sent in told {
         write!(answer, "{} ", sent.firm())?;
-        put_bytes(answer, sent.as_bytes())?;
+        push_bytes_line(answer, sent.as_bytes())?;
     }
     Ok(())
 }

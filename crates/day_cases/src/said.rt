@@ -1,7 +1,7 @@
 //! What firms say: `TRADER TIME TYPE BODY` and `TIME FRAME`.
-use crate::answers::{put, put_bytes, put_time};
+use crate::answers::put_time;
 use crate::texts::day;
-use case_lines::{Call, CaseFault, bytes_of, push_text};
+use case_lines::{Call, CaseFault, bytes_of, push_bytes_line, push_line, push_text};
 use input_lines::{SayLine, read_fields, read_received};
 use std::alloc::Global;
 use venue_rows::Name;
@@ -11,7 +11,7 @@ pub(crate) fn tell_fields(alloc: Global, text: &str, answer: &mut String) -> Res
     let body = bytes_of(alloc, text)?;
     let fields = read_fields(alloc, body.as_slice())?;
     let Some(fields) = &fields else {
-        return put(answer, "none");
+        return push_line(answer, "none");
     };
     for field in fields.as_slice() {
         write!(answer, "{}=", field.tag())?;
@@ -31,7 +31,7 @@ pub(crate) fn tell_said(call: &mut Call<'_>) -> Result<(), CaseFault> {
     let text = bytes_of(call.alloc, call.words.rest())?;
     let said = SayLine::read(call.alloc, &date, text.as_slice())?;
     let Some(said) = &said else {
-        return put(&mut call.answer, "none");
+        return push_line(&mut call.answer, "none");
     };
     put_moment(said, &mut call.answer)?;
     put_frame(call, said, &firm, number)
@@ -46,9 +46,9 @@ fn put_frame(
 ) -> Result<(), CaseFault> {
     let message = said.message(call.alloc, &day()?, firm, number)?;
     let Some(message) = &message else {
-        return put(&mut call.answer, "too long");
+        return push_line(&mut call.answer, "too long");
     };
-    put_bytes(&mut call.answer, message.as_bytes())
+    push_bytes_line(&mut call.answer, message.as_bytes())
 }
 
 /// The moment, and whether a BODY has its number.
@@ -59,7 +59,7 @@ fn put_moment(said: &SayLine<'_>, answer: &mut String) -> Result<(), CaseFault> 
     } else {
         "not numbered"
     };
-    put(answer, numbered)
+    push_line(answer, numbered)
 }
 
 /// The moment and the bytes of a message.
@@ -72,8 +72,8 @@ pub(crate) fn tell_received(
     let text = bytes_of(alloc, text)?;
     let received = read_received(alloc, &date, text.as_slice())?;
     let Some((moment, message)) = &received else {
-        return put(answer, "none");
+        return push_line(answer, "none");
     };
     put_time(answer, *moment)?;
-    put_bytes(answer, message.as_bytes())
+    push_bytes_line(answer, message.as_bytes())
 }

@@ -1,8 +1,8 @@
 //! The texts of days: lines and their parts, and what calls of `input_lines` make of an input.
-use crate::answers::{put, put_count, put_fault, put_steps, put_text};
+use crate::answers::{put_count, put_fault, put_steps, put_text};
 use crate::said::{tell_fields, tell_received, tell_said};
 use crate::told::told_fault;
-use case_lines::{Call, CaseFault, Place, Words, bytes_of};
+use case_lines::{Call, CaseFault, Place, Words, bytes_of, push_line, push_text, push_truth};
 use fix_fields::Date;
 use input_lines::{
     DayParts, MOST_INPUT, NumberedLines, Parts, ProgramFault, asked_dealer, asked_firm, cut_part,
@@ -42,12 +42,6 @@ pub(crate) struct Texts {
 }
 
 impl Place for Texts {
-    fn new(alloc: Global) -> Result<Self, CaseFault> {
-        Ok(Texts {
-            input: Vec::new(alloc),
-        })
-    }
-
     fn call(&mut self, call: &mut Call<'_>) -> Result<(), CaseFault> {
         match call.name {
             "<" => self.put_line(call.alloc, call.words.rest()),
@@ -63,6 +57,13 @@ impl Place for Texts {
 }
 
 impl Texts {
+    /// Before the first call.
+    pub(crate) fn new(alloc: Global) -> Result<Self, CaseFault> {
+        Ok(Texts {
+            input: Vec::new(alloc),
+        })
+    }
+
     /// A call about the lines of the input, or about a text of its own.
     fn tell(&self, call: &mut Call<'_>) -> Result<(), CaseFault> {
         match call.name {
@@ -93,7 +94,7 @@ impl Texts {
 
     /// Whether a line `%%` stands in the input.
     fn tell_divider(&self, answer: &mut String) -> Result<(), CaseFault> {
-        put(answer, yes_or_no(has_divider(self.input.as_slice())))
+        push_truth(answer, has_divider(self.input.as_slice()))
     }
 
     /// The lines that are spoken.
@@ -151,7 +152,7 @@ impl Texts {
         let answer = &mut call.answer;
         match found(&config, call.name, name) {
             Ok(Some(firm)) => put_count(answer, usize::from(firm), "is its number"),
-            Ok(None) => put(answer, "none"),
+            Ok(None) => push_line(answer, "none"),
             Err(fault) => put_fault(answer, &fault),
         }
     }
@@ -203,7 +204,7 @@ fn tell_part(call: &mut Call<'_>) -> Result<(), CaseFault> {
             put_quoted(answer, rest)
         }
         "parts" => put_count(answer, parts_in(text), "parts"),
-        "side" => put(answer, side_name(read_side(text))),
+        "side" => push_line(answer, side_name(read_side(text))),
         "time" => tell_time(text, answer),
         _ => Err(CaseFault::Form),
     }
@@ -221,8 +222,8 @@ fn parts_in(text: &[u8]) -> usize {
 /// Puts a text between two bars.
 fn put_quoted(answer: &mut String, text: &[u8]) -> Result<(), CaseFault> {
     answer.push('|')?;
-    case_lines::push_text(answer, text)?;
-    put(answer, "|")
+    push_text(answer, text)?;
+    push_line(answer, "|")
 }
 
 /// The name of a side.
@@ -238,7 +239,7 @@ fn side_name(side: Option<Side>) -> &'static str {
 fn tell_time(text: &[u8], answer: &mut String) -> Result<(), CaseFault> {
     let date = day()?;
     let Some(moment) = read_time(&date, text) else {
-        return put(answer, "none");
+        return push_line(answer, "none");
     };
     put_count(answer, moment.get() as usize, "milliseconds")
 }
@@ -252,15 +253,7 @@ pub(crate) fn day() -> Result<Date, CaseFault> {
 fn tell_same(alloc: Global, words: &mut Words<'_>, answer: &mut String) -> Result<(), CaseFault> {
     let some = bytes_of(alloc, words.word()?)?;
     let other = bytes_of(alloc, words.rest())?;
-    put(
-        answer,
-        yes_or_no(same_text(some.as_slice(), other.as_slice())),
-    )
-}
-
-/// A word for an answer.
-fn yes_or_no(yes: bool) -> &'static str {
-    if yes { "yes" } else { "no" }
+    push_truth(answer, same_text(some.as_slice(), other.as_slice()))
 }
 
 /// `fault NAME` or `fault NAME LINE`.

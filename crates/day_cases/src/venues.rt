@@ -1,8 +1,8 @@
 //! A configuration, and steps that lines of a day spell.
-use crate::answers::{put, put_count, put_fault};
+use crate::answers::{put_count, put_fault};
 use crate::steps::put_spelled;
 use crate::values::{actor_in, message_of};
-use case_lines::{Call, CaseFault, Words};
+use case_lines::{Call, CaseFault, Words, push_line};
 use market_terms::RoomRef;
 use std::alloc::Global;
 use step_replay::Step;
@@ -55,9 +55,9 @@ impl Venue {
     /// Makes a call that all places with a venue know.
     pub(crate) fn call(&mut self, call: &mut Call<'_>) -> Result<(), CaseFault> {
         match call.name {
-            "<" => put(&mut self.text, call.words.rest()),
-            "-" => put(&mut self.lines, call.words.rest()),
-            "*" => put(&mut self.pattern, call.words.rest()),
+            "<" => push_line(&mut self.text, call.words.rest()),
+            "-" => push_line(&mut self.lines, call.words.rest()),
+            "*" => push_line(&mut self.pattern, call.words.rest()),
             "each" => self.put_each(call.alloc, &mut call.words),
             "open" => self.open(call.alloc, &mut call.answer),
             "read" => self.read(call.alloc, &mut call.answer),
@@ -82,7 +82,7 @@ impl Venue {
                 self.config = Some(config);
                 Ok(())
             }
-            Err(fault) => put(answer, fault.name()),
+            Err(fault) => push_line(answer, fault.name()),
         }
     }
 

@@ -1,6 +1,6 @@
 //! What a dealer is sent for a list.
 use crate::answers::{put_count, put_fault, put_text};
-use case_lines::{Call, CaseFault, Place, Words, close_of};
+use case_lines::{Call, CaseFault, Place, Words, close_of, push_line};
 use input_lines::{DueText, MOST_INPUT, read_due_text};
 use std::alloc::Global;
 use step_replay::{Due, alone};
@@ -22,16 +22,9 @@ pub(crate) struct Views {
 }
 
 impl Place for Views {
-    fn new(alloc: Global) -> Result<Self, CaseFault> {
-        Ok(Views {
-            text: String::new(alloc),
-            due: None,
-        })
-    }
-
     fn call(&mut self, call: &mut Call<'_>) -> Result<(), CaseFault> {
         match call.name {
-            "<" => crate::answers::put(&mut self.text, call.words.rest()),
+            "<" => push_line(&mut self.text, call.words.rest()),
             "read" => self.read(call.alloc, &mut call.answer),
             "lifted" => self.put_lifted(&mut call.words),
             "closed" => self.put_closed(&mut call.words),
@@ -44,6 +37,14 @@ impl Place for Views {
 }
 
 impl Views {
+    /// Before the first call.
+    pub(crate) fn new(alloc: Global) -> Result<Self, CaseFault> {
+        Ok(Views {
+            text: String::new(alloc),
+            due: None,
+        })
+    }
+
     /// Reads the text.
     fn read(&mut self, alloc: Global, answer: &mut String) -> Result<(), CaseFault> {
         let input = self.text.as_str().as_bytes();

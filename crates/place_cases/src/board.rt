@@ -3,9 +3,9 @@ ghost use Rattle.std.specs.Prelude.{◌≡◌, ◌<◌, IfOk, All};
 ghost use Rattle.place_cases.specs.declared.board.NamedToken.{NamedToken};
 ghost use Rattle.place_cases.specs.declared.board.NamedReceipt.{NamedReceipt};
 
-use crate::replies::{entry_name, push_line, push_word, settled_name};
+use crate::replies::{entry_name, push_word, settled_name};
 use crate::row::push_length;
-use case_lines::{Call, CaseFault, Place, Words};
+use case_lines::{Call, CaseFault, Place, Words, push_line};
 use quote_word::{Board, BoardPass, BoardSeen, Met, Receipt, Settled, Words as _};
 use std::alloc::Global;
 
@@ -32,11 +32,6 @@ pub(crate) struct BoardPlace {
 }
 
 impl Place for BoardPlace {
-    fn new(alloc: Global) -> Result<Self, CaseFault> {
-        let board = opened(alloc, 0)?;
-        Ok(BoardPlace { board })
-    }
-
     fn call(&mut self, call: &mut Call<'_>) -> Result<(), CaseFault> {
         if call.name != "open" {
             return self.board.call(call);
@@ -44,6 +39,14 @@ impl Place for BoardPlace {
         let count = call.words.short_number()?;
         self.board = opened(call.alloc, count)?;
         Ok(())
+    }
+}
+
+impl BoardPlace {
+    /// Before the first call.
+    pub(crate) fn new(alloc: Global) -> Result<Self, CaseFault> {
+        let board = opened(alloc, 0)?;
+        Ok(BoardPlace { board })
     }
 }
 

@@ -37,10 +37,6 @@ pub(crate) struct DealerPlace {
 }
 
 impl Place for DealerPlace {
-    fn new(_alloc: Global) -> Result<Self, CaseFault> {
-        Ok(DealerPlace { opened: None })
-    }
-
     fn call(&mut self, call: &mut Call<'_>) -> Result<(), CaseFault> {
         match call.name {
             "open" => self.open(call),
@@ -51,6 +47,11 @@ impl Place for DealerPlace {
 }
 
 impl DealerPlace {
+    /// Before the first call.
+    pub(crate) fn new(_alloc: Global) -> Result<Self, CaseFault> {
+        Ok(DealerPlace { opened: None })
+    }
+
     /// The desk of a dealer at the start of the day.
     fn open(&mut self, call: &mut Call<'_>) -> Result<(), CaseFault> {
         let opened = Opened::read(call.alloc, &mut call.words)?;

@@ -1,10 +1,8 @@
 //! What is left to be done, as text, and what the desks have sent in a step.
 use crate::events::push_until;
-use crate::replies::{
-    push_ask, push_firms, push_line, push_number, push_time, push_word, reply_name,
-};
+use crate::replies::{push_ask, push_firms, push_number, push_time, push_word, reply_name};
 use bond_prices::Ticks;
-use case_lines::{CaseFault, frame_of, push_bytes};
+use case_lines::{CaseFault, frame_of, push_bytes, push_line};
 use fix_fields::Moment;
 use market_terms::{Duty, ResponseRef, RoomRef};
 use quote_messages::SentMessage;

@@ -1,10 +1,8 @@
 //! The events of a room, printed as the calls that they are of, and tried on another room.
-use crate::replies::{
-    push_ask, push_firms, push_line, push_number, push_time, push_word, settled_name,
-};
+use crate::replies::{push_ask, push_firms, push_number, push_time, push_word, settled_name};
 use crate::room::{declined, hit, opened, posted, readied, unposted};
 use bond_prices::Ticks;
-use case_lines::CaseFault;
+use case_lines::{CaseFault, push_line};
 use fix_fields::Moment;
 use quote_word::Settled;
 use request_room::{Room, RoomEvent, RoomRequest};

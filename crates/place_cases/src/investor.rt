@@ -34,11 +34,6 @@ pub(crate) struct InvestorPlace {
 }
 
 impl Place for InvestorPlace {
-    fn new(alloc: Global) -> Result<Self, CaseFault> {
-        let rows = Rows::none(alloc)?;
-        Ok(InvestorPlace { rows, opened: None })
-    }
-
     fn call(&mut self, call: &mut Call<'_>) -> Result<(), CaseFault> {
         match call.name {
             "bond" | "dealer" | "investor" => self.rows.add(call),
@@ -50,6 +45,12 @@ impl Place for InvestorPlace {
 }
 
 impl InvestorPlace {
+    /// Before the first call.
+    pub(crate) fn new(alloc: Global) -> Result<Self, CaseFault> {
+        let rows = Rows::none(alloc)?;
+        Ok(InvestorPlace { rows, opened: None })
+    }
+
     /// The desk of an investor at the start of the day.
     fn open(&mut self, call: &mut Call<'_>) -> Result<(), CaseFault> {
         let opened = Opened::read(call.alloc, &self.rows, &mut call.words)?;

@@ -37,6 +37,7 @@ mod duties;
 mod events;
 mod floor;
 mod investor;
+mod lists;
 mod messages;
 mod places;
 mod replies;

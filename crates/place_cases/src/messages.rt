@@ -1,66 +1,61 @@
 //! What a desk has sent, as lines.
-use crate::replies::push_line;
 use crate::terms::nth;
-use case_lines::{CaseFault, Words, push_bytes};
+use case_lines::{CaseFault, Words, push_bytes, push_line};
 use fix_fields::{Date, Fields};
 use itoa::Buffer;
 use quote_messages::SentMessage;
 use venue_rows::Traders;
 
-/// The lines of the messages behind the first `shown` ones. It answers how many there are in all.
-pub(crate) fn push_new(
-    answer: &mut String,
-    sent: &[SentMessage],
-    shown: usize,
-) -> Result<usize, CaseFault> {
-    for message in &sent[shown.min(sent.len())..] {
-        push_message(answer, message)?;
-    }
-    Ok(sent.len())
+/// How many of the messages of a desk were answered.
+#[derive(Drop)]
+pub(crate) struct Shown {
+    count: usize,
 }
 
-/// What stands before the body of a message: MsgType (35), TargetCompID (56), MsgSeqNum (34), and
-/// the time of day of SendingTime (52).
-#[derive(Drop)]
-struct Header<'a> {
-    msg_type: &'a [u8],
-    firm: &'a [u8],
-    number: &'a [u8],
-    time: &'a [u8],
+impl Shown {
+    /// None of them.
+    pub(crate) fn none() -> Shown {
+        Shown { count: 0 }
+    }
+
+    /// The lines of the messages behind those that were answered.
+    pub(crate) fn push_new(
+        &mut self,
+        answer: &mut String,
+        sent: &[SentMessage],
+    ) -> Result<(), CaseFault> {
+        for message in &sent[self.count.min(sent.len())..] {
+            push_message(answer, message)?;
+        }
+        self.pass(sent);
+        Ok(())
+    }
+
+    /// All that were sent are passed over.
+    pub(crate) fn pass(&mut self, sent: &[SentMessage]) {
+        self.count = sent.len();
+    }
 }
 
 /// `FIRM N TIME TYPE BODY`.
 fn push_message(answer: &mut String, message: &SentMessage) -> Result<(), CaseFault> {
     let mut fields = message.frame().fields();
-    let header = header_of(&mut fields)?;
-    push_header(answer, &header)?;
+    push_header(answer, &mut fields)?;
     push_fields(answer, fields)?;
     push_line(answer, "")
 }
 
-/// The header that fields begin with. SenderCompID (49) is that of the venue.
-fn header_of<'a>(fields: &mut Fields<'a>) -> Result<Header<'a>, CaseFault> {
+/// `FIRM N TIME TYPE`: TargetCompID (56), MsgSeqNum (34), the time of day of SendingTime (52), and
+/// MsgType (35) of the header that fields begin with. SenderCompID (49) is that of the venue.
+fn push_header(answer: &mut String, fields: &mut Fields<'_>) -> Result<(), CaseFault> {
     let msg_type = next_value(fields, 35)?;
     if next_value(fields, 49)? != b"VENUE".as_slice() {
         return Err(CaseFault::Condition);
     }
-    let firm = next_value(fields, 56)?;
-    let number = next_value(fields, 34)?;
-    let time = time_of_day(next_value(fields, 52)?)?;
-    Ok(Header {
-        msg_type,
-        firm,
-        number,
-        time,
-    })
-}
-
-/// `FIRM N TIME TYPE`.
-fn push_header(answer: &mut String, header: &Header<'_>) -> Result<(), CaseFault> {
-    push_bytes(answer, header.firm)?;
-    push_next(answer, header.number)?;
-    push_next(answer, header.time)?;
-    push_next(answer, header.msg_type)
+    push_bytes(answer, next_value(fields, 56)?)?;
+    push_next(answer, next_value(fields, 34)?)?;
+    push_next(answer, time_of_day(next_value(fields, 52)?)?)?;
+    push_next(answer, msg_type)
 }
 
 /// Bytes behind a space.

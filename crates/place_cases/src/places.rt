@@ -5,29 +5,17 @@ use crate::investor::InvestorPlace;
 use crate::room::RoomPlace;
 use crate::row::RowPlace;
 use crate::steps::StepPlace;
-use case_lines::{CaseFault, Report, run_file};
-use std::alloc::Global;
+use case_lines::{CaseFault, CaseFile, Report};
 
-/// Runs the cases of a file at the place of this name. It answers whether this crate has one.
-pub fn run_place(
-    alloc: Global,
-    place: &str,
-    text: &str,
-    report: &mut Report,
-) -> Result<bool, CaseFault> {
-    match place {
-        "dealer_desk" => ran(run_file::<DealerPlace>(alloc, text, report)),
-        "investor_desk" => ran(run_file::<InvestorPlace>(alloc, text, report)),
-        "request_room" => ran(run_file::<RoomPlace>(alloc, text, report)),
-        "plain_words" => ran(run_file::<RowPlace>(alloc, text, report)),
-        "board" => ran(run_file::<BoardPlace>(alloc, text, report)),
-        "venue_steps" => ran(run_file::<StepPlace>(alloc, text, report)),
+/// Runs the cases of a file at its place. It answers whether this crate has the place.
+pub fn run_place(file: &CaseFile<'_>, report: &mut Report) -> Result<bool, CaseFault> {
+    match file.place() {
+        "dealer_desk" => file.run(DealerPlace::new, report),
+        "investor_desk" => file.run(InvestorPlace::new, report),
+        "request_room" => file.run(RoomPlace::new, report),
+        "plain_words" => file.run(RowPlace::new, report),
+        "board" => file.run(BoardPlace::new, report),
+        "venue_steps" => file.run(StepPlace::new, report),
         _ => Ok(false),
     }
-}
-
-/// A file of this crate was run.
-fn ran(done: Result<(), CaseFault>) -> Result<bool, CaseFault> {
-    done?;
-    Ok(true)
 }

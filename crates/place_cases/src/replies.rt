@@ -4,18 +4,6 @@ use fix_fields::{Moment, time_text};
 use market_terms::{Ask, HitRefusal, Reply, Side};
 use quote_word::Settled;
 
-/// Ends a line.
-pub(crate) fn push_line(answer: &mut String, line: &str) -> Result<(), CaseFault> {
-    answer.push_str(line)?;
-    answer.push('\n')?;
-    Ok(())
-}
-
-/// `yes` or `no`: whether a call took effect, or what a reader answers.
-pub(crate) fn push_truth(answer: &mut String, effect: bool) -> Result<(), CaseFault> {
-    push_line(answer, if effect { "yes" } else { "no" })
-}
-
 /// A number behind a space.
 pub(crate) fn push_number(answer: &mut String, number: u64) -> Result<(), CaseFault> {
     write!(answer, " {number}")?;

@@ -1,9 +1,9 @@
 //! A room.
 use crate::events::{push_event, push_request, room_again};
-use crate::replies::{push_line, push_truth, refusal_name, reply_name};
+use crate::replies::{refusal_name, reply_name};
 use crate::terms::{dealers, last_moment, request, settled};
 use bond_prices::Ticks;
-use case_lines::{Call, CaseFault, Place, Words, price_of, side_of};
+use case_lines::{Call, CaseFault, Place, Words, price_of, push_line, push_truth, side_of};
 use fix_fields::Moment;
 use market_terms::{Ask, AskedDealers, Reply};
 use quote_word::Settled;
@@ -35,11 +35,6 @@ pub(crate) struct RoomPlace {
 }
 
 impl Place for RoomPlace {
-    fn new(alloc: Global) -> Result<Self, CaseFault> {
-        let room = Room::vacant(alloc);
-        Ok(RoomPlace { room })
-    }
-
     fn call(&mut self, call: &mut Call<'_>) -> Result<(), CaseFault> {
         let answer = &mut call.answer;
         match call.name {
@@ -57,6 +52,12 @@ impl Place for RoomPlace {
 }
 
 impl RoomPlace {
+    /// Before the first call.
+    pub(crate) fn new(alloc: Global) -> Result<Self, CaseFault> {
+        let room = Room::vacant(alloc);
+        Ok(RoomPlace { room })
+    }
+
     /// What changes nothing.
     fn reads(&self, call: &mut Call<'_>) -> Result<(), CaseFault> {
         let answer = &mut call.answer;

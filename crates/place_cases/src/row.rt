@@ -1,7 +1,7 @@
 //! A row of words in a list.
-use crate::replies::{push_line, push_truth, settled_name};
+use crate::replies::settled_name;
 use crate::terms::settled;
-use case_lines::{Call, CaseFault, Place};
+use case_lines::{Call, CaseFault, Place, push_line, push_truth};
 use quote_word::{PlainWords, Settled, Words};
 use std::alloc::Global;
 
@@ -19,41 +19,39 @@ pub(crate) struct RowPlace {
 }
 
 impl Place for RowPlace {
-    fn new(alloc: Global) -> Result<Self, CaseFault> {
-        let row = PlainWords::new(alloc, 0)?;
-        Ok(RowPlace { row })
-    }
-
     fn call(&mut self, call: &mut Call<'_>) -> Result<(), CaseFault> {
-        let answer = &mut call.answer;
         match call.name {
-            "new" => self.open(call.alloc, &mut call.words),
-            "length" => push_length(answer, self.row.len()),
-            "withdraw" => self.settle(Settled::Withdrawn, &mut call.words, answer),
-            "lift" => self.settle(Settled::Lifted, &mut call.words, answer),
-            "is_withdrawn" => push_truth(answer, settled(&mut call.words)?.is_withdrawn()),
-            "is_lifted" => push_truth(answer, settled(&mut call.words)?.is_lifted()),
+            "new" => self.open(call),
+            "length" => push_length(&mut call.answer, self.row.len()),
+            "withdraw" => self.settle(Settled::Withdrawn, call),
+            "lift" => self.settle(Settled::Lifted, call),
+            "is_withdrawn" => push_truth(
+                &mut call.answer,
+                settled(&mut call.words)?.is_withdrawn(),
+            ),
+            "is_lifted" => push_truth(&mut call.answer, settled(&mut call.words)?.is_lifted()),
             _ => Err(CaseFault::Form),
         }
     }
 }
 
 impl RowPlace {
-    fn open(&mut self, alloc: Global, words: &mut case_lines::Words) -> Result<(), CaseFault> {
-        let count = words.short_number()?;
-        self.row = PlainWords::new(alloc, count)?;
+    /// Before the first call.
+    pub(crate) fn new(alloc: Global) -> Result<Self, CaseFault> {
+        let row = PlainWords::new(alloc, 0)?;
+        Ok(RowPlace { row })
+    }
+
+    fn open(&mut self, call: &mut Call<'_>) -> Result<(), CaseFault> {
+        let count = call.words.short_number()?;
+        self.row = PlainWords::new(call.alloc, count)?;
         Ok(())
     }
 
-    fn settle(
-        &mut self,
-        wish: Settled,
-        words: &mut case_lines::Words,
-        answer: &mut String,
-    ) -> Result<(), CaseFault> {
-        let word = words.short_number()?;
+    fn settle(&mut self, wish: Settled, call: &mut Call<'_>) -> Result<(), CaseFault> {
+        let word = call.words.short_number()?;
         let settled = exchanged(&mut self.row, word, wish)?;
-        push_line(answer, settled_name(settled))
+        push_line(&mut call.answer, settled_name(settled))
     }
 }
 

@@ -1,4 +1,5 @@
 //! What comes to a desk of its own firm.
+use crate::terms::count_and_moment;
 use case_lines::{Call, CaseFault, frame_of, piped_bytes_of};
 use fix_fields::{Moment, moment_text};
 use itoa::Buffer;
@@ -130,8 +131,7 @@ pub(crate) fn own(call: &mut Call<'_>) -> Result<Came, CaseFault> {
 
 /// `COUNT TIME TEXT`: a text so many times, one behind another.
 fn long(call: &mut Call<'_>) -> Result<Came, CaseFault> {
-    let count = call.words.number()?;
-    let moment = call.words.moment()?;
+    let (count, moment) = count_and_moment(&mut call.words)?;
     let text = call.words.rest();
     let mut bytes = Vec::new(call.alloc);
     for _ in 0..count {

@@ -6,11 +6,10 @@ ghost use Rattle.std.specs.Prelude.{◌≡◌};
 
 use crate::duties::{push_duties, push_sent};
 use crate::floor::{Counts, Floor, INVESTOR, ROOM, counts_of, new_floor};
-use crate::replies::push_line;
 use crate::said::framed;
 use crate::terms::{request, response};
 use at_room::does_in_room;
-use case_lines::{Call, CaseFault, Place, Words, close_of};
+use case_lines::{Call, CaseFault, Place, Words, close_of, push_line};
 use dealer_desk::DealerDesk;
 use fix_fields::{Memory, Moment};
 use market_terms::RoomRef;
@@ -72,15 +71,6 @@ impl SharedRow {
 }
 
 impl Place for StepPlace {
-    fn new(alloc: Global) -> Result<Self, CaseFault> {
-        let row = PlainWords::new(alloc, 0)?;
-        let floor = new_floor(alloc)?;
-        Ok(StepPlace {
-            floor,
-            row: Row::Plain(row),
-        })
-    }
-
     fn call(&mut self, call: &mut Call<'_>) -> Result<(), CaseFault> {
         match call.name {
             "words" => self.plain(call.alloc, &mut call.words),
@@ -92,6 +82,16 @@ impl Place for StepPlace {
 }
 
 impl StepPlace {
+    /// Before the first call.
+    pub(crate) fn new(alloc: Global) -> Result<Self, CaseFault> {
+        let row = PlainWords::new(alloc, 0)?;
+        let floor = new_floor(alloc)?;
+        Ok(StepPlace {
+            floor,
+            row: Row::Plain(row),
+        })
+    }
+
     fn plain(&mut self, alloc: Global, words: &mut Words) -> Result<(), CaseFault> {
         let count = words.short_number()?;
         let row = PlainWords::new(alloc, count)?;

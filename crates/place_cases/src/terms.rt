@@ -21,6 +21,13 @@ pub(crate) fn nth_of<'a, T>(all: &'a [T], words: &mut Words<'_>) -> Result<&'a T
     all.get(place).ok_or(CaseFault::Condition)
 }
 
+/// `COUNT TIME`: how often something comes, and when.
+pub(crate) fn count_and_moment(words: &mut Words<'_>) -> Result<(u32, Moment), CaseFault> {
+    let count = words.short_number()?;
+    let moment = words.moment()?;
+    Ok((count, moment))
+}
+
 /// The next word, as a room: `FIRM.N`.
 pub(crate) fn room(words: &mut Words<'_>) -> Result<RoomRef, CaseFault> {
     let word = words.word()?;

@@ -22,13 +22,6 @@ pub(crate) struct BlotterCases {
 }
 
 impl Place for BlotterCases {
-    fn new(alloc: Global) -> Result<Self, CaseFault> {
-        Ok(BlotterCases {
-            quotes: Vec::new(alloc),
-            requests: Vec::new(alloc),
-        })
-    }
-
     fn call(&mut self, call: &mut Call<'_>) -> Result<(), CaseFault> {
         match call.name {
             "quote" => self.add_quotes(1, call.words.rest()),
@@ -41,6 +34,14 @@ impl Place for BlotterCases {
 }
 
 impl BlotterCases {
+    /// Before the first call.
+    pub(crate) fn new(alloc: Global) -> Result<Self, CaseFault> {
+        Ok(BlotterCases {
+            quotes: Vec::new(alloc),
+            requests: Vec::new(alloc),
+        })
+    }
+
     /// Makes a call that answers a blotter.
     fn tell(&self, call: &mut Call<'_>) -> Result<(), CaseFault> {
         match call.name {

@@ -1,8 +1,8 @@
 //! Configurations that are read.
 
 use crate::configuration_rows::{push_place_of_trader, push_row_or_none, push_rows, push_trader};
-use crate::printing::{push_line, push_number, push_number_or_none, push_truth};
-use case_lines::{Call, CaseFault, Place, Words, bytes_of, push_text};
+use crate::printing::{push_number, push_number_or_none};
+use case_lines::{Call, CaseFault, Place, Words, bytes_of, push_line, push_text, push_truth};
 use std::alloc::Global;
 use std::fmt::Write;
 use std::str;
@@ -30,14 +30,6 @@ pub(crate) struct ConfigCases {
 }
 
 impl Place for ConfigCases {
-    fn new(alloc: Global) -> Result<Self, CaseFault> {
-        Ok(ConfigCases {
-            text: String::new(alloc),
-            config: None,
-            kept: None,
-        })
-    }
-
     fn call(&mut self, call: &mut Call<'_>) -> Result<(), CaseFault> {
         match call.name {
             "read" => self.read(call.alloc, call.words.rest(), &mut call.answer),
@@ -52,6 +44,15 @@ impl Place for ConfigCases {
 }
 
 impl ConfigCases {
+    /// Before the first call.
+    pub(crate) fn new(alloc: Global) -> Result<Self, CaseFault> {
+        Ok(ConfigCases {
+            text: String::new(alloc),
+            config: None,
+            kept: None,
+        })
+    }
+
     /// Makes a call about what was read.
     fn hold(&mut self, call: &mut Call<'_>) -> Result<(), CaseFault> {
         match call.name {

@@ -1,7 +1,7 @@
 //! The rows of a configuration as lines.
 
-use crate::printing::{push_line, push_value_or_none};
-use case_lines::{CaseFault, Words, push_text};
+use crate::printing::push_value_or_none;
+use case_lines::{CaseFault, Words, push_line, push_text};
 use std::fmt::Write;
 use venue_rows::{BondRow, DealerRow, InvestorRow, Traders};
 

@@ -1,8 +1,8 @@
 //! Frames that are read.
 
 use crate::buffers::ByteBuffer;
-use crate::printing::{garbled_name, push_field, push_line, push_number, push_value_or_none};
-use case_lines::{Call, CaseFault, Place, Words};
+use crate::printing::{garbled_name, push_field, push_number, push_value_or_none};
+use case_lines::{Call, CaseFault, Place, Words, push_line};
 use fix_fields::{Frame, Garbled, read_frame};
 use std::alloc::Global;
 use std::fmt::Write;
@@ -23,12 +23,6 @@ pub(crate) struct FrameCases {
 }
 
 impl Place for FrameCases {
-    fn new(alloc: Global) -> Result<Self, CaseFault> {
-        Ok(FrameCases {
-            buffer: ByteBuffer::new(alloc),
-        })
-    }
-
     fn call(&mut self, call: &mut Call<'_>) -> Result<(), CaseFault> {
         match call.name {
             "bytes" => self.buffer.set(call.alloc, call.words.rest()),
@@ -37,6 +31,15 @@ impl Place for FrameCases {
             "add_sum" => self.buffer.add_sum(call.alloc),
             _ => push_told(call, self.buffer.as_slice()),
         }
+    }
+}
+
+impl FrameCases {
+    /// Before the first call.
+    pub(crate) fn new(alloc: Global) -> Result<Self, CaseFault> {
+        Ok(FrameCases {
+            buffer: ByteBuffer::new(alloc),
+        })
     }
 }
 

@@ -18,7 +18,7 @@
 //! - `written`: the messages that a firm is sent.
 //! - `blotters`: blotters of lines.
 //!
-//! The calls of each stand at its type.
+//! The calls of each stand at its type, and those of single values at the functions that make them.
 #![tactic(auto)]
 
 mod blotters;
@@ -34,6 +34,7 @@ mod printing;
 mod received;
 mod received_from_dealers;
 mod received_from_investors;
+mod single_values;
 mod streams;
 mod terms;
 mod values;

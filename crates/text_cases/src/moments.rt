@@ -1,35 +1,27 @@
 //! Dates and moments.
 
-use crate::printing::{push_line, push_number, push_truth};
-use case_lines::{Call, CaseFault, Place, Words, bytes_of};
+use crate::printing::push_number;
+use case_lines::{Call, CaseFault, Words, bytes_of, push_line, push_truth};
 use fix_fields::{Date, Moment, MomentFault, moment_text, read_moment, time_text};
 use std::alloc::Global;
 use std::str;
 
-/// The place `moments`: dates, moments and their texts. A moment is a number of milliseconds.
+/// Makes a call of the place `moments`: dates, moments and their texts. A moment is a number of
+/// milliseconds.
 ///
 /// - `date TEXT`: its digits. `moment NUMBER`: the number, where it is a moment.
 /// - `read DATE TEXT`: the moment, or the fault.
 /// - `text DATE NUMBER`, `time NUMBER`: the texts of a moment.
 /// - `earlier NUMBER NUMBER`: whether the first moment is before the second.
-#[derive(Drop)]
-pub(crate) struct MomentCases {}
-
-impl Place for MomentCases {
-    fn new(_alloc: Global) -> Result<Self, CaseFault> {
-        Ok(MomentCases {})
-    }
-
-    fn call(&mut self, call: &mut Call<'_>) -> Result<(), CaseFault> {
-        match call.name {
-            "date" => push_date(call.alloc, &mut call.answer, call.words.rest()),
-            "moment" => push_moment(&mut call.answer, &mut call.words),
-            "read" => push_reading(call.alloc, &mut call.answer, &mut call.words),
-            "text" => push_text(&mut call.answer, &mut call.words),
-            "time" => push_time(&mut call.answer, &mut call.words),
-            "earlier" => push_earlier(&mut call.answer, &mut call.words),
-            _ => Err(CaseFault::Form),
-        }
+pub(crate) fn call_moments(call: &mut Call<'_>) -> Result<(), CaseFault> {
+    match call.name {
+        "date" => push_date(call.alloc, &mut call.answer, call.words.rest()),
+        "moment" => push_moment(&mut call.answer, &mut call.words),
+        "read" => push_reading(call.alloc, &mut call.answer, &mut call.words),
+        "text" => push_text(&mut call.answer, &mut call.words),
+        "time" => push_time(&mut call.answer, &mut call.words),
+        "earlier" => push_earlier(&mut call.answer, &mut call.words),
+        _ => Err(CaseFault::Form),
     }
 }
 

@@ -1,12 +1,13 @@
 //! Prices and grids.
 
-use crate::printing::{push_line, push_number, push_truth};
+use crate::printing::push_number;
 use bond_prices::{Grid, PriceFault, Ticks, on_grid, price_text, read_price, thirty_seconds};
-use case_lines::{Call, CaseFault, Place, Words, bytes_of, price_of};
+use case_lines::{Call, CaseFault, Words, bytes_of, price_of, push_line, push_truth};
 use std::alloc::Global;
 use std::fmt::Write;
 
-/// The place `prices`: prices, their texts, and grids. A price is its number of 256ths.
+/// Makes a call of the place `prices`: prices, their texts, and grids. A price is its number of
+/// 256ths.
 ///
 /// - `read TEXT`: the price, or the fault. `fault TEXT`: what the fault says.
 /// - `price NUMBER`: the number, where it is a price. `text NUMBER`, `said NUMBER`: its texts, in
@@ -17,26 +18,17 @@ use std::fmt::Write;
 /// - `grid STEPS`: the steps, where they are a grid; `finest`: those of the finest.
 ///   `same_grid STEPS STEPS`: whether they are the same. `on STEPS NUMBER`: whether a price is on
 ///   a grid.
-#[derive(Drop)]
-pub(crate) struct PriceCases {}
-
-impl Place for PriceCases {
-    fn new(_alloc: Global) -> Result<Self, CaseFault> {
-        Ok(PriceCases {})
-    }
-
-    fn call(&mut self, call: &mut Call<'_>) -> Result<(), CaseFault> {
-        match call.name {
-            "read" => push_reading(call.alloc, &mut call.answer, call.words.rest()),
-            "fault" => push_fault(call.alloc, &mut call.answer, call.words.rest()),
-            "price" => push_price(&mut call.answer, &mut call.words),
-            "text" => push_text(&mut call.answer, &mut call.words),
-            "said" => push_said(&mut call.answer, &mut call.words),
-            "every_price" => push_every_price(&mut call.answer),
-            "below" => push_below(&mut call.answer, &mut call.words),
-            "same" => push_same(&mut call.answer, &mut call.words),
-            _ => push_of_grids(call),
-        }
+pub(crate) fn call_prices(call: &mut Call<'_>) -> Result<(), CaseFault> {
+    match call.name {
+        "read" => push_reading(call.alloc, &mut call.answer, call.words.rest()),
+        "fault" => push_fault(call.alloc, &mut call.answer, call.words.rest()),
+        "price" => push_price(&mut call.answer, &mut call.words),
+        "text" => push_text(&mut call.answer, &mut call.words),
+        "said" => push_said(&mut call.answer, &mut call.words),
+        "every_price" => push_every_price(&mut call.answer),
+        "below" => push_below(&mut call.answer, &mut call.words),
+        "same" => push_same(&mut call.answer, &mut call.words),
+        _ => push_of_grids(call),
     }
 }
 

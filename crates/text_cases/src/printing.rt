@@ -1,22 +1,8 @@
 //! Lines of answers.
 
-use case_lines::{CaseFault, push_bytes};
+use case_lines::{CaseFault, push_bytes, push_bytes_line, push_line};
 use fix_fields::{Garbled, Moment, time_text};
 use std::fmt::Write;
-
-/// A line of text.
-pub(crate) fn push_line(answer: &mut String, line: &str) -> Result<(), CaseFault> {
-    answer.push_str(line)?;
-    answer.push_str("\n")?;
-    Ok(())
-}
-
-/// A line of bytes.
-pub(crate) fn push_bytes_line(answer: &mut String, bytes: &[u8]) -> Result<(), CaseFault> {
-    push_bytes(answer, bytes)?;
-    answer.push_str("\n")?;
-    Ok(())
-}
 
 /// A line of bytes that may be empty: an equals sign, and the bytes.
 pub(crate) fn push_value_line(answer: &mut String, value: &[u8]) -> Result<(), CaseFault> {
@@ -50,11 +36,6 @@ pub(crate) fn push_number_or_none(
         Some(number) => push_number(answer, number),
         None => push_line(answer, "none"),
     }
-}
-
-/// A line of a truth.
-pub(crate) fn push_truth(answer: &mut String, is_so: bool) -> Result<(), CaseFault> {
-    push_line(answer, if is_so { "yes" } else { "no" })
 }
 
 /// A field: a tag, the value, and a bar.

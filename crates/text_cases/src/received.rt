@@ -1,9 +1,9 @@
 //! Messages that came from a firm.
 
-use crate::printing::{push_field, push_line, push_number_field};
+use crate::printing::{push_field, push_number_field};
 use crate::received_from_dealers::{dealer_row, push_dealer_message};
 use crate::received_from_investors::{investor_row, push_investor_message};
-use case_lines::{Call, CaseFault, Place, Words, day, frame_of, piped_bytes_of};
+use case_lines::{Call, CaseFault, Place, Words, day, frame_of, piped_bytes_of, push_line};
 use fix_fields::{Date, Frame, read_frame};
 use quote_messages::{
     Arrival, Reject, SessionFault, read_dealer, read_investor, receive_dealer, receive_investor,
@@ -29,12 +29,6 @@ pub(crate) struct ReceivedCases {
 }
 
 impl Place for ReceivedCases {
-    fn new(alloc: Global) -> Result<Self, CaseFault> {
-        Ok(ReceivedCases {
-            body: String::new(alloc),
-        })
-    }
-
     fn call(&mut self, call: &mut Call<'_>) -> Result<(), CaseFault> {
         match call.name {
             "body" => self.set_body(call.alloc, call.words.rest()),
@@ -47,6 +41,13 @@ impl Place for ReceivedCases {
 }
 
 impl ReceivedCases {
+    /// Before the first call.
+    pub(crate) fn new(alloc: Global) -> Result<Self, CaseFault> {
+        Ok(ReceivedCases {
+            body: String::new(alloc),
+        })
+    }
+
     /// `body BYTES`: the text of the messages.
     fn set_body(&mut self, alloc: Global, text: &str) -> Result<(), CaseFault> {
         self.body = String::from_str(alloc, text)?;

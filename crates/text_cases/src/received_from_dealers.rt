@@ -1,9 +1,9 @@
 //! What a dealer's message says, as a line.
 
 use crate::prices::price_fault_name;
-use crate::printing::{push_field, push_line, push_number_field, push_time_field};
+use crate::printing::{push_field, push_number_field, push_time_field};
 use bond_prices::{PriceFault, Ticks, price_text};
-use case_lines::CaseFault;
+use case_lines::{CaseFault, push_line};
 use fix_fields::Moment;
 use quote_messages::{CancelScope, DealerMessage, Decline, Id, Quantity, Quote, QuoteCancel};
 use venue_rows::{DealerRow, Name, Traders};

@@ -1,8 +1,8 @@
 //! What an investor's message says, as a line.
 
-use crate::printing::{push_field, push_line, push_number_field, push_time_field};
+use crate::printing::{push_field, push_number_field, push_time_field};
 use crate::received_from_dealers::{push_id_if, two_traders};
-use case_lines::CaseFault;
+use case_lines::{CaseFault, push_line};
 use quote_messages::{InvestorMessage, QuoteHit, QuoteRequest, RequestPass};
 use venue_rows::{InvestorRow, Name};
 

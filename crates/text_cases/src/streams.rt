@@ -1,8 +1,10 @@
 //! Streams that are cut.
 
 use crate::buffers::ByteBuffer;
-use crate::printing::{push_bytes_line, push_line, push_number};
-use case_lines::{Call, CaseFault, Place, Words, piped_bytes_of, stream_fault_name};
+use crate::printing::push_number;
+use case_lines::{
+    Call, CaseFault, Place, Words, piped_bytes_of, push_bytes_line, push_line, stream_fault_name,
+};
 use fix_fields::{Messages, Splitter, StreamFault};
 use std::alloc::Global;
 use std::fmt::Write;
@@ -28,13 +30,6 @@ pub(crate) struct StreamCases {
 }
 
 impl Place for StreamCases {
-    fn new(alloc: Global) -> Result<Self, CaseFault> {
-        Ok(StreamCases {
-            buffer: ByteBuffer::new(alloc),
-            splitter: Splitter::new(alloc),
-        })
-    }
-
     fn call(&mut self, call: &mut Call<'_>) -> Result<(), CaseFault> {
         match call.name {
             "open" => self.open(call.alloc),
@@ -48,6 +43,14 @@ impl Place for StreamCases {
 }
 
 impl StreamCases {
+    /// Before the first call.
+    pub(crate) fn new(alloc: Global) -> Result<Self, CaseFault> {
+        Ok(StreamCases {
+            buffer: ByteBuffer::new(alloc),
+            splitter: Splitter::new(alloc),
+        })
+    }
+
     /// Makes a call that cuts the stream.
     fn cut(&mut self, call: &mut Call<'_>) -> Result<(), CaseFault> {
         match call.name {

@@ -1,17 +1,14 @@
 //! The terms of the market at their limits.
 
 use crate::parts::{ask_with_grid, id_of};
-use crate::printing::{
-    push_bytes_line, push_field, push_line, push_number, push_number_field, push_time_field,
-    push_truth,
-};
-use case_lines::{Call, CaseFault, Place, Words, bytes_of};
+use crate::printing::{push_field, push_number, push_number_field, push_time_field};
+use case_lines::{Call, CaseFault, Words, bytes_of, push_bytes_line, push_line, push_truth};
 use market_terms::{Ask, AskedDealers, Close, HitRefusal, Id, IdBuf, Quantity, Side};
 use std::alloc::Global;
 use std::cmp::Ordering;
 use std::fmt::Write;
 
-/// The place `terms`: quantities, identifiers, dealers that are asked, and codes.
+/// Makes a call of the place `terms`: quantities, identifiers, dealers that are asked, and codes.
 ///
 /// - `quantity NUMBER`: the number, where it is a quantity. `most_quantity`, `most_dealers`: the
 ///   limits.
@@ -20,24 +17,15 @@ use std::fmt::Write;
 ///   `names DEALER NUMBER ..`: whether a dealer is one of them.
 /// - `sides`, `closes`, `refusals`: the codes (54, 694) and names.
 /// - `ask INVESTOR BOND SIDE QUANTITY DEADLINE GRID`: the copy of an ask.
-#[derive(Drop)]
-pub(crate) struct TermCases {}
-
-impl Place for TermCases {
-    fn new(_alloc: Global) -> Result<Self, CaseFault> {
-        Ok(TermCases {})
-    }
-
-    fn call(&mut self, call: &mut Call<'_>) -> Result<(), CaseFault> {
-        match call.name {
-            "quantity" => push_quantity(&mut call.answer, &mut call.words),
-            "id" => push_id(call.alloc, &mut call.answer, call.words.rest()),
-            "order" => push_order(&mut call.answer, &mut call.words),
-            "dealers" => push_dealers(call.alloc, &mut call.answer, call.words.rest()),
-            "names" => push_names(call.alloc, &mut call.answer, &mut call.words),
-            "ask" => push_ask(&mut call.answer, &mut call.words),
-            _ => push_constants(call),
-        }
+pub(crate) fn call_terms(call: &mut Call<'_>) -> Result<(), CaseFault> {
+    match call.name {
+        "quantity" => push_quantity(&mut call.answer, &mut call.words),
+        "id" => push_id(call.alloc, &mut call.answer, call.words.rest()),
+        "order" => push_order(&mut call.answer, &mut call.words),
+        "dealers" => push_dealers(call.alloc, &mut call.answer, call.words.rest()),
+        "names" => push_names(call.alloc, &mut call.answer, &mut call.words),
+        "ask" => push_ask(&mut call.answer, &mut call.words),
+        _ => push_constants(call),
     }
 }
 

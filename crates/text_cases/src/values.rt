@@ -2,15 +2,14 @@
 
 use crate::buffers::bytes_in;
 use crate::parts::{quote_reason_of, request_reason_of, session_reason_of};
-use crate::printing::{push_bytes_line, push_line, push_number, push_number_or_none};
-use case_lines::{Call, CaseFault, Place, Words, bytes_of};
+use crate::printing::{push_number, push_number_or_none};
+use case_lines::{Call, CaseFault, Words, bytes_of, push_bytes_line, push_line};
 use quote_messages::{
     Message, MsgType, SeqNum, expected_number, read_long_number, read_number, read_quantity,
 };
-use std::alloc::Global;
 use std::fmt::Write;
 
-/// The place `message_values`: the texts and numbers that fields have.
+/// Makes a call of the place `message_values`: the texts and numbers that fields have.
 ///
 /// - `number BYTES`, `long_number BYTES`: the number that they spell. `quantity BYTES`: the
 ///   quantity, or `reason` with the code (373).
@@ -20,22 +19,13 @@ use std::fmt::Write;
 /// - `session_reason NAME`, `quote_reason NAME`, `request_reason NAME`: the codes (373, 300, 658).
 /// - `message BYTES`: a message of them, copied, and one of the list that it is kept in.
 ///   `message_times N BYTES`: the length of the copy of a message of these bytes N times.
-#[derive(Drop)]
-pub(crate) struct ValueCases {}
-
-impl Place for ValueCases {
-    fn new(_alloc: Global) -> Result<Self, CaseFault> {
-        Ok(ValueCases {})
-    }
-
-    fn call(&mut self, call: &mut Call<'_>) -> Result<(), CaseFault> {
-        match call.name {
-            "expected" => push_expected(&mut call.answer, &mut call.words),
-            "message" => push_message(call),
-            "message_times" => push_message_len(call),
-            "session_reason" | "quote_reason" | "request_reason" => push_code(call),
-            _ => push_value(call),
-        }
+pub(crate) fn call_message_values(call: &mut Call<'_>) -> Result<(), CaseFault> {
+    match call.name {
+        "expected" => push_expected(&mut call.answer, &mut call.words),
+        "message" => push_message(call),
+        "message_times" => push_message_len(call),
+        "session_reason" | "quote_reason" | "request_reason" => push_code(call),
+        _ => push_value(call),
     }
 }
 

@@ -1,8 +1,10 @@
 //! Frames that are written.
 
 use crate::buffers::bytes_in;
-use crate::printing::{push_bytes_line, push_line, push_number, push_truth};
-use case_lines::{Call, CaseFault, Place, Words, piped_bytes_of};
+use crate::printing::push_number;
+use case_lines::{
+    Call, CaseFault, Place, Words, piped_bytes_of, push_bytes_line, push_line, push_truth,
+};
 use fix_fields::{
     FrameWriter, MOST_BODY, MOST_FRAME, decimal_len, fits, is_tag, is_value, read_frame,
 };
@@ -22,10 +24,6 @@ pub(crate) struct WriterCases {
 }
 
 impl Place for WriterCases {
-    fn new(_alloc: Global) -> Result<Self, CaseFault> {
-        Ok(WriterCases { writer: None })
-    }
-
     fn call(&mut self, call: &mut Call<'_>) -> Result<(), CaseFault> {
         match call.name {
             "new" | "new_times" => self.begin(call),
@@ -39,6 +37,11 @@ impl Place for WriterCases {
 }
 
 impl WriterCases {
+    /// Before the first call.
+    pub(crate) fn new(_alloc: Global) -> Result<Self, CaseFault> {
+        Ok(WriterCases { writer: None })
+    }
+
     /// `new TYPE`: a frame with this MsgType (35).
     fn begin(&mut self, call: &mut Call<'_>) -> Result<(), CaseFault> {
         let msg_type = bytes_in(call)?;

@@ -1,11 +1,11 @@
 //! Messages that a firm is sent.
 
-use crate::printing::{push_bytes_line, push_number};
+use crate::printing::push_number;
 use crate::written_to_dealers::{
     cancel_report, closing_notice, decline_report, quote_report, reject, shown_request,
 };
 use crate::written_to_investors::message_to_investor;
-use case_lines::{Call, CaseFault, Place, Words, day, name_of};
+use case_lines::{Call, CaseFault, Place, Words, day, name_of, push_bytes_line};
 use fix_fields::Memory;
 use quote_messages::{Head, OutMessage, SentMessage, write_out};
 use std::alloc::Global;
@@ -30,13 +30,6 @@ pub(crate) struct WrittenCases {
 }
 
 impl Place for WrittenCases {
-    fn new(_alloc: Global) -> Result<Self, CaseFault> {
-        Ok(WrittenCases {
-            head: None,
-            last: None,
-        })
-    }
-
     fn call(&mut self, call: &mut Call<'_>) -> Result<(), CaseFault> {
         match call.name {
             "to" => self.take_head(&mut call.words),
@@ -51,6 +44,14 @@ impl Place for WrittenCases {
 }
 
 impl WrittenCases {
+    /// Before the first call.
+    pub(crate) fn new(_alloc: Global) -> Result<Self, CaseFault> {
+        Ok(WrittenCases {
+            head: None,
+            last: None,
+        })
+    }
+
     /// `to FIRM NUMBER MOMENT`: the header of the next message.
     fn take_head(&mut self, words: &mut Words) -> Result<(), CaseFault> {
         let date = day().ok_or(CaseFault::Form)?;

@@ -2,7 +2,7 @@
 
 use crate::parts::{id_of, moment_or_none, request_reason_of, word_or_none};
 use case_lines::{CaseFault, Words, bond_of, name_of, price_of, quantity_of, refusal_of, side_of};
-use quote_messages::{HitRefusal, OutMessage, PassStatus, ShownQuote};
+use quote_messages::{HitRefusal, Id, OutMessage, PassStatus, ShownQuote};
 
 /// The message to an investor that a call says.
 pub(crate) fn message_to_investor<'a>(
@@ -10,35 +10,41 @@ pub(crate) fn message_to_investor<'a>(
     words: &mut Words<'a>,
 ) -> Result<OutMessage<'a>, CaseFault> {
     match name {
-        "accepted" => request_accepted(words),
-        "refused" => request_refused(words),
-        "quote" => shown_quote(words),
-        "gone" => quote_gone(words),
-        "declined" => dealer_declined(words),
-        "expired" => request_expired(words),
-        _ => answer_to_response(name, words),
-    }
-}
-
-/// The answer to a hit or a pass that a call says.
-fn answer_to_response<'a>(name: &str, words: &mut Words<'a>) -> Result<OutMessage<'a>, CaseFault> {
-    match name {
         "hit_answer" => hit_report(words),
         "hit_unknown" => hit_unknown(words),
         "pass_answer" => pass_report(words),
+        _ => message_about_request(name, words),
+    }
+}
+
+/// The message that a call says behind its REQUEST.
+fn message_about_request<'a>(
+    name: &str,
+    words: &mut Words<'a>,
+) -> Result<OutMessage<'a>, CaseFault> {
+    let request = id_of(words)?;
+    match name {
+        "accepted" => Ok(OutMessage::RequestAccepted { request }),
+        "refused" => request_refused(request, words),
+        "quote" => shown_quote(request, words),
+        "gone" => {
+            let quote = words.number()?;
+            Ok(OutMessage::QuoteGone { request, quote })
+        }
+        "declined" => {
+            let dealer = name_of(words)?;
+            Ok(OutMessage::DealerDeclined { request, dealer })
+        }
+        "expired" => Ok(OutMessage::RequestExpired { request }),
         _ => Err(CaseFault::Form),
     }
 }
 
-/// `accepted REQUEST`.
-fn request_accepted<'a>(words: &mut Words<'a>) -> Result<OutMessage<'a>, CaseFault> {
-    let request = id_of(words)?;
-    Ok(OutMessage::RequestAccepted { request })
-}
-
-/// `refused REQUEST BOND REASON`.
-fn request_refused<'a>(words: &mut Words<'a>) -> Result<OutMessage<'a>, CaseFault> {
-    let request = id_of(words)?;
+/// `BOND REASON`: a request is refused.
+fn request_refused<'a>(
+    request: Id<'a>,
+    words: &mut Words<'a>,
+) -> Result<OutMessage<'a>, CaseFault> {
     let bond = id_of(words)?;
     let reason = request_reason_of(words.word()?)?;
     Ok(OutMessage::RequestRefused {
@@ -48,9 +54,8 @@ fn request_refused<'a>(words: &mut Words<'a>) -> Result<OutMessage<'a>, CaseFaul
     })
 }
 
-/// `quote REQUEST NUMBER BOND SIDE PRICE QUANTITY UNTIL DEALER`.
-fn shown_quote<'a>(words: &mut Words<'a>) -> Result<OutMessage<'a>, CaseFault> {
-    let request = id_of(words)?;
+/// `NUMBER BOND SIDE PRICE QUANTITY UNTIL DEALER`: a quote is shown.
+fn shown_quote<'a>(request: Id<'a>, words: &mut Words<'a>) -> Result<OutMessage<'a>, CaseFault> {
     let number = words.number()?;
     let bond = bond_of(words)?;
     let side = side_of(words)?;
@@ -68,20 +73,6 @@ fn shown_quote<'a>(words: &mut Words<'a>) -> Result<OutMessage<'a>, CaseFault> {
         valid_until,
         dealer,
     }))
-}
-
-/// `gone REQUEST NUMBER`.
-fn quote_gone<'a>(words: &mut Words<'a>) -> Result<OutMessage<'a>, CaseFault> {
-    let request = id_of(words)?;
-    let quote = words.number()?;
-    Ok(OutMessage::QuoteGone { request, quote })
-}
-
-/// `declined REQUEST DEALER`.
-fn dealer_declined<'a>(words: &mut Words<'a>) -> Result<OutMessage<'a>, CaseFault> {
-    let request = id_of(words)?;
-    let dealer = name_of(words)?;
-    Ok(OutMessage::DealerDeclined { request, dealer })
 }
 
 /// `hit_answer ID REQUEST NUMBER REFUSAL`.
@@ -134,10 +125,4 @@ fn pass_status_of(word: &str) -> Result<PassStatus, CaseFault> {
         "Unknown" => Ok(PassStatus::Unknown),
         _ => Err(CaseFault::Form),
     }
-}
-
-/// `expired REQUEST`.
-fn request_expired<'a>(words: &mut Words<'a>) -> Result<OutMessage<'a>, CaseFault> {
-    let request = id_of(words)?;
-    Ok(OutMessage::RequestExpired { request })
 }

@@ -2,20 +2,18 @@
 use super::lines::{push_row, push_states};
 use super::many::{push_forged, push_fronts, push_quotes};
 use super::opened::{Dropped, Opened, Taken};
-use crate::blotters::{push_line_numbered, push_lines};
 use crate::duties::push_left;
-use crate::messages::{push_count_line, push_date, push_frames, push_new, push_number_line};
-use crate::replies::push_truth;
+use crate::lists::read_lists;
+use crate::messages::{push_count_line, push_date, push_number_line};
 use crate::terms::{ask, room};
-use case_lines::{Call, CaseFault, Words, close_of};
+use case_lines::{Call, CaseFault, Words, close_of, push_truth};
 use dealer_desk::DealerDesk;
 use market_terms::RoomRef;
 
 /// Makes a call of an open desk, and answers behind it what the desk has sent since the last one.
 pub(crate) fn called(opened: &mut Opened, call: &mut Call<'_>) -> Result<(), CaseFault> {
     make(opened, call)?;
-    opened.shown = push_new(&mut call.answer, opened.desk.sent(), opened.shown)?;
-    Ok(())
+    opened.shown.push_new(&mut call.answer, opened.desk.sent())
 }
 
 /// Makes a call by which a request is shown, or a message or bytes come.
@@ -61,19 +59,8 @@ fn read(desk: &DealerDesk, call: &mut Call<'_>) -> Result<(), CaseFault> {
         "events" => push_count_line(&mut call.answer, desk.events().len()),
         "date" => push_date(&mut call.answer, desk.date()),
         "row" => push_row(&mut call.answer, desk.row()),
-        _ => read_lists(desk, call),
-    }
-}
-
-/// Makes a call of a reader of the messages or of the lines.
-fn read_lists(desk: &DealerDesk, call: &mut Call<'_>) -> Result<(), CaseFault> {
-    match call.name {
-        "sent" => push_count_line(&mut call.answer, desk.sent().len()),
-        "frames" => push_frames(&mut call.answer, desk.sent(), &mut call.words),
-        "lines" => push_lines(&mut call.answer, desk.lines()),
-        "line" => push_line_numbered(&mut call.answer, desk.lines(), &mut call.words),
         "states" => push_states(call.alloc, &mut call.answer, desk.lines()),
-        _ => Err(CaseFault::Form),
+        _ => read_lists(call, desk.sent(), desk.lines()),
     }
 }
 

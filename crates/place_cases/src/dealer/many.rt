@@ -2,6 +2,7 @@
 use super::opened::Opened;
 use crate::said::{Came, own};
 use crate::tally::Tally;
+use crate::terms::count_and_moment;
 use case_lines::{Call, CaseFault};
 use fix_fields::Moment;
 use std::alloc::Global;
@@ -67,20 +68,19 @@ fn with_bit(alloc: Global, whole: &Came, n: usize, bit: u8) -> Result<Came, Case
 
 /// `COUNT TIME`: so many quotes, on R1 and R2 in turn.
 pub(crate) fn push_quotes(opened: &mut Opened, call: &mut Call<'_>) -> Result<(), CaseFault> {
-    let count = call.words.number()?;
-    let moment = call.words.moment()?;
+    let (count, moment) = count_and_moment(&mut call.words)?;
     let mut tally = Tally::nothing(call.alloc);
     for n in 1..=count {
         let text = quoted(opened, call.alloc, n, moment)?;
         tally.add(text, &mut call.answer)?;
     }
-    opened.shown = opened.desk.sent().len();
+    opened.shown.pass(opened.desk.sent());
     tally.end(&mut call.answer)
 }
 
 /// The n-th quote: whether it is posted, how far before it the quote stands whose word it asks, and
 /// the exposure behind it.
-fn quoted(opened: &mut Opened, alloc: Global, n: u64, moment: Moment) -> Result<String, CaseFault> {
+fn quoted(opened: &mut Opened, alloc: Global, n: u32, moment: Moment) -> Result<String, CaseFault> {
     let came = quote(opened, alloc, n, moment)?;
     let (asked, left) = opened.take(&came)?;
     let posted = if left.is_some() {
@@ -95,18 +95,18 @@ fn quoted(opened: &mut Opened, alloc: Global, n: u64, moment: Moment) -> Result<
 }
 
 /// Whose word the n-th quote asks.
-fn word_text(alloc: Global, n: u64, asked: Option<u32>) -> Result<String, CaseFault> {
+fn word_text(alloc: Global, n: u32, asked: Option<u32>) -> Result<String, CaseFault> {
     let Some(quote) = asked else {
         let none = String::from_str(alloc, "no word")?;
         return Ok(none);
     };
-    let before = n.saturating_sub(u64::from(quote));
+    let before = n.saturating_sub(quote);
     let text = format!(in alloc; "word of the {before} before")?;
     Ok(text)
 }
 
 /// The n-th quote as it comes: on the first request where n is odd.
-fn quote(opened: &mut Opened, alloc: Global, n: u64, moment: Moment) -> Result<Came, CaseFault> {
+fn quote(opened: &mut Opened, alloc: Global, n: u32, moment: Moment) -> Result<Came, CaseFault> {
     let request = 2 - n % 2;
     let fields = format!(in alloc; "117=q{n}|131=R{request}|48=BONDA0000001|22=4|133=99.5")?;
     let said = ("T1", "S", fields.as_str());

@@ -1,4 +1,5 @@
 //! A desk of a dealer with the words of its quotes, and what comes to it.
+use crate::messages::Shown;
 use crate::said::{Came, Speaker};
 use case_lines::{CaseFault, Words, day, name_of};
 use dealer_desk::DealerDesk;
@@ -17,8 +18,7 @@ pub(crate) struct Opened {
     pub(crate) rooms: u32,
     /// The own numbers of the quotes whose words are lifted.
     pub(crate) lifted: Vec<u32>,
-    /// How many messages were answered.
-    pub(crate) shown: usize,
+    pub(crate) shown: Shown,
 }
 
 /// What came of a message: the own number of the quote whose word it asks, and what is left to be
@@ -45,7 +45,7 @@ impl Opened {
             speaker,
             rooms: 0,
             lifted: Vec::new(alloc),
-            shown: 0,
+            shown: Shown::none(),
         })
     }
 

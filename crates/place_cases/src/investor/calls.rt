@@ -2,19 +2,17 @@
 use super::lines::{push_event, push_row};
 use super::many::push_requests;
 use super::opened::Opened;
-use crate::blotters::{push_line_numbered, push_lines};
 use crate::duties::push_left;
-use crate::messages::{push_count_line, push_date, push_frames, push_new, push_number_line};
-use crate::replies::push_truth;
+use crate::lists::read_lists;
+use crate::messages::{push_count_line, push_date, push_number_line};
 use crate::terms::{last_moment, offer, reply, response};
-use case_lines::{Call, CaseFault, Words, name_of};
+use case_lines::{Call, CaseFault, Words, name_of, push_truth};
 use investor_desk::InvestorDesk;
 
 /// Makes a call of an open desk, and answers behind it what the desk has sent since the last one.
 pub(crate) fn called(opened: &mut Opened, call: &mut Call<'_>) -> Result<(), CaseFault> {
     make(opened, call)?;
-    opened.shown = push_new(&mut call.answer, opened.desk.sent(), opened.shown)?;
-    Ok(())
+    opened.shown.push_new(&mut call.answer, opened.desk.sent())
 }
 
 /// Makes a call.
@@ -40,18 +38,7 @@ fn read(desk: &InvestorDesk, call: &mut Call<'_>) -> Result<(), CaseFault> {
         "date" => push_date(&mut call.answer, desk.date()),
         "firm" => push_number_line(&mut call.answer, u64::from(desk.firm())),
         "row" => push_row(&mut call.answer, desk.row()),
-        _ => read_lists(desk, call),
-    }
-}
-
-/// Makes a call of a reader of the messages or of the lines.
-fn read_lists(desk: &InvestorDesk, call: &mut Call<'_>) -> Result<(), CaseFault> {
-    match call.name {
-        "sent" => push_count_line(&mut call.answer, desk.sent().len()),
-        "frames" => push_frames(&mut call.answer, desk.sent(), &mut call.words),
-        "lines" => push_lines(&mut call.answer, desk.lines()),
-        "line" => push_line_numbered(&mut call.answer, desk.lines(), &mut call.words),
-        _ => Err(CaseFault::Form),
+        _ => read_lists(call, desk.sent(), desk.lines()),
     }
 }
 

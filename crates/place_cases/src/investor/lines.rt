@@ -1,9 +1,9 @@
 //! What a desk knows, as lines.
 use crate::blotters::{BlotterLine, push_front, push_terms};
 use crate::messages::{push_count_line, push_traders};
-use crate::replies::{push_line, push_number, push_time, push_word};
+use crate::replies::{push_number, push_time, push_word};
 use crate::terms::nth_of;
-use case_lines::{CaseFault, Words, push_bytes};
+use case_lines::{CaseFault, Words, push_bytes, push_line};
 use fix_fields::Moment;
 use investor_desk::{InvestorDesk, InvestorEvent};
 use market_terms::{RequestLine, RequestState};

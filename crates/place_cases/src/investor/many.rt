@@ -2,6 +2,7 @@
 use super::opened::Opened;
 use crate::said::Came;
 use crate::tally::Tally;
+use crate::terms::count_and_moment;
 use bond_prices::Ticks;
 use case_lines::{Call, CaseFault};
 use fix_fields::Moment;
@@ -10,15 +11,14 @@ use std::alloc::Global;
 
 /// `COUNT TIME`: so many requests of the first dealer, and a quote of each dealer on each.
 pub(crate) fn push_requests(opened: &mut Opened, call: &mut Call<'_>) -> Result<(), CaseFault> {
-    let count = call.words.short_number()?;
-    let moment = call.words.moment()?;
+    let (count, moment) = count_and_moment(&mut call.words)?;
     let mut tally = Tally::nothing(call.alloc);
     for n in 1..=count {
         let text = asked(opened, call.alloc, n, moment)?;
         are_shown(opened, n, moment)?;
         tally.add(text, &mut call.answer)?;
     }
-    opened.shown = opened.desk.sent().len();
+    opened.shown.pass(opened.desk.sent());
     tally.end(&mut call.answer)
 }
 

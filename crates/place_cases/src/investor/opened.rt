@@ -1,5 +1,6 @@
 //! A desk of an investor, and what comes to it.
 use super::venue::Rows;
+use crate::messages::Shown;
 use crate::said::Speaker;
 use case_lines::{CaseFault, Words};
 use investor_desk::InvestorDesk;
@@ -13,8 +14,7 @@ pub(crate) struct Opened {
     pub(crate) speaker: Speaker,
     /// The dealers of the venue.
     pub(crate) dealers: Vec<Name>,
-    /// How many messages were answered.
-    pub(crate) shown: usize,
+    pub(crate) shown: Shown,
 }
 
 impl Opened {
@@ -34,7 +34,7 @@ impl Opened {
             desk,
             speaker,
             dealers,
-            shown: 0,
+            shown: Shown::none(),
         })
     }
 }

@@ -62,7 +62,7 @@ enum Step {
     Drop(u32),
 }
 
-/// A step at a moment, in milliseconds of the day, and what it leaves.
+/// A step at a moment, in seconds behind 09:00, and what it leaves.
 type Turn = (u32, Step, &'static [Line]);
 
 /// INV1 asks DLR1 and DLR2 for 2,000,000 of BONDA0000001, until 09:05.
@@ -104,13 +104,9 @@ const FIRST_DECLINES: &[u8] = b"8=FIXT.1.1\x019=69\x0135=AG\x0149=DLR1\x0156=VEN
 
 /// INV1 asks two dealers, and both quote.
 const QUOTED: &[Turn] = &[
+    (0, Step::Investor(ASKS), &[("open", 1, 2, 2_000_000)]),
     (
-        32_400_000,
-        Step::Investor(ASKS),
-        &[("open", 1, 2, 2_000_000)],
-    ),
-    (
-        32_400_000,
+        0,
         Step::Open(&[0, 1]),
         &[
             ("show", 1, 0, 2_000_000),
@@ -118,68 +114,48 @@ const QUOTED: &[Turn] = &[
             ("ready", 1, 0, 0),
         ],
     ),
-    (32_400_000, Step::Show(0, 1), &[]),
-    (32_400_000, Step::Show(1, 1), &[]),
-    (32_400_000, Step::Ready, &[]),
+    (0, Step::Show(0, 1), &[]),
+    (0, Step::Show(1, 1), &[]),
+    (0, Step::Ready, &[]),
+    (10, Step::First(FIRST_QUOTES), &[("post", 1, 1, 25_473)]),
     (
-        32_410_000,
-        Step::First(FIRST_QUOTES),
-        &[("post", 1, 1, 25_473)],
-    ),
-    (
-        32_410_000,
+        10,
         Step::Post(0, "DLR1", 0, 25_473),
         &[("relay", 1, 0, 25_473)],
     ),
-    (32_410_000, Step::Relay(1, "DLR1", 0, 25_473), &[]),
+    (10, Step::Relay(1, "DLR1", 0, 25_473), &[]),
+    (20, Step::Second(SECOND_QUOTES), &[("post", 1, 1, 25_476)]),
     (
-        32_420_000,
-        Step::Second(SECOND_QUOTES),
-        &[("post", 1, 1, 25_476)],
-    ),
-    (
-        32_420_000,
+        20,
         Step::Post(1, "DLR2", 4, 25_476),
         &[("relay", 1, 4, 25_476)],
     ),
-    (32_420_000, Step::Relay(1, "DLR2", 4, 25_476), &[]),
+    (20, Step::Relay(1, "DLR2", 4, 25_476), &[]),
 ];
 
 /// DLR1 cancels its quote: its word is withdrawn.
-const CANCELLED: &[Turn] = &[(
-    32_430_000,
-    Step::First(FIRST_CANCELS),
-    &[("unpost", 1, 1, 0)],
-)];
+const CANCELLED: &[Turn] = &[(30, Step::First(FIRST_CANCELS), &[("unpost", 1, 1, 0)])];
 
 /// It quotes once more, and cancels all.
 const QUOTES_AGAIN: &[Turn] = &[
     (
-        32_440_000,
+        40,
         Step::First(FIRST_QUOTES_AGAIN),
         &[("post", 1, 2, 25_472)],
     ),
-    (
-        32_450_000,
-        Step::First(FIRST_CANCELS_ALL),
-        &[("drop", 0, 2, 0)],
-    ),
+    (50, Step::First(FIRST_CANCELS_ALL), &[("drop", 0, 2, 0)]),
 ];
 
 /// The second quote is dropped.
-const DROPPED: &[Turn] = &[(32_450_000, Step::Drop(2), &[("unpost", 1, 2, 0)])];
+const DROPPED: &[Turn] = &[(50, Step::Drop(2), &[("unpost", 1, 2, 0)])];
 
 /// INV1 hits the quote of DLR2.
-const HITS: &[Turn] = &[(
-    32_460_000,
-    Step::Investor(HITS_THE_SECOND),
-    &[("hit", 1, 2, 4)],
-)];
+const HITS: &[Turn] = &[(60, Step::Investor(HITS_THE_SECOND), &[("hit", 1, 2, 4)])];
 
 /// The room awards, where the withdrawn quote still stands as the cover. It is the fifth event
 /// there, for which the room takes memory.
 const AWARDED: &[Turn] = &[(
-    32_460_000,
+    60,
     Step::Hit("h2", 2, 4),
     &[("awarded", 1, 2, 0), ("tell", 1, 0, 4), ("tell", 1, 1, 1)],
 )];
@@ -187,26 +163,22 @@ const AWARDED: &[Turn] = &[(
 /// The first quote is taken out of the room, which has ended, and DLR1 declines before it is told.
 /// All are told, INV1 passes too late, and the room is swept.
 const ENDED: &[Turn] = &[
-    (32_430_000, Step::Unpost(0, 0), &[]),
-    (32_430_000, Step::Gone(1, 0), &[]),
+    (30, Step::Unpost(0, 0), &[]),
+    (30, Step::Gone(1, 0), &[]),
+    (61, Step::First(FIRST_DECLINES), &[("decline", 1, 0, 0)]),
+    (61, Step::Decline(0), &[]),
+    (61, Step::Declined(1, "DLR1"), &[]),
+    (60, Step::Answer(1, "h2", 2, Reply::Awarded), &[]),
+    (60, Step::Tell(0, 1, Close::Cover), &[]),
+    (60, Step::Tell(1, 1, Close::Hit), &[]),
+    (70, Step::Pass("p1"), &[("not open", 1, 0, 0)]),
     (
-        32_461_000,
-        Step::First(FIRST_DECLINES),
-        &[("decline", 1, 0, 0)],
-    ),
-    (32_461_000, Step::Decline(0), &[]),
-    (32_461_000, Step::Declined(1, "DLR1"), &[]),
-    (32_460_000, Step::Answer(1, "h2", 2, Reply::Awarded), &[]),
-    (32_460_000, Step::Tell(0, 1, Close::Cover), &[]),
-    (32_460_000, Step::Tell(1, 1, Close::Hit), &[]),
-    (32_470_000, Step::Pass("p1"), &[("not open", 1, 0, 0)]),
-    (
-        32_470_000,
+        70,
         Step::Answer(1, "p1", 0, Reply::Refused(HitRefusal::NotOpen)),
         &[],
     ),
-    (32_700_000, Step::Expire, &[]),
-    (32_700_000, Step::Close(1), &[]),
+    (300, Step::Expire, &[]),
+    (300, Step::Close(1), &[]),
 ];
 
 /// A part of the day, and the word that its step asks, with how it is settled.
@@ -313,6 +285,11 @@ fn does_again(
     does(rt, floor, words, moment, step)
 }
 
+/// The moment so many seconds behind 09:00.
+fn behind_nine(rt: &impl Abort, seconds: u32) -> Moment {
+    at(rt, seconds.saturating_mul(1_000).saturating_add(32_400_000))
+}
+
 /// Does the steps of a part.
 fn plays(
     rt: &impl Abort,
@@ -321,8 +298,8 @@ fn plays(
     part: &Part,
 ) -> Result<(), Fail> {
     let (turns, asked) = part;
-    for (milliseconds, step, wanted) in *turns {
-        let moment = at(rt, *milliseconds);
+    for (seconds, step, wanted) in *turns {
+        let moment = behind_nine(rt, *seconds);
         let left = does_again(rt, floor, words, moment, step, *asked);
         leaves(rt, left, ROOM.investor, moment, wanted)?;
     }
