@@ -6,9 +6,9 @@ ghost use Rattle.investor_dues.specs.Followed as kept;
 ghost use Rattle.investor_dues.specs.Followed.{IsFollowed, all_turns, firm_followed, meant};
 ghost use Rattle.investor_views.specs.Comings.{For, Own, after_coming, comes_by};
 ghost use Rattle.investor_views.specs.InvestorDues as spec;
+ghost use Rattle.step_replay.specs.LiveDays.{actor_of, with_turns};
 ghost use Rattle.step_replay.specs.AuditTrail.{audit_trail};
 ghost use Rattle.step_replay.specs.FirmDays.{firm_days};
-ghost use Rattle.step_replay.specs.LiveDays.{actor_of, with_turns};
 ghost use Rattle.step_replay.specs.Queues.{is_known};
 ghost use Rattle.step_replay.specs.SteppedStanding.{IsAfter};
 ghost use Rattle.step_replay.specs.StepFaults.{fault_of};
@@ -290,8 +290,7 @@ fn due_by(alloc: Global, desk: &InvestorDesk, came: &Comes) -> Result<InvestorDu
     match came {
         Comes::Own(moment, message) => {
             let message = Message::copy_of(alloc, message.as_bytes())?;
-            let moment = *moment;
-            Ok(InvestorDue::Own { moment, message })
+            Ok(InvestorDue::Own(*moment, message))
         }
         Comes::For(what) => Ok(due_for(desk, what)),
     }
@@ -307,46 +306,30 @@ fn due_for(desk: &InvestorDesk, what: &ForInvestor) -> InvestorDue
             request,
             offer,
             moment,
-        } => InvestorDue::Quoted {
-            request: *request,
-            dealer: offer.dealer.copy(),
-            price: offer.price,
-            valid_until: offer.valid_until,
-            moment: *moment,
-        },
+        } => InvestorDue::Quoted(
+            *request,
+            offer.dealer.copy(),
+            offer.price,
+            offer.valid_until,
+            *moment,
+        ),
         ForInvestor::Gone {
             request,
             word,
             moment,
-        } => InvestorDue::Gone {
-            request: *request,
-            quote: quote_meant(desk, *request, *word),
-            moment: *moment,
-        },
+        } => InvestorDue::Gone(*request, quote_meant(desk, *request, *word), *moment),
         ForInvestor::Declined {
             request,
             dealer,
             moment,
-        } => InvestorDue::Declined {
-            request: *request,
-            dealer: dealer.copy(),
-            moment: *moment,
-        },
+        } => InvestorDue::Declined(*request, dealer.copy(), *moment),
         ForInvestor::Answer {
             request,
             response,
             reply,
             moment,
-        } => InvestorDue::Answered {
-            request: *request,
-            response: response_again(response),
-            reply: *reply,
-            moment: *moment,
-        },
-        ForInvestor::Close { request, moment } => InvestorDue::Expired {
-            request: *request,
-            moment: *moment,
-        },
+        } => InvestorDue::Answered(*request, response_again(response), *reply, *moment),
+        ForInvestor::Close { request, moment } => InvestorDue::Expired(*request, *moment),
     }
 }
 
