@@ -1,4 +1,5 @@
--- A day that is followed for one investor: words of private functions alone.
+-- A day that is followed for one investor. `firm_followed` and `IsFollowed` are words of public
+-- clauses, all others of private functions alone.
 use Rattle.std.specs.Prelude.{◌≡◌, ℕ, ◌==◌, List, [], ◌∷◌, ◌++◌, Option, Some, None}
 use Rattle.std.specs.Prelude.{if◌then◌else◌, replicate}
 use Rattle.venue_rows.specs.Rows.{Configuration, investor_numbered}
@@ -17,6 +18,10 @@ use Rattle.investor_views.specs.InvestorDues.{due_by, dues_from}
 use Rattle.investor_dues.specs.declared.comes.Comes.{Comes}
 use Rattle.investor_dues.specs.declared.comes.Comes.TheVariants as rust
 use Rattle.investor_dues.specs.declared.follow.FollowedInvestor.{FollowedInvestor}
+
+-- the number, among the firms, of the investor for whom a day is followed
+abbrev pub firm_followed : FollowedInvestor → ℕ
+firm_followed followed = followed.firm
 
 -- what comes to a desk, of the code's type
 abbrev pub meant : Comes → Coming

@@ -60,47 +60,28 @@ fn happen(desk: &mut InvestorDesk, due: &InvestorDue) -> Result<(), Memory>
     ensures { OnOk result (desk.new ≡ spec.after_due desk.old due.now) }
 {
     match due {
-        InvestorDue::Own { moment, message } => {
+        InvestorDue::Own(moment, message) => {
             desk.take(*moment, message.as_bytes())?;
             Ok(())
         }
-        InvestorDue::Quoted {
-            request,
-            dealer,
-            price,
-            valid_until,
-            moment,
-        } => {
-            show(desk, *request, dealer, *price, *valid_until, *moment)?;
+        InvestorDue::Quoted(request, dealer, price, valid_until, moment) => {
+            show(desk, *moment, *request, dealer, *price, *valid_until)?;
             Ok(())
         }
-        InvestorDue::Gone {
-            request,
-            quote,
-            moment,
-        } => {
-            take_back(desk, *request, *quote, *moment)?;
+        InvestorDue::Gone(request, quote, moment) => {
+            take_back(desk, *moment, *request, *quote)?;
             Ok(())
         }
-        InvestorDue::Declined {
-            request,
-            dealer,
-            moment,
-        } => {
-            decline(desk, *request, dealer, *moment)?;
+        InvestorDue::Declined(request, dealer, moment) => {
+            decline(desk, *moment, *request, dealer)?;
             Ok(())
         }
-        InvestorDue::Answered {
-            request,
-            response,
-            reply,
-            moment,
-        } => {
-            answer(desk, *request, response, *reply, *moment)?;
+        InvestorDue::Answered(request, response, reply, moment) => {
+            answer(desk, *moment, *request, response, *reply)?;
             Ok(())
         }
-        InvestorDue::Expired { request, moment } => {
-            expire(desk, *request, *moment)?;
+        InvestorDue::Expired(request, moment) => {
+            expire(desk, *moment, *request)?;
             Ok(())
         }
     }
@@ -110,11 +91,11 @@ fn happen(desk: &mut InvestorDesk, due: &InvestorDue) -> Result<(), Memory>
 #[tactic(auto, unfolding(investor_views::specs::InvestorView::after_due, investor_views::specs::InvestorView::coming_by, investor_views::specs::Comings::after_coming))]
 fn show(
     desk: &mut InvestorDesk,
+    moment: Moment,
     request: u32,
     dealer: &Name,
     price: Ticks,
     valid_until: Option<Moment>,
-    moment: Moment,
 ) -> Result<(), Memory>
     ensures { OnOk result (desk.new ≡ spec.after_due desk.old
         (InvestorDue.Quoted request dealer.now price valid_until moment)) }
@@ -150,9 +131,9 @@ fn next_word(desk: &InvestorDesk) -> Result<u32, Memory>
 #[tactic(auto, unfolding(investor_views::specs::InvestorView::after_due, investor_views::specs::InvestorView::coming_by, investor_views::specs::Comings::after_coming))]
 fn take_back(
     desk: &mut InvestorDesk,
+    moment: Moment,
     request: u32,
     quote: u64,
-    moment: Moment,
 ) -> Result<(), Memory>
     ensures { OnOk result (desk.new ≡ spec.after_due desk.old
         (InvestorDue.Gone request quote moment)) }
@@ -173,9 +154,9 @@ fn take_back(
 #[tactic(auto, unfolding(investor_views::specs::InvestorView::after_due, investor_views::specs::InvestorView::coming_by, investor_views::specs::Comings::after_coming))]
 fn decline(
     desk: &mut InvestorDesk,
+    moment: Moment,
     request: u32,
     dealer: &Name,
-    moment: Moment,
 ) -> Result<(), Memory>
     ensures { OnOk result (desk.new ≡ spec.after_due desk.old
         (InvestorDue.Declined request dealer.now moment)) }
@@ -193,10 +174,10 @@ fn decline(
 #[tactic(auto, unfolding(investor_views::specs::InvestorView::after_due, investor_views::specs::InvestorView::coming_by, investor_views::specs::Comings::after_coming))]
 fn answer(
     desk: &mut InvestorDesk,
+    moment: Moment,
     request: u32,
     response: &ResponseRef,
     reply: Reply,
-    moment: Moment,
 ) -> Result<(), Memory>
     ensures { OnOk result (desk.new ≡ spec.after_due desk.old
         (InvestorDue.Answered request response.now reply moment)) }
@@ -217,7 +198,7 @@ fn answer(
 
 /// A request expires.
 #[tactic(auto, unfolding(investor_views::specs::InvestorView::after_due, investor_views::specs::InvestorView::coming_by, investor_views::specs::Comings::after_coming))]
-fn expire(desk: &mut InvestorDesk, request: u32, moment: Moment) -> Result<(), Memory>
+fn expire(desk: &mut InvestorDesk, moment: Moment, request: u32) -> Result<(), Memory>
     ensures { OnOk result (desk.new ≡ spec.after_due desk.old
         (InvestorDue.Expired request moment)) }
 {

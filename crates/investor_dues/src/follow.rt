@@ -3,12 +3,12 @@ ghost use Rattle.std.specs.Prelude.{◌≡◌, ℕ, ◌++◌, ◌∷◌, [], Lis
 ghost use Rattle.std.specs.Prelude.{option_map, IfOk, OnOk};
 ghost use Rattle.investor_desk.specs.InvestorOutput.{book_at};
 ghost use Rattle.investor_dues.specs.Followed as kept;
-ghost use Rattle.investor_dues.specs.Followed.{IsFollowed, all_turns, meant};
+ghost use Rattle.investor_dues.specs.Followed.{IsFollowed, all_turns, firm_followed, meant};
 ghost use Rattle.investor_views.specs.Comings.{For, Own, after_coming, comes_by};
 ghost use Rattle.investor_views.specs.InvestorDues as spec;
+ghost use Rattle.step_replay.specs.LiveDays.{actor_of, with_turns};
 ghost use Rattle.step_replay.specs.AuditTrail.{audit_trail};
 ghost use Rattle.step_replay.specs.FirmDays.{firm_days};
-ghost use Rattle.step_replay.specs.LiveDays.{actor_of, with_turns};
 ghost use Rattle.step_replay.specs.Queues.{is_known};
 ghost use Rattle.step_replay.specs.SteppedStanding.{IsAfter};
 ghost use Rattle.step_replay.specs.StepFaults.{fault_of};
@@ -61,7 +61,7 @@ impl FollowedInvestor {
     /// A day before its first step, for the investor with this number.
     pub fn open(alloc: Global, config: &VenueConfig, firm: u16) -> Result<Self, Memory>
         requires { is_some (investor_numbered config.now firm) ≡ true }
-        ensures firm { IfOk result (λ followed. followed.firm ≡ firm) }
+        ensures firm { IfOk result (λ followed. firm_followed followed ≡ firm) }
         ensures ok { IfOk result (λ followed. (row : InvestorRow)
             → investor_numbered config.now firm ≡ Some row
             → IsFollowed config.now firm row [] followed) }
@@ -78,7 +78,7 @@ impl FollowedInvestor {
 
     /// The investor's number among the firms.
     pub fn firm(&self) -> u16
-        ensures { result ≡ self.now.firm }
+        ensures { result ≡ firm_followed self.now }
     {
         self.firm
     }
@@ -86,12 +86,13 @@ impl FollowedInvestor {
     /// A step is done, and what comes to the investor's desk by it. It names what the venue has:
     /// one that does not is refused, as memory is.
     pub fn step(&mut self, alloc: Global, config: &VenueConfig, step: &Step) -> Result<(), Memory>
-        requires { is_some (investor_numbered config.now self.old.firm) ≡ true }
-        ensures firm { OnOk result (self.new.firm ≡ self.old.firm) }
+        requires { is_some (investor_numbered config.now (firm_followed self.old)) ≡ true }
+        ensures firm { OnOk result (firm_followed self.new ≡ firm_followed self.old) }
         ensures named { OnOk result (fault_of config.now 0 step.now ≡ None) }
         ensures ok { OnOk result ((row : InvestorRow) (steps : List Step)
-            → IsFollowed config.now self.old.firm row steps self.old
-            → IsFollowed config.now self.old.firm row (steps ++ step.now ∷ []) self.new) }
+            → IsFollowed config.now (firm_followed self.old) row steps self.old
+            → IsFollowed config.now (firm_followed self.old) row
+            (steps ++ step.now ∷ []) self.new) }
     {
         let found = comes(alloc, config, &self.venue, self.firm, step)?;
         self.note(alloc, found)?;
@@ -121,11 +122,12 @@ impl FollowedInvestor {
         config: &VenueConfig,
         step: &Step,
     ) -> Result<(), Memory>
-        requires { is_some (investor_numbered config.now self.old.firm) ≡ true }
-        ensures firm { OnOk result (self.new.firm ≡ self.old.firm) }
+        requires { is_some (investor_numbered config.now (firm_followed self.old)) ≡ true }
+        ensures firm { OnOk result (firm_followed self.new ≡ firm_followed self.old) }
         ensures ok { OnOk result ((row : InvestorRow) (steps : List Step)
-            → IsFollowed config.now self.old.firm row steps self.old
-            → IsFollowed config.now self.old.firm row (steps ++ with_turns step.now) self.new) }
+            → IsFollowed config.now (firm_followed self.old) row steps self.old
+            → IsFollowed config.now (firm_followed self.old) row
+            (steps ++ with_turns step.now) self.new) }
     {
         self.step(alloc, config, step)?;
         self.do_duties(alloc, config, actor_of(step))?;
@@ -135,12 +137,13 @@ impl FollowedInvestor {
     /// An actor does its duties, one by one until none is left. It can't have as many as are
     /// refused here.
     fn do_duties(&mut self, alloc: Global, config: &VenueConfig, by: Actor) -> Result<(), Memory>
-        requires { is_some (investor_numbered config.now self.old.firm) ≡ true }
-        ensures firm { OnOk result (self.new.firm ≡ self.old.firm) }
+        requires { is_some (investor_numbered config.now (firm_followed self.old)) ≡ true }
+        ensures firm { OnOk result (firm_followed self.new ≡ firm_followed self.old) }
         ensures ok { OnOk result ((row : InvestorRow) (steps : List Step)
             → is_known config.now by ≡ true
-            → IsFollowed config.now self.old.firm row steps self.old
-            → IsFollowed config.now self.old.firm row (steps ++ all_turns by) self.new) }
+            → IsFollowed config.now (firm_followed self.old) row steps self.old
+            → IsFollowed config.now (firm_followed self.old) row
+            (steps ++ all_turns by) self.new) }
     {
         for _ in 0..MOST_TURNS_BEHIND {
             let Some(_) = self.venue.next_duty(by) else {
@@ -287,8 +290,7 @@ fn due_by(alloc: Global, desk: &InvestorDesk, came: &Comes) -> Result<InvestorDu
     match came {
         Comes::Own(moment, message) => {
             let message = Message::copy_of(alloc, message.as_bytes())?;
-            let moment = *moment;
-            Ok(InvestorDue::Own { moment, message })
+            Ok(InvestorDue::Own(*moment, message))
         }
         Comes::For(what) => Ok(due_for(desk, what)),
     }
@@ -304,46 +306,30 @@ fn due_for(desk: &InvestorDesk, what: &ForInvestor) -> InvestorDue
             request,
             offer,
             moment,
-        } => InvestorDue::Quoted {
-            request: *request,
-            dealer: offer.dealer.copy(),
-            price: offer.price,
-            valid_until: offer.valid_until,
-            moment: *moment,
-        },
+        } => InvestorDue::Quoted(
+            *request,
+            offer.dealer.copy(),
+            offer.price,
+            offer.valid_until,
+            *moment,
+        ),
         ForInvestor::Gone {
             request,
             word,
             moment,
-        } => InvestorDue::Gone {
-            request: *request,
-            quote: quote_meant(desk, *request, *word),
-            moment: *moment,
-        },
+        } => InvestorDue::Gone(*request, quote_meant(desk, *request, *word), *moment),
         ForInvestor::Declined {
             request,
             dealer,
             moment,
-        } => InvestorDue::Declined {
-            request: *request,
-            dealer: dealer.copy(),
-            moment: *moment,
-        },
+        } => InvestorDue::Declined(*request, dealer.copy(), *moment),
         ForInvestor::Answer {
             request,
             response,
             reply,
             moment,
-        } => InvestorDue::Answered {
-            request: *request,
-            response: response_again(response),
-            reply: *reply,
-            moment: *moment,
-        },
-        ForInvestor::Close { request, moment } => InvestorDue::Expired {
-            request: *request,
-            moment: *moment,
-        },
+        } => InvestorDue::Answered(*request, response_again(response), *reply, *moment),
+        ForInvestor::Close { request, moment } => InvestorDue::Expired(*request, *moment),
     }
 }
 

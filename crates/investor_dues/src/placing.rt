@@ -37,12 +37,12 @@ pub(crate) fn for_investor(
         Duty::Close { room, moment } => expired(firm, *room, *moment),
         Duty::Open { .. } => None,
         Duty::Show { .. } => None,
-        Duty::Ready { .. } => None,
         Duty::Post { .. } => None,
         Duty::Unpost { .. } => None,
         Duty::Decline { .. } => None,
         Duty::Hit { .. } => None,
         Duty::Pass { .. } => None,
+        Duty::Ready { .. } => None,
         Duty::Tell { .. } => None,
         Duty::Drop { .. } => None,
     }

@@ -12,71 +12,34 @@ pub fn is_same_due(one: &InvestorDue, other: &InvestorDue) -> bool
     ensures { IsTrue result ↔ (one.now ≡ other.now) }
 {
     match one {
-        InvestorDue::Own { moment, message } => is_own(other, *moment, message.as_bytes()),
-        InvestorDue::Quoted {
-            request,
-            dealer,
-            price,
-            valid_until,
-            moment,
-        } => is_quoted(other, *request, dealer, *price, *valid_until, *moment),
-        InvestorDue::Gone {
-            request,
-            quote,
-            moment,
-        } => is_gone(other, *request, *quote, *moment),
-        InvestorDue::Declined {
-            request,
-            dealer,
-            moment,
-        } => is_declined(other, *request, dealer, *moment),
-        InvestorDue::Answered {
-            request,
-            response,
-            reply,
-            moment,
-        } => is_answered(other, *request, response, *reply, *moment),
-        InvestorDue::Expired { request, moment } => is_expired(other, *request, *moment),
+        InvestorDue::Own(moment, message) => is_own(*moment, message.as_bytes(), other),
+        InvestorDue::Quoted(request, dealer, price, valid_until, moment) => {
+            is_quoted(*request, dealer, *price, *valid_until, *moment, other)
+        }
+        InvestorDue::Gone(request, quote, moment) => is_gone(*request, *quote, *moment, other),
+        InvestorDue::Declined(request, dealer, moment) => {
+            is_declined(*request, dealer, *moment, other)
+        }
+        InvestorDue::Answered(request, response, reply, moment) => {
+            is_answered(*request, response, *reply, *moment, other)
+        }
+        InvestorDue::Expired(request, moment) => is_expired(*request, *moment, other),
     }
-}
-
-/// Whether an item is this message.
-fn is_own(due: &InvestorDue, moment: Moment, message: &[u8]) -> bool
-    ensures { IsTrue result ↔ (InvestorDue.Own moment message.now ≡ due.now) }
-{
-    let InvestorDue::Own {
-        moment: own_moment,
-        message: own_message,
-    } = due
-    else {
-        return false;
-    };
-    if own_moment.get() != moment.get() {
-        return false;
-    }
-    own_message.as_bytes() == message
 }
 
 /// Whether an item is this quote.
 fn is_quoted(
-    due: &InvestorDue,
     request: u32,
     dealer: &Name,
     price: Ticks,
     valid_until: Option<Moment>,
     moment: Moment,
+    due: &InvestorDue,
 ) -> bool
     ensures { IsTrue result
         ↔ (InvestorDue.Quoted request dealer.now price valid_until moment ≡ due.now) }
 {
-    let InvestorDue::Quoted {
-        request: own_request,
-        dealer: own_dealer,
-        price: own_price,
-        valid_until: own_until,
-        moment: own_moment,
-    } = due
-    else {
+    let InvestorDue::Quoted(own_request, own_dealer, own_price, own_until, own_moment) = due else {
         return false;
     };
     if *own_request != request {
@@ -107,16 +70,24 @@ fn is_same_time(one: Option<Moment>, other: Option<Moment>) -> bool
     moment.get() == there.get()
 }
 
+/// Whether an item is this message.
+fn is_own(moment: Moment, message: &[u8], due: &InvestorDue) -> bool
+    ensures { IsTrue result ↔ (InvestorDue.Own moment message.now ≡ due.now) }
+{
+    let InvestorDue::Own(own_moment, own_message) = due else {
+        return false;
+    };
+    if own_message.as_bytes() != message {
+        return false;
+    }
+    own_moment.get() == moment.get()
+}
+
 /// Whether an item takes this quote back.
-fn is_gone(due: &InvestorDue, request: u32, quote: u64, moment: Moment) -> bool
+fn is_gone(request: u32, quote: u64, moment: Moment, due: &InvestorDue) -> bool
     ensures { IsTrue result ↔ (InvestorDue.Gone request quote moment ≡ due.now) }
 {
-    let InvestorDue::Gone {
-        request: own_request,
-        quote: own_quote,
-        moment: own_moment,
-    } = due
-    else {
+    let InvestorDue::Gone(own_request, own_quote, own_moment) = due else {
         return false;
     };
     if *own_request != request {
@@ -129,21 +100,16 @@ fn is_gone(due: &InvestorDue, request: u32, quote: u64, moment: Moment) -> bool
 }
 
 /// Whether an item is this decline.
-fn is_declined(due: &InvestorDue, request: u32, dealer: &Name, moment: Moment) -> bool
+fn is_declined(request: u32, dealer: &Name, moment: Moment, due: &InvestorDue) -> bool
     ensures { IsTrue result ↔ (InvestorDue.Declined request dealer.now moment ≡ due.now) }
 {
-    let InvestorDue::Declined {
-        request: own_request,
-        dealer: own_dealer,
-        moment: own_moment,
-    } = due
-    else {
+    let InvestorDue::Declined(own_request, own_dealer, own_moment) = due else {
         return false;
     };
-    if *own_request != request {
+    if own_dealer.as_bytes() != dealer.as_bytes() {
         return false;
     }
-    if own_dealer.as_bytes() != dealer.as_bytes() {
+    if *own_request != request {
         return false;
     }
     own_moment.get() == moment.get()
@@ -151,22 +117,16 @@ fn is_declined(due: &InvestorDue, request: u32, dealer: &Name, moment: Moment) -
 
 /// Whether an item is this answer.
 fn is_answered(
-    due: &InvestorDue,
     request: u32,
     response: &ResponseRef,
     reply: Reply,
     moment: Moment,
+    due: &InvestorDue,
 ) -> bool
     ensures { IsTrue result
         ↔ (InvestorDue.Answered request response.now reply moment ≡ due.now) }
 {
-    let InvestorDue::Answered {
-        request: own_request,
-        response: own_response,
-        reply: own_reply,
-        moment: own_moment,
-    } = due
-    else {
+    let InvestorDue::Answered(own_request, own_response, own_reply, own_moment) = due else {
         return false;
     };
     if *own_request != request {
@@ -195,24 +155,14 @@ fn is_same_response(one: &ResponseRef, other: &ResponseRef) -> bool
 fn is_same_number(one: Option<u64>, other: Option<u64>) -> bool
     ensures { IsTrue result ↔ (one ≡ other) }
 {
-    let Some(number) = one else {
-        return other.is_none();
-    };
-    let Some(there) = other else {
-        return false;
-    };
-    number == there
+    one == other
 }
 
 /// Whether an item is this expiry.
-fn is_expired(due: &InvestorDue, request: u32, moment: Moment) -> bool
+fn is_expired(request: u32, moment: Moment, due: &InvestorDue) -> bool
     ensures { IsTrue result ↔ (InvestorDue.Expired request moment ≡ due.now) }
 {
-    let InvestorDue::Expired {
-        request: own_request,
-        moment: own_moment,
-    } = due
-    else {
+    let InvestorDue::Expired(own_request, own_moment) = due else {
         return false;
     };
     if *own_request != request {

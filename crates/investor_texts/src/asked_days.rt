@@ -8,16 +8,8 @@ ghost use Rattle.venue_text.specs.AskedDays.{day_for};
 
 use input_lines::{DayParts, ProgramFault, firm_of, read_steps, read_venue};
 use std::alloc::Global;
-use step_replay::Step;
 use venue_rows::VenueConfig;
-
-/// A venue, the number of an investor of it, and the steps of a day.
-#[derive(Drop)]
-pub(crate) struct AskedDay {
-    pub(crate) venue: VenueConfig,
-    pub(crate) investor: u16,
-    pub(crate) steps: Vec<Step>,
-}
+use venue_text::AskedDay;
 
 /// Reads a day for INVESTOR.
 pub(crate) fn read_investors_day(
@@ -27,23 +19,19 @@ pub(crate) fn read_investors_day(
 ) -> Result<AskedDay, ProgramFault>
     ensures ok { IfOk result (λ day. day_for (spec.investor_by name.now)
         (record { config = parts.entry.config.now; steps = parts.entry.steps })
-        ≡ Ok (day.investor, record { config = values_of day.venue; steps = day.steps.items })) }
+        ≡ Ok (day.firm, record { config = values_of day.venue; steps = day.steps.items })) }
     ensures err { IfErr result (λ fault. fault ≢ ProgramFault.Memory
         → day_for (spec.investor_by name.now)
         (record { config = parts.entry.config.now; steps = parts.entry.steps }) ≡ Err fault) }
     ensures unwritten { IfErr result (λ fault. fault ≢ ProgramFault.Write) }
     ensures known { IfOk result (λ day. first_fault day.venue day.steps.items ≡ None) }
     ensures investor { IfOk result (λ day.
-        is_some (investor_numbered day.venue day.investor) ≡ true) }
+        is_some (investor_numbered day.venue day.firm) ≡ true) }
 {
     let venue = read_venue(alloc, parts.config)?;
-    let investor = asked_investor(&venue, name)?;
+    let firm = asked_investor(&venue, name)?;
     let steps = read_steps(alloc, &venue, parts.steps)?;
-    Ok(AskedDay {
-        venue,
-        investor,
-        steps,
-    })
+    Ok(AskedDay { venue, firm, steps })
 }
 
 /// The number of the investor that an argument names, or [`ProgramFault::Firm`].

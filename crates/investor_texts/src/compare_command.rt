@@ -10,7 +10,7 @@ ghost use Rattle.venue_rows.specs.declared.investor_rows.InvestorRow.{InvestorRo
 ghost use Rattle.venue_text.specs.AskedDays.{two_days};
 ghost use Rattle.venue_text.specs.CompareText.{IsFirstDifference, sent_on};
 
-use crate::asked_days::{AskedDay, read_investors_day};
+use crate::asked_days::read_investors_day;
 use crate::text_writing::seen_text;
 use fix_fields::Memory;
 use input_lines::{MOST_INPUT, ProgramFault, two_days_parts};
@@ -18,7 +18,7 @@ use investor_dues::{FollowedInvestor, InvestorDue, InvestorSeen, followed_day, i
 use std::alloc::Global;
 use step_replay::World;
 use venue_rows::VenueConfig;
-use venue_text::{message_difference, sent_in, three_lines};
+use venue_text::{AskedDay, message_difference, sent_in, three_lines};
 
 /// Whether two days agree on an investor, in three lines: what it sees (`row equal` or `row
 /// differs`), what was due to it and the messages that it was sent, as `compare_text` of
@@ -48,23 +48,17 @@ pub fn investor_compare_text(
 
 /// The three lines of two days.
 fn days_compared(alloc: Global, one: &AskedDay, other: &AskedDay) -> Result<Vec<u8>, Memory>
-    requires one { is_some (investor_numbered one.now.venue one.now.investor) ≡ true }
-    requires other { is_some (investor_numbered other.now.venue other.now.investor) ≡ true }
+    requires one { is_some (investor_numbered one.now.venue one.now.firm) ≡ true }
+    requires other { is_some (investor_numbered other.now.venue other.now.firm) ≡ true }
     ensures { IfOk result (λ text. (first second : spec.Run)
-        → spec.IsRunOf one.now.venue one.now.investor one.now.steps.items first
-        → spec.IsRunOf other.now.venue other.now.investor other.now.steps.items second
+        → spec.IsRunOf one.now.venue one.now.firm one.now.steps.items first
+        → spec.IsRunOf other.now.venue other.now.firm other.now.steps.items second
         → spec.AreCompared first second text.items) }
 {
-    let first = followed_day(alloc, &one.venue, one.steps.as_slice(), one.investor)?;
-    let second = followed_day(alloc, &other.venue, other.steps.as_slice(), other.investor)?;
-    let seen = is_same_seen(
-        alloc,
-        &one.venue,
-        one.investor,
-        &other.venue,
-        other.investor,
-    )?;
-    let text = lines_of(alloc, seen, first, one.investor, second, other.investor)?;
+    let first = followed_day(alloc, &one.venue, one.steps.as_slice(), one.firm)?;
+    let second = followed_day(alloc, &other.venue, other.steps.as_slice(), other.firm)?;
+    let seen = is_same_seen(alloc, &one.venue, one.firm, &other.venue, other.firm)?;
+    let text = lines_of(alloc, seen, first, one.firm, second, other.firm)?;
     Ok(text)
 }
 

@@ -64,7 +64,7 @@ fn read_said(
         number + 1
     };
     let moment = said.moment();
-    Ok(Some((InvestorDue::Own { moment, message }, next)))
+    Ok(Some((InvestorDue::Own(moment, message), next)))
 }
 
 /// What a line other than `say` makes due, by its keyword, or none where it is of no form.
@@ -108,7 +108,7 @@ fn read_own(alloc: Global, date: &Date, text: &[u8]) -> Result<Option<InvestorDu
     let Some((moment, message)) = read_received(alloc, date, text)? else {
         return Ok(None);
     };
-    Ok(Some(InvestorDue::Own { moment, message }))
+    Ok(Some(InvestorDue::Own(moment, message)))
 }
 
 /// Behind `hex`: `TIME HEX`.
@@ -118,7 +118,7 @@ fn read_hex(alloc: Global, date: &Date, text: &[u8]) -> Result<Option<InvestorDu
     let Some((moment, message)) = read_hexed(alloc, date, text)? else {
         return Ok(None);
     };
-    Ok(Some(InvestorDue::Own { moment, message }))
+    Ok(Some(InvestorDue::Own(moment, message)))
 }
 
 /// Behind `quoted`: `N DEALER PRICE TIME`, and `UNTIL` where it is given.
@@ -135,13 +135,7 @@ fn read_quoted(date: &Date, text: &[u8]) -> Option<InvestorDue>
     let price = read_price(price).ok()?;
     let moment = read_time(date, time)?;
     let valid_until = read_until(date, rest)?;
-    Some(InvestorDue::Quoted {
-        request,
-        dealer,
-        price,
-        valid_until,
-        moment,
-    })
+    Some(InvestorDue::Quoted(request, dealer, price, valid_until, moment))
 }
 
 /// The number of a request, in 1 to 9 digits.
@@ -186,11 +180,7 @@ fn read_gone(date: &Date, text: &[u8]) -> Option<InvestorDue>
     let request = read_request(request)?;
     let quote = read_number(quote)?;
     let moment = read_time(date, time)?;
-    Some(InvestorDue::Gone {
-        request,
-        quote,
-        moment,
-    })
+    Some(InvestorDue::Gone(request, quote, moment))
 }
 
 /// Behind `declined`: `N DEALER TIME`.
@@ -203,11 +193,7 @@ fn read_declined(date: &Date, text: &[u8]) -> Option<InvestorDue>
     let request = read_request(request)?;
     let dealer = Name::of_firm(dealer)?;
     let moment = read_time(date, time)?;
-    Some(InvestorDue::Declined {
-        request,
-        dealer,
-        moment,
-    })
+    Some(InvestorDue::Declined(request, dealer, moment))
 }
 
 /// Behind `answered`: `N ID REPLY TIME`, and `K` where the response is a hit.
@@ -224,12 +210,7 @@ fn read_answered(date: &Date, text: &[u8]) -> Option<InvestorDue>
     let reply = read_reply(reply)?;
     let moment = read_time(date, time)?;
     let k = read_quote(rest)?;
-    Some(InvestorDue::Answered {
-        request,
-        response: ResponseRef { id, k },
-        reply,
-        moment,
-    })
+    Some(InvestorDue::Answered(request, ResponseRef { id, k }, reply, moment))
 }
 
 /// ID, the QuoteRespID (693) of a response.
@@ -276,5 +257,5 @@ fn read_expired(date: &Date, text: &[u8]) -> Option<InvestorDue>
     let (request, time) = cut_part(text);
     let request = read_request(request)?;
     let moment = read_time(date, time)?;
-    Some(InvestorDue::Expired { request, moment })
+    Some(InvestorDue::Expired(request, moment))
 }

@@ -39,7 +39,7 @@ mod text_writing;
 pub use alone_command::alone_command_text;
 pub use compare_command::investor_compare_text;
 pub use due_command::investor_due_text;
-pub use line_days::{InvestorDay, investors_compared_text};
+pub use line_days::{InvestorDay, LineFault, investors_compared_text};
 pub use read_back::what_was_due_to_an_investor_is_read_back;
 pub use sought_days::{Sought, SoughtDay, Whom};
 pub use text_reading::{InvestorText, is_investors, read_investor_text};

@@ -20,6 +20,9 @@ use step_replay::Step;
 use venue_rows::VenueConfig;
 use venue_text::read_live_line;
 
+/// The fault of a line, if it has one.
+pub type LineFault = Option<ProgramFault>;
+
 /// A day of a venue that comes line by line, followed for one investor.
 #[derive(Drop)]
 pub struct InvestorDay {
@@ -54,12 +57,7 @@ impl InvestorDay {
 
     /// The line with this number comes, and is taken. Its fault is answered, if it has one, and
     /// then it brings nothing else. After an error the day can't go on.
-    pub fn keep(
-        &mut self,
-        alloc: Global,
-        line: usize,
-        text: &[u8],
-    ) -> Result<Option<ProgramFault>, Memory>
+    pub fn keep(&mut self, alloc: Global, line: usize, text: &[u8]) -> Result<LineFault, Memory>
         ensures { IfOk result (λ fault. (name : List ℕ) (config : Configuration)
             (taken : Taken) → spec.KeepsDay name config taken self.old
             → spec.KeepsMore name config taken line text.now self.new fault) }
@@ -94,7 +92,7 @@ impl InvestorDay {
 }
 
 /// What is told of a line at fault.
-fn refused(fault: ProgramFault) -> Result<Option<ProgramFault>, Memory>
+fn refused(fault: ProgramFault) -> Result<LineFault, Memory>
     ensures told { IfOk result (λ told. told ≡ Some fault) }
     ensures other { IfOk result (λ _. fault ≢ ProgramFault.Memory) }
 {

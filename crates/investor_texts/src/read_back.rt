@@ -32,35 +32,20 @@ fn is_read_back(date: &Date, due: &InvestorDue)
     ensures { spec.is_sayable due.now ≡ true → spec.ReadsAs date.now due.now }
 {
     match due {
-        InvestorDue::Own { moment, message } => {
-            own_is_read_back(date, *moment, message.as_bytes())
+        InvestorDue::Own(moment, message) => own_is_read_back(date, message.as_bytes(), *moment),
+        InvestorDue::Quoted(request, dealer, price, valid_until, moment) => {
+            quoted_is_read_back(date, *request, dealer, *price, *valid_until, *moment)
         }
-        InvestorDue::Quoted {
-            request,
-            dealer,
-            price,
-            valid_until,
-            moment,
-        } => quoted_is_read_back(date, *request, dealer, *price, *valid_until, *moment),
-        InvestorDue::Gone {
-            request,
-            quote,
-            moment,
-        } => gone_is_read_back(date, *request, *quote, *moment),
-        InvestorDue::Declined {
-            request,
-            dealer,
-            moment,
-        } => declined_is_read_back(date, *request, dealer, *moment),
-        InvestorDue::Answered {
-            request,
-            response,
-            reply,
-            moment,
-        } => answered_is_read_back(date, *request, response, *reply, *moment),
-        InvestorDue::Expired { request, moment } => {
-            expired_is_read_back(date, *request, *moment)
+        InvestorDue::Gone(request, quote, moment) => {
+            gone_is_read_back(date, *request, *quote, *moment)
         }
+        InvestorDue::Declined(request, dealer, moment) => {
+            declined_is_read_back(date, *request, dealer, *moment)
+        }
+        InvestorDue::Answered(request, response, reply, moment) => {
+            answered_is_read_back(date, *request, response, *reply, *moment)
+        }
+        InvestorDue::Expired(request, moment) => expired_is_read_back(date, *request, *moment),
     }
 }
 
@@ -82,7 +67,7 @@ fn until_is_read_back(date: &Date, until: Option<Moment>)
 }
 
 /// A message of the investor's own is read back.
-fn own_is_read_back(date: &Date, moment: Moment, message: &[u8])
+fn own_is_read_back(date: &Date, message: &[u8], moment: Moment)
     ensures { not (length message.now == 0) ≡ true
         → spec.ReadsAs date.now (InvestorDue.Own moment message.now) }
 {

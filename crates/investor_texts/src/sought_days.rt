@@ -5,7 +5,7 @@ ghost use Rattle.investor_texts.specs.SoughtDays as spec;
 ghost use Rattle.venue_rows.specs.Rows.{Configuration};
 ghost use Rattle.venue_text.specs.LiveLines.{Taken};
 
-use crate::line_days::{InvestorDay, investors_compared_text};
+use crate::line_days::{InvestorDay, LineFault, investors_compared_text};
 use fix_fields::Memory;
 use input_lines::ProgramFault;
 use std::alloc::Global;
@@ -97,12 +97,7 @@ impl SoughtDay {
 
     /// The line with this number comes, and is taken. Its fault is answered, if it has one, and
     /// then it brings nothing else. After an error the day can't go on.
-    pub fn keep(
-        &mut self,
-        alloc: Global,
-        line: usize,
-        text: &[u8],
-    ) -> Result<Option<ProgramFault>, Memory>
+    pub fn keep(&mut self, alloc: Global, line: usize, text: &[u8]) -> Result<LineFault, Memory>
         ensures { IfOk result (λ fault. (config : Configuration) (sought : spec.Sought)
             (taken : Taken) → spec.Keeps sought config taken self.old
             → spec.KeepsMore sought config taken line text.now self.new fault) }

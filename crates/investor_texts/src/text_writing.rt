@@ -1,18 +1,17 @@
 //! An investor's due text, written line by line.
-ghost use Rattle.std.specs.Prelude.{◌≡◌, ◌++◌, ◌∷◌, [], decimal, IfOk, OnOk};
+ghost use Rattle.std.specs.Prelude.{◌≡◌, ◌++◌, ◌∷◌, [], IfOk, OnOk};
 ghost use Rattle.std.specs.List.{flat_map};
 ghost use Rattle.bond_prices.specs.Price.{price_digits};
 ghost use Rattle.fix_fields.specs.TimeOfDay as times;
 ghost use Rattle.investor_texts.specs.WrittenText as spec;
 
 use bond_prices::{Ticks, price_text};
-use fix_fields::{Memory, Moment, time_text};
+use fix_fields::{Memory, Moment};
 use investor_dues::{InvestorDue, InvestorSeen};
-use itoa::Buffer;
 use market_terms::{IdBuf, Reply, ResponseRef};
 use std::alloc::Global;
 use venue_rows::{BondRow, InvestorRow, Name};
-use venue_text::{push_date_line, push_own, push_traders};
+use venue_text::{push_date_line, push_last_time, push_number, push_own, push_time, push_traders};
 
 /// The due text of what an investor sees and of what is due to it: the lines of what it sees, and
 /// then an item each.
@@ -109,6 +108,26 @@ fn push_dealer(text: &mut Vec<u8>, name: &Name) -> Result<(), Memory>
     Ok(())
 }
 
+/// The line of an item.
+fn push_item(text: &mut Vec<u8>, due: &InvestorDue) -> Result<(), Memory>
+    ensures { OnOk result (text.new.items ≡ text.old.items ++ spec.item_line due.now) }
+{
+    match due {
+        InvestorDue::Own(moment, message) => push_own(text, *moment, message.as_bytes()),
+        InvestorDue::Quoted(request, dealer, price, valid_until, moment) => {
+            push_quoted(text, *request, dealer, *price, *valid_until, *moment)
+        }
+        InvestorDue::Gone(request, quote, moment) => push_gone(text, *request, *quote, *moment),
+        InvestorDue::Declined(request, dealer, moment) => {
+            push_declined(text, *request, dealer, *moment)
+        }
+        InvestorDue::Answered(request, response, reply, moment) => {
+            push_answered(text, *request, response, *reply, *moment)
+        }
+        InvestorDue::Expired(request, moment) => push_expired(text, *request, *moment),
+    }
+}
+
 /// The lines of a list.
 fn push_items(text: &mut Vec<u8>, dues: &[InvestorDue]) -> Result<(), Memory>
     ensures { OnOk result (text.new.items ≡ text.old.items ++ spec.item_lines dues.now) }
@@ -117,39 +136,6 @@ fn push_items(text: &mut Vec<u8>, dues: &[InvestorDue]) -> Result<(), Memory>
         push_item(text, due)?;
     }
     Ok(())
-}
-
-/// The line of an item.
-fn push_item(text: &mut Vec<u8>, due: &InvestorDue) -> Result<(), Memory>
-    ensures { OnOk result (text.new.items ≡ text.old.items ++ spec.item_line due.now) }
-{
-    match due {
-        InvestorDue::Own { moment, message } => push_own(text, *moment, message.as_bytes()),
-        InvestorDue::Quoted {
-            request,
-            dealer,
-            price,
-            valid_until,
-            moment,
-        } => push_quoted(text, *request, dealer, *price, *valid_until, *moment),
-        InvestorDue::Gone {
-            request,
-            quote,
-            moment,
-        } => push_gone(text, *request, *quote, *moment),
-        InvestorDue::Declined {
-            request,
-            dealer,
-            moment,
-        } => push_declined(text, *request, dealer, *moment),
-        InvestorDue::Answered {
-            request,
-            response,
-            reply,
-            moment,
-        } => push_answered(text, *request, response, *reply, *moment),
-        InvestorDue::Expired { request, moment } => push_expired(text, *request, *moment),
-    }
 }
 
 /// `quoted N DEALER PRICE TIME`, and `UNTIL` where it is given.
@@ -217,9 +203,7 @@ fn push_gone(text: &mut Vec<u8>, request: u32, quote: u64, moment: Moment) -> Re
     push_number(text, u64::from(request))?;
     text.push(b' ')?;
     push_number(text, quote)?;
-    text.push(b' ')?;
-    push_time(text, moment)?;
-    text.push(b'\n')?;
+    push_last_time(text, moment)?;
     Ok(())
 }
 
@@ -238,9 +222,7 @@ fn push_declined(
     push_number(text, u64::from(request))?;
     text.push(b' ')?;
     text.extend_from_slice(dealer.as_bytes())?;
-    text.push(b' ')?;
-    push_time(text, moment)?;
-    text.push(b'\n')?;
+    push_last_time(text, moment)?;
     Ok(())
 }
 
@@ -326,25 +308,6 @@ fn push_expired(text: &mut Vec<u8>, request: u32, moment: Moment) -> Result<(), 
 {
     text.extend_from_slice(b"expired ")?;
     push_number(text, u64::from(request))?;
-    text.push(b' ')?;
-    push_time(text, moment)?;
-    text.push(b'\n')?;
-    Ok(())
-}
-
-/// TIME, with milliseconds.
-fn push_time(text: &mut Vec<u8>, moment: Moment) -> Result<(), Memory>
-    ensures { OnOk result (text.new.items ≡ text.old.items ++ times.time_text moment) }
-{
-    text.extend_from_slice(time_text(moment).as_bytes())?;
-    Ok(())
-}
-
-/// A number in decimal.
-fn push_number(text: &mut Vec<u8>, number: u64) -> Result<(), Memory>
-    ensures { OnOk result (text.new.items ≡ text.old.items ++ decimal number) }
-{
-    let mut digits = Buffer::new();
-    text.extend_from_slice(digits.format(number).as_bytes())?;
+    push_last_time(text, moment)?;
     Ok(())
 }

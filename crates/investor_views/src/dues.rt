@@ -5,64 +5,29 @@ use market_terms::{Reply, ResponseRef};
 use quote_messages::Message;
 use venue_rows::Name;
 
-/// One item of what is due to an investor. Requests and quotes have the investor's own numbers,
-/// from 1: its accepted requests, and the quotes that it was shown (QuoteID 117).
+/// The number of a request among those of the investor that were accepted, from 1.
+pub type OwnRequest = u32;
+
+/// The number of a quote among those that the investor was shown (QuoteID 117), from 1.
+pub type ShownQuote = u64;
+
+/// One item of what is due to an investor. Requests and quotes have the investor's own numbers.
 #[derive(Drop)]
 pub enum InvestorDue {
-    /// A message of the investor's own.
-    Own {
-        /// The moment at which it comes.
-        moment: Moment,
-        /// Its bytes, whatever they are.
-        message: Message,
-    },
-    /// A quote comes.
-    Quoted {
-        /// The request that it answers.
-        request: u32,
-        /// The dealer that quotes.
-        dealer: Name,
-        /// The price on the asked side.
-        price: Ticks,
-        /// The moment from which on it can't be hit (ValidUntilTime 62), where one was given.
-        valid_until: Option<Moment>,
-        /// The moment of the dealer's message.
-        moment: Moment,
-    },
-    /// A quote is taken back.
-    Gone {
-        /// The request that it answered.
-        request: u32,
-        /// The quote; 0 where it stood on no open request any more.
-        quote: u64,
-        /// The moment of the dealer's message.
-        moment: Moment,
-    },
-    /// A dealer declines.
-    Declined {
-        /// The request.
-        request: u32,
-        /// The dealer.
-        dealer: Name,
-        /// The moment of the dealer's message.
-        moment: Moment,
-    },
-    /// The reply to a hit or a pass.
-    Answered {
-        /// The request.
-        request: u32,
-        /// The response that it is to.
-        response: ResponseRef,
-        /// What the room decided.
-        reply: Reply,
-        /// The moment of the response.
-        moment: Moment,
-    },
-    /// A request expires.
-    Expired {
-        /// The request.
-        request: u32,
-        /// The moment of the sweep.
-        moment: Moment,
-    },
+    /// A message of the investor's own, whatever its bytes are, and the moment at which it comes.
+    Own(Moment, Message),
+    /// A quote comes: the request that it answers, the dealer that quotes, the price on the asked
+    /// side, the moment from which on it can't be hit (ValidUntilTime 62), where one was given, and
+    /// the moment of the dealer's message.
+    Quoted(OwnRequest, Name, Ticks, Option<Moment>, Moment),
+    /// A quote is taken back: the request that it answered, the quote (0 where it stood on no open
+    /// request any more), and the moment of the dealer's message.
+    Gone(OwnRequest, ShownQuote, Moment),
+    /// A dealer declines: the request, the dealer, and the moment of its message.
+    Declined(OwnRequest, Name, Moment),
+    /// The reply to a hit or a pass: the request, the response that it is to, what the room
+    /// decided, and the moment of the response.
+    Answered(OwnRequest, ResponseRef, Reply, Moment),
+    /// A request expires, and the moment of the sweep.
+    Expired(OwnRequest, Moment),
 }

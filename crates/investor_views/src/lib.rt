@@ -25,7 +25,7 @@ mod dues;
 mod laws;
 
 pub use desk_laws::desks_send_their_view;
-pub use dues::InvestorDue;
+pub use dues::{InvestorDue, OwnRequest, ShownQuote};
 pub use laws::{
     investors_are_given_their_view, investors_are_isolated, investors_are_sent_their_view,
 };

@@ -1,11 +1,11 @@
 //! What each command prints.
 ghost use Rattle.std.specs.Prelude.{◌≡◌, ◌≢◌, None, option_map, IfOk, IfErr};
-ghost use Rattle.live_runs.specs.LineForms.{meant_form};
-ghost use Rattle.venue_commands.specs.Runs.{line_form};
 ghost use Rattle.command_arguments.specs.Arguments.{meant};
-ghost use Rattle.venue_commands.specs.Runs as spec;
-ghost use Rattle.venue_commands.specs.ThreadedDays as threaded;
 ghost use Rattle.investor_texts.specs.SoughtDays as sought_days;
+ghost use Rattle.live_runs.specs.LineForms.{meant_form};
+ghost use Rattle.venue_commands.specs.Runs as spec;
+ghost use Rattle.venue_commands.specs.Runs.{line_form};
+ghost use Rattle.venue_commands.specs.ThreadedDays as threaded;
 ghost use Rattle.venue_text.specs.KeptDays as kept;
 
 use crate::days::day_text;

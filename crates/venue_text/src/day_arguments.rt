@@ -16,10 +16,13 @@ use venue_rows::VenueConfig;
 
 /// A venue, the number of the firm that an argument names in it, and the steps of a day.
 #[derive(Drop)]
-pub(crate) struct AskedDay {
-    pub(crate) venue: VenueConfig,
-    pub(crate) firm: u16,
-    pub(crate) steps: Vec<Step>,
+pub struct AskedDay {
+    /// The venue.
+    pub venue: VenueConfig,
+    /// The number of the firm.
+    pub firm: u16,
+    /// The steps.
+    pub steps: Vec<Step>,
 }
 
 /// A venue, the number of a firm or a dealer where an argument names one, and the steps of a day.

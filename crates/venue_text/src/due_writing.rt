@@ -1,5 +1,5 @@
 //! What is due to a dealer, written as lines of due text.
-ghost use Rattle.std.specs.Prelude.{◌≡◌, ◌++◌, [], decimal, IfOk, OnOk};
+ghost use Rattle.std.specs.Prelude.{◌≡◌, ◌++◌, ◌∷◌, [], decimal, IfOk, OnOk};
 ghost use Rattle.std.specs.List.{list_any};
 ghost use Rattle.fix_fields.specs.TimeOfDay as times;
 ghost use Rattle.venue_text.specs.WrittenDues as spec;
@@ -181,9 +181,7 @@ fn push_closed(text: &mut Vec<u8>, request: u64, close: Close, moment: Moment) -
     push_number(text, request)?;
     text.push(b' ')?;
     push_number(text, close.code())?;
-    text.push(b' ')?;
-    push_time(text, moment)?;
-    text.push(b'\n')?;
+    push_last_time(text, moment)?;
     Ok(())
 }
 
@@ -194,6 +192,15 @@ fn push_drop(text: &mut Vec<u8>, last: u32, moment: Moment) -> Result<(), Memory
 {
     text.extend_from_slice(b"drop ")?;
     push_number(text, u64::from(last))?;
+    push_last_time(text, moment)?;
+    Ok(())
+}
+
+/// ` TIME`, with which a line ends.
+pub fn push_last_time(text: &mut Vec<u8>, moment: Moment) -> Result<(), Memory>
+    ensures { OnOk result (text.new.items
+        ≡ text.old.items ++ 32 ∷ times.time_text moment ++ 10 ∷ []) }
+{
     text.push(b' ')?;
     push_time(text, moment)?;
     text.push(b'\n')?;
@@ -201,7 +208,7 @@ fn push_drop(text: &mut Vec<u8>, last: u32, moment: Moment) -> Result<(), Memory
 }
 
 /// TIME, with milliseconds.
-fn push_time(text: &mut Vec<u8>, moment: Moment) -> Result<(), Memory>
+pub fn push_time(text: &mut Vec<u8>, moment: Moment) -> Result<(), Memory>
     ensures { OnOk result (text.new.items ≡ text.old.items ++ times.time_text moment) }
 {
     text.extend_from_slice(time_text(moment).as_bytes())?;
@@ -209,7 +216,7 @@ fn push_time(text: &mut Vec<u8>, moment: Moment) -> Result<(), Memory>
 }
 
 /// A number in decimal.
-fn push_number(text: &mut Vec<u8>, number: u64) -> Result<(), Memory>
+pub fn push_number(text: &mut Vec<u8>, number: u64) -> Result<(), Memory>
     ensures { OnOk result (text.new.items ≡ text.old.items ++ decimal number) }
 {
     let mut digits = Buffer::new();

@@ -13,7 +13,7 @@ ghost use Rattle.input_lines.specs.VenueParts.{venue_of};
 
 use crate::live_form::LiveForm;
 use crate::live_marks::{fault_mark, push_done_mark};
-use crate::message_lines::push_sent_line;
+use crate::message_lines::{Pushed, push_sent_line};
 use crate::replay_command::firm_name;
 use fix_fields::{Memory, Moment};
 use input_lines::{
@@ -26,6 +26,9 @@ use venue_rows::VenueConfig;
 
 /// How many bytes the text of a line has room for at first: most lines need no more.
 const USUAL_ANSWER: usize = 512;
+
+/// The messages that steps bring, unless memory is refused.
+type Told = Result<Vec<SentTo>, Memory>;
 
 /// What a line brings.
 #[derive(Drop)]
@@ -182,12 +185,7 @@ pub fn read_live_line(
 
 /// What a line spells is done, and the messages that are sent for it are given. Its steps name what
 /// the venue has. A sweep of every room looks at those alone that are due.
-fn done(
-    alloc: Global,
-    config: &VenueConfig,
-    venue: &mut LiveVenue,
-    spelled: Spelled,
-) -> Result<Vec<SentTo>, Memory>
+fn done(alloc: Global, config: &VenueConfig, venue: &mut LiveVenue, spelled: Spelled) -> Told
     ensures { IfOk result (λ told. (taken : List Step) → IsAt config.now taken venue.old
         → spec.AreTold config.now taken (steps_in (values_of config.now) spelled) venue.new
         told.items) }
@@ -205,12 +203,7 @@ fn done(
 }
 
 /// A sweep of every room is done.
-fn swept(
-    alloc: Global,
-    config: &VenueConfig,
-    venue: &mut LiveVenue,
-    moment: Moment,
-) -> Result<Vec<SentTo>, Memory>
+fn swept(alloc: Global, config: &VenueConfig, venue: &mut LiveVenue, moment: Moment) -> Told
     ensures { IfOk result (λ told. (taken : List Step) → IsAt config.now taken venue.old
         → spec.AreTold config.now taken (sweeps_at moment (venue_rooms (values_of config.now)))
         venue.new told.items) }
@@ -221,12 +214,7 @@ fn swept(
 }
 
 /// The steps of a line are done, one behind the other.
-fn stepped(
-    alloc: Global,
-    config: &VenueConfig,
-    venue: &mut LiveVenue,
-    spelled: Spelled,
-) -> Result<Vec<SentTo>, Memory>
+fn stepped(alloc: Global, config: &VenueConfig, venue: &mut LiveVenue, spelled: Spelled) -> Told
     ensures { IfOk result (λ told. (taken : List Step) → IsAt config.now taken venue.old
         → spec.AreTold config.now taken (steps_in (values_of config.now) spelled) venue.new
         told.items) }
@@ -238,12 +226,7 @@ fn stepped(
 }
 
 /// Steps are done, each with all duties that it leaves. Each step names what the venue has.
-fn taken_all(
-    alloc: Global,
-    config: &VenueConfig,
-    venue: &mut LiveVenue,
-    steps: &[Step],
-) -> Result<Vec<SentTo>, Memory>
+fn taken_all(alloc: Global, config: &VenueConfig, venue: &mut LiveVenue, steps: &[Step]) -> Told
     ensures { IfOk result (λ told. (taken : List Step) → IsAt config.now taken venue.old
         → spec.AreTold config.now taken steps.now venue.new told.items) }
 {
@@ -257,29 +240,8 @@ fn taken_all(
     Ok(told)
 }
 
-/// Puts the lines of messages behind a text.
-fn push_sent(
-    text: &mut Vec<u8>,
-    with_frames: bool,
-    config: &VenueConfig,
-    sent: &[SentTo],
-) -> Result<(), Memory>
-    ensures { OnOk result (text.new.items
-        ≡ text.old.items ++ lines.sent_text with_frames config.now sent.now) }
-{
-    for message in sent {
-        push_one(text, with_frames, config, message)?;
-    }
-    Ok(())
-}
-
 /// Puts the line of a message behind a text.
-fn push_one(
-    text: &mut Vec<u8>,
-    with_frames: bool,
-    config: &VenueConfig,
-    sent: &SentTo,
-) -> Result<(), Memory>
+fn push_one(text: &mut Vec<u8>, with_frames: bool, config: &VenueConfig, sent: &SentTo) -> Pushed
     ensures { OnOk result (text.new.items
         ≡ text.old.items ++ lines.sent_line with_frames config.now sent.now) }
 {
@@ -287,5 +249,16 @@ fn push_one(
         return Ok(());
     };
     push_sent_line(text, with_frames, name, sent)?;
+    Ok(())
+}
+
+/// Puts the lines of messages behind a text.
+fn push_sent(text: &mut Vec<u8>, with_frames: bool, config: &VenueConfig, sent: &[SentTo]) -> Pushed
+    ensures { OnOk result (text.new.items
+        ≡ text.old.items ++ lines.sent_text with_frames config.now sent.now) }
+{
+    for message in sent {
+        push_one(text, with_frames, config, message)?;
+    }
     Ok(())
 }

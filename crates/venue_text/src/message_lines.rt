@@ -15,6 +15,9 @@ use venue_rows::Name;
 /// SenderCompID (49), TargetCompID (56), MsgSeqNum (34) and SendingTime (52).
 const HEADER_FIELDS: usize = 5;
 
+/// What it comes to that something is put behind a text: memory may be refused.
+pub(crate) type Pushed = Result<(), Memory>;
+
 /// The text of messages that a firm is sent, a line each: `FIRM N TIME TYPE BODY`, or `FIRM
 /// FRAME` with a vertical bar for each SOH. It fails for memory alone.
 pub fn messages_text(
@@ -37,7 +40,7 @@ pub(crate) fn push_messages(
     with_frames: bool,
     firm: &Name,
     messages: &[SentMessage],
-) -> Result<(), Memory>
+) -> Pushed
     ensures { OnOk result (text.new.items
         ≡ text.old.items ++ spec.messages_text with_frames firm.now messages.now) }
 {
@@ -48,12 +51,7 @@ pub(crate) fn push_messages(
 }
 
 /// The line of a message, in one form or the other.
-fn push_line(
-    text: &mut Vec<u8>,
-    with_frames: bool,
-    firm: &Name,
-    message: &SentMessage,
-) -> Result<(), Memory>
+fn push_line(text: &mut Vec<u8>, with_frames: bool, firm: &Name, message: &SentMessage) -> Pushed
     ensures { OnOk result (text.new.items
         ≡ text.old.items ++ spec.line_of with_frames firm.now message.now) }
 {
@@ -64,7 +62,7 @@ fn push_line(
 }
 
 /// `FIRM FRAME`: a vertical bar for each SOH.
-fn push_frame_line(text: &mut Vec<u8>, firm: &Name, message: &[u8]) -> Result<(), Memory>
+fn push_frame_line(text: &mut Vec<u8>, firm: &Name, message: &[u8]) -> Pushed
     ensures { OnOk result (text.new.items
         ≡ text.old.items ++ spec.frame_line firm.now message.now) }
 {
@@ -76,7 +74,7 @@ fn push_frame_line(text: &mut Vec<u8>, firm: &Name, message: &[u8]) -> Result<()
 }
 
 /// `FIRM N TIME TYPE BODY`.
-fn push_message_line(text: &mut Vec<u8>, firm: &Name, message: &SentMessage) -> Result<(), Memory>
+fn push_message_line(text: &mut Vec<u8>, firm: &Name, message: &SentMessage) -> Pushed
     ensures { OnOk result (text.new.items
         ≡ text.old.items ++ spec.message_line firm.now message.now) }
 {
@@ -89,7 +87,7 @@ pub(crate) fn push_sent_line(
     with_frames: bool,
     firm: &Name,
     sent: &SentTo,
-) -> Result<(), Memory>
+) -> Pushed
     ensures { OnOk result (text.new.items
         ≡ text.old.items ++ spec.line_of with_frames firm.now sent.now.1) }
 {
@@ -100,7 +98,7 @@ pub(crate) fn push_sent_line(
 }
 
 /// `FIRM N TIME TYPE BODY` of these fields.
-fn push_fields_line(text: &mut Vec<u8>, firm: &Name, fields: Fields<'_>) -> Result<(), Memory>
+fn push_fields_line(text: &mut Vec<u8>, firm: &Name, fields: Fields<'_>) -> Pushed
     ensures { OnOk result (text.new.items
         ≡ text.old.items ++ spec.fields_line firm.now fields.entry) }
 {
@@ -130,7 +128,7 @@ fn header_of<'a>(fields: &mut Fields<'a>) -> ArrayVec<(u32, &'a [u8]), HEADER_FI
 }
 
 /// The number, the time of day and the type of a message.
-fn push_header(text: &mut Vec<u8>, header: &[(u32, &[u8])]) -> Result<(), Memory>
+fn push_header(text: &mut Vec<u8>, header: &[(u32, &[u8])]) -> Pushed
     ensures { OnOk result (text.new.items ≡ text.old.items
         ++ spec.header_text (map (λ field. (field.0, field.1.now)) header.now)) }
 {
@@ -168,7 +166,7 @@ pub(crate) fn time_of_day(timestamp: &[u8]) -> &[u8]
 /// Fields, a space before the first one and a vertical bar before each other: they are shown as
 /// they stand in the frame, but for the SOH behind each.
 #[tactic(auto, using(crate::proofs::BarLemmas::shown_none))]
-fn push_fields(text: &mut Vec<u8>, fields: &Fields<'_>) -> Result<(), Memory>
+fn push_fields(text: &mut Vec<u8>, fields: &Fields<'_>) -> Pushed
     ensures { OnOk result (text.new.items
         ≡ text.old.items ++ spec.fields_text_behind 32 fields.now) }
 {

@@ -9,7 +9,7 @@ ghost use Rattle.venue_text.specs.ReplayText as spec;
 
 use crate::day_arguments::{OpenDay, read_whole_day, replayed_once};
 use crate::long_text::LongText;
-use crate::message_lines::{messages_text, push_messages};
+use crate::message_lines::{Pushed, messages_text, push_messages};
 use fix_fields::Memory;
 use input_lines::ProgramFault;
 use quote_messages::SentMessage;
@@ -164,12 +164,7 @@ pub(crate) fn days_text(
 }
 
 /// The messages of all firms.
-fn push_firms(
-    text: &mut Vec<u8>,
-    with_frames: bool,
-    venue: &VenueConfig,
-    world: &World,
-) -> Result<(), Memory>
+fn push_firms(text: &mut Vec<u8>, with_frames: bool, venue: &VenueConfig, world: &World) -> Pushed
     ensures { OnOk result (text.new.items ≡ text.old.items
         ++ flat_map (spec.firm_text with_frames) (spec.named_days venue.now world.now)) }
 {

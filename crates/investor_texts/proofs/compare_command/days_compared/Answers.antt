@@ -6,9 +6,9 @@ returns c first second one_is other_is =
     let one = c.args.one.now in
     let other = c.args.other.now in
     c.in_ok-text.ensures first second
-    (run_followed one.venue one.investor _ one.steps.items c.in_ok-first.first first one_is
+    (run_followed one.venue one.firm _ one.steps.items c.in_ok-first.first first one_is
     c.as_slice.ensures.value c.in_ok-first.ensures)
-    (run_followed other.venue other.investor _ other.steps.items c.in_ok-second.second second
+    (run_followed other.venue other.firm _ other.steps.items c.in_ok-second.second second
     other_is c.as_slice-2.ensures.value c.in_ok-second.ensures)
-    (runs_seen one.venue other.venue one.investor other.investor one.steps.items
+    (runs_seen one.venue other.venue one.firm other.firm one.steps.items
     other.steps.items c.in_ok-seen.seen first second one_is other_is c.in_ok-seen.ensures)

@@ -12,7 +12,7 @@ returns-clause-ok c =
     let day = c.in_ok-day.day in
     record {
       config = day.venue;
-      investor = day.investor;
+      investor = day.firm;
       steps = day.steps.items;
       spelled = one_day_is (investor_by c.args.name.now) c.args.input.now _ _ small
           c.in_ok-parts.ensures.ok c.in_ok-day.ensures.ok;
