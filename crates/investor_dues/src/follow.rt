@@ -300,47 +300,30 @@ fn due_for(desk: &InvestorDesk, what: &ForInvestor) -> InvestorDue
     ensures { result ≡ spec.due_by (book_at desk.now) (For what.now) }
 {
     match what {
-        ForInvestor::Relay {
-            request,
-            offer,
-            moment,
-        } => InvestorDue::Quoted {
+        ForInvestor::Relay(request, offer, moment) => InvestorDue::Quoted {
             request: *request,
             dealer: offer.dealer.copy(),
             price: offer.price,
             valid_until: offer.valid_until,
             moment: *moment,
         },
-        ForInvestor::Gone {
-            request,
-            word,
-            moment,
-        } => InvestorDue::Gone {
+        ForInvestor::Gone(request, word, moment) => InvestorDue::Gone {
             request: *request,
             quote: quote_meant(desk, *request, *word),
             moment: *moment,
         },
-        ForInvestor::Declined {
-            request,
-            dealer,
-            moment,
-        } => InvestorDue::Declined {
+        ForInvestor::Declined(request, dealer, moment) => InvestorDue::Declined {
             request: *request,
             dealer: dealer.copy(),
             moment: *moment,
         },
-        ForInvestor::Answer {
-            request,
-            response,
-            reply,
-            moment,
-        } => InvestorDue::Answered {
+        ForInvestor::Answer(request, response, reply, moment) => InvestorDue::Answered {
             request: *request,
             response: response_again(response),
             reply: *reply,
             moment: *moment,
         },
-        ForInvestor::Close { request, moment } => InvestorDue::Expired {
+        ForInvestor::Close(request, moment) => InvestorDue::Expired {
             request: *request,
             moment: *moment,
         },
