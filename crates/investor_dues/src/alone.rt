@@ -107,12 +107,7 @@ fn show(
         price,
         valid_until,
     };
-    let what = ForInvestor::Relay {
-        request,
-        offer,
-        moment,
-    };
-    bring_to_investor(desk, what)?;
+    bring_to_investor(desk, ForInvestor::Relay(request, offer, moment))?;
     Ok(())
 }
 
@@ -141,12 +136,7 @@ fn take_back(
     if quote > 4_294_967_295 {
         return Err(Memory);
     }
-    let what = ForInvestor::Gone {
-        request,
-        word: quote as u32,
-        moment,
-    };
-    bring_to_investor(desk, what)?;
+    bring_to_investor(desk, ForInvestor::Gone(request, quote as u32, moment))?;
     Ok(())
 }
 
@@ -161,11 +151,7 @@ fn decline(
     ensures { OnOk result (desk.new ≡ spec.after_due desk.old
         (InvestorDue.Declined request dealer.now moment)) }
 {
-    let what = ForInvestor::Declined {
-        request,
-        dealer: dealer.copy(),
-        moment,
-    };
+    let what = ForInvestor::Declined(request, dealer.copy(), moment);
     bring_to_investor(desk, what)?;
     Ok(())
 }
@@ -186,12 +172,7 @@ fn answer(
         id: response.id.copy(),
         k: response.k,
     };
-    let what = ForInvestor::Answer {
-        request,
-        response,
-        reply,
-        moment,
-    };
+    let what = ForInvestor::Answer(request, response, reply, moment);
     bring_to_investor(desk, what)?;
     Ok(())
 }
@@ -202,6 +183,6 @@ fn expire(desk: &mut InvestorDesk, moment: Moment, request: u32) -> Result<(), M
     ensures { OnOk result (desk.new ≡ spec.after_due desk.old
         (InvestorDue.Expired request moment)) }
 {
-    bring_to_investor(desk, ForInvestor::Close { request, moment })?;
+    bring_to_investor(desk, ForInvestor::Close(request, moment))?;
     Ok(())
 }

@@ -302,34 +302,23 @@ fn due_for(desk: &InvestorDesk, what: &ForInvestor) -> InvestorDue
     ensures { result ≡ spec.due_by (book_at desk.now) (For what.now) }
 {
     match what {
-        ForInvestor::Relay {
-            request,
-            offer,
-            moment,
-        } => InvestorDue::Quoted(
+        ForInvestor::Relay(request, offer, moment) => InvestorDue::Quoted(
             *request,
             offer.dealer.copy(),
             offer.price,
             offer.valid_until,
             *moment,
         ),
-        ForInvestor::Gone {
-            request,
-            word,
-            moment,
-        } => InvestorDue::Gone(*request, quote_meant(desk, *request, *word), *moment),
-        ForInvestor::Declined {
-            request,
-            dealer,
-            moment,
-        } => InvestorDue::Declined(*request, dealer.copy(), *moment),
-        ForInvestor::Answer {
-            request,
-            response,
-            reply,
-            moment,
-        } => InvestorDue::Answered(*request, response_again(response), *reply, *moment),
-        ForInvestor::Close { request, moment } => InvestorDue::Expired(*request, *moment),
+        ForInvestor::Gone(request, word, moment) => {
+            InvestorDue::Gone(*request, quote_meant(desk, *request, *word), *moment)
+        }
+        ForInvestor::Declined(request, dealer, moment) => {
+            InvestorDue::Declined(*request, dealer.copy(), *moment)
+        }
+        ForInvestor::Answer(request, response, reply, moment) => {
+            InvestorDue::Answered(*request, response_again(response), *reply, *moment)
+        }
+        ForInvestor::Close(request, moment) => InvestorDue::Expired(*request, *moment),
     }
 }
 

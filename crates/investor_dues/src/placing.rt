@@ -68,11 +68,7 @@ fn relayed(firm: u16, room: RoomRef, offer: &Offer, moment: Moment) -> Option<Fo
         price: offer.price,
         valid_until: offer.valid_until,
     };
-    let what = ForInvestor::Relay {
-        request: room.n,
-        offer,
-        moment,
-    };
+    let what = ForInvestor::Relay(room.n, offer, moment);
     brought(firm, room.investor, what)
 }
 
@@ -80,11 +76,7 @@ fn relayed(firm: u16, room: RoomRef, offer: &Offer, moment: Moment) -> Option<Fo
 fn taken_back(firm: u16, room: RoomRef, word: u32, moment: Moment) -> Option<ForInvestor>
     ensures { result ≡ brought firm room.investor (ForInvestor.Gone room.n word moment) }
 {
-    let what = ForInvestor::Gone {
-        request: room.n,
-        word,
-        moment,
-    };
+    let what = ForInvestor::Gone(room.n, word, moment);
     brought(firm, room.investor, what)
 }
 
@@ -106,11 +98,7 @@ fn declined(
     let Some(row) = config.dealer(dealer) else {
         return None;
     };
-    let what = ForInvestor::Declined {
-        request: room.n,
-        dealer: row.name.copy(),
-        moment,
-    };
+    let what = ForInvestor::Declined(room.n, row.name.copy(), moment);
     brought(firm, room.investor, what)
 }
 
@@ -129,12 +117,7 @@ fn answered(
         id: response.id.copy(),
         k: response.k,
     };
-    let what = ForInvestor::Answer {
-        request: room.n,
-        response,
-        reply,
-        moment,
-    };
+    let what = ForInvestor::Answer(room.n, response, reply, moment);
     brought(firm, room.investor, what)
 }
 
@@ -142,9 +125,6 @@ fn answered(
 fn expired(firm: u16, room: RoomRef, moment: Moment) -> Option<ForInvestor>
     ensures { result ≡ brought firm room.investor (ForInvestor.Close room.n moment) }
 {
-    let what = ForInvestor::Close {
-        request: room.n,
-        moment,
-    };
+    let what = ForInvestor::Close(room.n, moment);
     brought(firm, room.investor, what)
 }

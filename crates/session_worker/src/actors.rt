@@ -18,11 +18,11 @@ use venue_steps::Duties;
 
 /// An actor at work: what it shares with the others, its queue of duties and what it did.
 #[derive(Drop)]
-struct Shift<'v, J: Naming, R: Wait, G: Gate> {
-    rt: &'v R,
-    venue: &'v SharedVenue<J>,
+pub(crate) struct Shift<'v, J: Naming, R: Wait, G: Gate> {
+    pub(crate) rt: &'v R,
+    pub(crate) venue: &'v SharedVenue<J>,
     gate: &'v G,
-    by: Actor,
+    pub(crate) by: Actor,
     queue: VecDeque<Duty>,
     actions: Vec<Action>,
 }
@@ -42,13 +42,22 @@ impl<'v, J: Naming, R: Wait, G: Gate> Shift<'v, J, R, G> {
         }
     }
 
-    /// What its next action needs besides the place.
-    fn acting(&self) -> Acting<'v, G>
-        ensures { result.board.now ≡ J.board }
+    /// Who does its next action, and which of its actions it is, from 1.
+    pub(crate) fn action(&self) -> (Actor, u64)
+        ensures { result.0 ≡ self.now.by }
     {
+        (self.by, self.actions.len() as u64 + 1)
+    }
+
+    /// What its next action needs besides the place.
+    pub(crate) fn acting(&self) -> Acting<'v, G>
+        ensures by { result.by ≡ self.now.by }
+        ensures board { result.board.now ≡ J.board }
+    {
+        let (by, number) = self.action();
         Acting {
-            by: self.by,
-            number: self.actions.len() as u64 + 1,
+            by,
+            number,
             board: &self.venue.board,
             gate: self.gate,
         }
@@ -78,9 +87,7 @@ impl<'v, J: Naming, R: Wait, G: Gate> Shift<'v, J, R, G> {
             ≡ spec.moments_of is_expire self.old.actions.items) }
     {
         self.gate.at(Point::Before(self.by, Kind::In));
-        let acting = self.acting();
-        let bytes = inbound.bytes.as_bytes();
-        let done = self.venue.receive(self.rt, &acting, inbound.moment, bytes)?;
+        let done = self.receive(inbound.moment, inbound.bytes.as_bytes())?;
         self.note(Kind::In, inbound.moment, done)?;
         Ok(())
     }
@@ -95,10 +102,7 @@ impl<'v, J: Naming, R: Wait, G: Gate> Shift<'v, J, R, G> {
             ≡ spec.moments_of is_expire self.old.actions.items ++ sweep.moment ∷ []) }
     {
         self.gate.at(Point::Before(self.by, Kind::Expire));
-        let acting = self.acting();
-        let done = self
-            .venue
-            .sweep(self.rt, &acting, sweep.room, sweep.moment)?;
+        let done = self.expire(sweep.room, sweep.moment)?;
         self.note(Kind::Expire, sweep.moment, done)?;
         Ok(())
     }
@@ -115,8 +119,7 @@ impl<'v, J: Naming, R: Wait, G: Gate> Shift<'v, J, R, G> {
         let kind = Kind::of(&duty);
         let moment = moment_of(&duty);
         self.gate.at(Point::Before(self.by, kind));
-        let acting = self.acting();
-        let done = self.venue.act(self.rt, &acting, duty)?;
+        let done = self.act(duty)?;
         self.note(kind, moment, done)?;
         Ok(())
     }

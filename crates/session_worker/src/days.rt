@@ -23,6 +23,7 @@ use std::alloc::Global;
 use std::marker::Brand;
 use std::sync::Wait;
 use std::thread::Threads;
+use venue_places::words_of;
 use venue_rows::VenueConfig;
 
 /// Runs a day of the venue on threads: one session for each firm, which takes its inbox, and the
@@ -59,17 +60,6 @@ pub fn run_day<R: Threads + Wait + Sync, G: Gate>(
     let (board, seen) = Board::open(alloc, words_of(&config))?;
     let record = run_named::<Brand, R, G>(rt, alloc, config, board, seen, inboxes, sweeps, gate)?;
     Ok(record)
-}
-
-/// How many words a venue has: one for each quote that its dealers may have in a day.
-fn words_of(config: &VenueConfig) -> u32
-    ensures { result ≡ actions.words_of config.now }
-{
-    let mut words = 0;
-    for row in config.dealers() {
-        words += row.quotes;
-    }
-    words
 }
 
 /// The same of a board that was opened for the day.

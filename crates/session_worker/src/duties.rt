@@ -3,194 +3,123 @@
 ghost use Rattle.std.specs.Prelude.{◌≡◌};
 ghost use Rattle.venue_places.specs.declared.actors.Actor.TheVariants as actor;
 
+use crate::actors::Shift;
 use crate::done::Done;
 use crate::gates::Gate;
 use crate::naming::Naming;
-use crate::venue::SharedVenue;
-use crate::watched::Acting;
 use fix_fields::{Memory, Moment};
 use market_terms::{Duty, ResponseRef, RoomRef};
 use std::sync::Wait;
 use step_replay::Actor;
 use venue_places::{ForDealer, ForInvestor, ForRoom, Placement, placed, swept};
 
-impl<J: Naming> SharedVenue<J> {
-    /// An actor does a duty, at its one place.
-    pub(crate) fn act<R: Wait, G: Gate>(
-        &self,
-        rt: &R,
-        acting: &Acting<'_, G>,
-        duty: Duty,
-    ) -> Result<Done, Memory>
-        requires { acting.now.board.now ≡ J.board }
-    {
-        let Some(arrival) = placed(&self.config, acting.by, duty) else {
-            return Ok(Done::nothing(self.alloc));
+impl<'v, J: Naming, R: Wait, G: Gate> Shift<'v, J, R, G> {
+    /// The actor does a duty, at its one place.
+    pub(crate) fn act(&self, duty: Duty) -> Result<Done, Memory> {
+        let Some(arrival) = placed(&self.venue.config, self.by, duty) else {
+            return Ok(Done::nothing(self.venue.alloc));
         };
-        let done = self.bring(rt, acting, arrival)?;
+        let done = self.bring(arrival)?;
         Ok(done)
     }
 
     /// The clock sweeps a room.
-    pub(crate) fn sweep<R: Wait, G: Gate>(
-        &self,
-        rt: &R,
-        acting: &Acting<'_, G>,
-        room: RoomRef,
-        moment: Moment,
-    ) -> Result<Done, Memory>
-        requires { acting.now.board.now ≡ J.board }
-    {
-        let Some(arrival) = swept(&self.config, room, moment) else {
-            return Ok(Done::nothing(self.alloc));
+    pub(crate) fn expire(&self, room: RoomRef, moment: Moment) -> Result<Done, Memory> {
+        let Some(arrival) = swept(&self.venue.config, room, moment) else {
+            return Ok(Done::nothing(self.venue.alloc));
         };
-        let done = self.bring(rt, acting, arrival)?;
+        let done = self.bring(arrival)?;
         Ok(done)
     }
 
     /// Brings to a place what comes there.
-    fn bring<R: Wait, G: Gate>(
-        &self,
-        rt: &R,
-        acting: &Acting<'_, G>,
-        arrival: Placement,
-    ) -> Result<Done, Memory>
-        requires { acting.now.board.now ≡ J.board }
-    {
-        let action = (acting.by, acting.number);
+    fn bring(&self, arrival: Placement) -> Result<Done, Memory> {
         match arrival {
-            Placement::Dealer { firm, what } => self.to_dealer(rt, action, firm, what),
-            Placement::Drop { firm, last, moment } => self.to_drop(rt, acting, firm, last, moment),
-            Placement::Investor { firm, what } => self.to_investor(rt, action, firm, what),
-            Placement::Room { room, what } => self.to_room(rt, action, room, what),
-            Placement::Hit {
-                room,
-                response,
-                word,
-                moment,
-            } => self.to_hit(rt, acting, room, response, word, moment),
+            Placement::Dealer(firm, what) => self.to_dealer(firm, what),
+            Placement::Drop(firm, last, moment) => self.to_drop(firm, last, moment),
+            Placement::Investor(firm, what) => self.to_investor(firm, what),
+            Placement::Room(room, what) => self.to_room(room, what),
+            Placement::Hit(room, response, word, moment) => {
+                self.to_hit(room, response, word, moment)
+            }
         }
     }
 
     /// The same at a dealer's desk.
-    fn to_dealer<R: Wait>(
-        &self,
-        rt: &R,
-        action: (Actor, u64),
-        firm: u16,
-        what: ForDealer,
-    ) -> Result<Done, Memory> {
-        let Some(mut desk) = self.lock_dealer(rt, firm) else {
-            return Ok(Done::nothing(self.alloc));
+    fn to_dealer(&self, firm: u16, what: ForDealer) -> Result<Done, Memory> {
+        let Some(mut desk) = self.venue.lock_dealer(self.rt, firm) else {
+            return Ok(Done::nothing(self.venue.alloc));
         };
-        let done = desk.bring(action, firm, what)?;
+        let done = desk.bring(self.action(), firm, what)?;
         Ok(done)
     }
 
     /// The same of a drop.
-    fn to_drop<R: Wait, G: Gate>(
-        &self,
-        rt: &R,
-        acting: &Acting<'_, G>,
-        firm: u16,
-        last: u32,
-        moment: Moment,
-    ) -> Result<Done, Memory>
-        requires { acting.now.board.now ≡ J.board }
-    {
-        let Some(mut desk) = self.lock_dealer(rt, firm) else {
-            return Ok(Done::nothing(self.alloc));
+    fn to_drop(&self, firm: u16, last: u32, moment: Moment) -> Result<Done, Memory> {
+        let Some(mut desk) = self.venue.lock_dealer(self.rt, firm) else {
+            return Ok(Done::nothing(self.venue.alloc));
         };
-        let done = desk.drop_next(acting, firm, last, moment)?;
+        let acting = self.acting();
+        let done = desk.drop_next(&acting, firm, last, moment)?;
         Ok(done)
     }
 
     /// The same at an investor's desk.
-    fn to_investor<R: Wait>(
-        &self,
-        rt: &R,
-        action: (Actor, u64),
-        firm: u16,
-        what: ForInvestor,
-    ) -> Result<Done, Memory> {
-        let Some(mut desk) = self.lock_investor(rt, firm) else {
-            return Ok(Done::nothing(self.alloc));
+    fn to_investor(&self, firm: u16, what: ForInvestor) -> Result<Done, Memory> {
+        let Some(mut desk) = self.venue.lock_investor(self.rt, firm) else {
+            return Ok(Done::nothing(self.venue.alloc));
         };
-        let done = desk.bring(action, firm, what)?;
+        let done = desk.bring(self.action(), firm, what)?;
         Ok(done)
     }
 
     /// The same in a room.
-    fn to_room<R: Wait>(
-        &self,
-        rt: &R,
-        action: (Actor, u64),
-        at: RoomRef,
-        what: ForRoom,
-    ) -> Result<Done, Memory> {
-        let Some(mut room) = self.lock_room(rt, at) else {
-            return Ok(Done::nothing(self.alloc));
+    fn to_room(&self, at: RoomRef, what: ForRoom) -> Result<Done, Memory> {
+        let Some(mut room) = self.venue.lock_room(self.rt, at) else {
+            return Ok(Done::nothing(self.venue.alloc));
         };
-        let done = room.bring(action, at, what)?;
+        let done = room.bring(self.action(), at, what)?;
         Ok(done)
     }
 
     /// The same of a hit.
-    fn to_hit<R: Wait, G: Gate>(
+    fn to_hit(
         &self,
-        rt: &R,
-        acting: &Acting<'_, G>,
         at: RoomRef,
         response: ResponseRef,
         word: u32,
         moment: Moment,
-    ) -> Result<Done, Memory>
-        requires { acting.now.board.now ≡ J.board }
-    {
-        let Some(mut room) = self.lock_room(rt, at) else {
-            return Ok(Done::nothing(self.alloc));
+    ) -> Result<Done, Memory> {
+        let Some(mut room) = self.venue.lock_room(self.rt, at) else {
+            return Ok(Done::nothing(self.venue.alloc));
         };
-        let done = room.hit(acting, at, response, word, moment)?;
+        let acting = self.acting();
+        let done = room.hit(&acting, at, response, word, moment)?;
         Ok(done)
     }
 
-    /// A message of a firm comes to its own desk, that of a dealer or of an investor.
-    pub(crate) fn receive<R: Wait, G: Gate>(
-        &self,
-        rt: &R,
-        acting: &Acting<'_, G>,
-        moment: Moment,
-        bytes: &[u8],
-    ) -> Result<Done, Memory>
-        requires { acting.now.board.now ≡ J.board }
-    {
-        let Actor::Firm(firm) = acting.by else {
-            return Ok(Done::nothing(self.alloc));
+    /// A message of the firm comes to its own desk, that of a dealer or of an investor.
+    pub(crate) fn receive(&self, moment: Moment, bytes: &[u8]) -> Result<Done, Memory> {
+        let Actor::Firm(firm) = self.by else {
+            return Ok(Done::nothing(self.venue.alloc));
         };
-        let Some(mut desk) = self.lock_dealer(rt, firm) else {
-            let done = self.investor_receives(rt, acting, firm, moment, bytes)?;
+        let Some(mut desk) = self.venue.lock_dealer(self.rt, firm) else {
+            let done = self.investor_receives(firm, moment, bytes)?;
             return Ok(done);
         };
-        let done = desk.receive(acting, moment, bytes)?;
+        let acting = self.acting();
+        let done = desk.receive(&acting, moment, bytes)?;
         Ok(done)
     }
 
     /// The same of an investor.
-    fn investor_receives<R: Wait, G: Gate>(
-        &self,
-        rt: &R,
-        acting: &Acting<'_, G>,
-        firm: u16,
-        moment: Moment,
-        bytes: &[u8],
-    ) -> Result<Done, Memory>
-        requires { acting.now.by ≡ actor.Firm firm }
+    fn investor_receives(&self, firm: u16, moment: Moment, bytes: &[u8]) -> Result<Done, Memory>
+        requires { self.now.by ≡ actor.Firm firm }
     {
-        let Some(mut desk) = self.lock_investor(rt, firm) else {
-            return Ok(Done::nothing(self.alloc));
+        let Some(mut desk) = self.venue.lock_investor(self.rt, firm) else {
+            return Ok(Done::nothing(self.venue.alloc));
         };
-        let action = (acting.by, acting.number);
-        let done = desk.receive(action, moment, bytes)?;
+        let done = desk.receive(self.action(), moment, bytes)?;
         Ok(done)
     }
 }

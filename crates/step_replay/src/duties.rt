@@ -45,16 +45,11 @@ fn bring(floor: &mut Floor, arrival: Placement) -> Result<Duties, Memory>
         floor.old floor.new duties.items) }
 {
     match arrival {
-        Placement::Dealer { firm, what } => floor.to_dealer(firm, what),
-        Placement::Drop { firm, last, moment } => floor.drop_next(firm, last, moment),
-        Placement::Investor { firm, what } => floor.to_investor(firm, what),
-        Placement::Room { room, what } => floor.to_room(room, what),
-        Placement::Hit {
-            room,
-            response,
-            word,
-            moment,
-        } => floor.hit(room, response, word, moment),
+        Placement::Dealer(firm, what) => floor.to_dealer(firm, what),
+        Placement::Drop(firm, last, moment) => floor.drop_next(firm, last, moment),
+        Placement::Investor(firm, what) => floor.to_investor(firm, what),
+        Placement::Room(room, what) => floor.to_room(room, what),
+        Placement::Hit(room, response, word, moment) => floor.hit(room, response, word, moment),
     }
 }
 

@@ -70,7 +70,7 @@ impl LiveVenue {
             return Err(fault);
         }
         let mut told = Vec::new(alloc);
-        send_all(alloc, self, step, &mut told)?;
+        send_all(self, step, &mut told)?;
         Ok(told)
     }
 
@@ -87,7 +87,7 @@ impl LiveVenue {
         let mut told = Vec::new(alloc);
         for room in &due {
             let step = Step::Expire(*room, moment);
-            send_all(alloc, self, &step, &mut told)?;
+            send_all(self, &step, &mut told)?;
         }
         Ok(told)
     }
@@ -125,17 +125,12 @@ impl LiveVenue {
 }
 
 /// A step and the duties behind it are done, and what is sent with them is put behind `told`.
-fn send_all(
-    alloc: Global,
-    venue: &mut LiveVenue,
-    step: &Step,
-    told: &mut Vec<SentTo>,
-) -> Result<(), Memory>
+fn send_all(venue: &mut LiveVenue, step: &Step, told: &mut Vec<SentTo>) -> Result<(), Memory>
     ensures { OnOk result
         (SendsAll step.now venue.old venue.new told.old.items told.new.items) }
 {
-    do_step(alloc, venue, step, told)?;
-    send_duties(alloc, venue, actor_of(step), told)?;
+    do_step(venue, step, told)?;
+    send_duties(venue, actor_of(step), told)?;
     Ok(())
 }
 
@@ -152,12 +147,7 @@ fn actor_of(step: &Step) -> Actor
 
 /// An actor does its duties, one by one until none is left, and what is sent is put behind `told`.
 /// It can't have as many as are refused here.
-fn send_duties(
-    alloc: Global,
-    venue: &mut LiveVenue,
-    by: Actor,
-    told: &mut Vec<SentTo>,
-) -> Result<(), Memory>
+fn send_duties(venue: &mut LiveVenue, by: Actor, told: &mut Vec<SentTo>) -> Result<(), Memory>
     ensures { OnOk result (SendsDuties by venue.old venue.new told.old.items told.new.items) }
 {
     for _ in 0..MOST_TURNS_BEHIND {
@@ -165,28 +155,23 @@ fn send_duties(
             return Ok(());
         };
         let turn = Step::Turn(by);
-        do_step(alloc, venue, &turn, told)?;
+        do_step(venue, &turn, told)?;
     }
     Err(Memory)
 }
 
 /// A step is done, what is sent with it is put behind `told`, and where the deadline of its room is
 /// another now, that is noted.
-fn do_step(
-    alloc: Global,
-    venue: &mut LiveVenue,
-    step: &Step,
-    told: &mut Vec<SentTo>,
-) -> Result<(), Memory>
+fn do_step(venue: &mut LiveVenue, step: &Step, told: &mut Vec<SentTo>) -> Result<(), Memory>
     ensures { OnOk result
         (SendsStep step.now venue.old venue.new told.old.items told.new.items) }
 {
     let Some(room) = room_of(&venue.replay, step) else {
-        send_step(alloc, &mut venue.replay, step, told)?;
+        send_step(&mut venue.replay, step, told)?;
         return Ok(());
     };
     let before = deadline_at(&venue.replay.floor, room);
-    send_step(alloc, &mut venue.replay, step, told)?;
+    send_step(&mut venue.replay, step, told)?;
     let after = deadline_at(&venue.replay.floor, room);
     venue.open_rooms.note(room, before, after)?;
     Ok(())
@@ -231,12 +216,7 @@ fn room_of_duty(duty: &Duty) -> Option<RoomRef>
 }
 
 /// A step is done, and what is sent with it is put behind `told`.
-fn send_step(
-    alloc: Global,
-    replay: &mut Replay,
-    step: &Step,
-    told: &mut Vec<SentTo>,
-) -> Result<(), Memory>
+fn send_step(replay: &mut Replay, step: &Step, told: &mut Vec<SentTo>) -> Result<(), Memory>
     ensures { OnOk result (Sends (λ config. faults.fault_of config 0 step.now ≡ None)
         (λ config trail. venue.after_step config trail step.now)
         replay.old replay.new told.old.items told.new.items) }
@@ -244,7 +224,7 @@ fn send_step(
     let desk = desk_of(replay, step);
     let count = count_at(&replay.floor, desk);
     replay.step(step)?;
-    push_behind(alloc, told, &replay.floor, desk, count)?;
+    push_behind(told, &replay.floor, desk, count)?;
     Ok(())
 }
 
@@ -306,7 +286,7 @@ fn firm_of(by: Actor) -> Option<u16>
 }
 
 /// The messages that the firm with this number was sent, or none where no firm has it.
-fn sent_on(floor: &Floor, firm: u16) -> Option<&[SentMessage]>
+pub(crate) fn sent_on(floor: &Floor, firm: u16) -> Option<&[SentMessage]>
     ensures { option_copied result ≡ option_map (λ (day : FirmDay). day.sent)
         (slice_get (days_of_floor floor.now) firm) }
 {
@@ -333,7 +313,6 @@ fn count_at(floor: &Floor, desk: Option<u16>) -> usize
 
 /// Tells the messages at a desk behind so many.
 fn push_behind(
-    alloc: Global,
     told: &mut Vec<SentTo>,
     floor: &Floor,
     desk: Option<u16>,
@@ -348,12 +327,11 @@ fn push_behind(
     let Some(messages) = sent_on(floor, firm) else {
         return Ok(());
     };
-    push_from(alloc, told, firm, messages, count)
+    push_from(told, firm, messages, count)
 }
 
 /// Tells the messages of a firm behind so many.
 fn push_from(
-    alloc: Global,
     told: &mut Vec<SentTo>,
     firm: u16,
     messages: &[SentMessage],
@@ -365,20 +343,16 @@ fn push_from(
     if count > messages.len() {
         return Ok(());
     }
-    push_all(alloc, told, firm, &messages[count..])?;
+    push_all(told, firm, &messages[count..])?;
     Ok(())
 }
 
 /// Tells these messages of a firm.
-fn push_all(
-    alloc: Global,
-    told: &mut Vec<SentTo>,
-    firm: u16,
-    messages: &[SentMessage],
-) -> Result<(), Memory>
+fn push_all(told: &mut Vec<SentTo>, firm: u16, messages: &[SentMessage]) -> Result<(), Memory>
     ensures { OnOk result (told.new.items
         ≡ told.old.items ++ map (λ message. (firm, message)) messages.now) }
 {
+    let alloc = *told.allocator();
     for message in messages {
         told.push(SentTo::new(alloc, firm, message)?)?;
     }

@@ -13,6 +13,7 @@ use crate::due_lists::dues_at;
 use crate::dues::Due;
 use crate::faults::{ReplayFault, first_fault};
 use crate::floor::{DealerPlace, Floor, InvestorPlace};
+use crate::live::sent_on;
 use crate::replay::Replay;
 use crate::steps::Step;
 use fix_fields::Memory;
@@ -46,12 +47,7 @@ impl World {
         ensures { option_copied result
             ≡ option_map (λ (day : FirmDay). day.sent) (slice_get self.now firm) }
     {
-        let Some(index) = usize::from(firm).checked_sub(self.floor.dealers.len()) else {
-            let place = self.floor.dealers.get(usize::from(firm))?;
-            return Some(place.desk.sent());
-        };
-        let place = self.floor.investors.get(index)?;
-        Some(place.desk.sent())
+        sent_on(&self.floor, firm)
     }
 
     /// The lines of the blotter of the firm with this number, or none where no firm has it.

@@ -21,12 +21,8 @@ pub fn bring_to_dealer(desk: &mut DealerDesk, what: ForDealer) -> Result<Duties,
     ensures err { OnErr result (desk.new ≡ desk.old) }
 {
     match what {
-        ForDealer::Show { room, ask, moment } => do_show(desk, room, ask, moment),
-        ForDealer::Tell {
-            room,
-            close,
-            moment,
-        } => do_tell(desk, room, close, moment),
+        ForDealer::Show(room, ask, moment) => do_show(desk, room, ask, moment),
+        ForDealer::Tell(room, close, moment) => do_tell(desk, room, close, moment),
     }
 }
 
@@ -38,28 +34,13 @@ pub fn bring_to_investor(desk: &mut InvestorDesk, what: ForInvestor) -> Result<D
     ensures err { OnErr result (desk.new ≡ desk.old) }
 {
     match what {
-        ForInvestor::Relay {
-            request,
-            offer,
-            moment,
-        } => do_relay(desk, request, &offer, moment),
-        ForInvestor::Gone {
-            request,
-            word,
-            moment,
-        } => do_gone(desk, request, word, moment),
-        ForInvestor::Declined {
-            request,
-            dealer,
-            moment,
-        } => do_declined(desk, request, dealer, moment),
-        ForInvestor::Answer {
-            request,
-            response,
-            reply,
-            moment,
-        } => do_answer(desk, request, &response, reply, moment),
-        ForInvestor::Close { request, moment } => do_close(desk, request, moment),
+        ForInvestor::Relay(request, offer, moment) => do_relay(desk, request, &offer, moment),
+        ForInvestor::Gone(request, word, moment) => do_gone(desk, request, word, moment),
+        ForInvestor::Declined(request, name, moment) => do_declined(desk, request, name, moment),
+        ForInvestor::Answer(request, response, reply, moment) => {
+            do_answer(desk, request, &response, reply, moment)
+        }
+        ForInvestor::Close(request, moment) => do_close(desk, request, moment),
     }
 }
 
@@ -72,24 +53,12 @@ pub fn bring_to_room(room: &mut Room, at: RoomRef, what: ForRoom) -> Result<Duti
     ensures err { OnErr result (room.new ≡ room.old) }
 {
     match what {
-        ForRoom::Open {
-            ask,
-            dealers,
-            moment,
-        } => do_open(room, at, ask, dealers, moment),
-        ForRoom::Ready { .. } => do_ready(room),
-        ForRoom::Post {
-            dealer,
-            offer,
-            moment,
-        } => do_post(room, at, dealer, offer, moment),
-        ForRoom::Unpost {
-            dealer,
-            word,
-            moment,
-        } => do_unpost(room, at, dealer, word, moment),
-        ForRoom::Decline { dealer, moment } => do_decline(room, at, dealer, moment),
-        ForRoom::Pass { response, moment } => do_pass(room, at, response, moment),
-        ForRoom::Expire { moment } => do_expire(room, at, moment),
+        ForRoom::Open(ask, dealers, moment) => do_open(room, at, ask, dealers, moment),
+        ForRoom::Ready(_) => do_ready(room),
+        ForRoom::Post(dealer, offer, moment) => do_post(room, at, dealer, offer, moment),
+        ForRoom::Unpost(dealer, word, moment) => do_unpost(room, at, dealer, word, moment),
+        ForRoom::Decline(dealer, moment) => do_decline(room, at, dealer, moment),
+        ForRoom::Pass(response, moment) => do_pass(room, at, response, moment),
+        ForRoom::Expire(moment) => do_expire(room, at, moment),
     }
 }

@@ -8,7 +8,7 @@
 //!
 //! ```text
 //! let arrival = placed(&config, Actor::Firm(1), duty)?; // a post of DLR2's second quote
-//! // Placement::Room { room, what: ForRoom::Post { dealer: 1, offer, .. } }, offer.word == 5
+//! // Placement::Room(room, ForRoom::Post(1, offer, moment)), offer.word == 5
 //! ```
 //!
 //! Whoever runs a day takes the place that is named, by its index or by its lock, and brings it what
@@ -24,6 +24,9 @@ mod table;
 mod words;
 
 pub use actors::Actor;
-pub use arrivals::{ForDealer, ForInvestor, ForRoom, Placement};
+pub use arrivals::{
+    FirmNumber, ForDealer, ForInvestor, ForRoom, Placement, QuoteNumber, RequestNumber, WordNumber,
+};
 pub use bringing::{bring_to_dealer, bring_to_investor, bring_to_room};
 pub use table::{placed, swept};
+pub use words::words_of;

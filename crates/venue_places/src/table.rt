@@ -23,22 +23,14 @@ pub fn placed(config: &VenueConfig, by: Actor, duty: Duty) -> Option<Placement>
             ask,
             dealers,
             moment,
-        } => in_room(
-            config,
-            room,
-            ForRoom::Open {
-                ask,
-                dealers,
-                moment,
-            },
-        ),
+        } => in_room(config, room, ForRoom::Open(ask, dealers, moment)),
         Duty::Show {
             dealer,
             room,
             ask,
             moment,
-        } => at_dealer(config, dealer, ForDealer::Show { room, ask, moment }),
-        Duty::Ready { room, moment } => in_room(config, room, ForRoom::Ready { moment }),
+        } => at_dealer(config, dealer, ForDealer::Show(room, ask, moment)),
+        Duty::Ready { room, moment } => in_room(config, room, ForRoom::Ready(moment)),
         Duty::Post {
             room,
             quote,
@@ -50,34 +42,14 @@ pub fn placed(config: &VenueConfig, by: Actor, duty: Duty) -> Option<Placement>
             room,
             offer,
             moment,
-        } => {
-            let request = room.n;
-            at_investor(
-                config,
-                room.investor,
-                ForInvestor::Relay {
-                    request,
-                    offer,
-                    moment,
-                },
-            )
-        }
+        } => at_investor(config, room, ForInvestor::Relay(room.n, offer, moment)),
         Duty::Unpost {
             room,
             quote,
             moment,
         } => unposted(config, by, room, quote, moment),
         Duty::Gone { room, word, moment } => {
-            let request = room.n;
-            at_investor(
-                config,
-                room.investor,
-                ForInvestor::Gone {
-                    request,
-                    word,
-                    moment,
-                },
-            )
+            at_investor(config, room, ForInvestor::Gone(room.n, word, moment))
         }
         Duty::Decline { room, moment } => declines(config, by, room, moment),
         Duty::Declined { room, moment } => declined(config, by, room, moment),
@@ -91,44 +63,25 @@ pub fn placed(config: &VenueConfig, by: Actor, duty: Duty) -> Option<Placement>
             room,
             response,
             moment,
-        } => in_room(config, room, ForRoom::Pass { response, moment }),
+        } => in_room(config, room, ForRoom::Pass(response, moment)),
         Duty::Answer {
             room,
             response,
             reply,
             moment,
         } => {
-            let request = room.n;
-            let what = ForInvestor::Answer {
-                request,
-                response,
-                reply,
-                moment,
-            };
-            at_investor(config, room.investor, what)
+            let what = ForInvestor::Answer(room.n, response, reply, moment);
+            at_investor(config, room, what)
         }
         Duty::Close { room, moment } => {
-            let request = room.n;
-            at_investor(
-                config,
-                room.investor,
-                ForInvestor::Close { request, moment },
-            )
+            at_investor(config, room, ForInvestor::Close(room.n, moment))
         }
         Duty::Tell {
             dealer,
             room,
             close,
             moment,
-        } => at_dealer(
-            config,
-            dealer,
-            ForDealer::Tell {
-                room,
-                close,
-                moment,
-            },
-        ),
+        } => at_dealer(config, dealer, ForDealer::Tell(room, close, moment)),
         Duty::Drop { last, moment } => drops(config, by, last, moment),
     }
 }
@@ -137,7 +90,7 @@ pub fn placed(config: &VenueConfig, by: Actor, duty: Duty) -> Option<Placement>
 pub fn swept(config: &VenueConfig, room: RoomRef, moment: Moment) -> Option<Placement>
     ensures { result ≡ spec.swept config.now room moment }
 {
-    in_room(config, room, ForRoom::Expire { moment })
+    in_room(config, room, ForRoom::Expire(moment))
 }
 
 /// At the desk of a dealer.
@@ -147,17 +100,17 @@ fn at_dealer(config: &VenueConfig, firm: u16, what: ForDealer) -> Option<Placeme
     if config.dealer(firm).is_none() {
         return None;
     }
-    Some(Placement::Dealer { firm, what })
+    Some(Placement::Dealer(firm, what))
 }
 
-/// At the desk of an investor.
-fn at_investor(config: &VenueConfig, firm: u16, what: ForInvestor) -> Option<Placement>
-    ensures { result ≡ spec.at_investor config.now firm what }
+/// At the desk of the investor whose room this is.
+fn at_investor(config: &VenueConfig, room: RoomRef, what: ForInvestor) -> Option<Placement>
+    ensures { result ≡ spec.at_investor config.now room.investor what }
 {
-    if config.investor(firm).is_none() {
+    if config.investor(room.investor).is_none() {
         return None;
     }
-    Some(Placement::Investor { firm, what })
+    Some(Placement::Investor(room.investor, what))
 }
 
 /// In a room.
@@ -167,7 +120,7 @@ fn in_room(config: &VenueConfig, room: RoomRef, what: ForRoom) -> Option<Placeme
     if !config.has_room(room.investor, room.n) {
         return None;
     }
-    Some(Placement::Room { room, what })
+    Some(Placement::Room(room, what))
 }
 
 /// In a room that is hit.
@@ -183,12 +136,7 @@ fn hit_in(
     if !config.has_room(room.investor, room.n) {
         return None;
     }
-    Some(Placement::Hit {
-        room,
-        response,
-        word,
-        moment,
-    })
+    Some(Placement::Hit(room, response, word, moment))
 }
 
 /// A post of the acting dealer's quote.
@@ -215,15 +163,7 @@ fn posted(
         price,
         valid_until,
     };
-    in_room(
-        config,
-        room,
-        ForRoom::Post {
-            dealer,
-            offer,
-            moment,
-        },
-    )
+    in_room(config, room, ForRoom::Post(dealer, offer, moment))
 }
 
 /// An unpost of the acting dealer's quote.
@@ -241,15 +181,7 @@ fn unposted(
     };
     let _row = config.dealer(dealer)?;
     let word = word_of(config, dealer, quote)?;
-    in_room(
-        config,
-        room,
-        ForRoom::Unpost {
-            dealer,
-            word,
-            moment,
-        },
-    )
+    in_room(config, room, ForRoom::Unpost(dealer, word, moment))
 }
 
 /// The acting dealer's decline of a request.
@@ -260,7 +192,7 @@ fn declines(config: &VenueConfig, by: Actor, room: RoomRef, moment: Moment) -> O
         return None;
     };
     let _row = config.dealer(dealer)?;
-    in_room(config, room, ForRoom::Decline { dealer, moment })
+    in_room(config, room, ForRoom::Decline(dealer, moment))
 }
 
 /// What the investor is told of the acting dealer's decline.
@@ -271,12 +203,8 @@ fn declined(config: &VenueConfig, by: Actor, room: RoomRef, moment: Moment) -> O
         return None;
     };
     let row = config.dealer(dealer)?;
-    let what = ForInvestor::Declined {
-        request: room.n,
-        dealer: row.name.copy(),
-        moment,
-    };
-    at_investor(config, room.investor, what)
+    let what = ForInvestor::Declined(room.n, row.name.copy(), moment);
+    at_investor(config, room, what)
 }
 
 /// A drop of the acting dealer's next quote.
@@ -287,9 +215,5 @@ fn drops(config: &VenueConfig, by: Actor, last: u32, moment: Moment) -> Option<P
         return None;
     };
     let _row = config.dealer(dealer)?;
-    Some(Placement::Drop {
-        firm: dealer,
-        last,
-        moment,
-    })
+    Some(Placement::Drop(dealer, last, moment))
 }

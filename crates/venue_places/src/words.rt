@@ -6,8 +6,8 @@ ghost use Rattle.venue_steps.specs.Words as words;
 
 use venue_rows::VenueConfig;
 
-/// How many words a venue has.
-fn words_of(config: &VenueConfig) -> u32
+/// How many words a venue has: one for each quote that its dealers may have in a day.
+pub fn words_of(config: &VenueConfig) -> u32
     ensures { result ≡ dealers.words_of config.now }
 {
     let mut words = 0;

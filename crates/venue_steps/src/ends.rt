@@ -70,11 +70,7 @@ fn word_of_hit(room: &Room, word: u32, moment: Moment) -> Option<u64>
 fn is_award(reply: Reply) -> bool
     ensures { result ≡ spec.is_award reply }
 {
-    match reply {
-        Reply::Awarded => true,
-        Reply::Passed => false,
-        Reply::Refused(_) => false,
-    }
+    matches!(reply, Reply::Awarded)
 }
 
 /// The investor passes its request, which ends an open room. What follows is the reply to the

@@ -136,35 +136,14 @@ fn replies_to(quote: Option<u64>, reply: Reply) -> bool
 fn replies_to_hit(reply: Reply) -> bool
     ensures { result ≡ spec.replies_to_hit reply }
 {
-    match reply {
-        Reply::Awarded => true,
-        Reply::Passed => false,
-        Reply::Refused(_) => true,
-    }
+    !matches!(reply, Reply::Passed)
 }
 
 /// Whether a pass can have the reply.
 fn replies_to_pass(reply: Reply) -> bool
     ensures { result ≡ spec.replies_to_pass reply }
 {
-    match reply {
-        Reply::Awarded => false,
-        Reply::Passed => true,
-        Reply::Refused(refusal) => is_not_open(refusal),
-    }
-}
-
-/// Whether a refusal is that the request is not open.
-fn is_not_open(refusal: HitRefusal) -> bool
-    ensures { result ≡ spec.is_not_open refusal }
-{
-    match refusal {
-        HitRefusal::NotOpen => true,
-        HitRefusal::Deadline => false,
-        HitRefusal::Gone => false,
-        HitRefusal::Expired => false,
-        HitRefusal::Withdrawn => false,
-    }
+    matches!(reply, Reply::Passed | Reply::Refused(HitRefusal::NotOpen))
 }
 
 /// The investor is told that its request with this number expired, which closes it. Where the

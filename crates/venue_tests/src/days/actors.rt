@@ -12,6 +12,7 @@ use std::marker::Brand;
 use std::process::Abort;
 use std::sync::Wait;
 use std::test::Fail;
+use venue_places::words_of;
 use venue_rows::VenueConfig;
 
 // INV1 asks DLR2, which quotes and cancels; then the clock sweeps the room before its deadline, and at
@@ -58,17 +59,6 @@ const STANDS: &[&str] = &[
     "before CLOCK Tell",
     "after CLOCK Tell",
 ];
-
-/// How many words a venue has.
-fn words_of(config: &VenueConfig) -> u32
-    ensures { result ≡ actions.words_of config.now }
-{
-    let mut words = 0;
-    for row in config.dealers() {
-        words += row.quotes;
-    }
-    words
-}
 
 /// Calls the sessions of a venue on a board that was opened for it, the last firm's first, and then
 /// the clock; behind one that is refused memory it calls no other. It answers whether none was. The

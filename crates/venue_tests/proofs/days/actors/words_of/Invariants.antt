@@ -1,6 +1,0 @@
-use Rattle.std.proofs.Common.{◌≡◌, take}
-use Rattle.step_replay.specs.Actions.{quotes_of}
-use Rattle.venue_tests.proofs.days.actors.words_of.Given as goal
-
-abbrev pub invariant-loop-row : goal.invariant-loop-row
-invariant-loop-row l = l.words ≡ quotes_of (take l.row-index l.config.dealers)
