@@ -17,7 +17,7 @@ use Rattle.venue_rows.specs.Texts.{same_text}
 use Rattle.dealer_desk.specs.DealerFacts.{standing_quote}
 use Rattle.market_terms.specs.declared.rooms.RoomRef.{RoomRef}
 use Rattle.dealer_desk.specs.DealerOutput.{is_same_room, number_from, number_in}
-use Rattle.dealer_desk.specs.DealerTable.{IsIdMap, IsRoomMap, room_cmp, key_cmp, key_of, tail_of}
+use Rattle.dealer_desk.specs.DealerTable.{IsIdMap, IsRoomMap, room_cmp, key_cmp, key_of, rank_of}
 use Rattle.dealer_desk.specs.declared.id_keys.IdKey.{IdKey}
 use Rattle.dealer_desk.specs.declared.accepted.AcceptedQuote.{AcceptedQuote}
 use Rattle.dealer_desk.specs.declared.standing.StandingQuote.{StandingQuote}
@@ -46,10 +46,10 @@ same_key : (key id : List ℕ) → is_at (key_cmp (key_of key)) (key_of id) ≡ 
 same_key key id =
     elim (cases_Bool (same_text key id)) [
       | inl so ↦
-          (ap (λ (i : List ℕ). is_eq (ordering_then (nat_cmp (tail_of key) (tail_of i)) (slice_cmp nat_cmp key id))) (sym ((bytes_eq-Decides key id).0 so))
-          ∙ ap (λ (o : Ordering). is_eq (ordering_then o (slice_cmp nat_cmp key id))) (tail_same (tail_of key))
+          (ap (λ (i : List ℕ). is_eq (ordering_then (nat_cmp (rank_of key) (rank_of i)) (slice_cmp nat_cmp key id))) (sym ((bytes_eq-Decides key id).0 so))
+          ∙ ap (λ (o : Ordering). is_eq (ordering_then o (slice_cmp nat_cmp key id))) (tail_same (rank_of key))
           ∙ is_eq-slice_cmp key id)
-      | inr apart ↦ then_apart (nat_cmp (tail_of key) (tail_of id)) (slice_cmp nat_cmp key id) (is_eq-slice_cmp key id ∙ apart) ∙ sym apart
+      | inr apart ↦ then_apart (nat_cmp (rank_of key) (rank_of id)) (slice_cmp nat_cmp key id) (is_eq-slice_cmp key id ∙ apart) ∙ sym apart
     ]
 
 or_none : {A : Type 0} (o : Option A) → option_or o None ≡ o

@@ -1,6 +1,6 @@
 -- What the index of a desk keeps beside the requests and the quotes of its book. Only private
 -- functions and invariants say this.
-use Rattle.std.specs.Prelude.{◌≡◌, ◌≤◌, ◌<◌, ℕ, ◌+◌, ◌*◌, ◌%◌, ◌^◌, Option, Some}
+use Rattle.std.specs.Prelude.{◌≡◌, ◌≤◌, ◌<◌, ℕ, ◌+◌, ◌-◌, ◌*◌, ◌%◌, ◌^◌, Option, Some}
 use Rattle.std.specs.Prelude.{List, [], ◌∷◌, ◌++◌, length, map, fold, find, slice_get}
 use Rattle.std.specs.List.{list_any, sum_by, position_or_len}
 use Rattle.std.specs.Option.{option_map}
@@ -69,13 +69,17 @@ tail_with tail c = (tail * 256 % 2 ^ 64 + c) % 2 ^ 64
 abbrev pub tail_of : List ℕ → ℕ
 tail_of text = fold tail_with 0 text
 
+-- the place of a text among others by that number, the greatest first
+abbrev pub rank_of : List ℕ → ℕ
+rank_of text = 18446744073709551615 - tail_of text
+
 -- a QuoteID as a key of the map
 abbrev pub key_of : List ℕ → IdKey
-key_of id = record { tail = tail_of id; id = id }
+key_of id = record { rank = rank_of id; id = id }
 
 -- how keys are ordered: by the last eight characters first
 abbrev pub key_cmp : IdKey → IdKey → Ordering
-key_cmp one other = ordering_then (nat_cmp one.tail other.tail) (slice_cmp nat_cmp one.id other.id)
+key_cmp one other = ordering_then (nat_cmp one.rank other.rank) (slice_cmp nat_cmp one.id other.id)
 
 -- the map from QuoteIDs has the own numbers of these quotes
 pub record IsIdMap (quotes : List StandingQuote) (by_id : BTreeMap IdKey ℕ) : Type 0 where

@@ -1,5 +1,7 @@
 //! The desk of one dealer.
-ghost use Rattle.std.specs.Prelude.{◌≡◌, ◌+◌, ◌≤◌, [], is_some, IfOk, IfSome, OnOk, OnErr};
+ghost use Rattle.std.specs.Prelude.{◌≡◌, ◌+◌, ◌≤◌, [], is_some, IfOk, IfSome, IsTrue};
+ghost use Rattle.std.specs.Prelude.{OnOk, OnErr};
+ghost use Rattle.fix_fields.specs.Frame.{frame_of};
 ghost use Rattle.dealer_desk.specs.DealerFacts.{requests_shown, exposure_of};
 ghost use Rattle.dealer_desk.specs.DealerFacts.{number_to_drop, quote_to_drop};
 ghost use Rattle.dealer_desk.specs.DealerOutput as spec;
@@ -12,7 +14,7 @@ ghost use Rattle.dealer_desk.specs.QuoteLines.{lines_of};
 use crate::answers::{duty_of, outcome_of, take_note};
 use crate::drops::{drop_message, further_drop, note_drop, unpost_of};
 use crate::index::DealerIndex;
-use crate::rules::dealer_verdict;
+use crate::rules::{dealer_verdict, frame_verdict};
 use crate::sending::{next_message, notice_of, output_message, push_some};
 use crate::{DealerEvent, DealerVerdict};
 use fix_fields::{Date, Memory, Moment};
@@ -83,6 +85,17 @@ impl DealerDesk {
             (λ quote. (1 ≤ quote) × (quote ≤ self.now.row.quotes)) }
     {
         let verdict = dealer_verdict(&self.date, &self.row, &self.index, moment, bytes);
+        verdict
+    }
+
+    /// The same of bytes that are known to be a frame: that is not tested again.
+    pub fn judge_frame<'a>(&self, moment: Moment, bytes: &'a [u8]) -> DealerVerdict<'a>
+        requires { IsTrue (is_some (frame_of bytes.now)) }
+        ensures verdict { result ≡ verdict_at self.now moment bytes.now }
+        ensures own { IfSome (word_asked result)
+            (λ quote. (1 ≤ quote) × (quote ≤ self.now.row.quotes)) }
+    {
+        let verdict = frame_verdict(&self.date, &self.row, &self.index, moment, bytes);
         verdict
     }
 

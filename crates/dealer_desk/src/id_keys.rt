@@ -5,10 +5,11 @@ ghost use Rattle.dealer_desk.specs.DealerTable as spec;
 use market_terms::IdBuf;
 
 /// A QuoteID (117) as a key. Keys are compared by the last eight characters first, as one number:
-/// the QuoteIDs of a dealer's day mostly differ there, and often begin alike.
+/// the QuoteIDs of a dealer's day mostly differ there, and often begin alike. The greatest number
+/// stands first: they mostly grow, too, and the map is walked from its front, where a new one is.
 #[derive(PartialEq, Eq, PartialOrd, Ord, Drop)]
 pub(crate) struct IdKey {
-    tail: u64,
+    rank: u64,
     id: IdBuf,
 }
 
@@ -18,10 +19,17 @@ impl IdKey {
         ensures { result ≡ spec.key_of id }
     {
         IdKey {
-            tail: tail_of(id.as_bytes()),
+            rank: rank_of(id.as_bytes()),
             id,
         }
     }
+}
+
+/// The place of a text among others by its last eight characters, the greatest first.
+fn rank_of(text: &[u8]) -> u64
+    ensures { result ≡ spec.rank_of text.now }
+{
+    u64::MAX - tail_of(text)
 }
 
 /// The last eight characters of a text as one number.

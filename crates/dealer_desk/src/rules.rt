@@ -1,5 +1,6 @@
 //! The rules of the market for a dealer, over the index of its desk.
-ghost use Rattle.std.specs.Prelude.{◌≡◌, ◌+◌, Some, None, MatchResult};
+ghost use Rattle.std.specs.Prelude.{◌≡◌, ◌+◌, Some, None, MatchResult, IsTrue, is_some};
+ghost use Rattle.fix_fields.specs.Frame.{frame_of};
 ghost use Rattle.market_terms.specs.Checks.{first_refusal, is_not_after};
 ghost use Rattle.dealer_desk.specs.DealerRules as spec;
 ghost use Rattle.dealer_desk.specs.DealerFacts.{live_number_on, has_lifted_quote, quotes_accepted};
@@ -14,6 +15,7 @@ use fix_fields::{Date, Moment};
 use market_terms::{Ask, IdBuf, Quantity, Side};
 use quote_messages::{
     Arrival, DealerMessage, OutMessage, Quote, QuoteRejectReason, receive_dealer,
+    receive_dealer_frame,
 };
 use venue_rows::DealerRow;
 
@@ -28,7 +30,39 @@ pub(crate) fn dealer_verdict<'a>(
 ) -> DealerVerdict<'a>
     ensures { result ≡ spec.dealer_verdict date.now row.now index.now.book moment bytes.now }
 {
-    match receive_dealer(date, row, index.expected_number(), bytes) {
+    let arrival = receive_dealer(date, row, index.expected_number(), bytes);
+    let verdict = arrival_verdict(row, index, moment, arrival);
+    verdict
+}
+
+/// The same of bytes that are known to be a frame: that is not tested again.
+#[tactic(auto, unfolding(crate::specs::DealerRules::dealer_verdict))]
+pub(crate) fn frame_verdict<'a>(
+    date: &Date,
+    row: &DealerRow,
+    index: &DealerIndex,
+    moment: Moment,
+    bytes: &'a [u8],
+) -> DealerVerdict<'a>
+    requires { IsTrue (is_some (frame_of bytes.now)) }
+    ensures { result ≡ spec.dealer_verdict date.now row.now index.now.book moment bytes.now }
+{
+    let arrival = receive_dealer_frame(date, row, index.expected_number(), bytes);
+    let verdict = arrival_verdict(row, index, moment, arrival);
+    verdict
+}
+
+/// The verdict on what became of a message before the market looks at it.
+#[inline(always)]
+fn arrival_verdict<'a>(
+    row: &DealerRow,
+    index: &DealerIndex,
+    moment: Moment,
+    arrival: Arrival<'a, DealerMessage<'a>>,
+) -> DealerVerdict<'a>
+    ensures { result ≡ spec.arrival_verdict row.now index.now.book moment arrival.entry }
+{
+    match arrival {
         Arrival::Dropped => DealerVerdict::Dropped,
         Arrival::OutOfSequence(reject) => DealerVerdict::OutOfSequence(reject),
         Arrival::Rejected(reject) => DealerVerdict::Rejected(reject),

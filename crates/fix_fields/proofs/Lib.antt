@@ -7,6 +7,7 @@ pub mod FrameLemmas
 pub mod TagLemmas
 pub mod SumLemmas
 pub mod WriterLemmas
+pub mod SpelledLemmas
 pub mod FrontLemmas
 pub mod CuttingLemmas
 pub mod FoundLemmas

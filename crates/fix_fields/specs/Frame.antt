@@ -39,6 +39,12 @@ abbrev pub fields_text : List Field → List ℕ
 fields_text [] = []
 fields_text (field ∷ fields) = field_text field ++ fields_text fields
 
+-- the text spells the field with this tag: the field is written as the text, and SOH
+pub record Spells (text : List ℕ) (tag : ℕ) : Type 0 where
+  pub value : List ℕ
+  pub lawful : IsField (tag, value)
+  pub is : text ≡ decimal tag ++ (61 ∷ value)
+
 -- how many fields have this tag
 abbrev pub times_of : ℕ → List Field → ℕ
 times_of tag fields = count_by (λ field. field.0 == tag) fields

@@ -26,10 +26,13 @@
 //!   bytes that are known to be one, and tests nothing.
 //! - [`Frame::get`] is the value of the first field with a tag, [`Frame::times`] how many have it,
 //!   and [`Frame::fields`] goes over all of them in order.
+//! - [`FrameWriter::spelled`] adds a field that is written already, where it is a lawful one, and
+//!   gives its tag.
 //! - What [`FrameWriter::finish`] returns is the frame of the fields that were written, with the
 //!   length in decimal without leading zeros, so it is read back as these fields. [`is_tag`],
 //!   [`is_value`] and [`fits`] are the tests of what a writer asks for, and [`FrameWriter::left`]
 //!   tells how much still fits. A call whose memory is refused leaves the writer as it was.
+//! - [`len_before`] is the place of the first byte of its kind, looked for 16 bytes at a time.
 //! - [`read_moment`] reads exactly the two spellings of a moment of its date, and tells what is no
 //!   spelling at all from what is one of another date. What [`moment_text`] returns is read back;
 //!   [`moment_bytes`] are its bytes, and [`time_text`] is its part behind the date.
@@ -64,6 +67,7 @@ pub use laws::{
 };
 pub use limits::{MOST_BODY, MOST_FRAME};
 pub use moments::{Moment, moment_bytes, moment_text, read_moment, time_text};
+pub use scan::len_before;
 pub use stream_laws::{
     envelopes_of_is_the_cutting, frames_are_cut, pieces_make_no_difference,
     stream_faults_are_for_ever,

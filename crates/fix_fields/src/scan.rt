@@ -1,11 +1,11 @@
 //! The parts of a field, found at the front of a text.
-ghost use Rattle.std.specs.Prelude.{◌≡◌, ◌+◌, ◌++◌, ◌==◌, ◌<◌, ◌≤◌, ◌↔◌, take, length, IsTrue};
+ghost use Rattle.std.specs.Prelude.{◌≡◌, ℕ, ◌+◌, ◌++◌, ◌==◌, ◌<◌, ◌≤◌, ◌↔◌, take, length, IsTrue};
 ghost use Rattle.std.specs.Prelude.{MatchOption};
 ghost use Rattle.std.specs.List.{prefix_len, position_or_len};
 ghost use Rattle.std.specs.Char.{is_ascii_digit};
 ghost use Rattle.std.specs.Simd.Lanes.{chunk};
 ghost use Rattle.std.specs.Str.Parse.{digits_value};
-ghost use Rattle.fix_fields.specs.Frame.{IsField, field_text};
+ghost use Rattle.fix_fields.specs.Frame.{IsField, IsValue, Spells, field_text};
 ghost use Rattle.fix_fields.specs.Scan.{BeginsWithField, HoldsFields, HoldsBody};
 
 use crate::limits::BLOCK;
@@ -39,26 +39,36 @@ pub(crate) fn value_len(text: &[u8]) -> usize
     ensures fits { result ≤ length text.now }
     ensures place { result ≡ position_or_len (λ byte. byte == 1) text.now }
 {
+    len_before(text, SOH)
+}
+
+/// How many bytes stand before the first one that is `byte`, or all where none is.
+// Inlined, so that short texts are looked through where they stand.
+#[inline(always)]
+pub fn len_before(text: &[u8], byte: u8) -> usize
+    ensures fits { result ≤ length text.now }
+    ensures place { result ≡ position_or_len (λ c. c == byte) text.now }
+{
     let mut len = 0;
     while text.len() - len >= BLOCK {
-        let before = len_in_block(text, len);
+        let before = len_in_block(text, len, byte);
         if before != BLOCK {
             return len + before;
         }
         len += BLOCK;
     }
-    len + short_value_len(&text[len..])
+    len + short_len_before(&text[len..], byte)
 }
 
-/// How many bytes of the block at a place stand before its first SOH: all where there is none.
+/// How many bytes of the block at a place stand before its first `byte`: all where there is none.
 #[inline(always)]
-fn len_in_block(text: &[u8], at: usize) -> usize
+fn len_in_block(text: &[u8], at: usize, byte: u8) -> usize
     requires { at + BLOCK ≤ length text.now }
     ensures few { result ≤ BLOCK }
-    ensures place { result ≡ position_or_len (λ byte. byte == 1) (chunk at 16 text.now) }
+    ensures place { result ≡ position_or_len (λ c. c == byte) (chunk at 16 text.now) }
 {
     let found = u8x16::from_slice(&text[at..])
-        .simd_eq(u8x16::splat(SOH))
+        .simd_eq(u8x16::splat(byte))
         .to_bitmask();
     if found == 0 {
         return BLOCK;
@@ -66,15 +76,15 @@ fn len_in_block(text: &[u8], at: usize) -> usize
     found.trailing_zeros() as usize
 }
 
-/// How many bytes stand before the first SOH, byte by byte: of the last ones, which are no block.
+/// The same as [`len_before`], byte by byte: of the last ones, which are no block.
 #[inline(never)]
-fn short_value_len(text: &[u8]) -> usize
+fn short_len_before(text: &[u8], byte: u8) -> usize
     ensures fits { result ≤ length text.now }
-    ensures place { result ≡ position_or_len (λ byte. byte == 1) text.now }
+    ensures place { result ≡ position_or_len (λ c. c == byte) text.now }
 {
     let mut len = 0;
     while len < text.len() {
-        if text[len] == SOH {
+        if text[len] == byte {
             return len;
         }
         len += 1;
@@ -105,6 +115,25 @@ pub(crate) fn split_field(text: &[u8]) -> Option<(u32, &[u8], &[u8])>
         return None;
     }
     Some((tag, &behind[..len], &behind[len + 1..]))
+}
+
+/// The tag of the field that a text spells: all of a field as it is written, but for its SOH.
+#[inline(always)]
+pub(crate) fn spelled_tag(text: &[u8]) -> Option<u32>
+    requires { IsValue text.now }
+    ensures { MatchOption result ((tag : ℕ) → ¬ Spells text.now tag) (λ tag. Spells text.now tag) }
+{
+    let (tag, digits) = leading_number(text, 9);
+    if digits == 0 || digits == text.len() {
+        return None;
+    }
+    if text[0] == b'0' || text[digits] != b'=' {
+        return None;
+    }
+    if tag == 8 || tag == 9 || tag == 10 {
+        return None;
+    }
+    Some(tag)
 }
 
 /// The tag of the field that a text begins with, and how many digits it has. The field is lawful,

@@ -1,15 +1,16 @@
 //! Frames that are written.
-ghost use Rattle.std.specs.Prelude.{◌≡◌, ◌+◌, ◌<◌, ◌≤◌, ◌↔◌, [], ◌∷◌, ◌++◌, length, decimal};
-ghost use Rattle.std.specs.Prelude.{IsTrue, IfOk, OnOk, OnErr, Some, vec_len, vec_capacity};
+ghost use Rattle.std.specs.Prelude.{◌≡◌, ℕ, ◌+◌, ◌<◌, ◌≤◌, ◌↔◌, [], ◌∷◌, ◌++◌, length, decimal};
+ghost use Rattle.std.specs.Prelude.{IsTrue, IfOk, OnOk, OnErr, MatchOption, Some};
+ghost use Rattle.std.specs.Prelude.{vec_len, vec_capacity};
 ghost use Rattle.fix_fields.specs.Frame as spec;
-ghost use Rattle.fix_fields.specs.Frame.{Field, IsTag, IsValue, IsFrame, field_len, left_of};
-ghost use Rattle.fix_fields.specs.Frame.{field_text, frame_text, frame_of};
+ghost use Rattle.fix_fields.specs.Frame.{Field, IsTag, IsValue, IsFrame, Spells, field_len};
+ghost use Rattle.fix_fields.specs.Frame.{left_of, field_text, frame_text, frame_of};
 ghost use Rattle.fix_fields.specs.Scan.{text_around};
 
 use crate::Memory;
 use crate::frames::{END_LEN, START};
 use crate::limits::MOST_BODY;
-use crate::scan::{SOH, value_len};
+use crate::scan::{SOH, spelled_tag, value_len};
 use crate::sums::checksum;
 use itoa::{Buffer, write_digits};
 use std::alloc::Global;
@@ -94,6 +95,26 @@ impl FrameWriter {
         Ok(())
     }
 
+    /// Adds the field that a text spells, a tag, an equals sign and a value, and gives its tag. The
+    /// text has no SOH ([`is_value`]), and it fits into what is left with one byte more. Where it
+    /// spells no lawful field, and where memory is refused, the frame is as before.
+    #[inline(always)]
+    pub fn spelled(&mut self, text: &[u8]) -> Result<Option<u32>, Memory>
+        requires value { IsValue text.now }
+        requires room { length text.now < left_of self.old }
+        ensures ok { IfOk result (λ tag. MatchOption tag
+            (((n : ℕ) → ¬ Spells text.now n) × (self.new ≡ self.old))
+            (λ tag. (spells : Spells text.now tag)
+            × (self.new ≡ self.old ++ (tag, spells.value) ∷ []))) }
+        ensures err { OnErr result (self.new ≡ self.old) }
+    {
+        let Some(tag) = spelled_tag(text) else {
+            return Ok(None);
+        };
+        push_spelled(&mut self.body, text)?;
+        Ok(Some(tag))
+    }
+
     /// The frame of the fields: BodyLength (9) without leading zeros, CheckSum (10) in three
     /// digits. The writer is gone either way.
     pub fn finish(self) -> Result<Vec<u8>, Memory>
@@ -168,6 +189,19 @@ fn push_field(body: &mut Vec<u8>, tag: u32, value: &[u8]) -> Result<(), Memory>
     body.reserve(value.len() + 12)?;
     push_tag(body, tag)?;
     body.extend_from_slice(value)?;
+    body.push_reserved(SOH);
+    Ok(())
+}
+
+/// Puts a field at the end of a body that is written already, but for its SOH.
+#[inline(always)]
+fn push_spelled(body: &mut Vec<u8>, text: &[u8]) -> Result<(), Memory>
+    requires { length text.now ≤ MOST_BODY }
+    ensures ok { OnOk result (body.new.items ≡ body.old.items ++ (text.now ++ 1 ∷ [])) }
+    ensures err { OnErr result (body.new.items ≡ body.old.items) }
+{
+    body.reserve(text.len() + 1)?;
+    body.extend_from_slice(text)?;
     body.push_reserved(SOH);
     Ok(())
 }

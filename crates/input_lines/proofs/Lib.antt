@@ -6,3 +6,4 @@ pub mod SayLemmas
 pub mod SpellLemmas
 pub mod StreamLemmas
 pub mod TagLemmas
+pub mod TextLemmas

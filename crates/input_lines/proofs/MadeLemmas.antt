@@ -1,18 +1,17 @@
 -- What a `say` line makes, by what each step of its reading gave.
 use Rattle.std.proofs.Common.{◌≡◌, ℕ, ◌==◌, ◌||◌, Bool, true, false, List, [], ◌∷◌, ◌++◌, length, fold}
-use Rattle.std.proofs.Common.{Option, Some, None, refl, sym, ap, ◌∙◌, if◌then◌else◌, codes, decimal}
+use Rattle.std.proofs.Common.{Option, Some, None, refl, sym, ap, ◌∙◌, if◌then◌else◌}
 use Rattle.std.specs.List.{list_any}
 use Rattle.std.specs.Option.{option_map}
 use Rattle.std.proofs.lemmas.Bool.{or_parts, or_from}
 use Rattle.fix_fields.specs.Frame.{Field, frame_text}
-use Rattle.fix_fields.specs.UtcTimestamp.{timestamp_text}
 use Rattle.input_lines.specs.Lines.{first_part, behind_part, parts_of, time_of}
 use Rattle.input_lines.specs.OptionSteps as option
 use Rattle.input_lines.specs.SayLine.{SayLine, said_field, said_fields, fields_in, said_of, said_message}
 use Rattle.input_lines.specs.SayLine.{has_tag, fitting, with_field, is_plain_part}
 use Rattle.input_lines.specs.SayReading.{made_from, made_of, is_header_tag, whole_header, with_text}
 use Rattle.input_lines.specs.declared.say_made.Made.{Made}
-use Rattle.input_lines.proofs.SpellLemmas.{fold-fitting, whole_frame, with_field_none}
+use Rattle.input_lines.proofs.SpellLemmas.{fold-fitting, with_field_none}
 
 -- Fields that are none of the header.
 
@@ -62,16 +61,6 @@ are_apart (field ∷ fields) none =
 -- by what it spells
 abbrev with_spelled : Option (List Field) → Option Field → Option (List Field)
 with_spelled before found = option.◌>>=◌ found (λ field. if is_header_tag field.0 then None else with_field before field)
-
-pub text_none : (before : Option (List Field)) (text : List ℕ) → None ≡ said_field text → None ≡ with_text before text
-unfolding with_text
-text_none before text none = ap (with_spelled before) none
-
-pub text_header : (before : Option (List Field)) (text : List ℕ) (field : Field) → Some field ≡ said_field text → is_header_tag field.0 ≡ true
-    → None ≡ with_text before text
-unfolding with_text
-text_header before text field is header =
-    sym (ap (λ (h : Bool). if h then None else with_field before field) header) ∙ ap (with_spelled before) is
 
 pub text_put : (before after : Option (List Field)) (text : List ℕ) (field : Field) (tag : ℕ) (value : List ℕ) → Some field ≡ said_field text
     → is_header_tag field.0 ≡ false → tag ≡ field.0 → value ≡ field.1 → after ≡ with_field before (tag, value) → after ≡ with_text before text
@@ -179,17 +168,6 @@ pub made_said : (date firm text : List ℕ) (number moment : ℕ) (said : SayLin
 made_said date firm text number moment said message is_numbered em en is put =
     ap (λ (m : ℕ). Some (made_record m message is_numbered)) em ∙ ap (λ (b : Bool). Some (made_record said.moment message b)) en
     ∙ made_is date firm text number said message is put
-
--- the header of a line, from what each step of its writing gave
-pub whole_header_is : (date firm : List ℕ) (number moment : ℕ) (trader msg_type : List ℕ) (f0 f1 f2 f3 f4 f5 : Option (List Field))
-    (t v1 v2 v3 v4 v5 : List ℕ) → t ≡ msg_type → v1 ≡ firm → v2 ≡ codes "VENUE" → v3 ≡ decimal number → v4 ≡ timestamp_text date moment
-    → v5 ≡ trader → f0 ≡ fitting ((35, t) ∷ []) → f1 ≡ with_field f0 (49, v1) → f2 ≡ with_field f1 (56, v2) → f3 ≡ with_field f2 (34, v3)
-    → f4 ≡ with_field f3 (52, v4) → f5 ≡ with_field f4 (50, v5) → f5 ≡ fitting (whole_header date firm number moment trader msg_type)
-whole_header_is date firm number moment trader msg_type f0 f1 f2 f3 f4 f5 t v1 v2 v3 v4 v5 et ev1 ev2 ev3 ev4 ev5 e0 e1 e2 e3 e4 e5 =
-    let whole : f5 ≡ fitting ((35, t) ∷ (49, v1) ∷ (56, v2) ∷ (34, v3) ∷ (52, v4) ∷ (50, v5) ∷ []) =
-    whole_frame f0 f1 f2 f3 f4 f5 f5 ((35, t) ∷ []) ((49, v1) ∷ []) ((56, v2) ∷ []) ((34, v3) ∷ []) ((52, v4) ∷ []) ((50, v5) ∷ []) []
-    e0 e1 e2 e3 e4 e5 refl in
-    rw (et, ev1, ev2, ev3, ev4, ev5) at whole
 
 -- What the parts of a line say, where each is of its form.
 

@@ -13,7 +13,7 @@ use Rattle.fix_fields.specs.TextLaws.{digits_if_all, value_if_all}
 use Rattle.quote_messages.specs.Texts.{number_up_to}
 use Rattle.input_lines.specs.SayLine.{is_plain_value, is_plain_character, is_plain_part, with_bar}
 
-plain : IsNumeralModel (AllDigits 10) (digits_value 10)
+pub plain : IsNumeralModel (AllDigits 10) (digits_value 10)
 plain = numerals_by_value (AllDigits 10) tells_digits
 
 -- a number of at most nine digits

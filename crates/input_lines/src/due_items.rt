@@ -6,7 +6,7 @@ use crate::frame_lines::{read_hexed, read_received};
 use crate::parts::{cut_part, has_part_behind, read_side, read_time, same_text};
 use bond_prices::Grid;
 use fix_fields::{Date, Memory};
-use quote_messages::{Ask, Close, Quantity, read_long_number, read_number};
+use quote_messages::{Ask, Close, FirmMessage, Quantity, read_long_number, read_number};
 use std::alloc::Global;
 use step_replay::Due;
 use venue_rows::{BondId, Name};
@@ -48,7 +48,7 @@ fn read_own(alloc: Global, date: &Date, text: &[u8]) -> Result<Option<Due>, Memo
     let Some((moment, message)) = read_received(alloc, date, text)? else {
         return Ok(None);
     };
-    Ok(Some(Due::Own(moment, message)))
+    Ok(Some(Due::Own(moment, FirmMessage::new(message))))
 }
 
 /// Behind `hex`: `TIME HEX`.
@@ -58,7 +58,7 @@ fn read_hex(alloc: Global, date: &Date, text: &[u8]) -> Result<Option<Due>, Memo
     let Some((moment, message)) = read_hexed(alloc, date, text)? else {
         return Ok(None);
     };
-    Ok(Some(Due::Own(moment, message)))
+    Ok(Some(Due::Own(moment, FirmMessage::new(message))))
 }
 
 /// Behind `shown`: `INVESTOR BOND SIDE QUANTITY DEADLINE TIME`, and `GRID` where it is given.

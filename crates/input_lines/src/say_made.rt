@@ -7,15 +7,17 @@ ghost use Rattle.input_lines.specs.SayLine as line;
 ghost use Rattle.input_lines.specs.SayReading as spec;
 
 use crate::bars::push_barred;
-use crate::fields::{is_plain_value, read_field};
+use crate::fields::is_plain_value;
 use crate::lines::Parts;
 use crate::parts::{cut_part, read_time};
-use crate::say_frames::{begun_frame, finished, with_field};
 use crate::say_lines::{SayLine, is_plain_part};
-use fix_fields::{Date, FrameWriter, Memory, Moment, moment_bytes};
+use fix_fields::{Date, FrameWriter, Memory, Moment, is_value, moment_bytes};
 use itoa::Buffer;
-use quote_messages::Message;
+use quote_messages::{FirmMessage, Message};
 use std::alloc::Global;
+
+/// How many bytes FIRM, TRADER, TYPE and the number have at most in a usual line.
+const USUAL_PART: usize = 64;
 
 /// What a `say` line makes.
 #[derive(Drop)]
@@ -23,7 +25,7 @@ pub(crate) struct Made {
     /// The moment at which the message comes.
     pub(crate) moment: Moment,
     /// The message.
-    pub(crate) message: Message,
+    pub(crate) message: FirmMessage,
     /// Whether BODY has MsgSeqNum (34).
     pub(crate) is_numbered: bool,
 }
@@ -101,13 +103,13 @@ fn made_by_fields(
     };
     Ok(Some(Made {
         moment: said.moment(),
-        message,
+        message: FirmMessage::new(message),
         is_numbered: said.is_numbered(),
     }))
 }
 
-/// The same of a line whose BODY has no field of the header, or none: of another line, or of one
-/// that is at fault, it says nothing.
+/// The same of a line whose BODY has no field of the header, or none: of another line, of one with
+/// a very long part, or of one that is at fault, it says nothing.
 fn made_at_once(
     alloc: Global,
     date: &Date,
@@ -129,14 +131,21 @@ fn made_at_once(
     if !is_plain_part(trader) || !is_plain_part(msg_type) || body.is_empty() {
         return Ok(None);
     }
+    if !is_value(body) {
+        return Ok(None);
+    }
     let header = header_frame(alloc, date, firm, number, moment, trader, msg_type)?;
-    let whole = with_texts(header, body)?;
-    let Some(message) = finished(whole)? else {
+    let Some(mut frame) = header else {
         return Ok(None);
     };
+    let put = push_texts(&mut frame, body)?;
+    if !put {
+        return Ok(None);
+    }
+    let bytes = frame.finish()?;
     Ok(Some(Made {
         moment,
-        message,
+        message: FirmMessage::of_frame(Message::new(bytes)),
         is_numbered: false,
     }))
 }
@@ -168,7 +177,7 @@ fn said_parts(text: &[u8]) -> SaidParts<'_>
     }
 }
 
-/// A frame of the whole header, unless it is too long already.
+/// A frame of the whole header, unless one of its parts is very long.
 #[tactic(auto, using(crate::proofs::TagLemmas::part_is_value))]
 fn header_frame(
     alloc: Global,
@@ -182,47 +191,61 @@ fn header_frame(
     requires firm { IsValue firm.now }
     requires trader { line.is_plain_part trader.now ≡ true }
     requires msg_type { line.is_plain_part msg_type.now ≡ true }
-    ensures { IfOk result (λ fields. fields
-        ≡ line.fitting (spec.whole_header date.now firm.now number moment trader.now msg_type.now)) }
+    ensures { IfOk result (λ frame. IfSome frame (λ frame. Some frame
+        ≡ line.fitting (spec.whole_header date.now firm.now number moment trader.now msg_type.now))) }
 {
     let mut buffer = Buffer::new();
     let digits = buffer.format(number).as_bytes();
+    if firm.len() > USUAL_PART || trader.len() > USUAL_PART {
+        return Ok(None);
+    }
+    if msg_type.len() > USUAL_PART || digits.len() > USUAL_PART {
+        return Ok(None);
+    }
     let time = moment_bytes(date, moment);
-    let typed = begun_frame(alloc, msg_type)?;
-    let sender = with_field(typed, 49, firm)?;
-    let target = with_field(sender, 56, b"VENUE")?;
-    let numbered = with_field(target, 34, digits)?;
-    let timed = with_field(numbered, 52, &time)?;
-    let header = with_field(timed, 50, trader)?;
-    Ok(header)
+    let mut frame = FrameWriter::new(alloc, msg_type)?;
+    frame.text(49, firm)?;
+    frame.text(56, b"VENUE")?;
+    frame.text(34, digits)?;
+    frame.text(52, &time)?;
+    frame.text(50, trader)?;
+    Ok(Some(frame))
 }
 
-/// A frame with the fields of BODY, as long as each is of its form and none of the header, and it
-/// fits.
-fn with_texts(mut frame: Option<FrameWriter>, body: &[u8]) -> Result<Option<FrameWriter>, Memory>
-    ensures { IfOk result (λ fields. fields ≡ fold spec.with_text frame (parts_of 124 body.now)) }
+/// Adds the fields of BODY to a frame, as long as each is of its form and none of the header, and
+/// it fits: whether all were added.
+fn push_texts(frame: &mut FrameWriter, body: &[u8]) -> Result<bool, Memory>
+    requires { IsValue body.now }
+    ensures { IfOk result (λ put. put ≡ true → Some frame.new
+        ≡ fold spec.with_text (Some frame.old) (parts_of 124 body.now)) }
 {
     for text in Parts::new(body, b'|') {
-        frame = with_text(frame, text)?;
+        let put = push_text(frame, text)?;
+        if !put {
+            return Ok(false);
+        }
     }
-    Ok(frame)
+    Ok(true)
 }
 
-/// A frame with the field that a text spells, where it spells one, that is none of the header, and
-/// where it still fits.
-// Inlined, so that a frame is not moved for each of its fields.
+/// Adds the field that a text spells to a frame, where it spells one that is none of the header,
+/// and where it still fits: whether it was added.
 #[inline(always)]
-fn with_text(frame: Option<FrameWriter>, text: &[u8]) -> Result<Option<FrameWriter>, Memory>
-    ensures { IfOk result (λ fields. fields ≡ spec.with_text frame text.now) }
+fn push_text(frame: &mut FrameWriter, text: &[u8]) -> Result<bool, Memory>
+    requires { IsValue text.now }
+    ensures { IfOk result (λ put. put ≡ true
+        → Some frame.new ≡ spec.with_text (Some frame.old) text.now) }
 {
-    let Some(field) = read_field(text) else {
-        return Ok(None);
-    };
-    if is_header_tag(field.tag()) {
-        return Ok(None);
+    if text.len() >= frame.left() {
+        return Ok(false);
     }
-    let fields = with_field(frame, field.tag(), field.value())?;
-    Ok(fields)
+    let Some(tag) = frame.spelled(text)? else {
+        return Ok(false);
+    };
+    if is_header_tag(tag) {
+        return Ok(false);
+    }
+    Ok(true)
 }
 
 /// Whether a tag is of the header that a `say` line writes of itself.

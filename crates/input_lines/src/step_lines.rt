@@ -93,7 +93,8 @@ fn read_say(
         return Err(ProgramFault::UnknownFirm { line });
     };
     let is_counted = !made.is_numbered;
-    Ok(Spelled::Said(firm, made.moment, made.message, is_counted))
+    let message = made.message.into_message();
+    Ok(Spelled::Said(firm, made.moment, message, is_counted))
 }
 
 /// Behind `in`: `FIRM TIME FRAME`.

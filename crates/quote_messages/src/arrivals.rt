@@ -1,6 +1,6 @@
 //! What the session makes of bytes that came from a firm.
-ghost use Rattle.std.specs.Prelude.{◌≡◌, ◌+◌, ◌<◌, ◌^◌, option_and_then};
-ghost use Rattle.fix_fields.specs.Frame.{value_of};
+ghost use Rattle.std.specs.Prelude.{◌≡◌, ◌+◌, ◌<◌, ◌^◌, IsTrue, is_some, option_and_then};
+ghost use Rattle.fix_fields.specs.Frame.{frame_of, value_of};
 ghost use Rattle.venue_rows.specs.Texts.{text_if};
 ghost use Rattle.quote_messages.specs.Texts.{is_msg_type};
 ghost use Rattle.quote_messages.specs.Arrivals as spec;
@@ -17,7 +17,7 @@ use crate::tag_reading::fault;
 use crate::{
     DealerMessage, InvestorMessage, MsgType, Reject, SeqNum, SessionFault, SessionRejectReason,
 };
-use fix_fields::{Date, read_frame};
+use fix_fields::{Date, known_frame, read_frame};
 use venue_rows::{DealerRow, InvestorRow};
 
 /// What becomes of bytes that came from a firm, before the market looks at them.
@@ -47,6 +47,23 @@ pub fn receive_dealer<'a>(
     let Ok(frame) = read_frame(bytes) else {
         return Arrival::Dropped;
     };
+    let message = FieldSlots::of(&frame);
+    let arrival = framed_dealer(date, row, expected, &message);
+    arrival
+}
+
+/// The same of bytes that are known to be a frame: that is not tested again.
+#[tactic(auto, unfolding(crate::specs::Arrivals::dealer_arrival))]
+pub fn receive_dealer_frame<'a>(
+    date: &Date,
+    row: &DealerRow,
+    expected: u64,
+    bytes: &'a [u8],
+) -> Arrival<'a, DealerMessage<'a>>
+    requires { IsTrue (is_some (frame_of bytes.now)) }
+    ensures exact { result ≡ dealer_arrival date.now row.now expected bytes.now }
+{
+    let frame = known_frame(bytes);
     let message = FieldSlots::of(&frame);
     let arrival = framed_dealer(date, row, expected, &message);
     arrival

@@ -41,8 +41,9 @@
 //! - An [`Id`], an [`IdBuf`], a [`SeqNum`], a [`MsgType`] and a [`Quantity`] are never anything but
 //!   what their forms allow, so what is written of them needs no check.
 //!
-//! Only [`expected_number`] has a condition, each call returns, and only [`write_out`] and
-//! [`Message::copy_of`] take memory.
+//! Only [`expected_number`] and what takes a frame that is not tested again
+//! ([`receive_dealer_frame`], [`FirmMessage::of_frame`]) have a condition, each call returns, and
+//! only [`write_out`], [`Message::copy_of`] and [`FirmMessage::copy_of`] take memory.
 #![tactic(auto)]
 
 mod arrivals;
@@ -50,6 +51,7 @@ mod characters;
 mod dealer_checks;
 mod dealer_writing;
 mod field_writing;
+mod firm_messages;
 mod header;
 mod investor_checks;
 mod investor_writing;
@@ -69,8 +71,11 @@ mod slots;
 mod tag_reading;
 mod writing;
 
-pub use arrivals::{Arrival, expected_number, receive_dealer, receive_investor};
+pub use arrivals::{
+    Arrival, expected_number, receive_dealer, receive_dealer_frame, receive_investor,
+};
 pub use dealer_checks::read_dealer;
+pub use firm_messages::FirmMessage;
 pub use investor_checks::read_investor;
 pub use market_terms::{
     Ask, AskedDealers, Close, Duty, HitRefusal, Id, IdBuf, Offer, Quantity, QuoteLine, QuoteState,

@@ -14,7 +14,7 @@ use dealer_desk::{
     words_are_asked_event_by_event,
 };
 use fix_fields::{Date, Memory, Moment};
-use quote_messages::Message;
+use quote_messages::FirmMessage;
 use quote_word::Settled;
 use std::alloc::Global;
 use step_replay::Due;
@@ -123,7 +123,7 @@ fn put_received(
     let verdict = desk.judge(moment, bytes);
     let asked = verdict.word_asked();
     put_lifting(dues, asked, settlement)?;
-    dues.push(Due::Own(moment, Message::copy_of(alloc, bytes)?))?;
+    dues.push(Due::Own(moment, FirmMessage::copy_of(alloc, bytes)?))?;
     desk.receive_judged(moment, bytes, verdict, settlement_taken(asked, settlement))?;
     Ok(())
 }

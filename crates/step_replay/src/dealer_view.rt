@@ -10,9 +10,11 @@ ghost use Rattle.step_replay.specs.DealerView as spec;
 ghost use Rattle.step_replay.specs.RowOfWords as kept;
 
 use crate::Due;
-use dealer_desk::{DealerDesk, facts_say_how_words_were_settled, words_are_asked_event_by_event};
+use dealer_desk::{
+    DealerDesk, DealerVerdict, facts_say_how_words_were_settled, words_are_asked_event_by_event,
+};
 use fix_fields::{Date, Memory, Moment};
-use quote_messages::{RoomRef, SentMessage};
+use quote_messages::{FirmMessage, RoomRef, SentMessage};
 use quote_word::{PlainWords, Settled, Words};
 use std::alloc::Global;
 use venue_rows::DealerRow;
@@ -50,7 +52,7 @@ fn do_due(desk: &mut DealerDesk, words: &mut PlainWords, due: &Due) -> Result<()
     quotes_are_withdrawn_event_by_event();
     match due {
         Due::Own(moment, message) => {
-            receive_own(desk, words, *moment, message.as_bytes())?;
+            receive_own(desk, words, *moment, message)?;
             Ok(())
         }
         Due::Shown(ask, moment) => {
@@ -80,21 +82,34 @@ fn receive_own(
     desk: &mut DealerDesk,
     words: &mut PlainWords,
     moment: Moment,
-    bytes: &[u8],
+    message: &FirmMessage,
 ) -> Result<(), Memory>
     requires { length words.old ≡ desk.old.row.quotes }
-    ensures ok { OnOk result (let asked = word_asked (verdict_at desk.old moment bytes.now) in
+    ensures ok { OnOk result (let asked = word_asked (verdict_at desk.old moment message.now) in
         desk.new ≡ with_event desk.old
-        (DealerEvent.Received moment bytes.now (option_map (kept.settlement_in words.old) asked))) }
+        (DealerEvent.Received moment message.now (option_map (kept.settlement_in words.old) asked))) }
     ensures words { words.new
-        ≡ kept.with_asked words.old (word_asked (verdict_at desk.old moment bytes.now)) }
-    ensures asked { IfSome (word_asked (verdict_at desk.old moment bytes.now))
+        ≡ kept.with_asked words.old (word_asked (verdict_at desk.old moment message.now)) }
+    ensures asked { IfSome (word_asked (verdict_at desk.old moment message.now))
         (kept.IsOfRow desk.old.row.quotes) }
 {
-    let verdict = desk.judge(moment, bytes);
+    let verdict = judged(desk, moment, message);
     let settlement = ask(words, verdict.word_asked());
-    desk.receive_judged(moment, bytes, verdict, settlement)?;
+    desk.receive_judged(moment, message.as_bytes(), verdict, settlement)?;
     Ok(())
+}
+
+/// The verdict on a message: that it is a frame is not tested where it is known.
+fn judged<'a>(desk: &DealerDesk, moment: Moment, message: &'a FirmMessage) -> DealerVerdict<'a>
+    ensures verdict { result ≡ verdict_at desk.now moment message.now }
+    ensures own { IfSome (word_asked result) (kept.IsOfRow desk.now.row.quotes) }
+{
+    if !message.is_frame() {
+        let tested = desk.judge(moment, message.as_bytes());
+        return tested;
+    }
+    let known = desk.judge_frame(moment, message.as_bytes());
+    known
 }
 
 /// Drops the next of the quotes up to `last`, with the settlement of its word.

@@ -6,7 +6,7 @@ use crate::Due;
 use crate::floor::DealerPlace;
 use dealer_desk::DealerEvent;
 use fix_fields::Memory;
-use quote_messages::Message;
+use quote_messages::FirmMessage;
 use std::alloc::Global;
 
 /// What was due to the dealer at a place, in its order, each message copied in memory of its own.
@@ -56,7 +56,7 @@ fn due_by(alloc: Global, event: &DealerEvent) -> Result<Due, Memory>
             message,
             ..
         } => {
-            let message = Message::copy_of(alloc, message.as_bytes())?;
+            let message = FirmMessage::copy_of(alloc, message.as_bytes())?;
             Ok(Due::Own(*moment, message))
         }
         DealerEvent::Shown { ask, moment, .. } => Ok(Due::Shown(ask.copy(), *moment)),

@@ -1,12 +1,12 @@
 //! What is due to one dealer.
 use fix_fields::Moment;
-use quote_messages::{Ask, Close, Message};
+use quote_messages::{Ask, Close, FirmMessage};
 
 /// One item of what is due to a dealer. Quotes and requests have the dealer's own numbers, from 1.
 #[derive(Drop)]
 pub enum Due {
     /// A message of the dealer's own, and the moment at which it comes.
-    Own(Moment, Message),
+    Own(Moment, FirmMessage),
     /// A request that the dealer is shown, and the moment at which it is.
     Shown(Ask, Moment),
     /// A lifting of a quote of the dealer: an investor hit it.

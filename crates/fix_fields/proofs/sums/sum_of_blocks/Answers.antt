@@ -1,4 +1,4 @@
-use Rattle.std.proofs.Common.{◌≡◌, ◌+◌, ◌≤◌, ◌%◌, length, take, sum, refl, arith}
+use Rattle.std.proofs.Common.{◌+◌, ◌≤◌, length, take, refl, arith}
 use Rattle.std.proofs.lemmas.Bool.Decides.{nat_tests}
 use Rattle.fix_fields.proofs.SumLemmas.{lanes_more, lanes_begin, lanes_folded, length-added}
 use Rattle.fix_fields.proofs.sums.sum_of_blocks.Goals as goal

@@ -14,5 +14,6 @@ returns-in_default-firm-clause-err c = λ _.
 
 pub returns-clause-ok : goal.returns-clause-ok
 returns-clause-ok c =
-    made_ok (values_of c.args.config.now) c.args.heard.now c.args.line c.args.text.now (search rules)
-    c.in-Some.made c.in-Some-firm.firm (search rules) (search rules)
+    rw c.into_message-message.ensures
+    (made_ok (values_of c.args.config.now) c.args.heard.now c.args.line c.args.text.now (search rules)
+    c.in-Some.made c.in-Some-firm.firm (search rules) (search rules))

@@ -1,4 +1,4 @@
-use Rattle.std.proofs.Common.{◌∙◌, List, ℕ, ap, subst, sym}
+use Rattle.std.proofs.Common.{◌∙◌, ap, subst, sym}
 use Rattle.market_terms.specs.declared.asks.Ask.{Ask}
 use Rattle.dealer_desk.specs.DealerOutput.{with_event}
 use Rattle.dealer_desk.specs.declared.events.DealerEvent.TheVariants as event
@@ -16,10 +16,9 @@ returns-in_ok-receive_own-in-Own-clause-ok c =
     let before : DeskAndWords = record { desk = c.args.desk.now; words = c.args.words.now } in
     let after : DeskAndWords =
     record { desk = c.receive_own.new.desk; words = c.receive_own.new.words } in
-    let is = ap (λ (bytes : List ℕ). due.Own moment bytes) c.as_bytes.ensures ∙ sym c.in-Own.is in
-    subst (λ (d : Due). Happens d before after) is
+    subst (λ (d : Due). Happens d before after) (sym c.in-Own.is)
     (own_happens c.quotes_are_withdrawn_event_by_event.ensures before.desk after.desk
-    before.words after.words moment c.as_bytes.result.now c.requires c.receive_own.ensures.asked
+    before.words after.words moment c.in-Own.message c.requires c.receive_own.ensures.asked
     c.in_ok-receive_own-in-Own.ensures.ok c.receive_own.ensures.words)
 
 pub returns-in_ok-show-in-Shown-clause-ok : goal.returns-in_ok-show-in-Shown-clause-ok
