@@ -32,7 +32,6 @@
 //!   length in decimal without leading zeros, so it is read back as these fields. [`is_tag`],
 //!   [`is_value`] and [`fits`] are the tests of what a writer asks for, and [`FrameWriter::left`]
 //!   tells how much still fits. A call whose memory is refused leaves the writer as it was.
-//! - [`len_before`] is the place of the first byte of its kind, looked for 16 bytes at a time.
 //! - [`read_moment`] reads exactly the two spellings of a moment of its date, and tells what is no
 //!   spelling at all from what is one of another date. What [`moment_text`] returns is read back;
 //!   [`moment_bytes`] are its bytes, and [`time_text`] is its part behind the date.
@@ -67,7 +66,6 @@ pub use laws::{
 };
 pub use limits::{MOST_BODY, MOST_FRAME};
 pub use moments::{Moment, moment_bytes, moment_text, read_moment, time_text};
-pub use scan::len_before;
 pub use stream_laws::{
     envelopes_of_is_the_cutting, frames_are_cut, pieces_make_no_difference,
     stream_faults_are_for_ever,

@@ -39,36 +39,26 @@ pub(crate) fn value_len(text: &[u8]) -> usize
     ensures fits { result ≤ length text.now }
     ensures place { result ≡ position_or_len (λ byte. byte == 1) text.now }
 {
-    len_before(text, SOH)
-}
-
-/// How many bytes stand before the first one that is `byte`, or all where none is.
-// Inlined, so that short texts are looked through where they stand.
-#[inline(always)]
-pub fn len_before(text: &[u8], byte: u8) -> usize
-    ensures fits { result ≤ length text.now }
-    ensures place { result ≡ position_or_len (λ c. c == byte) text.now }
-{
     let mut len = 0;
     while text.len() - len >= BLOCK {
-        let before = len_in_block(text, len, byte);
+        let before = len_in_block(text, len);
         if before != BLOCK {
             return len + before;
         }
         len += BLOCK;
     }
-    len + short_len_before(&text[len..], byte)
+    len + short_value_len(&text[len..])
 }
 
-/// How many bytes of the block at a place stand before its first `byte`: all where there is none.
+/// How many bytes of the block at a place stand before its first SOH: all where there is none.
 #[inline(always)]
-fn len_in_block(text: &[u8], at: usize, byte: u8) -> usize
+fn len_in_block(text: &[u8], at: usize) -> usize
     requires { at + BLOCK ≤ length text.now }
     ensures few { result ≤ BLOCK }
-    ensures place { result ≡ position_or_len (λ c. c == byte) (chunk at 16 text.now) }
+    ensures place { result ≡ position_or_len (λ byte. byte == 1) (chunk at 16 text.now) }
 {
     let found = u8x16::from_slice(&text[at..])
-        .simd_eq(u8x16::splat(byte))
+        .simd_eq(u8x16::splat(SOH))
         .to_bitmask();
     if found == 0 {
         return BLOCK;
@@ -76,15 +66,15 @@ fn len_in_block(text: &[u8], at: usize, byte: u8) -> usize
     found.trailing_zeros() as usize
 }
 
-/// The same as [`len_before`], byte by byte: of the last ones, which are no block.
+/// How many bytes stand before the first SOH, byte by byte: of the last ones, which are no block.
 #[inline(never)]
-fn short_len_before(text: &[u8], byte: u8) -> usize
+fn short_value_len(text: &[u8]) -> usize
     ensures fits { result ≤ length text.now }
-    ensures place { result ≡ position_or_len (λ c. c == byte) text.now }
+    ensures place { result ≡ position_or_len (λ byte. byte == 1) text.now }
 {
     let mut len = 0;
     while len < text.len() {
-        if text[len] == byte {
+        if text[len] == SOH {
             return len;
         }
         len += 1;

@@ -1,25 +1,43 @@
 -- Cutting a text at the first place of a byte, and the parts that this gives.
 use Rattle.std.proofs.Common.{◌≡◌, ℕ, ◌+◌, ◌-◌, ◌≤◌, ◌==◌, Bool, cond, nat_lt, true, false, List}
-use Rattle.std.proofs.Common.{[], ◌∷◌, length, take, drop, sym, ap, ◌∙◌, refl, arith}
+use Rattle.std.proofs.Common.{[], ◌∷◌, length, take, drop, get_or, sym, ap, ◌∙◌, refl, arith}
 use Rattle.std.proofs.Common.{inl, inr, Some, None}
 use Rattle.std.proofs.lemmas.Bool.Decides.{nat_tests}
 use Rattle.std.specs.List.{before_first, after_first, onto_first, position, position_or_len}
-use Rattle.std.proofs.lemmas.Bool.{cases_Bool}
-use Rattle.std.proofs.lemmas.List.{take_all, drop_all}
+use Rattle.std.proofs.lemmas.Bool.{cases_Bool, false_from_ne_true}
+use Rattle.std.proofs.lemmas.List.{take_all, drop_all, length-drop}
+use Rattle.std.proofs.lemmas.List.Sums.{position_or_len_is}
+use Rattle.memchr.specs.Find.{Nowhere, NoneBefore, Passes, is_byte}
 use Rattle.input_lines.specs.FrontLemmas.{after_skip, before_skip, spoken_skip, spoken_stop}
 use Rattle.input_lines.specs.Lines.{parts_of, is_skipped, spoken_from}
 
--- a text cut at the first place of a byte, where it has one
-pub cut_inside : (byte place : ℕ) (text : List ℕ) → place ≡ position_or_len (λ (c : ℕ). c == byte) text
-    → (take place text ≡ before_first (λ (c : ℕ). c == byte) text) × (drop (place + 1) text ≡ after_first (λ (c : ℕ). c == byte) text)
-cut_inside byte place text is = rw is (refl, refl)
+nowhere_place : (byte : ℕ) (text : List ℕ) → Nowhere (Passes (is_byte byte) text) 0 (length text) → position_or_len (λ (c : ℕ). c == byte) text ≡ length text
+nowhere_place byte text none =
+    position_or_len_is (λ (c : ℕ). c == byte) text (length text) 0 (omega arith)
+    (λ k h. false_from_ne_true (get_or text k 0 == byte) (none k (omega arith) h)) (λ h. absurd (omega arith))
 
--- and where it has none
-pub cut_outside : (byte place : ℕ) (text : List ℕ) → place ≡ position_or_len (λ (c : ℕ). c == byte) text → (place == length text) ≡ true
-    → (text ≡ before_first (λ (c : ℕ). c == byte) text) × ([] ≡ after_first (λ (c : ℕ). c == byte) text)
-cut_outside byte place text is ended =
-    let within : length text ≤ position_or_len (λ (c : ℕ). c == byte) text = grind (arith, nat_tests) in
-    (sym (take_all _ text within), sym (drop_all _ text (omega arith)))
+-- a text without the byte
+pub nowhere_front : (byte : ℕ) (text : List ℕ) → Nowhere (Passes (is_byte byte) text) 0 (length text) → text ≡ before_first (λ (c : ℕ). c == byte) text
+nowhere_front byte text none = rw (nowhere_place byte text none) (sym (take_all (length text) text (omega arith)))
+
+pub nowhere_behind : (byte : ℕ) (text : List ℕ) → Nowhere (Passes (is_byte byte) text) 0 (length text) → [] ≡ after_first (λ (c : ℕ). c == byte) text
+nowhere_behind byte text none = rw (nowhere_place byte text none) (sym (drop_all (length text + 1) text (omega arith)))
+
+place_is : (byte i : ℕ) (text : List ℕ) → NoneBefore (Passes (is_byte byte) text) 0 (length text) i → Passes (is_byte byte) text i
+    → position_or_len (λ (c : ℕ). c == byte) text ≡ i
+place_is byte i text before here =
+    position_or_len_is (λ (c : ℕ). c == byte) text i 0 (let h = before.high in omega arith)
+    (λ k h. false_from_ne_true (get_or text k 0 == byte) (before.before k (omega arith) h)) (λ _. here)
+
+-- and a text with it
+pub place_front : (byte i : ℕ) (text : List ℕ) → NoneBefore (Passes (is_byte byte) text) 0 (length text) i → Passes (is_byte byte) text i
+    → take i text ≡ before_first (λ (c : ℕ). c == byte) text
+place_front byte i text before here = rw (place_is byte i text before here) refl
+
+pub place_behind : (byte i : ℕ) (text : List ℕ) → NoneBefore (Passes (is_byte byte) text) 0 (length text) i → Passes (is_byte byte) text i
+    → take (length text - (i + 1)) (drop (i + 1) text) ≡ after_first (λ (c : ℕ). c == byte) text
+place_behind byte i text before here =
+    rw (place_is byte i text before here) (take_all (length text - (i + 1)) (drop (i + 1) text) (omega (arith, length-drop (i + 1) text)))
 
 -- the first part of a text, and the parts of what stands behind it
 parts_end : (byte c : ℕ) (text : List ℕ) → (c == byte) ≡ true → parts_of byte (c ∷ text)

@@ -5,25 +5,24 @@ ghost use Rattle.venue_rows.specs.Texts as texts;
 ghost use Rattle.input_lines.specs.Lines as spec;
 
 use arrayvec::ArrayVec;
-use fix_fields::{Date, Moment, len_before, read_moment};
+use fix_fields::{Date, Moment, read_moment};
+use memchr::memchr;
 use quote_messages::Side;
 
 /// What stands before the first `byte` of a text, and what stands behind it: all of the text and
 /// nothing where it has none.
-#[tactic(auto, using(crate::proofs::CutLemmas::cut_inside, crate::proofs::CutLemmas::cut_outside))]
 pub(crate) fn cut_at(text: &[u8], byte: u8) -> (&[u8], &[u8])
     ensures front { result.0.now ≡ before_first (λ c. c == byte) text.now }
     ensures behind { result.1.now ≡ after_first (λ c. c == byte) text.now }
     ensures shorter { 0 < length text.now → length result.1.now < length text.now }
 {
-    let place = len_before(text, byte);
-    if place == text.len() {
+    let Some(place) = memchr(byte, text) else {
         return (text, &[]);
-    }
+    };
     (&text[..place], &text[place + 1..])
 }
 
-/// The same where the first `byte` is near: a plain walk is there before a block is looked at.
+/// The same where the first `byte` is near: a plain walk is there before `memchr` begins.
 #[tactic(auto, using(crate::proofs::CutLemmas::cut_there, crate::proofs::CutLemmas::cut_nowhere))]
 pub(crate) fn cut_near(text: &[u8], byte: u8) -> (&[u8], &[u8])
     ensures front { result.0.now ≡ before_first (λ c. c == byte) text.now }
