@@ -18,6 +18,9 @@ DATABASES = [Host("db%d" % number, 10 + number) for number in (1, 2, 3)]
 GATEWAYS = [Host("gw%d" % number, 20 + number) for number in (1, 2)]
 FIRMS = Host("firms", 31)
 
+# Debian's packages of what is started on database hosts, and of the network between them.
+PACKAGES = ("etcd-server", "etcd-client", "postgresql", "patroni", "python3-etcd", "iproute2")
+
 
 @dataclass
 class Machine:
@@ -41,6 +44,7 @@ class Machine:
 
     def bring_up_databases(self) -> None:
         """Makes the hosts, and starts the database ones."""
+        check_packages()
         self.network.up()
         self.folder.mkdir(parents=True, exist_ok=True)
         self.images.mkdir(parents=True, exist_ok=True)
@@ -105,3 +109,16 @@ def remove(prefix: str, folder: Path, images: Path) -> None:
 def check_root() -> None:
     if os.geteuid() != 0:
         raise Fault("namespaces and file systems are made by root alone")
+
+
+def is_installed(package: str) -> bool:
+    try:
+        return run("dpkg-query", "-W", "-f=${Status}", package) == "install ok installed"
+    except Fault:
+        return False
+
+
+def check_packages() -> None:
+    missing = [package for package in PACKAGES if not is_installed(package)]
+    if missing:
+        raise Fault("these packages are not installed: %s" % " ".join(missing))

@@ -26,6 +26,10 @@ if ! command -v "$program" >/dev/null; then
         "or name one in VENUE" >&2
     exit 2
 fi
+if ! /usr/bin/python3 -c 'import jinja2' 2>/dev/null; then
+    echo "python3-jinja2 is not installed, which the pages are made with" >&2
+    exit 2
+fi
 REMEMBERED=$(mktemp -d)
 export REMEMBERED
 trap 'rm -rf "$REMEMBERED"' EXIT

@@ -34,6 +34,15 @@ if ! command -v "$program" >/dev/null; then
         "or name one in VENUE" >&2
     exit 2
 fi
+lacking=
+for package in postgresql patroni etcd-server etcd-client python3-etcd iproute2; do
+    dpkg-query -W -f='${Status}' "$package" 2>/dev/null | grep -q '^install ok installed' ||
+        lacking="$lacking $package"
+done
+if [ -n "$lacking" ]; then
+    echo "these packages are not installed:$lacking" >&2
+    exit 2
+fi
 work=$(mktemp -d)
 trap 'rm -rf "$work"' EXIT
 trap 'exit 143' HUP INT TERM
