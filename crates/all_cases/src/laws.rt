@@ -96,7 +96,7 @@ impl<'a, H: Threads + Wait + Sync> Program<'a, H> {
     fn same_live(&self, call: &mut Call<'_>) -> Result<(), CaseFault> {
         let (frames, firms) = form_of(call.words.rest());
         let lines = without_turns(self.alloc, self.input)?;
-        let live = self.over(lines.as_slice()).ran_in_form(&["live"], frames)?;
+        let live = self.ran_in_form(&["live"], frames, lines.as_slice())?;
         live.tell(&mut call.answer)?;
         self.same_firms(firms, frames, live.out.as_slice(), &mut call.answer)
     }
@@ -119,7 +119,7 @@ impl<'a, H: Threads + Wait + Sync> Program<'a, H> {
 
     /// Whether `replay` has these lines for a firm.
     fn is_replayed(&self, firm: &str, frames: bool, lines: &[u8]) -> Result<bool, CaseFault> {
-        let replayed = self.ran_in_form(&["replay", firm], frames)?;
+        let replayed = self.ran_in_form(&["replay", firm], frames, self.input)?;
         let is_same = replayed.status == 0 && lines == replayed.out.as_slice();
         Ok(is_same)
     }
@@ -138,31 +138,25 @@ impl<'a, H: Threads + Wait + Sync> Program<'a, H> {
     /// Whether it does so for this dealer.
     fn is_same_alone(&self, dealer: &str, frames: bool) -> Result<bool, CaseFault> {
         let due = self.ran(&["due", dealer], Paces::whole());
-        let alone = self
-            .over(due.out.as_slice())
-            .ran_in_form(&["alone"], frames)?;
+        let alone = self.ran_in_form(&["alone"], frames, due.out.as_slice())?;
         let are_done = due.status == 0 && alone.status == 0;
         let has_lines = self.is_replayed(dealer, frames, alone.out.as_slice())?;
         let is_same = are_done && has_lines;
         Ok(is_same)
     }
 
-    /// The program over another input.
-    fn over<'b>(&'b self, input: &'b [u8]) -> Program<'b, H> {
-        Program {
-            rt: self.rt,
-            alloc: self.alloc,
-            input,
-        }
-    }
-
-    /// Runs a command, with `--frames` or without.
-    fn ran_in_form(&self, command: &[&str], frames: bool) -> Result<Ended, CaseFault> {
+    /// Runs a command over an input, with `--frames` or without.
+    fn ran_in_form(
+        &self,
+        command: &[&str],
+        frames: bool,
+        input: &[u8],
+    ) -> Result<Ended, CaseFault> {
         let mut words = Vec::from_slice(self.alloc, command)?;
         if frames {
             words.push("--frames")?;
         }
-        Ok(self.ran(words.as_slice(), Paces::whole()))
+        Ok(self.ran_over(input, words.as_slice(), Paces::whole()))
     }
 }
 

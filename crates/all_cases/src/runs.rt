@@ -46,7 +46,12 @@ pub(crate) struct Program<'a, H: Threads + Wait + Sync> {
 impl<'a, H: Threads + Wait + Sync> Program<'a, H> {
     /// Runs it with these arguments.
     pub(crate) fn ran(&self, words: &[&str], paces: Paces) -> Ended {
-        let mut input = Source::new(self.input, paces.input);
+        self.ran_over(self.input, words, paces)
+    }
+
+    /// Runs it with these arguments over another input.
+    pub(crate) fn ran_over(&self, bytes: &[u8], words: &[&str], paces: Paces) -> Ended {
+        let mut input = Source::new(bytes, paces.input);
         let mut out = Sink::new(self.alloc, paces.out);
         let mut err = Sink::new(self.alloc, paces.err);
         let status = run_program(self.rt, self.alloc, words, &mut input, &mut out, &mut err);
