@@ -2,14 +2,15 @@
 use crate::in_step::ran_in_step;
 use crate::inputs::Inputs;
 use crate::process::ended_process;
+use crate::running::{Running, Step};
 use crate::runs::{Ended, Program, first_lines, words_of};
-use case_lines::{Call, CaseFault, Place};
+use case_lines::{Call, CaseFault, Report, Words};
 use std::alloc::Global;
 use std::marker::Sync;
 use std::sync::Wait;
 use std::thread::Threads;
 
-/// The place `commands`: the commands of the program, as far as a case has come.
+/// The commands of the program, as far as a case has come.
 #[derive(Drop)]
 pub(crate) struct Commands<'h, H: Threads + Wait + Sync> {
     rt: &'h H,
@@ -18,7 +19,73 @@ pub(crate) struct Commands<'h, H: Threads + Wait + Sync> {
     last: Ended,
 }
 
-impl<'h, H: Threads + Wait + Sync> Place for Commands<'h, H> {
+impl<'h, H: Threads + Wait + Sync> Commands<'h, H> {
+    /// Before the first call.
+    pub(crate) fn new(rt: &'h H, alloc: Global) -> Self {
+        Commands {
+            rt,
+            inputs: Inputs::new(alloc),
+            last: Ended::nothing(alloc),
+        }
+    }
+
+    /// A case begins: nothing is left of the case before it.
+    fn begin(&mut self, alloc: Global) {
+        self.inputs = Inputs::new(alloc);
+        self.last = Ended::nothing(alloc);
+    }
+
+    /// Runs the cases that these lines are.
+    pub(crate) fn run_lines(
+        &mut self,
+        alloc: Global,
+        text: &str,
+        report: &mut Report,
+    ) -> Result<(), CaseFault> {
+        let mut running = Running::new(alloc);
+        for line in text.lines() {
+            match running.take(line, report)? {
+                Step::Nothing => {}
+                Step::Begin => self.begin(alloc),
+                Step::Call(line) => running.hear(self.made(alloc, line)),
+            }
+        }
+        running.end(report)
+    }
+
+    /// What the program answers to the call that a line is.
+    fn made(&mut self, alloc: Global, line: &str) -> Result<String, CaseFault> {
+        if let Some(repeated) = line.strip_prefix("repeat ") {
+            return self.made_often(alloc, repeated);
+        }
+        self.made_once(Call::of(alloc, line))
+    }
+
+    /// `FROM TO CALL`: makes CALL once for each number from FROM to TO, which stands in it for `<n>`.
+    /// It gives what the last one answers.
+    fn made_often(&mut self, alloc: Global, line: &str) -> Result<String, CaseFault> {
+        let mut words = Words::of(line);
+        let from = words.number()?;
+        let to = words.number()?;
+        let call = words.rest();
+        let mut last = String::new(alloc);
+        for n in from..=to {
+            let number = format!(in alloc; "{n}")?;
+            let call = call.replace(alloc, "<n>", number.as_str())?;
+            last = self.made_once(Call::of(alloc, call.as_str()))?;
+        }
+        Ok(last)
+    }
+
+    /// What the program answers to a call, each word of which has to be read.
+    fn made_once(&mut self, mut call: Call<'_>) -> Result<String, CaseFault> {
+        self.call(&mut call)?;
+        call.words.end()?;
+        let Call { answer, .. } = call;
+        Ok(answer)
+    }
+
+    /// Makes one call, and appends the lines of its answer, each with its line feed.
     fn call(&mut self, call: &mut Call<'_>) -> Result<(), CaseFault> {
         match call.name {
             "run" => self.show(call),
@@ -29,17 +96,6 @@ impl<'h, H: Threads + Wait + Sync> Place for Commands<'h, H> {
             "each" => self.program(call.alloc).each(call),
             "same" => self.program(call.alloc).same(call),
             _ => self.inputs.take(call),
-        }
-    }
-}
-
-impl<'h, H: Threads + Wait + Sync> Commands<'h, H> {
-    /// Before the first call.
-    pub(crate) fn new(rt: &'h H, alloc: Global) -> Self {
-        Commands {
-            rt,
-            inputs: Inputs::new(alloc),
-            last: Ended::nothing(alloc),
         }
     }
 

@@ -3,19 +3,21 @@
 #![tactic(auto)]
 
 mod commands;
+mod expanded;
 mod in_row;
 mod in_step;
 mod inputs;
 mod laws;
 mod places;
 mod process;
+mod running;
 mod runs;
 mod streams;
 
 use case_lines::{CaseFault, CaseFile, Report};
 use commands::Commands;
 use places::run_place;
-use std::alloc::Global;
+use running::text_of_cases;
 use std::marker::Sync;
 use std::process::ExitCode;
 use std::rt::{Env, Files};
@@ -58,13 +60,18 @@ fn run_text<H: Threads + Wait + Sync + AllocGlobal + Drop>(
     text: &str,
     report: &mut Report,
 ) -> Result<(), CaseFault> {
-    let Some(file) = CaseFile::of(rt.alloc(), text) else {
+    let alloc = rt.alloc();
+    let Some(file) = CaseFile::of(alloc, text) else {
         report.refuse("", "names no place")?;
         return Ok(());
     };
     if file.place() != "commands" {
         return run_place(&file, report);
     }
-    file.run(|alloc: Global| Ok(Commands::new(rt, alloc)), report)?;
+    let Some(lines) = text_of_cases(alloc, text, report)? else {
+        return Ok(());
+    };
+    let mut commands = Commands::new(rt, alloc);
+    commands.run_lines(alloc, lines.as_str(), report)?;
     Ok(())
 }
