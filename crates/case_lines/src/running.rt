@@ -1,8 +1,7 @@
-//! The lines of a file of cases, as far as they were run: as `case_lines` has them, for a driver that
-//! holds a handle of the process. A [`Place`](case_lines::Place) can't: no call of a trait may ask that
-//! the handle can be shared between threads.
-use crate::expanded::expanded;
-use case_lines::{CaseFault, Report, push_line};
+//! The lines of a file of cases, as far as they were run.
+use crate::answers::push_line;
+use crate::faults::CaseFault;
+use crate::report::Report;
 use std::alloc::Global;
 
 /// How far a case has come.
@@ -17,7 +16,7 @@ enum Stage {
 
 /// What a line asks for.
 #[derive(Clone, Copy, Debug, PartialEq, Eq)]
-pub(crate) enum Step<'a> {
+pub enum Step<'a> {
     /// Nothing.
     Nothing,
     /// A case begins: nothing is left of the case before it.
@@ -26,9 +25,10 @@ pub(crate) enum Step<'a> {
     Call(&'a str),
 }
 
-/// A file of cases that is run line by line.
+/// The lines of a [`CaseFile`](crate::CaseFile) that are run one by one, by it or by whoever makes the
+/// calls without a [`Place`](crate::Place).
 #[derive(Drop)]
-pub(crate) struct Running<'a> {
+pub struct Running<'a> {
     stage: Stage,
     name: &'a str,
     /// The last call, empty before the first one, and why it could not be made.
@@ -38,25 +38,9 @@ pub(crate) struct Running<'a> {
     wanted: String,
 }
 
-/// The lines of a file, without comments, names and blocks. A file at fault is told, and has none.
-pub(crate) fn text_of_cases(
-    alloc: Global,
-    file: &str,
-    report: &mut Report,
-) -> Result<Option<String>, CaseFault> {
-    let mut at = String::new(alloc);
-    match expanded(alloc, file, &mut at) {
-        Ok(text) => Ok(Some(text)),
-        Err(fault) => {
-            report.refuse(at.as_str(), fault.word())?;
-            Ok(None)
-        }
-    }
-}
-
 impl<'a> Running<'a> {
     /// Before the first line.
-    pub(crate) fn new(alloc: Global) -> Running<'a> {
+    pub fn new(alloc: Global) -> Running<'a> {
         Running {
             stage: Stage::Outside,
             name: "",
@@ -68,7 +52,7 @@ impl<'a> Running<'a> {
     }
 
     /// What the last call answered, or why it could not be made.
-    pub(crate) fn hear(&mut self, made: Result<String, CaseFault>) {
+    pub fn hear(&mut self, made: Result<String, CaseFault>) {
         match made {
             Ok(answer) => self.answer = answer,
             Err(fault) => self.fault = Some(fault),
@@ -76,11 +60,7 @@ impl<'a> Running<'a> {
     }
 
     /// The next line, and what it asks for.
-    pub(crate) fn take(
-        &mut self,
-        line: &'a str,
-        report: &mut Report,
-    ) -> Result<Step<'a>, CaseFault> {
+    pub fn take(&mut self, line: &'a str, report: &mut Report) -> Result<Step<'a>, CaseFault> {
         if line.is_empty() {
             self.end(report)?;
             return Ok(Step::Nothing);
@@ -137,7 +117,7 @@ impl<'a> Running<'a> {
     }
 
     /// The case ends, where one goes on.
-    pub(crate) fn end(&mut self, report: &mut Report) -> Result<(), CaseFault> {
+    pub fn end(&mut self, report: &mut Report) -> Result<(), CaseFault> {
         if self.stage == Stage::Going {
             self.settle(report)?;
         }
