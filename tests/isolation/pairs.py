@@ -5,21 +5,33 @@ A *story* is what one dealer, DLR1, lives through: the requests that it is shown
 and how its requests end. A *day* tells a story as a day of a whole venue, and draws everything anew
 that the story leaves open: the other firms, their order and their limits, the bonds, who else is
 asked, who wins, what the others quote, ids, traders, requests that the dealer never sees, messages
-that are refused or dropped, and turns of the others. Two days of one story go to
-`rfq_venue compare DLR1`, which has to print that rows, due lists and messages are equal.
+that are refused or dropped, and turns of the others. Where by the second implementation one list was
+due to DLR1 in two days of one story, `PROGRAM replay DLR1` has to print the same bytes for both:
+those of the view of that list. `PROGRAM compare DLR1` has to say where the lists and the messages
+differ.
 
 usage: pairs.py PROGRAM PAIRS [FIRST_SEED [PROCESSES]]
 """
 
+import itertools
 import multiprocessing
 import random
 import subprocess
 import sys
+from collections.abc import Sequence
+from pathlib import Path
+from typing import NamedTuple
+
+sys.dont_write_bytecode = True
+sys.path.insert(0, str(Path(__file__).resolve().parents[1] / "model"))
+
+from configuration import read_configuration
+from lines import StepReader, message_line
+from replay import Venue, alone
 
 BONDS = ["BONDA0000001", "BONDB0000002", "BONDC0000003"]
 OPENING = 32_400_000  # 09:00:00
 CLOSING = 60_000_000  # 16:40:00, behind every moment of a story
-EQUAL = b"row equal\ndue equal\nmessages equal\n"
 
 
 def time_text(moment):
@@ -287,39 +299,125 @@ class Day:
         self.turn("CLOCK", len(room["asked"]) + 5)
 
 
-def compared(work):
-    """Runs the pair of a seed: whether the due lists were equal, the messages, and the input's size."""
+class Whole(NamedTuple):
+    """A day's text, DLR1's date and row in it, and what by the second implementation was due to DLR1."""
+
+    head: str
+    lines: str
+    row: tuple
+    due: list
+
+    def text(self) -> bytes:
+        return (self.head + "\n%%\n" + self.lines + "\n").encode()
+
+
+class Compared(NamedTuple):
+    """A pair: whether its lists are one, the messages of DLR1, the input, and what is wrong."""
+
+    seed: int
+    equal: bool
+    messages: int
+    size: int
+    fault: str
+
+
+def whole(day: Day) -> Whole:
+    head, lines = day.configuration(), day.text()
+    configuration = read_configuration(head.encode())
+    venue, reader = Venue(configuration), StepReader(configuration)
+    for line in lines.split("\n"):
+        for kind, *step in reader.steps(line.encode()):
+            take(venue, kind, *step)
+    one = configuration.firm(b"DLR1")
+    row = configuration.date, configuration.firms[one]
+    return Whole(head, lines, row, venue.due[one])
+
+
+def take(venue: Venue, kind: str, *step: object) -> None:
+    """A step of the day; turns go on until the actor has no duty."""
+    if kind != "turn":
+        getattr(venue, kind)(*step)
+        return
+    actor, times = step
+    while times > 0 and venue.turn(actor):
+        times -= 1
+
+
+def printed(program: str, day: Whole) -> bytes:
+    """What the program prints of DLR1; RuntimeError where it tells a fault."""
+    words = [program, "replay", "DLR1", "--frames"]
+    run = subprocess.run(words, input=day.text(), capture_output=True, timeout=120)
+    if run.returncode != 0:
+        raise RuntimeError("status %d: %s" % (run.returncode, run.stderr.decode()))
+    return run.stdout
+
+
+def told(program: str, one: Whole, other: Whole) -> bytes:
+    """What the program says of the two days, for DLR1."""
+    both = one.text() + b"%%\n" + other.text()
+    words = [program, "compare", "DLR1"]
+    return subprocess.run(words, input=both, capture_output=True, timeout=120).stdout
+
+
+def difference(same: bytes, differ: bytes, one: Sequence[object], other: Sequence[object]) -> bytes:
+    """The line on two lists: they are one, or differ first at a position, from 1."""
+    for place, (mine, theirs) in enumerate(itertools.zip_longest(one, other), 1):
+        if mine != theirs:
+            return b"%s at %d\n" % (differ, place)
+    return same + b"\n"
+
+
+def viewed(day: Whole) -> bytes:
+    """The view of DLR1's list, as the program prints it."""
+    sent = alone(*day.row, day.due).sent
+    return b"".join(message_line(b"DLR1", fields, True) + b"\n" for fields in sent)
+
+
+def fault_of(program: str, days: Sequence[Whole], outs: Sequence[bytes]) -> str:
+    """What is wrong with a pair and with what the program printed of each; empty where nothing is."""
+    one, other = days
+    if one.head == other.head or one.lines == other.lines:
+        return "the days are one"
+    if one.row != other.row:
+        return "the rows differ"
+    if one.due == other.due and outs[0] != outs[1]:
+        return "one list, and other messages"
+    if list(outs) != [viewed(day) for day in days]:
+        return "other messages than the view of the list"
+    due = difference(b"due equal", b"due differs", one.due, other.due)
+    lines = [out.splitlines() for out in outs]
+    sent = difference(b"messages equal", b"messages differ", *lines)
+    return "" if told(program, one, other) == b"row equal\n" + due + sent else "another comparison"
+
+
+def compared(work: tuple[str, int]) -> Compared:
     program, seed = work
-    parts = []
-    for day in (1, 2):
-        told = Day(Story(random.Random(seed)), random.Random("%d/%d" % (seed, day)))
-        parts += [told.configuration(), told.text()]
-    text = ("\n%%\n".join(parts) + "\n").encode()
-    run = subprocess.run([program, "compare", "DLR1"], input=text, capture_output=True)
-    return seed, run.returncode, run.stdout, run.stderr, len(text), parts[0] != parts[2] and parts[1] != parts[3]
+    drawn = (Day(Story(random.Random(seed)), random.Random("%d/%d" % (seed, n))) for n in (1, 2))
+    days = [whole(day) for day in drawn]
+    outs = [printed(program, day) for day in days]
+    one, other = days
+    size = len(one.text()) + len(other.text())
+    fault = fault_of(program, days, outs)
+    return Compared(seed, one.due == other.due, outs[0].count(b"\n"), size, fault)
 
 
-def main():
+def main() -> None:
     program, pairs = sys.argv[1], int(sys.argv[2])
     first = int(sys.argv[3]) if len(sys.argv) > 3 else 1
     processes = int(sys.argv[4]) if len(sys.argv) > 4 else 2
-    equal = other = size = 0
+    equal = other = messages = size = 0
     with multiprocessing.Pool(processes) as pool:
         work = ((program, seed) for seed in range(first, 2**62))
-        for seed, status, out, err, length, differ in pool.imap(compared, work, 64):
-            if status != 0 or not differ:
-                sys.exit("seed %d: status %d, %r, days differ: %s" % (seed, status, err, differ))
-            size += length
-            if out == EQUAL:
-                equal += 1
-            elif b"due equal" in out:
-                sys.exit("seed %d: equal due lists and other messages: %r" % (seed, out))
-            else:
-                other += 1
+        for pair in pool.imap(compared, work, 16):
+            if pair.fault:
+                sys.exit("seed %d: %s" % (pair.seed, pair.fault))
+            equal, other = equal + pair.equal, other + (not pair.equal)
+            messages, size = messages + pair.messages, size + pair.size
             if equal == pairs:
                 pool.terminate()
                 break
-    print("seeds %d to %d: %d pairs with equal due lists, 0 with other messages;" % (first, seed, equal))
+    said = first, pair.seed, equal, messages
+    print("seeds %d to %d: %d pairs with equal due lists, 0 with other messages; %d messages;" % said)
     print("%d more whose due lists differ; %d MB of input" % (other, size // 1_000_000))
 
 
