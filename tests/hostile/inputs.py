@@ -25,7 +25,7 @@ import time
 
 ROOT = os.path.dirname(os.path.dirname(os.path.dirname(os.path.abspath(__file__))))
 sys.path.insert(0, os.path.join(ROOT, "tests", "isolation"))
-from pairs import Day, Story  # noqa: E402
+from dealer_days import Day, Story  # noqa: E402
 
 MEMORY = 400_000_000
 SECONDS = 10  # of a processor
