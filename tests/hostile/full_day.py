@@ -17,8 +17,8 @@ from typing import NamedTuple
 
 sys.dont_write_bytecode = True
 
-from full_market import ASKED, DEADLINE, GROUP, HIT, HITS, INVESTORS, QUOTED, QUOTES, REQUESTS
-from full_market import ROUNDS, Ask, Fields, Quote, asked_of, day, quotes_on
+from full_market import ASKED, ASKED_AT_ONCE, DEADLINE, HIT, HITS, INVESTORS, QUOTED, QUOTES
+from full_market import REQUESTS, Ask, Fields, Quote, asked_of, day, quotes_of
 
 
 class Unlawful(Exception):
@@ -57,9 +57,9 @@ def fields_of(body: str) -> Fields:
 class Dealer:
     """What one dealer was sent, message by message."""
 
-    def __init__(self, asked: list[Ask]) -> None:
+    def __init__(self, number: int, asked: list[Ask]) -> None:
         self.asked = {("INV%d" % ask.investor, ask.quantity()): ask for ask in asked}
-        self.said = quotes_on(len(asked))
+        self.said = quotes_of(number, len(asked))
         self.shown: list[Ask] = []
         self.quotes = 0  # that were accepted
         self.accepted: dict[Ask, list[Quote]] = {}
@@ -259,18 +259,17 @@ class Market(NamedTuple):
     def steps(self, requests: int) -> tuple[int, int]:
         """The fewest and the most steps of the day: its messages, and the duties that they left."""
         quotes, shown, won, refused = self.counts().values()
-        made = INVESTORS * requests
-        says = made * (1 + HITS) + sum(ROUNDS * len(asked) for asked in asked_of(requests))
-        opened = made * (1 + GROUP + 1)  # open, a show for each dealer, ready
-        hits = 2 * (won + refused) + GROUP * won  # hit, answer; a tell for each dealer
-        fewest = says + opened + hits + quotes  # a post for each
+        said, made = day(requests).count("\nsay "), INVESTORS * requests
+        opened = made * (1 + ASKED_AT_ONCE + 1)  # open, a show for each dealer, ready
+        hits = 2 * (won + refused) + ASKED_AT_ONCE * won  # hit, answer; a tell for each dealer
+        fewest = said + opened + hits + quotes  # a post for each
         # A relay for each post that took effect: it shows a quote, unless the request was closed.
         return fewest + shown, fewest + quotes
 
 
 def taken(lines: Iterable[str], requests: int) -> Market:
     """What was sent, message by message, each firm's numbers from 1."""
-    dealers = [Dealer(asked) for asked in asked_of(requests)]
+    dealers = [Dealer(number, asked) for number, asked in enumerate(asked_of(requests))]
     investors = [Investor(number, requests) for number in range(INVESTORS)]
     firms = {"DLR%d" % number: dealer for number, dealer in enumerate(dealers)}
     firms |= {"INV%d" % number: investor for number, investor in enumerate(investors)}

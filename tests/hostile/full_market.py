@@ -1,18 +1,23 @@
 """The messages of a day of 64 dealers and 64 investors at the limits of a configuration.
 
-Each investor makes as many requests as its row allows, each of a group of eight dealers, and then
-hits quotes by their numbers. Each dealer quotes on its requests by their numbers, round after
-round, before or behind the moment at which a thread shows them to it, and more often than its row
-allows.
+Each investor makes as many requests as its row allows, each of seven of the fourteen makers and of
+one of the other dealers, and hits quotes by their numbers. The makers quote on their requests by
+their numbers, round after round, before or behind the moment at which a thread shows them to them,
+and more often than their rows allow. The other dealers say nothing. A few dealers who say much are
+still at it when the threads of the last investors begin, which many who say less would not be.
 """
 
 from collections.abc import Iterator
 from typing import NamedTuple
 
-DEALERS, INVESTORS, GROUP = 64, 64, 8
-QUOTES, REQUESTS = 65_536 // DEALERS, 4_096 // INVESTORS
-ROUNDS = 4  # in which a dealer quotes on all its requests
-HITS = 4  # of an investor, for each of its requests
+DEALERS, INVESTORS, ASKED_AT_ONCE = 64, 64, 8
+GROUPS, GROUP = 2, ASKED_AT_ONCE - 1
+MAKERS = GROUPS * GROUP
+QUOTES = 4_096  # of a maker
+OTHERS_QUOTES = (65_536 - MAKERS * QUOTES) // (DEALERS - MAKERS)
+REQUESTS = 4_096 // INVESTORS
+ROUNDS = 5  # in which a maker quotes on all its requests
+HITS = 16  # of an investor, for each of its requests
 DEADLINE = "20250314-17:00:00.000"
 ASKED, QUOTED, HIT = "09:00:00.000", "09:00:10.000", "09:00:20.000"
 
@@ -26,11 +31,12 @@ class Ask(NamedTuple):
     number: int
 
     def group(self) -> int:
-        """The number of the dealers' group, and of the bond."""
-        return (self.investor + self.number) % (DEALERS // GROUP)
+        """The number of the makers' group, and of the bond."""
+        return (self.investor + self.number) % GROUPS
 
     def dealers(self) -> list[int]:
-        return [GROUP * self.group() + (self.number + place) % GROUP for place in range(GROUP)]
+        makers = [GROUP * self.group() + (self.number + place) % GROUP for place in range(GROUP)]
+        return [*makers, MAKERS + (self.investor + self.number) % (DEALERS - MAKERS)]
 
     def instrument(self) -> Fields:
         return {55: "[N/A]", 48: "BOND%08d" % self.group(), 22: "4"}
@@ -56,7 +62,7 @@ def asks(requests: int) -> list[Ask]:
 
 
 def asked_of(requests: int) -> list[list[Ask]]:
-    """The requests that each dealer is to be shown, all of one bond."""
+    """The requests that each dealer is to be shown; those of a maker are all of one bond."""
     asked: list[list[Ask]] = [[] for _ in range(DEALERS)]
     for ask in asks(requests):
         for dealer in ask.dealers():
@@ -64,9 +70,9 @@ def asked_of(requests: int) -> list[list[Ask]]:
     return asked
 
 
-def quotes_on(requests: int) -> Iterator[Quote]:
+def quotes_of(dealer: int, requests: int) -> Iterator[Quote]:
     """What a dealer says to which so many are to be shown. No two on a request have one price."""
-    for turn in range(ROUNDS):
+    for turn in range(ROUNDS if dealer < MAKERS else 0):
         for n in range(1, requests + 1):
             yield Quote(n, "a%d.%d" % (n, turn), "%d.5" % (90 + (n + turn) % 9))
 
@@ -78,7 +84,7 @@ def configuration() -> Iterator[str]:
     traders = ", ".join('"T%d"' % trader for trader in range(16))
     for dealer in range(DEALERS):
         yield '[[dealer]]\nname = "DLR%d"\ntraders = [%s]' % (dealer, traders)
-        yield "quotes = %d\nexposure = %d" % (QUOTES, 10**15)
+        yield "quotes = %d\nexposure = %d" % (QUOTES if dealer < MAKERS else OTHERS_QUOTES, 10**15)
     for investor in range(INVESTORS):
         yield '[[investor]]\nname = "INV%d"\ntraders = ["T1"]' % investor
         yield "requests = %d\nopen = 1024\nquantity = %d" % (REQUESTS, 10**12)
@@ -100,7 +106,7 @@ def hits_made(requests: int) -> Iterator[str]:
 
 def quotes_made(requests: int) -> Iterator[str]:
     for dealer, asked in enumerate(asked_of(requests)):
-        for quote in quotes_on(len(asked)):
+        for quote in quotes_of(dealer, len(asked)):
             terms = quote.id, quote.request, asked[0].group(), quote.price
             body = "117=%s|131=R%d|48=BOND%08d|22=4|133=%s" % terms
             yield "say DLR%d T1 %s S %s" % (dealer, QUOTED, body)
