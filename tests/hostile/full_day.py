@@ -6,8 +6,11 @@ against the rules (docs/MARKET.md). What was sent to a dealer before says how it
 answered, but where the word of its live quote is asked; and what was sent to investors and to
 dealers has to agree, request by request. Where firms race, no two days need be the same.
 
-usage: full_day.py write [REQUESTS] > DAY
-       full_day.py run PROGRAM [DAYS [REQUESTS]]       REQUESTS of each investor (64)
+The first day has as many requests as can be, the next ones fewer, on which the makers quote more
+often; then they begin anew.
+
+usage: full_day.py write [REQUESTS] > DAY              REQUESTS of each investor (64)
+       full_day.py run PROGRAM [DAYS]                  (3)
 """
 
 import subprocess
@@ -19,6 +22,9 @@ sys.dont_write_bytecode = True
 
 from full_market import ASKED, ASKED_AT_ONCE, DEADLINE, HIT, HITS, INVESTORS, QUOTED, QUOTES
 from full_market import REQUESTS, Ask, Fields, Quote, asked_of, day, quotes_of
+
+
+SHAPES = REQUESTS, REQUESTS // 4, REQUESTS // 16  # requests of an investor on a day
 
 
 class Unlawful(Exception):
@@ -139,7 +145,7 @@ class Investor:
 
     def __init__(self, number: int, requests: int) -> None:
         self.number, self.requests, self.made = number, requests, 0
-        self.unanswered = {"h%d" % (n + 1) for n in range(HITS * requests)}
+        self.unanswered = {"h%d" % (n + 1) for n in range(HITS)}
         self.shown: list[Shown] = []
         self.standing: dict[tuple[Ask, int], int] = {}  # the number of the quote that stands
         self.gone: tuple[Ask, int] | None = None  # of the quote whose place the next one takes
@@ -304,19 +310,19 @@ def main() -> None:
     if mode == "write":
         sys.stdout.write(day(int(words[0]) if words else REQUESTS))
         return
-    program, days, requests = (words + ["1", str(REQUESTS)][len(words) - 1 :])[:3]
+    program, days = words[0], int(words[1]) if len(words) > 1 else len(SHAPES)
     hits = 0
-    for number in range(1, int(days) + 1):
+    for number in range(days):
         try:
-            counts = run(program, int(requests))
+            counts = run(program, SHAPES[number % len(SHAPES)])
         except (Unlawful, LookupError, ValueError, StopIteration) as fault:
-            sys.exit("day %d: %s: %s" % (number, type(fault).__name__, fault))
+            sys.exit("day %d: %s: %s" % (number + 1, type(fault).__name__, fault))
         said = ", ".join("%d %s" % (count, name) for name, count in counts.items())
-        print("day %d: %s" % (number, said), flush=True)
+        print("day %d: %s" % (number + 1, said), flush=True)
         hits += counts["hits"]
     if hits == 0:
         sys.exit("no quote was hit: the firms have not met")
-    print("%s days, each by the rules" % days)
+    print("%d days, each by the rules" % days)
 
 
 if __name__ == "__main__":

@@ -16,8 +16,9 @@ MAKERS = GROUPS * GROUP
 QUOTES = 4_096  # of a maker
 OTHERS_QUOTES = (65_536 - MAKERS * QUOTES) // (DEALERS - MAKERS)
 REQUESTS = 4_096 // INVESTORS
-ROUNDS = 5  # in which a maker quotes on all its requests
-HITS = 16  # of an investor, for each of its requests
+ROUNDS = 5  # of quotes on all requests of a maker; more where these are fewer
+HITS = 1_024  # of an investor
+PRICES = 199  # more than rounds
 DEADLINE = "20250314-17:00:00.000"
 ASKED, QUOTED, HIT = "09:00:00.000", "09:00:10.000", "09:00:20.000"
 
@@ -72,9 +73,15 @@ def asked_of(requests: int) -> list[list[Ask]]:
 
 def quotes_of(dealer: int, requests: int) -> Iterator[Quote]:
     """What a dealer says to which so many are to be shown. No two on a request have one price."""
-    for turn in range(ROUNDS if dealer < MAKERS else 0):
+    most = ROUNDS * REQUESTS * INVESTORS // GROUPS
+    for turn in range(most // requests if dealer < MAKERS else 0):
         for n in range(1, requests + 1):
-            yield Quote(n, "a%d.%d" % (n, turn), "%d.5" % (90 + (n + turn) % 9))
+            yield Quote(n, "a%d.%d" % (n, turn), price_of((n + turn) % PRICES))
+
+
+def price_of(halves: int) -> str:
+    """So many half points above 50."""
+    return "%d%s" % (50 + halves // 2, ".5" if halves % 2 else "")
 
 
 def configuration() -> Iterator[str]:
@@ -100,7 +107,7 @@ def requests_made(requests: int) -> Iterator[str]:
 
 def hits_made(requests: int) -> Iterator[str]:
     for investor in range(INVESTORS):
-        for n in range(1, HITS * requests + 1):
+        for n in range(1, HITS + 1):
             yield "say INV%d T1 %s AJ 693=h%d|694=1|117=Q%d" % (investor, HIT, n, n)
 
 
