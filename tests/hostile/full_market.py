@@ -3,8 +3,8 @@
 Each investor makes as many requests as its row allows, each of seven of the fourteen makers and of
 one of the other dealers, and hits quotes by their numbers. The makers quote on their requests by
 their numbers, round after round, before or behind the moment at which a thread shows them to them,
-and more often than their rows allow. The other dealers say nothing. A few dealers who say much are
-still at it when the threads of the last investors begin, which many who say less would not be.
+and more often than their rows allow. The other dealers say nothing. So the makers, whose rows are
+the last ones, are still at it when the threads of the investors begin.
 """
 
 from collections.abc import Iterator
@@ -12,9 +12,9 @@ from typing import NamedTuple
 
 DEALERS, INVESTORS, ASKED_AT_ONCE = 64, 64, 8
 GROUPS, GROUP = 2, ASKED_AT_ONCE - 1
-MAKERS = GROUPS * GROUP
+OTHERS = DEALERS - GROUPS * GROUP
 QUOTES = 4_096  # of a maker
-OTHERS_QUOTES = (65_536 - MAKERS * QUOTES) // (DEALERS - MAKERS)
+OTHERS_QUOTES = (65_536 - GROUPS * GROUP * QUOTES) // OTHERS
 REQUESTS = 4_096 // INVESTORS
 ROUNDS = 5  # of quotes on all requests of a maker; more where these are fewer
 HITS = 1_024  # of an investor
@@ -36,8 +36,9 @@ class Ask(NamedTuple):
         return (self.investor + self.number) % GROUPS
 
     def dealers(self) -> list[int]:
-        makers = [GROUP * self.group() + (self.number + place) % GROUP for place in range(GROUP)]
-        return [*makers, MAKERS + (self.investor + self.number) % (DEALERS - MAKERS)]
+        first = OTHERS + GROUP * self.group()
+        makers = [first + (self.number + place) % GROUP for place in range(GROUP)]
+        return [*makers, (self.investor + self.number) % OTHERS]
 
     def instrument(self) -> Fields:
         return {55: "[N/A]", 48: "BOND%08d" % self.group(), 22: "4"}
@@ -74,7 +75,7 @@ def asked_of(requests: int) -> list[list[Ask]]:
 def quotes_of(dealer: int, requests: int) -> Iterator[Quote]:
     """What a dealer says to which so many are to be shown. No two on a request have one price."""
     most = ROUNDS * REQUESTS * INVESTORS // GROUPS
-    for turn in range(most // requests if dealer < MAKERS else 0):
+    for turn in range(most // requests if dealer >= OTHERS else 0):
         for n in range(1, requests + 1):
             yield Quote(n, "a%d.%d" % (n, turn), price_of((n + turn) % PRICES))
 
@@ -91,7 +92,7 @@ def configuration() -> Iterator[str]:
     traders = ", ".join('"T%d"' % trader for trader in range(16))
     for dealer in range(DEALERS):
         yield '[[dealer]]\nname = "DLR%d"\ntraders = [%s]' % (dealer, traders)
-        yield "quotes = %d\nexposure = %d" % (QUOTES if dealer < MAKERS else OTHERS_QUOTES, 10**15)
+        yield "quotes = %d\nexposure = %d" % (OTHERS_QUOTES if dealer < OTHERS else QUOTES, 10**15)
     for investor in range(INVESTORS):
         yield '[[investor]]\nname = "INV%d"\ntraders = ["T1"]' % investor
         yield "requests = %d\nopen = 1024\nquantity = %d" % (REQUESTS, 10**12)
