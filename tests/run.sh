@@ -1,7 +1,7 @@
 #!/bin/sh
-# The gate, and then short forms of most tests that stand beside it, which take twelve minutes at most on a
-# machine of four processors that does nothing else (not among them: edits and long days). Installs what is
-# missing from Debian. The last line counts all: `N passed, M failed`.
+# The gate, and then short forms of most tests that stand beside it, which take a quarter of an hour at most
+# on a machine of four processors that does nothing else (not among them: edits and long days). Installs
+# what is missing from Debian. The last line counts all: `N passed, M failed`.
 #
 #     tests/run.sh                 the gate first
 #     tests/run.sh --beside        the short forms alone, with the program that stands
