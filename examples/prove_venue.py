@@ -25,7 +25,7 @@ from typing import IO
 
 ROOT = Path(__file__).resolve().parent.parent
 MEMORY_OF_A_CRATE = 3 << 30  # bytes
-MINUTES_OF_ONE = 120  # for all, on one processor
+MINUTES_OF_ONE = 148  # for all, as if on one processor
 MORE = 1  # crates at work beyond the processors, for the time in which one can't fill its own
 BEHIND, NICEST = 3, 12  # how nice a proof is for each one for which more waits, at most
 LOOK, TELL = 0.5, 30.0  # seconds
