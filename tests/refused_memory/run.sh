@@ -1,7 +1,7 @@
 #!/bin/sh
 # Runs the built program once for each of its allocations, with that one refused, and asserts how the run ends: with
-# status 1, `memory` on standard error and nothing printed, or with status 0 and all that it has to print. Then it runs
-# tests of the crates in the same way. README.md says more. usage: tests/refused_memory/run.sh [PROGRAM]
+# status 1, `memory` on standard error and nothing printed, or as it has to end with all its memory. Then it runs tests of
+# the crates in the same way. README.md says more. usage: tests/refused_memory/run.sh [PROGRAM]
 set -eu
 
 here=$(cd "$(dirname "$0")" && pwd)
@@ -20,7 +20,11 @@ trap 'rm -rf "$work"' EXIT
 library=$work/refuse.so
 "${CC:-cc}" -std=gnu11 -O2 -Wall -Wextra -shared -fPIC -o "$library" "$here/refuse.c"
 echo memory >"$work/memory"
+: >"$work/nothing"
 all=0
+# How a run has to end that is refused nothing: with this status, and this on standard error.
+ends=0
+told=$work/nothing
 
 # fail CASE CALL WHY: says which refusal ended wrongly, and stops.
 fail() {
@@ -38,7 +42,7 @@ count_calls() {
     shift 3
     status=0
     REFUSE_COUNT=$work/count LD_PRELOAD=$library "$program" "$@" <"$input" >"$work/out" 2>"$work/err" || status=$?
-    if [ "$status" != 0 ] || [ -s "$work/err" ] || ! cmp -s "$work/out" "$wanted"; then
+    if [ "$status" != "$ends" ] || ! cmp -s "$work/err" "$told" || ! cmp -s "$work/out" "$wanted"; then
         fail "$name" none "the run with nothing refused ended with status $status, or printed something else"
     fi
     calls=$(cat "$work/count")
@@ -65,7 +69,7 @@ refuse_each() {
         REFUSE_CALL=$call LD_PRELOAD=$library "$program" "$@" <"$input" >"$work/out" 2>"$work/err" || status=$?
         if [ "$status" = 1 ] && is_left "${1-}" && cmp -s "$work/err" "$work/memory"; then
             refused=$((refused + 1))
-        elif [ "$status" = 0 ] && [ ! -s "$work/err" ] && cmp -s "$work/out" "$wanted"; then
+        elif [ "$status" = "$ends" ] && cmp -s "$work/err" "$told" && cmp -s "$work/out" "$wanted"; then
             whole=$((whole + 1))
         else
             fail "$name" "$call" "status $status, $(wc -c <"$work/out") bytes printed"
@@ -76,7 +80,7 @@ refuse_each() {
         fail "$name" any "no run ended with memory, so nothing was refused"
     fi
     all=$((all + calls))
-    echo "$name: $calls calls refused in turn, $refused runs ended with memory, $whole with the whole output"
+    echo "$name: $calls calls refused in turn, $refused runs ended with memory, $whole as they have to"
 }
 
 # refuse CASE INPUT WORDS..: the same, where the second implementation says what is to be printed.
@@ -86,6 +90,18 @@ refuse() {
     shift 2
     python3 "$model" "$@" <"$case_input" >"$work/wanted"
     refuse_each "$case_name, $*" "$case_input" "$work/wanted" "$@"
+}
+
+# refuse_fault FAULT INPUT WORDS..: the same, of an input that has this fault.
+refuse_fault() {
+    echo "$1" >"$work/fault"
+    fault_input=$2
+    shift 2
+    ends=1
+    told=$work/fault
+    refuse_each "$(cat "$told"), $*" "$fault_input" "$work/nothing" "$@"
+    ends=0
+    told=$work/nothing
 }
 
 # refuse_in_test TEST: refuses each call of one built test of venue_tests in turn. It has to pass each time: such a test
@@ -183,12 +199,25 @@ for day in awarded cancel-in-time passed expired cancel-all; do
     refuse "$day" "$work/day" replay
 done
 
+# Inputs at fault, each in another place.
+printf 'version = 1\n%%%%\n' >"$work/faulty"
+refuse_fault "config: Missing" "$work/faulty" replay
+{
+    cat "$auction"
+    echo turn DLR9 1
+} >"$work/faulty"
+refuse_fault "line $(wc -l <"$work/faulty"): unknown firm" "$work/faulty" due DLR1
+refuse_fault "line $(grep -n '^turn ' "$auction" | head -n 1 | cut -d : -f 1): form" "$auction" day
+refuse_fault "firm: DLR9" "$auction" blotter DLR9
+refuse_fault parts "$auction" compare DLR1
+refuse_fault "line 1: form" /dev/null alone
+
 # What help and version have to be is what the program prints with all its memory.
 for words in --help help "help replay" "due --help" --version; do
     # shellcheck disable=SC2086
-    "$program" $words </dev/null >"$work/told"
+    "$program" $words </dev/null >"$work/help"
     # shellcheck disable=SC2086
-    refuse_each "$words" /dev/null "$work/told" $words
+    refuse_each "$words" /dev/null "$work/help" $words
 done
 
 for test in frames::a_refused_configuration_is_read_again frames::a_refused_frame_is_written_again \
