@@ -56,7 +56,9 @@ Log::Ticket Log::append_message(const std::string &firm, std::optional<std::uint
         // What this thread has not committed yet is not to wait with it.
         work_.notify_one();
     }
+    ++waiting_;
     room_.wait(lock, [&] { return (!held_ && has_room()) || !failure_.empty(); });
+    --waiting_;
     throw_if_failed();
     return append_here(std::move(entry), verb, rest, received, committer);
 }
@@ -167,6 +169,11 @@ void Log::flush() {
 std::uint32_t Log::last_place() {
     const std::lock_guard lock(mutex_);
     return next_place_ - 1;
+}
+
+std::size_t Log::waiting() {
+    const std::lock_guard lock(mutex_);
+    return waiting_;
 }
 
 std::optional<std::chrono::steady_clock::time_point> Log::commits_since() {

@@ -151,6 +151,10 @@ void a_held_log(Database &database) {
     {
         const Log::Hold hold(log);
         writer = std::jthread([&log] { log.append_message("F0", messages + 1, "x"); });
+        // Until it waits, or has a place, where it is not held.
+        while (log.waiting() == 0 && log.last_place() == last) {
+            std::this_thread::yield();
+        }
         same(last + 1, log.append_clock_behind(last).value_or(0), "a sweep in a held log");
     }
     writer.join();
