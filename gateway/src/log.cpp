@@ -98,15 +98,19 @@ Log::Hold::~Hold() {
 
 Log::Ticket Log::append_here(Entry entry, std::string_view verb, std::string_view rest,
                              std::chrono::steady_clock::time_point received, Committer committer) {
-    entry.place = next_place_++;
+    entry.place = next_place_;
     entry.term = term_;
     // Under the lock, so that places and moments rise together.
     entry.moment = text_of(clock_.now());
     entry.line.reserve(verb.size() + entry.moment.size() + rest.size());
     entry.line.append(verb).append(entry.moment).append(rest);
-    filling_.bytes += entry.line.size();
-    filling_.rows.entries.push_back(std::move(entry));
+    const std::size_t bytes = entry.line.size();
     filling_.received.push_back(received);
+    filling_.rows.entries.push_back(std::move(entry));
+    // Only now: where there was no memory for it, a place that was given all the same would be a
+    // gap of the log for good.
+    ++next_place_;
+    filling_.bytes += bytes;
     ++filling_.size;
     // Where there is a second one, its thread may be busy with more for a while.
     if (!writing_ && (committer == Committer::thread || filling_.received.size() > 1)) {
