@@ -14,8 +14,8 @@ use Rattle.dealer_desk.specs.declared.standing.QuoteEnd.TheVariants as end
 use Rattle.dealer_desk.specs.declared.standing.StandingQuote.{StandingQuote}
 use Rattle.dealer_desk.specs.declared.verdicts.DealerVerdict.{DealerVerdict}
 use Rattle.dealer_desk.specs.declared.verdicts.DealerVerdict.TheVariants as verdict
-use Rattle.investor_desk.specs.InvestorFacts.{InvestorFact, InvestorBook, StandingRequest}
-use Rattle.investor_desk.specs.InvestorFacts.{Offered, Closed}
+use Rattle.investor_desk.specs.InvestorFacts.{InvestorFact, InvestorBook, StandingRequest, Offered}
+use Rattle.investor_desk.specs.InvestorFacts.{Closed}
 use Rattle.investor_desk.specs.declared.standing.RequestClose.{RequestClose}
 use Rattle.investor_desk.specs.declared.standing.RequestClose.TheVariants as request_close
 use Rattle.investor_desk.specs.declared.standing.ShownOffer.{ShownOffer}

@@ -11,6 +11,7 @@ use Rattle.dealer_desk.specs.DealerOutput.{closable, untold}
 use Rattle.dealer_desk.specs.declared.standing.StandingRequest.{StandingRequest}
 use Rattle.step_replay.specs.DealerTrail.{DealerEntry, book_by, facts_of}
 use Rattle.venue_laws.specs.Notices.{was_shown}
+use Rattle.venue_laws.proofs.ListLemmas.{or_true}
 
 -- Requests.
 
@@ -133,19 +134,13 @@ told_already number first (Shown ask moment ∷ later) is closed =
         let same : first ≡ number = grind (arith, nat_tests) in
         ap (λ (n : ℕ). list_any (tells n) later) (sym same) ∙ told
     by_test true test again false told =
-        let clash : true ≡ false =
-        ap (λ (b : Bool). is_some (if b then None else Some request)) (sym told)
+        cc (ap (λ (b : Bool). is_some (if b then None else Some request)) (sym told)
         ∙ ap (λ (b : Bool). is_some (untold (cond b (Some request)
-        (found number (first + 1) later)))) (sym test) ∙ closed in
-        cc
+        (found number (first + 1) later)))) (sym test) ∙ closed)
     by_test false test again told is_told =
         again (rw test at is) (rw test at closed)
 told_already number first (fact ∷ later) is closed =
-    rw (told_already number first later is closed) (or_true (tells number fact))
-  where
-    or_true : (b : Bool) → (b || true) ≡ true
-    or_true true = refl
-    or_true false = refl
+    or_true (tells number fact) _ (told_already number first later is closed)
 
 pub told_or_closable : (trail : List DealerEntry) (request : ℕ) → was_shown trail request ≡ true
     → is_some (closable (book_by trail) request) ≡ false

@@ -1,38 +1,44 @@
--- What comes to an investor's desk brings what stands of its requests and quotes.
-use Rattle.std.proofs.Common.{◌≡◌, ℕ, ◌+◌, ◌==◌, Bool, true, false, ◌&&◌, ◌||◌, not, nat_le}
-use Rattle.std.proofs.Common.{List, [], ◌∷◌, ◌++◌, length}
-use Rattle.std.proofs.Common.{Option, Some, None, is_some}
-use Rattle.std.proofs.Common.{refl, sym, ap, ◌∙◌, arith, eq-eqb}
+-- What a verdict of an investor's desk says, and what comes to the desk brings of what stands of
+-- its requests and quotes.
+use Rattle.std.proofs.Common.{Bool, List, None, Option, Some, [], ap, arith, eq-eqb, false, is_some}
+use Rattle.std.proofs.Common.{length, nat_le, option_map, refl, subst, sym, true, ℕ, ◌&&◌, ◌++◌}
+use Rattle.std.proofs.Common.{◌+◌, ◌<◌, ◌==◌, ◌||◌, ◌∙◌, ◌∷◌, ◌≡◌}
 use Rattle.std.proofs.lemmas.Bool.Decides.{nat_tests}
-use Rattle.market_terms.specs.Dealers.{are_distinct}
-use Rattle.market_terms.specs.declared.closes.Reply.{Reply}
-use Rattle.market_terms.specs.declared.rooms.Offer.{Offer}
-use Rattle.market_terms.specs.declared.rooms.ResponseRef.{ResponseRef}
+use Rattle.std.proofs.lemmas.List.{length-map}
+use Rattle.std.proofs.lemmas.Slice.Eq.{bytes_eq-Decides}
 use Rattle.quote_messages.specs.Arrivals.{investor_arrival}
 use Rattle.quote_messages.specs.declared.arrivals.Arrival.{Arrival}
 use Rattle.quote_messages.specs.declared.arrivals.Arrival.TheVariants as arrival
+use Rattle.quote_messages.specs.declared.reject_reasons.RequestRejectReason.{RequestRejectReason}
 use Rattle.quote_messages.specs.declared.requests.InvestorMessage.{InvestorMessage}
 use Rattle.quote_messages.specs.declared.requests.InvestorMessage.TheVariants as message
 use Rattle.quote_messages.specs.declared.requests.QuoteHit.{QuoteHit}
 use Rattle.quote_messages.specs.declared.requests.QuoteRequest.{QuoteRequest}
 use Rattle.quote_messages.specs.declared.requests.RequestPass.{RequestPass}
-use Rattle.quote_messages.specs.declared.reject_reasons.RequestRejectReason.{RequestRejectReason}
-use Rattle.venue_rows.specs.Rows.{Configuration}
+use Rattle.market_terms.specs.Dealers.{are_distinct}
+use Rattle.market_terms.specs.declared.closes.Reply.{Reply}
+use Rattle.market_terms.specs.declared.rooms.Offer.{Offer}
+use Rattle.market_terms.specs.declared.rooms.ResponseRef.{ResponseRef}
+use Rattle.venue_rows.specs.Rows.{Configuration, bond_with_id}
+use Rattle.venue_rows.specs.Texts.{same_text}
 use Rattle.venue_rows.specs.declared.bond_rows.BondRow.{BondRow}
+use Rattle.venue_rows.specs.declared.dealer_rows.DealerRow.{DealerRow}
 use Rattle.venue_rows.specs.declared.investor_rows.InvestorRow.{InvestorRow}
-use Rattle.investor_desk.specs.InvestorFacts.{InvestorBook, InvestorFact, Came, Asked}
+use Rattle.investor_desk.specs.InvestorFacts.{Asked, Came, InvestorBook, InvestorFact}
 use Rattle.investor_desk.specs.InvestorFacts.{StandingRequest, book_of, expected_number, knows}
 use Rattle.investor_desk.specs.InvestorFacts.{offer_named, offer_of_dealer, offer_with_word}
 use Rattle.investor_desk.specs.InvestorFacts.{offers_of, open_request, request_numbered}
 use Rattle.investor_desk.specs.InvestorFacts.{request_with_id, requests_of, while_open}
-use Rattle.investor_desk.specs.InvestorRules.{InvestorMarket, arrival_verdict, hit_of, hit_verdict}
-use Rattle.investor_desk.specs.InvestorRules.{investor_verdict, message_verdict, pass_of}
-use Rattle.investor_desk.specs.InvestorRules.{pass_verdict, request_answer, request_checks}
-use Rattle.investor_desk.specs.InvestorRules.{request_refusal, request_verdict, dealer_numbers}
 use Rattle.investor_desk.specs.InvestorOutput.{answer_facts, close_by_answer, closed_facts}
 use Rattle.investor_desk.specs.InvestorOutput.{event_facts, expiry_facts, gone_facts, market_of}
 use Rattle.investor_desk.specs.InvestorOutput.{next_offer, offer_facts, own_facts, refusal_of}
 use Rattle.investor_desk.specs.InvestorOutput.{uses_number, withdrawal_facts}
+use Rattle.investor_desk.specs.InvestorRules as rules
+use Rattle.investor_desk.specs.InvestorRules.{InvestorMarket, arrival_verdict, dealer_named}
+use Rattle.investor_desk.specs.InvestorRules.{dealer_numbers, hit_of, hit_verdict, investor_verdict}
+use Rattle.investor_desk.specs.InvestorRules.{message_verdict, pass_of, pass_verdict}
+use Rattle.investor_desk.specs.InvestorRules.{request_answer, request_checks, request_refusal}
+use Rattle.investor_desk.specs.InvestorRules.{request_verdict}
 use Rattle.investor_desk.specs.declared.events.InvestorEvent.{InvestorEvent}
 use Rattle.investor_desk.specs.declared.events.InvestorEvent.TheVariants as event
 use Rattle.investor_desk.specs.declared.standing.AcceptedRequest.{AcceptedRequest}
@@ -41,18 +47,25 @@ use Rattle.investor_desk.specs.declared.standing.ShownOffer.{ShownOffer}
 use Rattle.investor_desk.specs.declared.verdicts.InvestorVerdict.{InvestorVerdict}
 use Rattle.investor_desk.specs.declared.verdicts.InvestorVerdict.TheVariants as verdict
 use Rattle.step_replay.specs.EachLemmas.{Every, every_weaker}
-use Rattle.venue_laws.proofs.KnownDesks.{DeskFit, asked_fit, offered_fit, plain_fit, shown_known}
-use Rattle.venue_laws.proofs.KnownLemmas.{asked, asked_is, asked_known, found_holds}
 use Rattle.venue_laws.proofs.AcceptedQuotes.{none_holds}
+use Rattle.venue_laws.proofs.KnownDesks.{DeskFit, asked_fit, offered_fit, plain_fit, shown_known}
+use Rattle.venue_laws.proofs.KnownDesks.{asked, asked_is, asked_known, found_holds}
+use Rattle.venue_laws.proofs.ListLemmas.{every_found, every_unit, found_passes, get_some, is_so}
+use Rattle.venue_laws.proofs.ListLemmas.{or_true, position_within}
+use Rattle.venue_laws.proofs.VenueInvariant.{IsDealer}
+use Rattle.venue_laws.proofs.VenueParts.{BearsGrid}
 
 -- What a verdict says.
 
--- an accepted request is the next of the day's, and names no dealer twice
-pub record RequestFit (row : InvestorRow) (facts : List InvestorFact) (request : AcceptedRequest)
-    : Type 0 where
+-- an accepted request is the next of the day's, names dealers of the venue, none twice, and bears
+-- the grid of its bond
+pub record RequestFit (config : Configuration) (row : InvestorRow) (facts : List InvestorFact)
+    (request : AcceptedRequest) : Type 0 where
   pub number_is : request.number ≡ length (requests_of facts) + 1
   pub within : (nat_le 1 request.number && nat_le request.number row.requests) ≡ true
   pub distinct : are_distinct request.dealers ≡ true
+  pub are_dealers : Every (IsDealer config) request.dealers
+  pub bears : BearsGrid config request.ask
 
 -- a hit means a quote that the investor was shown
 pub record HitFit (facts : List InvestorFact) (request : ℕ) (response : ResponseRef) : Type 0 where
@@ -65,19 +78,12 @@ pub record PassFit (facts : List InvestorFact) (request : ℕ) (response : Respo
   pub none : response.k ≡ None
   pub knows_is : knows (book_of facts) request response.k ≡ true
 
-abbrev pub VerdictFit : InvestorRow → List InvestorFact → InvestorVerdict → Type 0
-VerdictFit row facts (verdict.RequestAccepted id request) = RequestFit row facts request
-VerdictFit row facts (verdict.Hits request response word) = HitFit facts request response
-VerdictFit row facts (verdict.Passes request response) = PassFit facts request response
-VerdictFit row facts other = Unit {0}
-
-or_true : (b : Bool) → (b || true) ≡ true
-or_true true = refl
-or_true false = refl
-
-not_false : (b : Bool) → not b ≡ false → b ≡ true
-not_false true is = refl
-not_false false is = cc
+abbrev pub VerdictFit : Configuration → InvestorRow → List InvestorFact → InvestorVerdict → Type 0
+VerdictFit config row facts (verdict.RequestAccepted id request) =
+    RequestFit config row facts request
+VerdictFit config row facts (verdict.Hits request response word) = HitFit facts request response
+VerdictFit config row facts (verdict.Passes request response) = PassFit facts request response
+VerdictFit config row facts other = Unit {0}
 
 requests_asked : (facts : List InvestorFact)
     → Every (λ (own : StandingRequest). asked facts own.request.number ≡ true) (requests_of facts)
@@ -86,8 +92,7 @@ requests_asked (Asked request ∷ facts) = (
   ap (λ b. b || asked facts request.number) (eq-eqb request.number request.number refl),
   every_weaker (λ (own : StandingRequest). asked facts own.request.number ≡ true)
       (λ (own : StandingRequest). asked (Asked request ∷ facts) own.request.number ≡ true)
-      (λ own is. ap (λ b. (request.number == own.request.number) || b) is
-      ∙ or_true (request.number == own.request.number))
+      (λ own is. or_true (request.number == own.request.number) _ is)
       (requests_of facts) (requests_asked facts),
 )
 requests_asked (fact ∷ facts) = requests_asked facts
@@ -100,21 +105,42 @@ module _ (config : Configuration) (firm : ℕ) (row : InvestorRow) (may : ℕ �
   abbrev book : InvestorBook
   book = book_of facts
 
+  are_dealers : (names : List (List ℕ)) → Every (IsDealer config) (dealer_numbers market names)
+  unfolding dealer_named
+  are_dealers names =
+      every_found (λ (name : List ℕ). Unit {0}) (IsDealer config) (dealer_named market)
+      (λ name dealer found trivial.
+      let within : dealer < length market.dealers =
+      position_within (λ own. same_text own name) market.dealers dealer found in
+      get_some config.dealers dealer
+      (subst (λ (n : ℕ). dealer < n)
+      (length-map config.dealers (λ (d : DealerRow). d.name)) within))
+      names (every_unit names)
+
+  -- the bond that is found by its identifier is found by the identifier that it has
+  found_again : (id : List ℕ) (bond : BondRow) → bond_with_id config id ≡ Some bond
+      → bond_with_id config bond.id ≡ Some bond
+  found_again id bond found =
+      let passes = found_passes (λ (b : BondRow). same_text b.id id) config.bonds bond found in
+      ap (bond_with_id config) ((bytes_eq-Decides bond.id id).0 passes) ∙ found
+
   module _ (moment : ℕ) where
     request_fits : (request : QuoteRequest) (bond : Option BondRow)
-        (refused : Option RequestRejectReason)
+        (refused : Option RequestRejectReason) → bond_with_id config request.bond ≡ bond
         → request_refusal market book moment request ≡ refused
-        → VerdictFit row facts (request_answer market book moment request bond refused)
+        → VerdictFit config row facts (request_answer market book moment request bond refused)
     unfolding request_refusal
-    request_fits request bond (Some reason) is = tt
-    request_fits request None None is = tt
-    request_fits request (Some bond) None is =
+    request_fits request bond (Some reason) found is = tt
+    request_fits request None None found is = tt
+    request_fits request (Some bond) None found is =
         let checks = none_holds (request_checks market book moment request) is in
         record {
           number_is = refl;
           within = of_day (length (requests_of facts)) checks.1.1.1.1.1.1.1.1.0;
-          distinct = not_false (are_distinct (dealer_numbers market request.dealers))
+          distinct = is_so (are_distinct (dealer_numbers market request.dealers))
               checks.1.1.1.1.1.0;
+          are_dealers = are_dealers request.dealers;
+          bears = ap (option_map (λ (b : BondRow). b.grid)) (found_again request.bond bond found);
         }
       where
         of_day : (n : ℕ) → nat_le row.requests n ≡ false
@@ -122,7 +148,7 @@ module _ (config : Configuration) (firm : ℕ) (row : InvestorRow) (may : ℕ �
         of_day n few = grind (arith, nat_tests)
 
     hit_fits : (hit : QuoteHit) (shown : Option ShownOffer) → offer_named book hit.quote ≡ shown
-        → VerdictFit row facts (hit_of hit shown)
+        → VerdictFit config row facts (hit_of hit shown)
     unfolding offer_named
     hit_fits hit None is = tt
     hit_fits hit (Some shown) is = record {
@@ -132,7 +158,7 @@ module _ (config : Configuration) (firm : ℕ) (row : InvestorRow) (may : ℕ �
     }
 
     pass_fits : (pass : RequestPass) (own : Option StandingRequest)
-        → request_with_id book pass.request ≡ own → VerdictFit row facts (pass_of pass own)
+        → request_with_id book pass.request ≡ own → VerdictFit config row facts (pass_of pass own)
     unfolding request_with_id
     pass_fits pass None is = tt
     pass_fits pass (Some own) is = record {
@@ -143,21 +169,22 @@ module _ (config : Configuration) (firm : ℕ) (row : InvestorRow) (may : ℕ �
     }
 
     said_fits : (said : InvestorMessage)
-        → VerdictFit row facts (message_verdict market book moment said)
-    unfolding request_verdict hit_verdict pass_verdict
-    said_fits (message.Request request) = request_fits request _ _ refl
+        → VerdictFit config row facts (message_verdict market book moment said)
+    unfolding request_verdict hit_verdict pass_verdict rules.bond_with_id
+    said_fits (message.Request request) =
+        request_fits request (bond_with_id config request.bond) _ refl refl
     said_fits (message.Hit hit) = hit_fits hit (offer_named book hit.quote) refl
     said_fits (message.Pass pass) = pass_fits pass (request_with_id book pass.request) refl
 
     arrival_fits : (came : Arrival InvestorMessage)
-        → VerdictFit row facts (arrival_verdict market book moment came)
+        → VerdictFit config row facts (arrival_verdict market book moment came)
     arrival_fits arrival.Dropped = tt
     arrival_fits (arrival.OutOfSequence reject) = tt
     arrival_fits (arrival.Rejected reject) = tt
     arrival_fits (arrival.Taken said) = said_fits said
 
     pub verdict_fits : (bytes : List ℕ)
-        → VerdictFit row facts (investor_verdict market book moment bytes)
+        → VerdictFit config row facts (investor_verdict market book moment bytes)
     unfolding investor_verdict
     verdict_fits bytes =
         arrival_fits (investor_arrival market.date market.row (expected_number book) bytes)
@@ -216,7 +243,7 @@ module _ (config : Configuration) (firm : ℕ) (row : InvestorRow) (may : ℕ �
       offered_fit may facts fit gone plain.no_offers plain.no_requests
       (next_offer book number offer) (known refl) refl
 
-  said_desk : (moment : ℕ) (bytes : List ℕ) (v : InvestorVerdict) → VerdictFit row facts v
+  said_desk : (moment : ℕ) (bytes : List ℕ) (v : InvestorVerdict) → VerdictFit config row facts v
       → ((number : ℕ) → (nat_le 1 number && nat_le number row.requests) ≡ true
       → may number ≡ true)
       → DeskFit may (facts ++ own_facts moment bytes v)
