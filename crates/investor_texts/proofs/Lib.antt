@@ -6,8 +6,11 @@ mod FaultLemmas
 mod LineLemmas
 mod MarketLemmas
 mod NumberLemmas
-mod ReadBackItems
 mod ReadBackLists
+mod ReadBackMessages
+mod ReadBackParts
+mod ReadBackQuotes
+mod ReadBackReplies
 mod ReadLemmas
 mod RowLemmas
 mod SoughtLemmas
