@@ -17,7 +17,7 @@ use venue_text::{LiveForm, Wanted};
 /// What a command asks for.
 #[derive(Clone, Copy)]
 pub enum VenueCommand<'a> {
-    /// The messages of the dealer whose due text is read.
+    /// The messages of the firm whose due text is read, a dealer or an investor.
     Alone {
         /// Each message is printed as its whole frame.
         frames: bool,

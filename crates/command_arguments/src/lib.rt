@@ -10,7 +10,8 @@
 //!
 //! - [`read_command`]: arguments that are those of a command give it (`command_of` of
 //!   `specs/Arguments`), all others one of the errors that they have (`arguments_fault`).
-//! - [`response_to`] says whether an error asks for help, and gives its text.
+//! - [`response_to`] says whether an error asks for help or is a mistake, and gives a text that is
+//!   not empty; that this is the text of that help, or says what the mistake is, is not proved.
 //! - [`these_arguments_are_commands`] and [`arguments_have_these_faults`] say which arguments are
 //!   those of a command, and what is wrong with some others.
 #![tactic(auto)]
