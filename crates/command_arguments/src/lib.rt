@@ -18,6 +18,7 @@
 
 mod command;
 mod help;
+mod inputs;
 mod table;
 
 pub use command::{
