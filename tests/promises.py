@@ -43,7 +43,7 @@ CALLERS = {
     "input_lines": ("venue_text/src/day_arguments.rt", "read_open_day"),
     "live_runs": ("venue_commands/src/program.rt", "run_command"),
     "command_arguments": ("venue_commands/src/program.rt", "run_program"),
-    "venue_text": ("live_runs/src/live.rt", "answer_step"),
+    "venue_text": ("live_runs/src/stages.rt", "answer_step"),
     "venue_commands": ("rfq_venue/src/main.rt", "main"),
     "venue_places": ("session_worker/src/duties.rt", "act"),
     "blotter": ("venue_text/src/blotter_command.rt", "lines_text"),

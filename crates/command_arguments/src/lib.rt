@@ -18,9 +18,9 @@
 
 mod command;
 mod help;
+mod inputs;
+mod laws;
 mod table;
 
-pub use command::{
-    Response, VenueCommand, argument_bytes, arguments_have_these_faults, read_command, response_to,
-    these_arguments_are_commands,
-};
+pub use command::{Response, VenueCommand, argument_bytes, read_command, response_to};
+pub use laws::{arguments_have_these_faults, these_arguments_are_commands};

@@ -19,7 +19,7 @@ use Rattle.live_runs.specs.LiveStages.{IsCut, StageIs, StandsAt}
 use Rattle.live_runs.specs.Written.{Written}
 use Rattle.live_runs.specs.declared.line_forms.LineForm.{LineForm as RustForm}
 use Rattle.live_runs.specs.declared.live.LiveRun.{LiveRun}
-use Rattle.live_runs.specs.declared.live.Stage.{Stage}
+use Rattle.live_runs.specs.declared.stages.Stage.{Stage}
 use Rattle.live_runs.specs.declared.live.TheConstants.{MOST_LINES}
 use Rattle.live_runs.proofs.FeedLemmas.{line_closed, line_goes_on, feeds_end, feeds_stay}
 use Rattle.live_runs.proofs.StageLemmas.{answered_by, still}

@@ -23,8 +23,8 @@ use Rattle.live_runs.specs.LiveStages.{StageIs}
 use Rattle.live_runs.specs.Written.{GainsPart, Written}
 use Rattle.live_runs.specs.declared.line_forms.LineForm.{LineForm as RustForm}
 use Rattle.live_runs.specs.declared.live.LiveRun.{LiveRun}
-use Rattle.live_runs.specs.declared.live.Stage.{Stage}
-use Rattle.live_runs.specs.declared.live.Stage.TheVariants as stage
+use Rattle.live_runs.specs.declared.stages.Stage.{Stage}
+use Rattle.live_runs.specs.declared.stages.Stage.TheVariants as stage
 use Rattle.live_runs.proofs.StreamLemmas.{keeps_same}
 use Rattle.live_runs.proofs.StageLemmas.{answered_by, still}
 use Rattle.live_runs.proofs.EndLemmas.{ended_is}

@@ -5,7 +5,7 @@ use Rattle.live_runs.specs.Written.{GainsPart}
 use Rattle.live_runs.proofs.GainLemmas.{same_fault}
 use Rattle.live_runs.proofs.DayLineLemmas.{day_answered, day_out_of_memory, day_unprinted}
 use Rattle.live_runs.proofs.StreamLemmas.{keeps_same}
-use Rattle.live_runs.proofs.live.answer_step.Goals as goal
+use Rattle.live_runs.proofs.stages.answer_step.Goals as goal
 
 pub returns-in_err-output-clause-err : goal.returns-in_err-output-clause-err
 returns-in_err-output-clause-err g c =

@@ -2,11 +2,11 @@ use Rattle.std.proofs.Common.{◌≡◌, List, ℕ, refl, rules, subst}
 use Rattle.std.specs.Io.KnownBytes.{Appends}
 use Rattle.input_lines.specs.declared.faults.ProgramFault.TheVariants.{Memory, Parts}
 use Rattle.live_runs.specs.Written.{GainsPart}
-use Rattle.live_runs.specs.declared.live.Stage.TheVariants as stage
+use Rattle.live_runs.specs.declared.stages.Stage.TheVariants as stage
 use Rattle.live_runs.proofs.GainLemmas.{same_fault}
 use Rattle.live_runs.proofs.EndLemmas.{closes_in_memory, last_bare, last_between, last_both}
 use Rattle.live_runs.proofs.EndLemmas.{last_both_unprinted, last_first, last_unprinted}
-use Rattle.live_runs.proofs.live.Stage.close.Goals as goal
+use Rattle.live_runs.proofs.stages.Stage.close.Goals as goal
 
 pub returns-in-Configuration-clause-err : goal.returns-in-Configuration-clause-err
 returns-in-Configuration-clause-err g c =

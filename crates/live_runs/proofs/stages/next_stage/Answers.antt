@@ -5,7 +5,7 @@ use Rattle.live_runs.specs.LineForms.{meant_form}
 use Rattle.live_runs.specs.LiveCalls.{OpensNone}
 use Rattle.live_runs.proofs.GainLemmas.{same_fault}
 use Rattle.live_runs.proofs.RefusalLemmas.{bad_by}
-use Rattle.live_runs.proofs.live.next_stage.Goals as goal
+use Rattle.live_runs.proofs.stages.next_stage.Goals as goal
 
 pub returns-in_err-stage-clause-err : goal.returns-in_err-stage-clause-err
 returns-in_err-stage-clause-err c =

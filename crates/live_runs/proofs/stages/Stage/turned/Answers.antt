@@ -3,7 +3,7 @@ use Rattle.investor_texts.specs.SoughtDays.{whom_meant}
 use Rattle.live_runs.specs.LineForms.{meant_form}
 use Rattle.live_runs.proofs.GainLemmas.{same_fault}
 use Rattle.live_runs.proofs.RefusalLemmas.{turn_refused}
-use Rattle.live_runs.proofs.live.Stage.turned.Goals as goal
+use Rattle.live_runs.proofs.stages.Stage.turned.Goals as goal
 
 pub returns-in_err-other-in-Between-clause-err : goal.returns-in_err-other-in-Between-clause-err
 returns-in_err-other-in-Between-clause-err c =

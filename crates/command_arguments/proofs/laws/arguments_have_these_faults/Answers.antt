@@ -1,7 +1,7 @@
 use Rattle.std.proofs.Common.{refl}
 use Rattle.clap.proofs.OnLiterals.{clap_on_literals}
 use Rattle.command_arguments.specs.Arguments.{arguments_fault}
-use Rattle.command_arguments.proofs.command.arguments_have_these_faults.Goals as goal
+use Rattle.command_arguments.proofs.laws.arguments_have_these_faults.Goals as goal
 
 pub returns : goal.returns
 unfolding clap_on_literals arguments_fault

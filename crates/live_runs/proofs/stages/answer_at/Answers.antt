@@ -1,12 +1,12 @@
 use Rattle.std.proofs.Common.{◌≡◌, Some, refl, rules, subst, sym}
 use Rattle.live_runs.specs.LineForms.{meant_form}
 use Rattle.live_runs.specs.LiveCalls.{IsNext}
-use Rattle.live_runs.specs.declared.live.Stage.TheVariants as stage
+use Rattle.live_runs.specs.declared.stages.Stage.TheVariants as stage
 use Rattle.live_runs.proofs.GainLemmas.{same_fault}
 use Rattle.live_runs.proofs.StageLemmas.{stage_bad, stage_between, stage_keeps, stage_of_both}
 use Rattle.live_runs.proofs.StageLemmas.{stage_of_first, stage_opens, stage_refused_as_it_was}
 use Rattle.live_runs.proofs.TurnLemmas.{stage_long_between, stage_turn_fails, stage_turns}
-use Rattle.live_runs.proofs.live.answer_at.Goals as goal
+use Rattle.live_runs.proofs.stages.answer_at.Goals as goal
 
 pub returns-in_err-turn-clause-err : goal.returns-in_err-turn-clause-err
 returns-in_err-turn-clause-err g c =
