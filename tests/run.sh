@@ -1,7 +1,7 @@
 #!/bin/sh
-# Everything that is tried: the gate, and then short forms of the tests that stand beside it, which take
-# twelve minutes at most on a machine of four processors that does nothing else. Installs what is missing
-# from Debian. The last line counts all: `N passed, M failed`.
+# The gate, and then short forms of most tests that stand beside it, which take twelve minutes at most on a
+# machine of four processors that does nothing else (not among them: refused_memory, edits, long days, and
+# days at the limits). Installs what is missing from Debian. The last line counts all: `N passed, M failed`.
 #
 #     tests/run.sh                 the gate first
 #     tests/run.sh --beside        the short forms alone, with the program that stands
