@@ -43,6 +43,8 @@ mod naming;
 mod notices;
 mod place_events;
 mod rooms;
+mod shown_checks;
+mod shown_rooms;
 mod swept_rooms;
 mod threads;
 mod told_rooms;
