@@ -1,4 +1,4 @@
-use Rattle.std.proofs.Common.{length, arith}
+use Rattle.std.proofs.Common.{arith}
 use Rattle.std.proofs.Math.Nat.{le-max_left, le-max_right}
 use Rattle.investor_texts.proofs.CompareLemmas.{same_more, same_all}
 use Rattle.investor_texts.proofs.MarketLemmas.{apart_at, is_one}
