@@ -5,8 +5,11 @@ mod DayLemmas
 mod FaultLemmas
 mod LineLemmas
 mod NumberLemmas
-mod ReadBackItems
 mod ReadBackLists
+mod ReadBackMessages
+mod ReadBackParts
+mod ReadBackQuotes
+mod ReadBackReplies
 mod ReadLemmas
 mod RowLemmas
 mod SoughtLemmas

@@ -1,7 +1,7 @@
 use Rattle.std.proofs.lemmas.Bool.{and_parts}
 use Rattle.venue_text.specs.ReadBack.{is_short}
 use Rattle.investor_texts.specs.ReadBack.{is_short_if}
-use Rattle.investor_texts.proofs.ReadBackItems.{answered_back}
+use Rattle.investor_texts.proofs.ReadBackReplies.{answered_back}
 use Rattle.investor_texts.proofs.read_back.answered_is_read_back.Goals as goal
 
 pub returns : goal.returns

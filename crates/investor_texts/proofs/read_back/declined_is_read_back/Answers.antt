@@ -1,7 +1,7 @@
 use Rattle.std.proofs.lemmas.Bool.{and_parts}
 use Rattle.venue_rows.specs.Texts.{is_firm_name}
 use Rattle.venue_text.specs.ReadBack.{is_short}
-use Rattle.investor_texts.proofs.ReadBackItems.{declined_back}
+use Rattle.investor_texts.proofs.ReadBackQuotes.{declined_back}
 use Rattle.investor_texts.proofs.read_back.declined_is_read_back.Goals as goal
 
 pub returns : goal.returns

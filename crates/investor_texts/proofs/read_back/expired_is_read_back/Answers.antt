@@ -1,4 +1,4 @@
-use Rattle.investor_texts.proofs.ReadBackItems.{expired_back}
+use Rattle.investor_texts.proofs.ReadBackReplies.{expired_back}
 use Rattle.investor_texts.proofs.read_back.expired_is_read_back.Goals as goal
 
 pub returns : goal.returns

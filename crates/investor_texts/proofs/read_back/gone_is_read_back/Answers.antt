@@ -1,6 +1,6 @@
 use Rattle.std.proofs.lemmas.Bool.{and_parts}
 use Rattle.venue_text.specs.ReadBack.{is_short}
-use Rattle.investor_texts.proofs.ReadBackItems.{gone_back}
+use Rattle.investor_texts.proofs.ReadBackQuotes.{gone_back}
 use Rattle.investor_texts.proofs.read_back.gone_is_read_back.Goals as goal
 
 pub returns : goal.returns

@@ -1,7 +1,7 @@
 use Rattle.std.proofs.Common.{arith}
 use Rattle.hex.specs.Hex.{IsBytes}
 use Rattle.hex.proofs.HexLemmas.{decode_of-encode_lower}
-use Rattle.investor_texts.proofs.ReadBackItems.{own_back}
+use Rattle.investor_texts.proofs.ReadBackMessages.{own_back}
 use Rattle.investor_texts.proofs.read_back.own_is_read_back.Goals as goal
 
 pub returns : goal.returns

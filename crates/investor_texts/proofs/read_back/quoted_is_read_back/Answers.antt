@@ -3,7 +3,7 @@ use Rattle.std.proofs.lemmas.Bool.{and_parts}
 use Rattle.bond_prices.specs.Price.{price_of}
 use Rattle.venue_rows.specs.Texts.{is_firm_name}
 use Rattle.venue_text.specs.ReadBack.{is_short}
-use Rattle.investor_texts.proofs.ReadBackItems.{quoted_back}
+use Rattle.investor_texts.proofs.ReadBackQuotes.{quoted_back}
 use Rattle.investor_texts.proofs.read_back.quoted_is_read_back.Goals as goal
 
 pub returns : goal.returns
