@@ -8,7 +8,7 @@ use Rattle.bond_prices.specs.Price.{price_digits, price_of}
 use Rattle.fix_fields.specs.TimeOfDay.{time_text}
 use Rattle.venue_rows.specs.Texts.{is_firm_name, text_if}
 use Rattle.quote_messages.specs.Texts.{number_of}
-use Rattle.input_lines.specs.Lines.{behind_part, first_part, time_of}
+use Rattle.input_lines.specs.Lines.{first_part, time_of}
 use Rattle.input_lines.specs.OptionSteps.{◌>>=◌}
 use Rattle.venue_text.specs.ReadBack.{is_in_line, is_short}
 use Rattle.venue_text.proofs.ReadBackParts.{all_append, in_line, short_back, time_in_part}
@@ -23,59 +23,26 @@ use Rattle.investor_texts.proofs.ReadBackParts.{three_parts, four_parts}
 
 -- A quote.
 
-quoted_with : Option ℕ → Option (List ℕ) → Option ℕ → Option ℕ → Option (Option ℕ)
-    → Option InvestorDue
-quoted_with request dealer price moment valid_until = do
-  request ← request
-  dealer ← dealer
-  price ← price
-  moment ← moment
-  valid_until ← valid_until
-  Some (due.Quoted request dealer price valid_until moment)
-
-quoted_is : (date text : List ℕ) → quoted_of date text
-    ≡ quoted_with (number_of (first_part text))
-    (text_if is_firm_name (first_part (behind_part text)))
-    (result_ok (price_of (first_part (behind_part (behind_part text)))))
-    (time_of date (first_part (behind_part (behind_part (behind_part text)))))
-    (until_behind date (behind_part (behind_part (behind_part text))))
-unfolding quoted_of quoted_with
-quoted_is date text = refl
-
-quoted_all : (request : ℕ) (dealer : List ℕ) (price moment : ℕ) (until : Option ℕ)
-    → quoted_with (Some request) (Some dealer) (Some price) (Some moment) (Some until)
-    ≡ Some (due.Quoted request dealer price until moment)
-unfolding quoted_with
-quoted_all request dealer price moment until = refl
-
 quoted_by : (date t₁ t₂ t₃ t₄ a d p : List ℕ) (request price moment : ℕ) (until : Option ℕ)
     → Cut t₁ a t₂ → Cut t₂ d t₃ → Cut t₃ p t₄ → number_of a ≡ Some request
     → text_if is_firm_name d ≡ Some d → result_ok (price_of p) ≡ Some price
     → time_of date (first_part t₄) ≡ Some moment → until_behind date t₄ ≡ Some until
     → quoted_of date t₁ ≡ Some (due.Quoted request d price until moment)
+unfolding quoted_of
 quoted_by date t₁ t₂ t₃ t₄ a d p request price moment until c₁ c₂ c₃ one two three time last =
-    let b₂ = ap behind_part c₁.rest_is ∙ c₂.rest_is in
-    let b₃ = ap behind_part b₂ ∙ c₃.rest_is in
-    let e₁ = ap number_of c₁.part_is ∙ one in
-    let e₂ = ap (λ (t : List ℕ). text_if is_firm_name (first_part t)) c₁.rest_is
-    ∙ ap (text_if is_firm_name) c₂.part_is ∙ two in
-    let e₃ = ap (λ (t : List ℕ). result_ok (price_of (first_part t))) b₂
-    ∙ ap (λ (t : List ℕ). result_ok (price_of t)) c₃.part_is ∙ three in
-    let e₄ = ap (λ (t : List ℕ). time_of date (first_part t)) b₃ ∙ time in
-    let e₅ = ap (until_behind date) b₃ ∙ last in
-    let dealer_read = text_if is_firm_name (first_part (behind_part t₁)) in
-    let at_price = behind_part (behind_part t₁) in
-    let price_read = result_ok (price_of (first_part at_price)) in
-    let at_time = behind_part at_price in
-    let time_read = time_of date (first_part at_time) in
-    let until_read = until_behind date at_time in
-    quoted_is date t₁
-    ∙ ap (λ (x : Option ℕ). quoted_with x dealer_read price_read time_read until_read) e₁
-    ∙ ap (λ (x : Option (List ℕ)). quoted_with (Some request) x price_read time_read until_read) e₂
-    ∙ ap (λ (x : Option ℕ). quoted_with (Some request) (Some d) x time_read until_read) e₃
-    ∙ ap (λ (x : Option ℕ). quoted_with (Some request) (Some d) (Some price) x until_read) e₄
-    ∙ ap (λ (x : Option (Option ℕ)). quoted_with (Some request) (Some d) (Some price) (Some moment) x) e₅
-    ∙ quoted_all request d price moment until
+    rw (
+      c₁.part_is,
+      c₁.rest_is,
+      c₂.part_is,
+      c₂.rest_is,
+      c₃.part_is,
+      c₃.rest_is,
+      one,
+      two,
+      three,
+      time,
+      last,
+    ) refl
 
 pub quoted_back : (date : List ℕ) (request : ℕ) (dealer : List ℕ) (price : ℕ) (until : Option ℕ)
     (moment : ℕ) → is_short request ≡ true → is_firm_name dealer ≡ true → price ≤ 255999
@@ -117,27 +84,12 @@ quoted_back date request dealer price until moment short named most spelled late
 
 -- A quote that is taken back.
 
-gone_with : Option ℕ → Option ℕ → Option ℕ → Option InvestorDue
-gone_with request quote moment = do
-  request ← request
-  quote ← quote
-  moment ← moment
-  Some (due.Gone request quote moment)
-
 gone_by : (date t₁ t₂ t₃ a k : List ℕ) (request quote moment : ℕ) → Cut t₁ a t₂ → Cut t₂ k t₃
     → number_of a ≡ Some request → number_of k ≡ Some quote → time_of date t₃ ≡ Some moment
     → gone_of date t₁ ≡ Some (due.Gone request quote moment)
-unfolding gone_of gone_with
+unfolding gone_of
 gone_by date t₁ t₂ t₃ a k request quote moment c₁ c₂ one two time =
-    let e₁ = ap number_of c₁.part_is ∙ one in
-    let e₂ = ap (λ (t : List ℕ). number_of (first_part t)) c₁.rest_is ∙ ap number_of c₂.part_is ∙ two in
-    let e₃ = ap (λ (t : List ℕ). time_of date (behind_part t)) c₁.rest_is
-    ∙ ap (time_of date) c₂.rest_is ∙ time in
-    let quote_read = number_of (first_part (behind_part t₁)) in
-    let time_read = time_of date (behind_part (behind_part t₁)) in
-    ap (λ (x : Option ℕ). gone_with x quote_read time_read) e₁
-    ∙ ap (λ (x : Option ℕ). gone_with (Some request) x time_read) e₂
-    ∙ ap (λ (x : Option ℕ). gone_with (Some request) (Some quote) x) e₃
+    rw (c₁.part_is, c₁.rest_is, c₂.part_is, c₂.rest_is, one, two, time) refl
 
 pub gone_back : (date : List ℕ) (request quote moment : ℕ) → is_short request ≡ true
     → is_short quote ≡ true → time_of date (time_text moment) ≡ Some moment
@@ -170,28 +122,12 @@ gone_back date request quote moment short few time =
 
 -- A decline.
 
-declined_with : Option ℕ → Option (List ℕ) → Option ℕ → Option InvestorDue
-declined_with request dealer moment = do
-  request ← request
-  dealer ← dealer
-  moment ← moment
-  Some (due.Declined request dealer moment)
-
 declined_by : (date t₁ t₂ t₃ a d : List ℕ) (request moment : ℕ) → Cut t₁ a t₂ → Cut t₂ d t₃
     → number_of a ≡ Some request → text_if is_firm_name d ≡ Some d
     → time_of date t₃ ≡ Some moment → declined_of date t₁ ≡ Some (due.Declined request d moment)
-unfolding declined_of declined_with
+unfolding declined_of
 declined_by date t₁ t₂ t₃ a d request moment c₁ c₂ one two time =
-    let e₁ = ap number_of c₁.part_is ∙ one in
-    let e₂ = ap (λ (t : List ℕ). text_if is_firm_name (first_part t)) c₁.rest_is
-    ∙ ap (text_if is_firm_name) c₂.part_is ∙ two in
-    let e₃ = ap (λ (t : List ℕ). time_of date (behind_part t)) c₁.rest_is
-    ∙ ap (time_of date) c₂.rest_is ∙ time in
-    let dealer_read = text_if is_firm_name (first_part (behind_part t₁)) in
-    let time_read = time_of date (behind_part (behind_part t₁)) in
-    ap (λ (x : Option ℕ). declined_with x dealer_read time_read) e₁
-    ∙ ap (λ (x : Option (List ℕ)). declined_with (Some request) x time_read) e₂
-    ∙ ap (λ (x : Option ℕ). declined_with (Some request) (Some d) x) e₃
+    rw (c₁.part_is, c₁.rest_is, c₂.part_is, c₂.rest_is, one, two, time) refl
 
 pub declined_back : (date : List ℕ) (request : ℕ) (dealer : List ℕ) (moment : ℕ)
     → is_short request ≡ true → is_firm_name dealer ≡ true
