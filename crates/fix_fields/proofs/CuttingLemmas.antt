@@ -14,9 +14,9 @@ use Rattle.fix_fields.specs.Envelope.{with_byte, cut_behind, uncut, envelopes_of
 use Rattle.fix_fields.specs.Envelope.{envelopes_of_pieces}
 use Rattle.fix_fields.specs.Scan.{cutting, cut_on}
 use Rattle.fix_fields.specs.Envelope.Front.{Begun, Whole, Faulty}
-use Rattle.fix_fields.proofs.FrontLemmas.{HasWhole, cases_Front, front_fault, front_whole}
-use Rattle.fix_fields.proofs.FrontLemmas.{front_more_faulty, front_more_whole, has_fault, has_whole}
-use Rattle.fix_fields.proofs.FrontLemmas.{envelope_len}
+use Rattle.fix_fields.proofs.FrontFacts.{HasWhole, cases_Front, has_fault, has_whole}
+use Rattle.fix_fields.proofs.FrontLemmas.{front_fault, front_whole, front_more_faulty}
+use Rattle.fix_fields.proofs.FrontLemmas.{front_more_whole, envelope_len}
 
 one_more : (rest : List ℕ) (byte : ℕ) (bytes : List ℕ) → rest ++ (byte ∷ bytes) ≡ (rest ++ (byte ∷ [])) ++ bytes
 one_more rest byte bytes = sym (append_assoc rest (byte ∷ []) bytes)

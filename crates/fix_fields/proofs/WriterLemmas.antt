@@ -18,7 +18,7 @@ use Rattle.fix_fields.specs.Frame.{frame_text, decimal_len, field_len, fields_le
 use Rattle.fix_fields.specs.Frame.{fields_of}
 use Rattle.fix_fields.specs.Scan.{IsBodyText, text_around}
 use Rattle.fix_fields.proofs.Digits.{plain}
-use Rattle.fix_fields.proofs.FieldLemmas.{fields_of-text, AreBody-lawful}
+use Rattle.fix_fields.proofs.FieldsText.{fields_of-text, AreBody-lawful}
 
 -- a number from 10 ^ k on has more than k digits
 longer : (k n : ℕ) → n < 2 ^ 64 → 10 ^ k ≤ n → k < length (decimal n)

@@ -6,7 +6,7 @@ use Rattle.std.proofs.lemmas.List.{length-take}
 use Rattle.std.proofs.lemmas.Slice.Eq.{bytes_eq-Decides}
 use Rattle.fix_fields.specs.UtcTimestamp.{IsDate, UtcTimestamp}
 use Rattle.fix_fields.specs.Clock.{IsClock}
-use Rattle.fix_fields.proofs.ClockLemmas.{clock_of, timestamp_of, moment_of-other, moment_of-own}
+use Rattle.fix_fields.proofs.MomentLemmas.{clock_of, timestamp_of, moment_of-other, moment_of-own}
 use Rattle.fix_fields.proofs.moments.read.Goals as goal
 
 pub returns-then-text-lt8 : goal.returns-then-text-lt8
