@@ -20,7 +20,8 @@ use Rattle.venue_places.specs.Placed.{placed}
 use Rattle.venue_places.specs.declared.actors.Actor.{Actor}
 use Rattle.venue_places.specs.declared.actors.Actor.TheVariants as actor
 use Rattle.step_replay.specs.Actions.{Dealer, Effect, at_dealer, at_market, dealer_at, done_by}
-use Rattle.step_replay.specs.Actions.{done_for, duty_effect, nothing, told_of, told_to, where_known}
+use Rattle.step_replay.specs.Actions.{done_for, nothing, told_of, told_to, where_known}
+use Rattle.step_replay.specs.DutyEffects.{duty_effect}
 use Rattle.step_replay.specs.AuditTrail.{AuditTrail, after_step, after_turn, pending}
 use Rattle.step_replay.specs.DealerTrail.{rooms_by}
 use Rattle.step_replay.specs.EachLemmas.{Every, every_both}

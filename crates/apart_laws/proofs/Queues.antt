@@ -7,7 +7,7 @@ use Rattle.std.proofs.lemmas.Bool.Decides.{nat_tests}
 use Rattle.std.proofs.lemmas.List.Folds.{list_any-append}
 use Rattle.market_terms.specs.declared.duties.Duty.{Duty}
 use Rattle.venue_rows.specs.Rows.{Configuration}
-use Rattle.step_replay.specs.Actions.{duty_effect, message_effect, sweep_effect}
+use Rattle.step_replay.specs.DutyEffects.{duty_effect, message_effect, sweep_effect}
 use Rattle.step_replay.specs.AuditTrail.{AuditTrail, Caused, after_step, after_turn, duty_of}
 use Rattle.step_replay.specs.AuditTrail.{is_same_actor, pending}
 use Rattle.step_replay.specs.EachLemmas.{Every, every_both}

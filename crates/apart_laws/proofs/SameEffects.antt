@@ -15,11 +15,9 @@ use Rattle.venue_steps.specs.RoomSteps.{duties_of_open}
 use Rattle.venue_steps.specs.RoomSteps.{duties_of_pass}
 use Rattle.venue_steps.specs.RoomSteps.{duties_of_expire}
 use Rattle.step_replay.specs.VenueFacts.{Fact}
-use Rattle.step_replay.specs.Actions.{dealer_at, dealer_of}
-use Rattle.step_replay.specs.Actions.{acting_dealer, done_by, done_for}
-use Rattle.step_replay.specs.Actions.{received_by_dealer}
-use Rattle.step_replay.specs.Actions.{received_by_investor}
-use Rattle.step_replay.specs.Actions.{duty_effect, sweep_effect, message_effect}
+use Rattle.step_replay.specs.Actions.{dealer_at, dealer_of, acting_dealer, done_by, done_for}
+use Rattle.step_replay.specs.Actions.{received_by_dealer, received_by_investor}
+use Rattle.step_replay.specs.DutyEffects.{duty_effect, sweep_effect, message_effect}
 use Rattle.venue_places.specs.declared.actors.Actor.{Actor}
 use Rattle.venue_places.specs.declared.actors.Actor.TheVariants as actor
 use Rattle.apart_laws.proofs.There.{IsOn, FactsOn}

@@ -20,9 +20,9 @@ use Rattle.venue_places.specs.Placed.{placed, swept, where_so}
 use Rattle.venue_places.specs.declared.actors.Actor.{Actor}
 use Rattle.venue_places.specs.declared.arrivals.Placement.TheVariants as arrival
 use Rattle.venue_places.specs.declared.arrivals.ForRoom.TheVariants as to_room
-use Rattle.step_replay.specs.Actions.{Effect, done_by, done_for, duty_effect}
-use Rattle.step_replay.specs.Actions.{message_effect, received_by_dealer, received_by_investor}
-use Rattle.step_replay.specs.Actions.{sweep_effect}
+use Rattle.step_replay.specs.Actions.{Effect, done_by, done_for, received_by_dealer}
+use Rattle.step_replay.specs.Actions.{received_by_investor}
+use Rattle.step_replay.specs.DutyEffects.{duty_effect, message_effect, sweep_effect}
 use Rattle.step_replay.specs.AuditTrail.{AuditTrail, after_step, after_turn, audit_trail, no_steps}
 use Rattle.step_replay.specs.AuditTrail.{pending, sent_to}
 use Rattle.step_replay.specs.Coming.{effect_where}

@@ -13,9 +13,9 @@ use Rattle.investor_desk.specs.InvestorOutput as investor_output
 use Rattle.investor_desk.specs.declared.verdicts.InvestorVerdict.{InvestorVerdict}
 use Rattle.investor_desk.specs.declared.verdicts.InvestorVerdict.TheVariants as verdict
 use Rattle.step_replay.specs.Actions.{Dealer, Effect, nothing, done_by, done_for, dealer_at}
-use Rattle.step_replay.specs.Actions.{received_by_dealer, received_by_investor, message_effect}
-use Rattle.step_replay.specs.Actions.{at_dealer, words_of, word_for, verdict_on, settlement_of}
-use Rattle.step_replay.specs.Actions.{left_by}
+use Rattle.step_replay.specs.Actions.{received_by_dealer, received_by_investor, at_dealer, words_of}
+use Rattle.step_replay.specs.Actions.{word_for, verdict_on, settlement_of, left_by}
+use Rattle.step_replay.specs.DutyEffects.{message_effect}
 use Rattle.dealer_desk.specs.DealerOutput.{word_asked}
 use Rattle.dealer_desk.specs.declared.events.DealerEvent.TheVariants as at_desk
 use Rattle.venue_steps.specs.Words.{has_word}

@@ -24,8 +24,9 @@ use Rattle.step_replay.specs.VenueFacts.{Fact, AtDealer, InRoom, of_dealer, of_r
 use Rattle.step_replay.specs.Actions.{Effect, Dealer, nothing, dealer_of, dealer_at, acting_dealer}
 use Rattle.step_replay.specs.Actions.{done_by, done_for, at_dealer, in_room, word_for, offer_of}
 use Rattle.step_replay.specs.Actions.{at_investor_of, where_known, posted_by, unposted_by}
-use Rattle.step_replay.specs.Actions.{declined_by, dropped_by, received_by_dealer, received_by_investor}
-use Rattle.step_replay.specs.Actions.{duty_effect, message_effect}
+use Rattle.step_replay.specs.Actions.{declined_by, dropped_by, received_by_dealer}
+use Rattle.step_replay.specs.Actions.{received_by_investor}
+use Rattle.step_replay.specs.DutyEffects.{duty_effect, message_effect}
 use Rattle.venue_places.specs.declared.actors.Actor.{Actor}
 use Rattle.venue_places.specs.declared.actors.Actor.TheVariants as actor
 use Rattle.silence_laws.specs.Silence.{is_another, acts_as_another}

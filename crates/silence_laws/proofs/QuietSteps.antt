@@ -17,8 +17,8 @@ use Rattle.request_room.specs.declared.events.RoomEvent.TheVariants as at_room
 use Rattle.venue_steps.specs.RoomSteps.{duties_of_open, duties_of_pass, duties_of_expire}
 use Rattle.step_replay.specs.VenueFacts.{Fact, of_room}
 use Rattle.step_replay.specs.Actions.{dealer_at, acting_dealer, done_by, done_for}
-use Rattle.step_replay.specs.Actions.{received_by_dealer, received_by_investor, duty_effect}
-use Rattle.step_replay.specs.Actions.{sweep_effect, message_effect}
+use Rattle.step_replay.specs.Actions.{received_by_dealer, received_by_investor}
+use Rattle.step_replay.specs.DutyEffects.{duty_effect, sweep_effect, message_effect}
 use Rattle.venue_places.specs.declared.actors.Actor.{Actor}
 use Rattle.silence_laws.specs.Silence.{is_another, acts_as_another, is_hit}
 use Rattle.silence_laws.proofs.Quiet.{IsPlain, stays_at_desk}

@@ -23,8 +23,9 @@ use Rattle.step_replay.specs.Actions.{words_of}
 use Rattle.step_replay.specs.Standing.{Stands, Does}
 use Rattle.step_replay.specs.declared.floor.DealerPlace.{DealerPlace}
 use Rattle.step_replay.specs.declared.floor.Floor.{Floor}
-use Rattle.step_replay.proofs.FloorLemmas.{Found, event_stands, at_dealer_stands, idle_stands}
-use Rattle.step_replay.proofs.FloorLemmas.{unasked_stands}
+use Rattle.step_replay.proofs.FloorLemmas.{event_stands, at_dealer_stands}
+use Rattle.step_replay.proofs.FoundDealers.{Found}
+use Rattle.step_replay.proofs.UnaskedEvents.{idle_stands, unasked_stands}
 use Rattle.step_replay.proofs.LiftingLemmas.{IsDueSo}
 use Rattle.step_replay.proofs.AskedWords.{withdraws_by, answer_is, words_asked}
 

@@ -23,7 +23,7 @@ use Rattle.step_replay.specs.Actions.{dealer_of, word_for, quote_among, QuoteRef
 use Rattle.step_replay.specs.RowOfWords.{word_if}
 use Rattle.step_replay.specs.Standing.{WordsStand, word_is}
 use Rattle.step_replay.specs.OwnerLemmas.{same_value, owner_among, quote_at}
-use Rattle.step_replay.specs.SeenLemmas.{facts_grown, lifted_grown}
+use Rattle.step_replay.specs.DeskGrowth.{facts_grown, lifted_grown}
 use Rattle.step_replay.specs.PlaceLemmas.{dealer_grown, own_trail, other_trail}
 
 -- Words of two quotes are two words.

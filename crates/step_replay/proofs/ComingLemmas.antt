@@ -27,7 +27,8 @@ use Rattle.venue_places.specs.declared.arrivals.ForInvestor.TheVariants as to_in
 use Rattle.venue_places.specs.declared.arrivals.ForRoom.{ForRoom}
 use Rattle.venue_places.specs.declared.arrivals.ForRoom.TheVariants as to_room
 use Rattle.step_replay.specs.Actions.{Effect, nothing, done_by, done_for, in_room, hit_in}
-use Rattle.step_replay.specs.Actions.{duty_effect, sweep_effect, dropped_by}
+use Rattle.step_replay.specs.Actions.{dropped_by}
+use Rattle.step_replay.specs.DutyEffects.{duty_effect, sweep_effect}
 use Rattle.step_replay.specs.Coming.{dealer_gets, investor_gets, room_gets, arrival_effect}
 use Rattle.step_replay.specs.Coming.{effect_where}
 use Rattle.step_replay.specs.OwnerLemmas.{same_value}

@@ -8,13 +8,14 @@ use Rattle.market_terms.specs.declared.duties.Duty.{Duty}
 use Rattle.step_replay.specs.VenueFacts.{Fact}
 use Rattle.venue_places.specs.declared.arrivals.Placement.{Placement}
 use Rattle.step_replay.specs.Coming.{arrival_effect, effect_where}
-use Rattle.step_replay.specs.Actions.{Effect, message_effect, done_by, done_for}
-use Rattle.step_replay.specs.Actions.{dealer_at, received_by_dealer, received_by_investor}
+use Rattle.step_replay.specs.Actions.{Effect, done_by, done_for, dealer_at, received_by_dealer}
+use Rattle.step_replay.specs.Actions.{received_by_investor}
+use Rattle.step_replay.specs.DutyEffects.{message_effect}
 use Rattle.investor_desk.specs.InvestorOutput.{market_for}
 use Rattle.step_replay.specs.Standing.{ActsOnce, Does, Stands}
 use Rattle.step_replay.specs.declared.floor.Floor.{Floor}
 use Rattle.step_replay.specs.PlaceLemmas.{not_lent}
-use Rattle.step_replay.proofs.FloorLemmas.{idle_does}
+use Rattle.step_replay.proofs.FoundDealers.{idle_does}
 
 -- what follows where a call succeeded
 pub where_ok : {A E : Type 0} (P Q : A → Type 0) (result : Result A E) → ((x : A) → P x → Q x)

@@ -29,9 +29,10 @@ use Rattle.step_replay.specs.Standing.{WordsStand, Stands, Does, AreOneOf}
 use Rattle.step_replay.specs.RoomPlaces.{room_place}
 use Rattle.step_replay.specs.declared.floor.InvestorPlace.{InvestorPlace}
 use Rattle.step_replay.specs.declared.floor.Floor.{Floor}
-use Rattle.step_replay.proofs.FloorLemmas.{leaving}
+use Rattle.step_replay.proofs.FoundDealers.{leaving}
 use Rattle.step_replay.proofs.RoomPlaceLemmas.{found_by_code, no_room}
-use Rattle.step_replay.proofs.RoomActionLemmas.{in_room_stands, room_push}
+use Rattle.step_replay.proofs.RoomActionLemmas.{room_push}
+use Rattle.step_replay.proofs.RoomFloor.{in_room_stands}
 use Rattle.step_replay.proofs.HitRefused.{refused_does}
 use Rattle.step_replay.proofs.HitSettled.{settled_does}
 

@@ -27,7 +27,7 @@ use Rattle.step_replay.specs.declared.floor.Floor.{Floor}
 use Rattle.step_replay.specs.OwnerLemmas.{owned_by, has_owner, quote_at}
 use Rattle.step_replay.specs.PlaceLemmas.{room_grown}
 use Rattle.step_replay.proofs.RoomPlaceLemmas.{found_by_code}
-use Rattle.step_replay.proofs.RoomActionLemmas.{in_room_stands}
+use Rattle.step_replay.proofs.RoomFloor.{in_room_stands}
 
 -- The quote that has a word of the row.
 

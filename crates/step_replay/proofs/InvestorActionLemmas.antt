@@ -31,7 +31,7 @@ use Rattle.step_replay.specs.Standing.{Stands, Does}
 use Rattle.step_replay.specs.declared.floor.InvestorPlace.{InvestorPlace}
 use Rattle.step_replay.specs.declared.floor.Floor.{Floor}
 use Rattle.step_replay.specs.OwnerLemmas.{same_value}
-use Rattle.step_replay.proofs.FloorLemmas.{idle_does}
+use Rattle.step_replay.proofs.FoundDealers.{idle_does}
 use Rattle.step_replay.proofs.InvestorPlaceLemmas.{InvestorFound, investor_found, no_investor}
 use Rattle.step_replay.proofs.InvestorPlaceLemmas.{added_by, investor_event_stands}
 use Rattle.step_replay.proofs.InvestorPlaceLemmas.{at_investor_stands}

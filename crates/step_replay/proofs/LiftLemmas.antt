@@ -34,7 +34,7 @@ use Rattle.step_replay.proofs.FloorLemmas.{at_dealer_stands}
 use Rattle.step_replay.proofs.LiftingLemmas.{dues_after_lifting, within_after_lifting}
 use Rattle.step_replay.specs.OwnerLemmas.{same_value}
 use Rattle.step_replay.specs.PlaceLemmas.{dealer_grown, own_trail, other_trail}
-use Rattle.step_replay.specs.SeenLemmas.{both}
+use Rattle.step_replay.specs.DeskGrowth.{both}
 
 -- Lists.
 

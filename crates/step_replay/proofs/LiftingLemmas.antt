@@ -26,7 +26,7 @@ use Rattle.step_replay.specs.declared.dues.Due.TheVariants as due
 use Rattle.step_replay.specs.declared.floor.DealerPlace.{DealerPlace}
 use Rattle.step_replay.specs.declared.floor.Floor.{Floor}
 use Rattle.step_replay.specs.declared.floor.Lifting.{Lifting}
-use Rattle.step_replay.specs.SeenLemmas.{due_grown}
+use Rattle.step_replay.specs.DeskGrowth.{due_grown}
 
 -- Liftings that stand behind no more events than came.
 

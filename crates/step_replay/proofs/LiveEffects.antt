@@ -18,10 +18,8 @@ use Rattle.venue_rows.specs.declared.investor_rows.InvestorRow.{InvestorRow}
 use Rattle.step_replay.specs.AuditTrail.{AuditTrail, after_step, after_turn, pending}
 use Rattle.step_replay.specs.ActionKinds.{IsAction, by_dealer, by_hit, by_investor, by_room, idle}
 use Rattle.step_replay.specs.ActionKinds.{duty_action, message_action, sweep_action}
-use Rattle.step_replay.specs.Actions.{Effect, QuoteRef, quote_with_word}
-use Rattle.step_replay.specs.Actions.{nothing}
-use Rattle.step_replay.specs.Actions.{duty_effect, message_effect, sweep_effect}
-use Rattle.step_replay.specs.Actions.{lifting}
+use Rattle.step_replay.specs.Actions.{Effect, QuoteRef, quote_with_word, nothing, lifting}
+use Rattle.step_replay.specs.DutyEffects.{duty_effect, message_effect, sweep_effect}
 use Rattle.step_replay.specs.DealerTrail as dealer_trail
 use Rattle.step_replay.specs.DealerTrail.{DealerEntry}
 use Rattle.step_replay.specs.InvestorTrail as investor_trail

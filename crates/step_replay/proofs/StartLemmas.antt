@@ -12,7 +12,7 @@ use Rattle.market_terms.specs.declared.duties.Duty.{Duty}
 use Rattle.venue_rows.specs.Rows.{Configuration, has_room}
 use Rattle.step_replay.specs.AuditTrail.{AuditTrail, audit_trail, after_step, no_steps, pending}
 use Rattle.step_replay.specs.AuditTrail.{after_turn, with_effect}
-use Rattle.step_replay.specs.Actions.{message_effect, sweep_effect}
+use Rattle.step_replay.specs.DutyEffects.{message_effect, sweep_effect}
 use Rattle.market_terms.specs.declared.rooms.RoomRef.{RoomRef}
 use Rattle.step_replay.specs.DoneSteps.{AreKnown}
 use Rattle.step_replay.specs.Following.{ReplayStands, duties_in}

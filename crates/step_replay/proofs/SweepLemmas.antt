@@ -20,8 +20,8 @@ use Rattle.venue_rows.specs.Rows.{Configuration, has_room}
 use Rattle.venue_steps.specs.RoomSteps.{close_for, dealers_of, duties_of_expire, told_in}
 use Rattle.request_room.specs.RoomFacts.{request_of}
 use Rattle.step_replay.specs.Actions.{Dealer, Effect, at_dealer, at_market, dealer_at, done_by}
-use Rattle.step_replay.specs.Actions.{done_for}
-use Rattle.step_replay.specs.Actions.{duty_effect, nothing, sweep_effect, told_of, told_to}
+use Rattle.step_replay.specs.Actions.{done_for, nothing, told_of, told_to}
+use Rattle.step_replay.specs.DutyEffects.{duty_effect, sweep_effect}
 use Rattle.step_replay.specs.AuditTrail.{AuditTrail, Caused, after_step, after_turn, duty_of}
 use Rattle.step_replay.specs.AuditTrail.{is_same_actor, pending, with_effect}
 use Rattle.step_replay.specs.LiveStanding.{after_turns, room_of_duty}

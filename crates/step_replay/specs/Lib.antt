@@ -5,13 +5,16 @@ pub mod Coming
 pub mod Deadlines
 pub mod DealerTrail
 pub mod DealerView
+pub mod DeskGrowth
 pub mod DoneSteps
 pub mod DueList
+pub mod DutyEffects
 pub mod EachLemmas
 pub mod FirmDays
 pub mod FloorDays
 pub mod Following
 pub mod GrowthLemmas
+pub mod HitKept
 pub mod InvestorTrail
 pub mod IsolationLemmas
 pub mod Liftings
@@ -30,6 +33,7 @@ pub mod Standing
 pub mod StepFaults
 pub mod StepLemmas
 pub mod SteppedStanding
+pub mod TrailKept
 pub mod TrailLemmas
 pub mod VenueFacts
 pub mod VenueRooms

@@ -23,8 +23,9 @@ use Rattle.dealer_desk.specs.declared.events.DealerEvent.TheVariants as event
 use Rattle.step_replay.specs.DealerTrail.{DealerEntry, Lifted, facts_of, book_by, lifts, fact_in}
 use Rattle.step_replay.specs.DealerTrail.{was_lifted, was_withdrawn, answer_to_dealer, entries_of}
 use Rattle.step_replay.specs.Actions.{settlement_of, drop_at}
-use Rattle.step_replay.specs.SeenLemmas.{facts_grown, lifted_grown}
-use Rattle.step_replay.specs.StepLemmas.{IsKept, kept_by_all}
+use Rattle.step_replay.specs.DeskGrowth.{facts_grown, lifted_grown}
+use Rattle.step_replay.specs.StepLemmas.{kept_by_all}
+use Rattle.step_replay.specs.TrailKept.{IsKept}
 use Rattle.step_replay.specs.AuditTrail.{audit_trail}
 use Rattle.step_replay.specs.VenueFacts.{of_dealer}
 use Rattle.step_replay.specs.declared.steps.Step.{Step}

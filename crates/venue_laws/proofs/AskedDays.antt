@@ -35,9 +35,10 @@ use Rattle.investor_desk.specs.declared.verdicts.InvestorVerdict.{InvestorVerdic
 use Rattle.step_replay.specs.DealerTrail.{rooms_by}
 use Rattle.step_replay.specs.InvestorTrail as investor_trail
 use Rattle.step_replay.specs.VenueFacts.{Fact, of_dealer, of_investor}
-use Rattle.step_replay.specs.Actions.{Effect, Dealer, done_for, dealer_at, left_by}
-use Rattle.step_replay.specs.Actions.{verdict_on, settlement_of, received_by_dealer, received_by_investor}
-use Rattle.step_replay.specs.Actions.{left_by_investor, message_effect, nothing}
+use Rattle.step_replay.specs.Actions.{Effect, Dealer, done_for, dealer_at, left_by, verdict_on}
+use Rattle.step_replay.specs.Actions.{settlement_of, received_by_dealer, received_by_investor}
+use Rattle.step_replay.specs.Actions.{left_by_investor, nothing}
+use Rattle.step_replay.specs.DutyEffects.{message_effect}
 use Rattle.step_replay.specs.AuditTrail.{AuditTrail, Caused, pending, after_turn, after_step}
 use Rattle.step_replay.specs.AuditTrail.{duty_of, is_same_actor, with_effect}
 use Rattle.venue_places.specs.declared.actors.Actor.{Actor}

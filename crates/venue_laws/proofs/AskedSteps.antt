@@ -31,8 +31,8 @@ use Rattle.step_replay.specs.InvestorTrail as investor_trail
 use Rattle.step_replay.specs.VenueFacts.{Fact, InRoom, AtInvestor, of_dealer, of_room, of_investor}
 use Rattle.step_replay.specs.Actions.{Dealer, QuoteRef, nothing, at_dealer, in_room, at_market}
 use Rattle.step_replay.specs.Actions.{where_known, dealer_at, acting_dealer, told_of, left_by_drop}
-use Rattle.step_replay.specs.Actions.{drop_at, lifting, hit_with, quote_with_word, duty_effect}
-use Rattle.step_replay.specs.Actions.{sweep_effect, answer_to_drop}
+use Rattle.step_replay.specs.Actions.{drop_at, lifting, hit_with, quote_with_word, answer_to_drop}
+use Rattle.step_replay.specs.DutyEffects.{duty_effect, sweep_effect}
 use Rattle.venue_places.specs.declared.actors.Actor.{Actor}
 use Rattle.venue_laws.proofs.AskedGrids.{BearsGrid, FactBearsGrid, DutyBearsGrid, EventBearsGrid}
 use Rattle.venue_laws.proofs.AskedGrids.{every_append, every_map, entries_bear}

@@ -20,8 +20,8 @@ use Rattle.request_room.specs.declared.ends.End.{End}
 use Rattle.request_room.specs.declared.requests.RoomRequest.{RoomRequest}
 use Rattle.venue_steps.specs.RoomSteps.{close_for, dealers_of, reply_to_pass, told_in, told_of_hit}
 use Rattle.venue_steps.specs.RoomSteps.{told_to_each}
-use Rattle.step_replay.specs.Actions.{Effect, QuoteRef, duty_effect, hit_with, lifting}
-use Rattle.step_replay.specs.Actions.{quote_with_word, sweep_effect}
+use Rattle.step_replay.specs.Actions.{Effect, QuoteRef, hit_with, lifting, quote_with_word}
+use Rattle.step_replay.specs.DutyEffects.{duty_effect, sweep_effect}
 use Rattle.step_replay.specs.AuditTrail.{AuditTrail}
 use Rattle.step_replay.specs.VenueFacts.{Fact, InRoom, of_room}
 use Rattle.venue_places.specs.declared.actors.Actor.{Actor}

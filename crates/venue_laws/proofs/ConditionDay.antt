@@ -27,9 +27,9 @@ use Rattle.request_room.specs.RoomFacts.{Noted, Posted, Readied, Unposted, is_op
 use Rattle.venue_steps.specs.InvestorSteps.{replies_to}
 use Rattle.venue_steps.specs.RoomSteps.{hit_word}
 use Rattle.step_replay.specs.Actions.{Dealer, Effect, acting_dealer, answer_to_hit, dealer_of}
-use Rattle.step_replay.specs.Actions.{done_by, duty_effect, left_by_investor}
-use Rattle.step_replay.specs.Actions.{message_effect, quote_asked, received_by_investor, shown_to}
-use Rattle.step_replay.specs.Actions.{sweep_effect, told_to, word_for}
+use Rattle.step_replay.specs.Actions.{done_by, left_by_investor, quote_asked, received_by_investor}
+use Rattle.step_replay.specs.Actions.{shown_to, told_to, word_for}
+use Rattle.step_replay.specs.DutyEffects.{duty_effect, message_effect, sweep_effect}
 use Rattle.step_replay.specs.AuditTrail.{AuditTrail, after_step, after_turn, audit_trail, no_steps}
 use Rattle.step_replay.specs.AuditTrail.{pending}
 use Rattle.step_replay.specs.VenueFacts.{of_room}

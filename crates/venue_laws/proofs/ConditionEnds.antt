@@ -28,9 +28,8 @@ use Rattle.venue_steps.specs.RoomSteps.{close_for, dealers_of, duties_of_expire}
 use Rattle.venue_steps.specs.RoomSteps.{duties_of_pass}
 use Rattle.venue_steps.specs.RoomSteps.{reply_to_pass}
 use Rattle.venue_steps.specs.RoomSteps.{told_in, told_of_hit}
-use Rattle.step_replay.specs.Actions.{Effect, QuoteRef}
-use Rattle.step_replay.specs.Actions.{hit_with, in_room, lifting}
-use Rattle.step_replay.specs.Actions.{quote_with_word, sweep_effect}
+use Rattle.step_replay.specs.Actions.{Effect, QuoteRef, hit_with, in_room, lifting, quote_with_word}
+use Rattle.step_replay.specs.DutyEffects.{sweep_effect}
 use Rattle.step_replay.specs.AuditTrail.{Caused}
 use Rattle.step_replay.specs.VenueFacts.{Fact, InRoom, of_investor, of_room}
 use Rattle.venue_places.specs.declared.actors.Actor.{Actor}

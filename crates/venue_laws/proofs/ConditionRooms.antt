@@ -21,9 +21,8 @@ use Rattle.request_room.specs.declared.requests.RoomRequest.{RoomRequest}
 use Rattle.venue_steps.specs.RoomSteps.{duties_of_open}
 use Rattle.venue_steps.specs.RoomSteps.{shown_then_ready}
 use Rattle.venue_steps.specs.RoomSteps.{where_follows}
-use Rattle.step_replay.specs.Actions.{Effect, dealer_of, declined_by, has_word_for}
-use Rattle.step_replay.specs.Actions.{in_room, offer_of, opened, posted_by}
-use Rattle.step_replay.specs.Actions.{unposted_by, word_for}
+use Rattle.step_replay.specs.Actions.{Effect, dealer_of, declined_by, has_word_for, in_room}
+use Rattle.step_replay.specs.Actions.{offer_of, opened, posted_by, unposted_by, word_for}
 use Rattle.step_replay.specs.AuditTrail.{Caused}
 use Rattle.venue_laws.specs.Conditions.{is_room}
 use Rattle.step_replay.specs.VenueFacts.{Fact, InRoom, of_room}

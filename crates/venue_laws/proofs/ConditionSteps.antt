@@ -14,8 +14,8 @@ use Rattle.investor_desk.specs.InvestorRules.{InvestorMarket, investor_verdict}
 use Rattle.investor_desk.specs.declared.events.InvestorEvent.TheVariants as at_investor
 use Rattle.investor_desk.specs.declared.verdicts.InvestorVerdict.{InvestorVerdict}
 use Rattle.investor_desk.specs.declared.verdicts.InvestorVerdict.TheVariants as verdict
-use Rattle.step_replay.specs.Actions.{Effect, at_market, duty_effect, left_by_investor}
-use Rattle.step_replay.specs.Actions.{message_effect, received_by_investor, sweep_effect}
+use Rattle.step_replay.specs.Actions.{Effect, at_market, left_by_investor, received_by_investor}
+use Rattle.step_replay.specs.DutyEffects.{duty_effect, message_effect, sweep_effect}
 use Rattle.step_replay.specs.AuditTrail.{AuditTrail, after_step, after_turn, audit_trail, no_steps}
 use Rattle.step_replay.specs.AuditTrail.{pending}
 use Rattle.step_replay.specs.VenueFacts.{Fact, of_investor}

@@ -12,8 +12,9 @@ use Rattle.dealer_desk.specs.declared.events.DealerEvent.TheVariants as event
 use Rattle.venue_steps.specs.InvestorSteps.{replies_to}
 use Rattle.venue_steps.specs.RoomSteps.{hit_word}
 use Rattle.step_replay.specs.Actions.{Dealer, Effect, acting_dealer, answer_to_hit, at_dealer}
-use Rattle.step_replay.specs.Actions.{dealer_of, done_by, dropped_by, duty_effect, nothing}
-use Rattle.step_replay.specs.Actions.{quote_asked, shown_to, told_of, told_to}
+use Rattle.step_replay.specs.Actions.{dealer_of, done_by, dropped_by, nothing, quote_asked}
+use Rattle.step_replay.specs.Actions.{shown_to, told_of, told_to}
+use Rattle.step_replay.specs.DutyEffects.{duty_effect}
 use Rattle.step_replay.specs.AuditTrail.{AuditTrail, Caused, is_same_actor, pending}
 use Rattle.step_replay.specs.DealerTrail.{rooms_by}
 use Rattle.step_replay.specs.VenueFacts.{Fact, of_dealer, of_room}

@@ -25,9 +25,8 @@ use Rattle.step_replay.specs.InvestorTrail.{InvestorEntry}
 use Rattle.step_replay.specs.VenueFacts.{Fact, AtDealer, InRoom, AtInvestor, entry_at_dealer}
 use Rattle.step_replay.specs.VenueFacts.{fact_in_room, entry_at_investor, of_dealer, of_room}
 use Rattle.step_replay.specs.VenueFacts.{of_investor}
-use Rattle.step_replay.specs.Actions.{Effect, Dealer, nothing, done_by, done_for}
-use Rattle.step_replay.specs.Actions.{at_dealer, in_room, at_market, where_known}
-use Rattle.step_replay.specs.Actions.{shown_to, told_of, told_to}
+use Rattle.step_replay.specs.Actions.{Effect, Dealer, nothing, done_by, done_for, at_dealer}
+use Rattle.step_replay.specs.Actions.{in_room, at_market, where_known, shown_to, told_of, told_to}
 use Rattle.venue_laws.proofs.Erasing.{erase, erase_close, erase_entry, erase_book, erase_duty}
 use Rattle.venue_laws.proofs.Erasing.{erase_room_fact, erase_investor_entry}
 use Rattle.venue_laws.proofs.ErasedLists.{filter_map_erased, map_swap}

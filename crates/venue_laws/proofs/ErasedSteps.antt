@@ -34,12 +34,12 @@ use Rattle.step_replay.specs.DealerTrail.{entries_of}
 use Rattle.step_replay.specs.InvestorTrail as investor_trail
 use Rattle.step_replay.specs.InvestorTrail.{InvestorEntry}
 use Rattle.step_replay.specs.VenueFacts.{Fact, of_dealer, of_room, of_investor}
-use Rattle.step_replay.specs.Actions.{Effect, Dealer, dealer_at, acting_dealer}
-use Rattle.step_replay.specs.Actions.{in_room, words_of, word_for, has_word_for, offer_of}
-use Rattle.step_replay.specs.Actions.{settlement_of, left_by, dealer_receives, verdict_on, received_by_dealer}
-use Rattle.step_replay.specs.Actions.{posted_by, unposted_by, declined_by, received_by_investor}
-use Rattle.step_replay.specs.Actions.{left_by_investor, answered_by, duty_effect}
-use Rattle.step_replay.specs.Actions.{sweep_effect, message_effect}
+use Rattle.step_replay.specs.Actions.{Effect, Dealer, dealer_at, acting_dealer, in_room, words_of}
+use Rattle.step_replay.specs.Actions.{word_for, has_word_for, offer_of, settlement_of, left_by}
+use Rattle.step_replay.specs.Actions.{dealer_receives, verdict_on, received_by_dealer, posted_by}
+use Rattle.step_replay.specs.Actions.{unposted_by, declined_by, received_by_investor}
+use Rattle.step_replay.specs.Actions.{left_by_investor, answered_by}
+use Rattle.step_replay.specs.DutyEffects.{duty_effect, sweep_effect, message_effect}
 use Rattle.venue_places.specs.declared.actors.Actor.{Actor}
 use Rattle.venue_laws.proofs.Erasing.{erase_entry, erase_verdict, erase_duty}
 use Rattle.venue_laws.proofs.Erasing.{erase_room_fact}

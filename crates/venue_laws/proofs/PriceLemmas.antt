@@ -12,8 +12,8 @@ use Rattle.investor_desk.specs.InvestorOutput.{market_for}
 use Rattle.step_replay.specs.DealerTrail.{book_by}
 use Rattle.step_replay.specs.VenueFacts.{Fact, of_dealer}
 use Rattle.step_replay.specs.Actions.{Effect, dealer_of, done_by, done_for, received_by_dealer}
-use Rattle.step_replay.specs.Actions.{received_by_investor, duty_effect, message_effect}
-use Rattle.step_replay.specs.Actions.{sweep_effect}
+use Rattle.step_replay.specs.Actions.{received_by_investor}
+use Rattle.step_replay.specs.DutyEffects.{duty_effect, message_effect, sweep_effect}
 use Rattle.step_replay.specs.AuditTrail.{AuditTrail, Caused, no_steps, duty_of, is_same_actor}
 use Rattle.step_replay.specs.AuditTrail.{pending, with_effect, after_turn, after_step, audit_trail}
 use Rattle.venue_laws.specs.PriceAlike.{DiffersInPrices, IsPricedByAnother, IsPriceAlike}

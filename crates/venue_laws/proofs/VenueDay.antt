@@ -34,8 +34,8 @@ use Rattle.investor_desk.specs.declared.events.InvestorEvent.TheVariants as at_i
 use Rattle.investor_desk.specs.declared.standing.ShownOffer.{ShownOffer}
 use Rattle.investor_desk.specs.declared.verdicts.InvestorVerdict.{InvestorVerdict}
 use Rattle.investor_desk.specs.declared.verdicts.InvestorVerdict.TheVariants as verdict
-use Rattle.step_replay.specs.Actions.{done_for, left_by_investor, message_effect, received_by_investor}
-use Rattle.step_replay.specs.Actions.{duty_effect, sweep_effect}
+use Rattle.step_replay.specs.Actions.{done_for, left_by_investor, received_by_investor}
+use Rattle.step_replay.specs.DutyEffects.{message_effect, duty_effect, sweep_effect}
 use Rattle.step_replay.specs.AuditTrail.{AuditTrail, after_step, after_turn, audit_trail, no_steps}
 use Rattle.step_replay.specs.AuditTrail.{is_same_actor, pending}
 use Rattle.step_replay.specs.InvestorTrail as investor_trail

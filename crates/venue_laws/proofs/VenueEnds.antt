@@ -22,7 +22,7 @@ use Rattle.request_room.specs.declared.quotes.PostedQuote.{PostedQuote as BookQu
 use Rattle.venue_steps.specs.RoomSteps.{close_for, duties_of_expire, duties_of_pass, is_winner}
 use Rattle.venue_steps.specs.RoomSteps.{reply_to_pass, told_in, told_of_hit}
 use Rattle.step_replay.specs.Actions.{Effect, QuoteRef, hit_with, in_room, lifting, quote_with_word}
-use Rattle.step_replay.specs.Actions.{sweep_effect}
+use Rattle.step_replay.specs.DutyEffects.{sweep_effect}
 use Rattle.step_replay.specs.AuditTrail.{AuditTrail}
 use Rattle.step_replay.specs.DealerTrail.{DealerEntry, Lifted, lifts, was_lifted}
 use Rattle.step_replay.specs.VenueFacts.{AtDealer, Fact, of_dealer, of_room}

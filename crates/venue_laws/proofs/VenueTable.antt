@@ -10,8 +10,9 @@ use Rattle.venue_rows.specs.Rows.{Configuration, dealer_numbered}
 use Rattle.venue_rows.specs.declared.dealer_rows.DealerRow.{DealerRow}
 use Rattle.venue_steps.specs.InvestorSteps.{replies_to}
 use Rattle.step_replay.specs.Actions.{Dealer, Effect, acting_dealer, dealer_at, dealer_of, done_by}
-use Rattle.step_replay.specs.Actions.{duty_effect, nothing, quote_asked, answer_to_hit}
-use Rattle.step_replay.specs.Actions.{dropped_by, shown_to, told_to}
+use Rattle.step_replay.specs.Actions.{nothing, quote_asked, answer_to_hit, dropped_by, shown_to}
+use Rattle.step_replay.specs.Actions.{told_to}
+use Rattle.step_replay.specs.DutyEffects.{duty_effect}
 use Rattle.step_replay.specs.AuditTrail.{AuditTrail, Caused, is_same_actor}
 use Rattle.step_replay.specs.VenueFacts.{Fact, of_room}
 use Rattle.venue_places.specs.declared.actors.Actor.{Actor}
@@ -23,7 +24,7 @@ use Rattle.step_replay.specs.IsolationLemmas.{seen_is_kept}
 use Rattle.venue_laws.proofs.NoticeLemmas.{noticed_is_kept}
 use Rattle.venue_laws.proofs.NoticedLemmas.{Noticed}
 use Rattle.step_replay.specs.SeenLemmas.{Seen}
-use Rattle.step_replay.specs.StepLemmas.{IsKept}
+use Rattle.step_replay.specs.TrailKept.{IsKept}
 use Rattle.venue_laws.proofs.VenueDesk.{dropped_brings}
 use Rattle.venue_laws.proofs.VenueEnds.{hit_brings, passed_brings}
 use Rattle.venue_laws.proofs.VenueInvariant.{CausedOk, DoneOk, DutyOk, InOrder, IsDealer, PostsIn}

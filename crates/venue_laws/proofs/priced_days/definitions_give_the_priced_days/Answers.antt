@@ -19,7 +19,7 @@ use Rattle.investor_desk.specs.InvestorFacts as investor_facts
 use Rattle.investor_desk.specs.InvestorOutput as investor_output
 use Rattle.investor_desk.specs.InvestorRules as investor_rules
 use Rattle.request_room.specs.Book as book
-use Rattle.step_replay.specs.Actions as actions
+use Rattle.step_replay.specs.DutyEffects as actions
 use Rattle.step_replay.specs.AuditTrail as audit
 use Rattle.step_replay.specs.DealerTrail as dealer_trail
 use Rattle.step_replay.specs.InvestorTrail as investor_trail

@@ -2,8 +2,8 @@ use Rattle.std.proofs.Common.{◌<◌, [], arith, length}
 use Rattle.std.proofs.lemmas.Bool.Decides.{nat_tests}
 use Rattle.step_replay.specs.Actions.{dropped_by}
 use Rattle.step_replay.specs.PlaceLemmas.{lent, not_lent}
-use Rattle.step_replay.proofs.FloorLemmas.{by_number, leaving, no_dealer_does}
-use Rattle.step_replay.proofs.DealerActionLemmas.{drop_does}
+use Rattle.step_replay.proofs.FoundDealers.{by_number, leaving, no_dealer_does}
+use Rattle.step_replay.proofs.DealerDrops.{drop_does}
 use Rattle.step_replay.proofs.floor.Floor.drop_next.Goals as goal
 
 pub returns-in_default : goal.returns-in_default

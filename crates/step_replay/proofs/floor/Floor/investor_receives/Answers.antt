@@ -3,7 +3,7 @@ use Rattle.std.proofs.lemmas.Bool.Decides.{nat_tests}
 use Rattle.step_replay.specs.Actions.{received_by_investor}
 use Rattle.venue_steps.specs.InvestorSteps.{duties_of_own}
 use Rattle.step_replay.specs.PlaceLemmas.{lent, not_lent}
-use Rattle.step_replay.proofs.FloorLemmas.{leaving}
+use Rattle.step_replay.proofs.FoundDealers.{leaving}
 use Rattle.step_replay.proofs.InvestorActionLemmas.{said_does, no_investor_does, placed}
 use Rattle.step_replay.proofs.floor.Floor.investor_receives.Goals as goal
 

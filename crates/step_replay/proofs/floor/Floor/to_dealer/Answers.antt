@@ -2,7 +2,7 @@ use Rattle.std.proofs.Common.{◌<◌, [], arith, length}
 use Rattle.std.proofs.lemmas.Bool.Decides.{nat_tests}
 use Rattle.step_replay.specs.Coming.{dealer_gets}
 use Rattle.step_replay.specs.PlaceLemmas.{lent, not_lent}
-use Rattle.step_replay.proofs.FloorLemmas.{by_number, leaving, no_dealer_does}
+use Rattle.step_replay.proofs.FoundDealers.{by_number, leaving, no_dealer_does}
 use Rattle.step_replay.proofs.DealerActionLemmas.{dealer_does}
 use Rattle.step_replay.proofs.floor.Floor.to_dealer.Goals as goal
 

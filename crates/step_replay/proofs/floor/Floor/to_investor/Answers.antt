@@ -2,7 +2,7 @@ use Rattle.std.proofs.Common.{◌≡◌, ◌<◌, [], arith, length, rules}
 use Rattle.std.proofs.lemmas.Bool.Decides.{nat_tests}
 use Rattle.step_replay.specs.Coming.{investor_gets}
 use Rattle.step_replay.specs.PlaceLemmas.{lent, not_lent}
-use Rattle.step_replay.proofs.FloorLemmas.{leaving}
+use Rattle.step_replay.proofs.FoundDealers.{leaving}
 use Rattle.step_replay.proofs.InvestorActionLemmas.{investor_does, no_investor_does, placed}
 use Rattle.step_replay.proofs.floor.Floor.to_investor.Goals as goal
 
