@@ -22,7 +22,7 @@ use Rattle.dealer_desk.specs.declared.events.DealerEvent.TheVariants as at_desk
 use Rattle.investor_desk.specs.InvestorFacts.{knows}
 use Rattle.investor_desk.specs.InvestorRules.{InvestorMarket, investor_verdict}
 use Rattle.investor_desk.specs.InvestorOutput as investor_output
-use Rattle.investor_desk.specs.InvestorOutput.{market_for, market_of}
+use Rattle.investor_desk.specs.InvestorDesk.{market_for, market_of}
 use Rattle.investor_desk.specs.declared.events.InvestorEvent.{InvestorEvent}
 use Rattle.investor_desk.specs.declared.events.InvestorEvent.TheVariants as at_investor
 use Rattle.request_room.specs.RoomFacts.{RoomFact, hears}

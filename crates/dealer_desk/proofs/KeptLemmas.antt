@@ -15,11 +15,12 @@ use Rattle.quote_word.specs.declared.settled.Settled.TheVariants as settled
 use Rattle.dealer_desk.specs.DealerFacts.{DealerFact, Came, Shown, Told, DealerBook, book_of}
 use Rattle.dealer_desk.specs.DealerFacts.{exposure_of, number_to_drop, quote_to_drop}
 use Rattle.dealer_desk.specs.DealerRules.{dealer_verdict}
-use Rattle.dealer_desk.specs.DealerOutput.{DeskEvents, DeskState, book_at, rooms_at, verdict_at}
-use Rattle.dealer_desk.specs.DealerOutput.{desk_after, event_facts, event_message, verdict_facts}
-use Rattle.dealer_desk.specs.DealerOutput.{verdict_message, settled_facts, uses_number, closable}
-use Rattle.dealer_desk.specs.DealerOutput.{rooms_of, shown_room, sent_with, moment_of, next_message}
-use Rattle.dealer_desk.specs.DealerOutput.{next_request, notice_of, drop_message, word_asked}
+use Rattle.dealer_desk.specs.DealerDesk.{DeskEvents, book_at, rooms_at, verdict_at}
+use Rattle.dealer_desk.specs.DealerOutput.{DeskState, desk_after, event_facts, event_message}
+use Rattle.dealer_desk.specs.DealerOutput.{verdict_facts, verdict_message, settled_facts}
+use Rattle.dealer_desk.specs.DealerOutput.{uses_number, closable, rooms_of, shown_room, sent_with}
+use Rattle.dealer_desk.specs.DealerOutput.{moment_of, next_message, next_request, notice_of}
+use Rattle.dealer_desk.specs.DealerOutput.{drop_message, word_asked}
 use Rattle.dealer_desk.specs.BookChanges.{book_after, IsSound}
 use Rattle.dealer_desk.specs.DealerTable.{IndexView, with_fact, with_request}
 use Rattle.dealer_desk.specs.RuleCuts.{IsDesk, IsLawfulNote, note_of, note_uses, note_facts}

@@ -9,8 +9,8 @@ use Rattle.venue_rows.specs.declared.dealer_rows.DealerRow.{DealerRow}
 use Rattle.market_terms.specs.declared.closes.Close.{Close}
 use Rattle.quote_messages.specs.declared.out_messages.OutMessage.{OutMessage}
 use Rattle.dealer_desk.specs.DealerFacts.{DealerBook, Told, request_numbered}
-use Rattle.dealer_desk.specs.DealerOutput.{DeskEvents, closable, untold, next_message, notice_of}
-use Rattle.dealer_desk.specs.DealerOutput.{may_close, with_notice, with_event}
+use Rattle.dealer_desk.specs.DealerDesk.{DeskEvents, may_close, with_notice, with_event}
+use Rattle.dealer_desk.specs.DealerOutput.{closable, untold, next_message, notice_of}
 use Rattle.dealer_desk.specs.DealerTable.{IndexView, with_fact}
 use Rattle.dealer_desk.specs.RuleCuts.{IsDesk}
 use Rattle.dealer_desk.specs.declared.standing.StandingRequest.{StandingRequest}

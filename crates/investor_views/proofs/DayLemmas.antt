@@ -12,8 +12,8 @@ use Rattle.venue_rows.specs.Rows.{Configuration, dealer_numbered, has_room, inve
 use Rattle.venue_rows.specs.declared.dealer_rows.DealerRow.{DealerRow}
 use Rattle.venue_rows.specs.declared.investor_rows.InvestorRow.{InvestorRow}
 use Rattle.investor_desk.specs.InvestorRules.{InvestorMarket}
-use Rattle.investor_desk.specs.InvestorOutput.{DeskEvents, DeskState, investor_output}
-use Rattle.investor_desk.specs.InvestorOutput.{market_for, market_of, no_events}
+use Rattle.investor_desk.specs.InvestorDesk.{DeskEvents, market_for, market_of, no_events}
+use Rattle.investor_desk.specs.InvestorOutput.{DeskState, investor_output}
 use Rattle.investor_desk.specs.declared.events.InvestorEvent.TheVariants as event
 use Rattle.venue_places.specs.Dealers.{dealer_at}
 use Rattle.venue_places.specs.Placed.{placed, swept, where_so}

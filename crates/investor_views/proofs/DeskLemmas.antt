@@ -7,9 +7,9 @@ use Rattle.std.proofs.lemmas.List.Elements.{filter_map-append}
 use Rattle.std.proofs.lemmas.List.Sums.{fold-append}
 use Rattle.investor_desk.specs.InvestorFacts.{InvestorFact, book_of}
 use Rattle.investor_desk.specs.InvestorRules.{InvestorMarket}
-use Rattle.investor_desk.specs.InvestorOutput.{DeskEvents, DeskState, after_event, book_at}
-use Rattle.investor_desk.specs.InvestorOutput.{desk_after, event_facts, event_messages, moment_of}
-use Rattle.investor_desk.specs.InvestorOutput.{no_events, no_facts, with_event, written_from}
+use Rattle.investor_desk.specs.InvestorDesk.{DeskEvents, book_at, no_events, with_event}
+use Rattle.investor_desk.specs.InvestorOutput.{DeskState, after_event, desk_after, event_facts}
+use Rattle.investor_desk.specs.InvestorOutput.{event_messages, moment_of, no_facts, written_from}
 use Rattle.investor_desk.specs.declared.events.InvestorEvent.{InvestorEvent}
 use Rattle.venue_steps.specs.InvestorSteps.{where_so}
 use Rattle.step_replay.specs.Actions.{at_market, nothing}

@@ -6,10 +6,10 @@ use Rattle.std.proofs.lemmas.List.{append-nil, append_assoc, map-append}
 use Rattle.quote_messages.specs.declared.out_messages.OutMessage.{OutMessage}
 use Rattle.investor_desk.specs.InvestorFacts.{InvestorFact, InvestorBook, book_of, knows, offers_of}
 use Rattle.investor_desk.specs.InvestorRules.{InvestorMarket}
-use Rattle.investor_desk.specs.InvestorOutput.{DeskEvents, DeskState, after_event, book_at}
-use Rattle.investor_desk.specs.InvestorOutput.{desk_after, event_facts, event_messages, head_of}
-use Rattle.investor_desk.specs.InvestorOutput.{investor_output, moment_of, no_events, sent_with}
-use Rattle.investor_desk.specs.InvestorOutput.{with_event, written_from}
+use Rattle.investor_desk.specs.InvestorDesk.{DeskEvents, book_at, no_events, with_event}
+use Rattle.investor_desk.specs.InvestorOutput.{DeskState, after_event, desk_after, event_facts}
+use Rattle.investor_desk.specs.InvestorOutput.{event_messages, head_of, investor_output, moment_of}
+use Rattle.investor_desk.specs.InvestorOutput.{sent_with, written_from}
 use Rattle.investor_desk.specs.declared.events.InvestorEvent.{InvestorEvent}
 use Rattle.investor_desk.specs.declared.events.InvestorEvent.TheVariants as event
 use Rattle.quote_messages.specs.Written.{written}

@@ -9,7 +9,8 @@ use Rattle.std.proofs.lemmas.List.Folds.{list_any-append}
 use Rattle.quote_word.specs.declared.settled.Settled.{Settled}
 use Rattle.quote_word.specs.declared.settled.Settled.TheVariants.{Withdrawn, Lifted}
 use Rattle.venue_rows.specs.declared.dealer_rows.DealerRow.{DealerRow}
-use Rattle.dealer_desk.specs.DealerOutput.{DeskState, settled_words, asked_word, desk_after}
+use Rattle.dealer_desk.specs.DealerOutput.{DeskState, desk_after}
+use Rattle.dealer_desk.specs.SettledWords.{settled_words, asked_word}
 use Rattle.dealer_desk.specs.DeskLaws.{is_lifted, is_taken_back, says_lifted, says_withdrawn}
 use Rattle.dealer_desk.specs.declared.events.DealerEvent.{DealerEvent}
 use Rattle.step_replay.specs.DealerView.{DealerView, after_due, answer_to, view_after}

@@ -13,9 +13,8 @@ use Rattle.market_terms.specs.declared.asks.Ask.{Ask}
 use Rattle.market_terms.specs.declared.closes.Close.{Close}
 use Rattle.market_terms.specs.declared.rooms.RoomRef.{RoomRef}
 use Rattle.dealer_desk.specs.DealerFacts.{number_to_drop}
-use Rattle.dealer_desk.specs.DealerOutput.{DeskEvents}
-use Rattle.dealer_desk.specs.DealerOutput.{with_event}
-use Rattle.dealer_desk.specs.DealerOutput.{book_at, verdict_at, with_notice, word_asked}
+use Rattle.dealer_desk.specs.DealerDesk.{DeskEvents, with_event, book_at, verdict_at, with_notice}
+use Rattle.dealer_desk.specs.DealerOutput.{word_asked}
 use Rattle.dealer_desk.specs.declared.events.DealerEvent.{DealerEvent}
 use Rattle.dealer_desk.specs.declared.events.DealerEvent.TheVariants as event
 use Rattle.step_replay.specs.declared.dues.Due.{Due}

@@ -6,8 +6,8 @@ use Rattle.std.proofs.lemmas.Bool.Decides.{nat_tests}
 use Rattle.std.proofs.lemmas.List.Sums.{fold-append}
 use Rattle.venue_rows.specs.declared.dealer_rows.DealerRow.{DealerRow}
 use Rattle.dealer_desk.specs.DealerFacts.{DealerFact, book_of}
-use Rattle.dealer_desk.specs.DealerOutput.{DeskState, after_event, settled_words, asked_by}
-use Rattle.dealer_desk.specs.DealerOutput.{desk_after}
+use Rattle.dealer_desk.specs.DealerOutput.{DeskState, after_event, desk_after}
+use Rattle.dealer_desk.specs.SettledWords.{settled_words, asked_by}
 use Rattle.dealer_desk.specs.DeskLaws.{says_lifted, says_withdrawn, withdraws}
 use Rattle.dealer_desk.specs.declared.events.DealerEvent.{DealerEvent}
 use Rattle.step_replay.specs.DealerView.{DealerView, after_due, view_after, view_at_start}

@@ -8,9 +8,10 @@ use Rattle.market_terms.specs.declared.asks.Ask.{Ask}
 use Rattle.market_terms.specs.declared.closes.Close.{Close}
 use Rattle.market_terms.specs.declared.rooms.RoomRef.{RoomRef}
 use Rattle.dealer_desk.specs.DealerFacts.{Told, book_of}
-use Rattle.dealer_desk.specs.DealerOutput.{DeskEvents, DeskState, after_event, settled_words}
-use Rattle.dealer_desk.specs.DealerOutput.{closable, desk_after, event_facts, event_message}
-use Rattle.dealer_desk.specs.DealerOutput.{notice_of, sent_with}
+use Rattle.dealer_desk.specs.DealerDesk.{DeskEvents}
+use Rattle.dealer_desk.specs.DealerOutput.{DeskState, after_event, closable, desk_after}
+use Rattle.dealer_desk.specs.DealerOutput.{event_facts, event_message, notice_of, sent_with}
+use Rattle.dealer_desk.specs.SettledWords.{settled_words}
 use Rattle.dealer_desk.specs.DeskLaws.{says_lifted}
 use Rattle.dealer_desk.specs.declared.standing.StandingRequest.{StandingRequest}
 use Rattle.dealer_desk.specs.declared.events.DealerEvent.{DealerEvent}

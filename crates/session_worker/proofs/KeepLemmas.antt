@@ -5,11 +5,13 @@ use Rattle.std.proofs.lemmas.List.{length-map, map-append}
 use Rattle.std.proofs.lemmas.List.Elements.{All-push}
 use Rattle.std.specs.Prelude.{slice_get}
 use mathlib.Core.List.{IsPrefix}
-use Rattle.dealer_desk.specs.DealerOutput.{DeskEvents, book_at, dealer_output}
+use Rattle.dealer_desk.specs.DealerDesk.{DeskEvents, book_at}
+use Rattle.dealer_desk.specs.DealerOutput.{dealer_output}
 use Rattle.dealer_desk.specs.QuoteLines.{lines_of}
 use Rattle.dealer_desk.specs.declared.events.DealerEvent.{DealerEvent}
-use Rattle.investor_desk.specs.InvestorOutput.{DeskEvents as InvestorEvents, investor_output}
-use Rattle.investor_desk.specs.InvestorOutput.{book_at as investor_book, market_for}
+use Rattle.investor_desk.specs.InvestorDesk.{DeskEvents as InvestorEvents, book_at as investor_book}
+use Rattle.investor_desk.specs.InvestorDesk.{market_for}
+use Rattle.investor_desk.specs.InvestorOutput.{investor_output}
 use Rattle.investor_desk.specs.RequestLines.{lines_of as request_lines}
 use Rattle.quote_word.specs.Board.{BoardName, Front}
 use Rattle.quote_word.specs.SettleLog.{IsLegal, SettleLog}

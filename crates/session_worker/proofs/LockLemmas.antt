@@ -13,8 +13,8 @@ use Rattle.venue_rows.specs.Rows.{Configuration}
 use Rattle.venue_steps.specs.Words.{AsksAtMost, SettlesSo, settlement_in}
 use Rattle.venue_steps.specs.InvestorSteps.{where_so}
 use Rattle.venue_steps.specs.RoomSteps.{hit_word, where_done, word_asked_by}
-use Rattle.investor_desk.specs.InvestorOutput.{DeskEvents as InvestorEvents, market_for, market_of}
-use Rattle.investor_desk.specs.InvestorOutput.{no_events}
+use Rattle.investor_desk.specs.InvestorDesk.{DeskEvents as InvestorEvents, market_for, market_of}
+use Rattle.investor_desk.specs.InvestorDesk.{no_events}
 use Rattle.investor_desk.specs.declared.events.InvestorEvent.{InvestorEvent}
 use Rattle.market_terms.specs.declared.closes.HitRefusal.{HitRefusal}
 use Rattle.market_terms.specs.declared.rooms.RoomRef.{RoomRef}

@@ -9,6 +9,7 @@ use Rattle.market_terms.specs.declared.duties.Duty.TheVariants as duty
 use Rattle.quote_messages.specs.declared.requests.InvestorMessage.TheVariants as message
 use Rattle.venue_rows.specs.Rows.{Configuration, dealer_numbered}
 use Rattle.investor_desk.specs.InvestorRules.{InvestorMarket, investor_verdict}
+use Rattle.investor_desk.specs.InvestorDesk as investor_desk
 use Rattle.investor_desk.specs.InvestorOutput as investor_output
 use Rattle.investor_desk.specs.declared.verdicts.InvestorVerdict.{InvestorVerdict}
 use Rattle.investor_desk.specs.declared.verdicts.InvestorVerdict.TheVariants as verdict
@@ -103,10 +104,10 @@ module _ (config : Configuration) (facts : List Fact) (moment : ℕ) (bytes : Li
       by_role : (b : Bool) → (not b && says_hit (frame_of bytes)) ≡ false
           → list_any is_hit (if b
           then done_by (dealer_at config firm) (received_by_dealer config facts moment bytes)
-          else done_for (investor_output.market_for config firm)
+          else done_for (investor_desk.market_for config firm)
           (received_by_investor facts moment bytes)).duties ≡ false
       by_role true is = said_none (dealer_at config firm)
-      by_role false is = asked_none is (investor_output.market_for config firm)
+      by_role false is = asked_none is (investor_desk.market_for config firm)
 
 -- The day.
 

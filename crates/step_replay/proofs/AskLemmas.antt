@@ -12,7 +12,8 @@ use Rattle.quote_word.specs.declared.settled.Settled.{Settled}
 use Rattle.quote_word.specs.declared.settled.Settled.TheVariants as settled
 use Rattle.venue_rows.specs.Rows.{Configuration}
 use Rattle.market_terms.specs.declared.duties.Duty.{Duty}
-use Rattle.dealer_desk.specs.DealerOutput.{DeskEvents, event_facts, with_event}
+use Rattle.dealer_desk.specs.DealerDesk.{DeskEvents, with_event}
+use Rattle.dealer_desk.specs.DealerOutput.{event_facts}
 use Rattle.dealer_desk.specs.DeskLaws.{withdraws}
 use Rattle.dealer_desk.specs.declared.events.DealerEvent.{DealerEvent}
 use Rattle.venue_steps.specs.Words.{AsksAtMost, SettlesSo, settlement_in, has_word, word_to_ask}

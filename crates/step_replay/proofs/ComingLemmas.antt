@@ -9,7 +9,7 @@ use Rattle.market_terms.specs.declared.rooms.RoomRef.{RoomRef}
 use Rattle.venue_rows.specs.Rows.{Configuration, dealer_numbered, has_room, investor_numbered}
 use Rattle.venue_rows.specs.declared.dealer_rows.DealerRow.{DealerRow}
 use Rattle.venue_rows.specs.declared.investor_rows.InvestorRow.{InvestorRow}
-use Rattle.investor_desk.specs.InvestorOutput.{market_for, market_of}
+use Rattle.investor_desk.specs.InvestorDesk.{market_for, market_of}
 use Rattle.request_room.specs.Book.{event_facts}
 use Rattle.request_room.specs.declared.events.RoomEvent.{RoomEvent}
 use Rattle.venue_places.specs.Dealers.{Dealer, acting_dealer, dealer_at, dealer_of, offer_of}

@@ -9,8 +9,8 @@ use Rattle.venue_rows.specs.Rows.{Configuration}
 use Rattle.market_terms.specs.declared.closes.Close.{Close}
 use Rattle.market_terms.specs.declared.rooms.RoomRef.{RoomRef}
 use Rattle.dealer_desk.specs.DealerFacts.{DealerBook, Told}
-use Rattle.dealer_desk.specs.DealerOutput.{DeskEvents, rooms_at, with_event, event_facts}
-use Rattle.dealer_desk.specs.DealerOutput.{with_notice_in, number_in, closable}
+use Rattle.dealer_desk.specs.DealerDesk.{DeskEvents, rooms_at, with_event, with_notice_in}
+use Rattle.dealer_desk.specs.DealerOutput.{event_facts, number_in, closable}
 use Rattle.dealer_desk.specs.DeskLaws.{withdraws}
 use Rattle.dealer_desk.specs.declared.events.DealerEvent.TheVariants as event
 use Rattle.step_replay.specs.DealerTrail.{book_by, rooms_by}

@@ -13,8 +13,8 @@ use Rattle.venue_rows.specs.declared.dealer_rows.DealerRow.{DealerRow}
 use Rattle.market_terms.specs.declared.duties.Duty.{Duty}
 use Rattle.market_terms.specs.declared.rooms.RoomRef.{RoomRef}
 use Rattle.dealer_desk.specs.DealerFacts.{DealerBook, number_to_drop, quote_to_drop}
-use Rattle.dealer_desk.specs.DealerOutput.{settled_facts, DeskEvents, book_at, rooms_at, with_event}
-use Rattle.dealer_desk.specs.DealerOutput.{event_facts, unpost_dropped, further_drop}
+use Rattle.dealer_desk.specs.DealerDesk.{DeskEvents, book_at, rooms_at, with_event}
+use Rattle.dealer_desk.specs.DealerOutput.{settled_facts, event_facts, unpost_dropped, further_drop}
 use Rattle.dealer_desk.specs.declared.standing.Withdrawal.TheVariants as by
 use Rattle.dealer_desk.specs.DeskLaws.{withdraws}
 use Rattle.dealer_desk.specs.declared.events.DealerEvent.TheVariants as event

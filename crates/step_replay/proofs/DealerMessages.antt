@@ -15,8 +15,8 @@ use Rattle.market_terms.specs.declared.duties.Duty.{Duty}
 use Rattle.market_terms.specs.declared.rooms.RoomRef.{RoomRef}
 use Rattle.dealer_desk.specs.DealerFacts.{DealerBook, book_of}
 use Rattle.dealer_desk.specs.DealerRules.{dealer_verdict}
-use Rattle.dealer_desk.specs.DealerOutput.{DeskEvents, DeskState, desk_after, book_at, rooms_at}
-use Rattle.dealer_desk.specs.DealerOutput.{verdict_at, with_event, word_asked, verdict_duty}
+use Rattle.dealer_desk.specs.DealerDesk.{DeskEvents, book_at, rooms_at, verdict_at, with_event}
+use Rattle.dealer_desk.specs.DealerOutput.{DeskState, desk_after, word_asked, verdict_duty}
 use Rattle.dealer_desk.specs.DealerOutput.{event_facts, verdict_facts}
 use Rattle.dealer_desk.specs.DeskLaws.{withdraws}
 use Rattle.dealer_desk.specs.declared.verdicts.DealerVerdict.{DealerVerdict}

@@ -11,7 +11,7 @@ use Rattle.step_replay.specs.Coming.{arrival_effect, effect_where}
 use Rattle.step_replay.specs.Actions.{Effect, done_by, done_for, dealer_at, received_by_dealer}
 use Rattle.step_replay.specs.Actions.{received_by_investor}
 use Rattle.step_replay.specs.DutyEffects.{message_effect}
-use Rattle.investor_desk.specs.InvestorOutput.{market_for}
+use Rattle.investor_desk.specs.InvestorDesk.{market_for}
 use Rattle.step_replay.specs.Standing.{ActsOnce, Does, Stands}
 use Rattle.step_replay.specs.declared.floor.Floor.{Floor}
 use Rattle.step_replay.specs.PlaceLemmas.{not_lent}

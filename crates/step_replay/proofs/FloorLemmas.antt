@@ -13,9 +13,9 @@ use Rattle.venue_rows.specs.Rows.{Configuration, dealer_numbered}
 use Rattle.venue_rows.specs.declared.dealer_rows.DealerRow.{DealerRow}
 use Rattle.venue_rows.specs.declared.investor_rows.InvestorRow.{InvestorRow}
 use Rattle.market_terms.specs.declared.rooms.RoomRef.{RoomRef}
-use Rattle.dealer_desk.specs.DealerOutput.{DeskEvents, DeskState, desk_after, after_event}
-use Rattle.dealer_desk.specs.DealerOutput.{event_message, moment_of, with_event, rooms_of}
-use Rattle.dealer_desk.specs.DealerOutput.{shown_room}
+use Rattle.dealer_desk.specs.DealerDesk.{DeskEvents, with_event}
+use Rattle.dealer_desk.specs.DealerOutput.{DeskState, desk_after, after_event, event_message}
+use Rattle.dealer_desk.specs.DealerOutput.{moment_of, rooms_of, shown_room}
 use Rattle.dealer_desk.specs.declared.events.DealerEvent.{DealerEvent}
 use Rattle.dealer_desk.specs.declared.events.DealerEvent.TheVariants as event
 use Rattle.step_replay.specs.DealerTrail.{DealerEntry, book_by, rooms_by, sent_by, entries_of}

@@ -12,9 +12,8 @@ use Rattle.market_terms.specs.declared.duties.Duty.{Duty}
 use Rattle.venue_rows.specs.Rows.{Configuration}
 use Rattle.investor_desk.specs.InvestorFacts.{InvestorBook, book_of, knows}
 use Rattle.investor_desk.specs.InvestorRules.{InvestorMarket, investor_verdict}
-use Rattle.investor_desk.specs.InvestorOutput.{DeskEvents, DeskState, desk_after}
-use Rattle.investor_desk.specs.InvestorOutput.{with_event, book_at, verdict_duty}
-use Rattle.investor_desk.specs.InvestorOutput.{market_of, market_for}
+use Rattle.investor_desk.specs.InvestorDesk.{DeskEvents, with_event, book_at, market_of, market_for}
+use Rattle.investor_desk.specs.InvestorOutput.{DeskState, desk_after, verdict_duty}
 use Rattle.investor_desk.specs.declared.events.InvestorEvent.{InvestorEvent}
 use Rattle.investor_desk.specs.declared.events.InvestorEvent.TheVariants as event
 use Rattle.venue_steps.specs.InvestorSteps.{desk_after_own, duties_of_own, where_so, replies_to}

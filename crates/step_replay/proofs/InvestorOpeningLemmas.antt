@@ -9,8 +9,8 @@ use Rattle.std.proofs.lemmas.List.{length-append, length-replicate}
 use Rattle.std.proofs.lemmas.Option.{slice_get_read}
 use Rattle.venue_rows.specs.Rows.{Configuration, investor_numbered}
 use Rattle.venue_rows.specs.declared.investor_rows.InvestorRow.{InvestorRow}
-use Rattle.investor_desk.specs.InvestorOutput.{DeskEvents, desk_after, market_of}
-use Rattle.investor_desk.specs.InvestorOutput.{market_for, no_events}
+use Rattle.investor_desk.specs.InvestorDesk.{DeskEvents, market_of, market_for, no_events}
+use Rattle.investor_desk.specs.InvestorOutput.{desk_after}
 use Rattle.investor_desk.specs.declared.events.InvestorEvent.{InvestorEvent}
 use Rattle.request_room.specs.Book.{room_after}
 use Rattle.request_room.specs.declared.events.RoomEvent.{RoomEvent}

@@ -10,8 +10,8 @@ use Rattle.std.proofs.lemmas.List.{append-nil, length-set}
 use Rattle.market_terms.specs.declared.rooms.RoomRef.{RoomRef}
 use Rattle.venue_rows.specs.Rows.{Configuration, investor_numbered}
 use Rattle.venue_rows.specs.declared.investor_rows.InvestorRow.{InvestorRow}
-use Rattle.investor_desk.specs.InvestorOutput.{DeskEvents, DeskState, desk_after, after_event}
-use Rattle.investor_desk.specs.InvestorOutput.{with_event, market_of}
+use Rattle.investor_desk.specs.InvestorDesk.{DeskEvents, with_event, market_of}
+use Rattle.investor_desk.specs.InvestorOutput.{DeskState, desk_after, after_event}
 use Rattle.investor_desk.specs.declared.events.InvestorEvent.{InvestorEvent}
 use Rattle.step_replay.specs.InvestorTrail.{InvestorEntry, entries_of}
 use Rattle.step_replay.specs.VenueFacts.{Fact, AtInvestor, of_dealer, of_room, of_investor}

@@ -17,7 +17,8 @@ use Rattle.quote_word.specs.declared.settled.Settled.{Settled}
 use Rattle.quote_word.specs.declared.settled.Settled.TheVariants as settled
 use Rattle.venue_rows.specs.Rows.{Configuration, dealer_numbered}
 use Rattle.venue_rows.specs.declared.dealer_rows.DealerRow.{DealerRow}
-use Rattle.dealer_desk.specs.DealerOutput.{DeskEvents, desk_after, rooms_of}
+use Rattle.dealer_desk.specs.DealerDesk.{DeskEvents}
+use Rattle.dealer_desk.specs.DealerOutput.{desk_after, rooms_of}
 use Rattle.dealer_desk.specs.DeskLaws.{withdraws}
 use Rattle.step_replay.specs.DealerTrail.{DealerEntry, Lifted, fact_in, room_in, message_in}
 use Rattle.step_replay.specs.DealerTrail.{facts_of, rooms_by, sent_by, lifts}

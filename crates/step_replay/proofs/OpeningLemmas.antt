@@ -13,6 +13,7 @@ use Rattle.quote_word.specs.PlainWords.{entry_in}
 use Rattle.quote_word.specs.declared.settled.Settled.{Settled}
 use Rattle.venue_rows.specs.Rows.{Configuration, dealer_numbered}
 use Rattle.venue_rows.specs.declared.dealer_rows.DealerRow.{DealerRow}
+use Rattle.dealer_desk.specs.DealerDesk as dealer_desk
 use Rattle.dealer_desk.specs.DealerOutput as dealer
 use Rattle.dealer_desk.specs.DealerOutput.{desk_after}
 use Rattle.dealer_desk.specs.declared.events.DealerEvent.{DealerEvent}
@@ -173,10 +174,10 @@ dealer_begins : (config : Configuration) (number : ℕ) (row : DealerRow) (place
 unfolding desk_after
 dealer_begins config number row place opens =
     let events_are : place.desk.events ≡ [] =
-    ap (λ (d : dealer.DeskEvents). d.events) opens.desk_is in
+    ap (λ (d : dealer_desk.DeskEvents). d.events) opens.desk_is in
     record {
-      date_is = ap (λ (d : dealer.DeskEvents). d.date) opens.desk_is;
-      row_is = ap (λ (d : dealer.DeskEvents). d.row) opens.desk_is;
+      date_is = ap (λ (d : dealer_desk.DeskEvents). d.date) opens.desk_is;
+      row_is = ap (λ (d : dealer_desk.DeskEvents). d.row) opens.desk_is;
       state_is = ap (λ (events : List DealerEvent). desk_after config.date row events) events_are;
       rooms_are = ap (λ (events : List DealerEvent). dealer.rooms_of events) events_are;
       first_is = opens.first_is;

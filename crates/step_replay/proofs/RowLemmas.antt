@@ -8,7 +8,8 @@ use Rattle.quote_word.specs.PlainWords.{settlement_of, entry_in}
 use Rattle.quote_word.specs.PlainWordsLaws.{exchange_answers_entry, exchange_keeps_others}
 use Rattle.quote_word.specs.declared.settled.Settled.{Settled}
 use Rattle.quote_word.specs.declared.settled.Settled.TheVariants.{Withdrawn, Lifted}
-use Rattle.dealer_desk.specs.DealerOutput.{DeskEvents, asked_by, asked_word, book_at, with_event}
+use Rattle.dealer_desk.specs.DealerDesk.{DeskEvents, book_at, with_event}
+use Rattle.dealer_desk.specs.SettledWords.{asked_by, asked_word}
 use Rattle.dealer_desk.specs.DeskLaws.{says_withdrawn}
 use Rattle.dealer_desk.specs.declared.events.DealerEvent.{DealerEvent}
 use Rattle.step_replay.specs.DealerView.{DealerView, answer_to, is_lifted, is_withdrawn_at}

@@ -10,7 +10,7 @@ use Rattle.market_terms.specs.declared.duties.Duty.TheVariants as duty
 use Rattle.market_terms.specs.declared.rooms.RoomRef.{RoomRef}
 use Rattle.dealer_desk.specs.DealerOutput.{is_same_room}
 use Rattle.dealer_desk.specs.declared.events.DealerEvent.TheVariants as at_desk
-use Rattle.investor_desk.specs.InvestorOutput as investor_output
+use Rattle.investor_desk.specs.InvestorDesk as investor_desk
 use Rattle.investor_desk.specs.InvestorRules.{InvestorMarket}
 use Rattle.investor_desk.specs.declared.events.InvestorEvent.TheVariants as at_investor
 use Rattle.request_room.specs.Book.{event_facts, expired, may_expire, where_so}
@@ -113,7 +113,7 @@ module _ (config : Configuration) (facts : List Fact) (by : Actor) where
       → (duty_effect config facts by (duty.Close room moment)).duties ≡ []
   unfolding duty_effect
   none_by_close room moment =
-      none_by_investor (investor_output.market_for config room.investor) _
+      none_by_investor (investor_desk.market_for config room.investor) _
       (λ market. none_if _
       (at_market facts market (at_investor.Closed room.n moment) []) refl)
 

@@ -12,7 +12,8 @@ use Rattle.venue_rows.specs.declared.dealer_rows.DealerRow.{DealerRow}
 use Rattle.market_terms.specs.declared.asks.Ask.{Ask}
 use Rattle.market_terms.specs.declared.rooms.RoomRef.{RoomRef}
 use Rattle.dealer_desk.specs.DealerFacts.{DealerFact}
-use Rattle.dealer_desk.specs.DealerOutput.{DeskEvents, event_facts, with_event, number_in}
+use Rattle.dealer_desk.specs.DealerDesk.{DeskEvents, with_event}
+use Rattle.dealer_desk.specs.DealerOutput.{event_facts, number_in}
 use Rattle.dealer_desk.specs.DeskLaws.{withdraws}
 use Rattle.dealer_desk.specs.declared.events.DealerEvent.{DealerEvent}
 use Rattle.dealer_desk.specs.declared.events.DealerEvent.TheVariants as event

@@ -23,6 +23,7 @@ use Rattle.dealer_desk.specs.declared.events.DealerEvent.{DealerEvent}
 use Rattle.dealer_desk.specs.declared.events.DealerEvent.TheVariants as at_desk
 use Rattle.investor_desk.specs.InvestorFacts.{knows}
 use Rattle.investor_desk.specs.InvestorRules.{InvestorMarket, investor_verdict}
+use Rattle.investor_desk.specs.InvestorDesk as investor_desk
 use Rattle.investor_desk.specs.InvestorOutput as investor_output
 use Rattle.investor_desk.specs.declared.events.InvestorEvent.{InvestorEvent}
 use Rattle.investor_desk.specs.declared.events.InvestorEvent.TheVariants as at_investor
@@ -268,7 +269,7 @@ done_for (Some market) action = action market
 -- what comes to the investor of a request
 abbrev pub at_investor_of : Configuration → RoomRef → (InvestorMarket → Effect) → Effect
 at_investor_of config room action =
-    done_for (investor_output.market_for config room.investor) action
+    done_for (investor_desk.market_for config room.investor) action
 
 -- the room's reply to a response
 abbrev pub answered_by : List Fact → RoomRef → ResponseRef → Reply → ℕ → InvestorMarket → Effect

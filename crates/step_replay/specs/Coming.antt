@@ -3,7 +3,7 @@
 use Rattle.std.specs.Prelude.{ℕ, true, List, [], Option, Some, None, if◌then◌else◌}
 use Rattle.market_terms.specs.declared.rooms.RoomRef.{RoomRef}
 use Rattle.venue_rows.specs.Rows.{Configuration}
-use Rattle.investor_desk.specs.InvestorOutput.{market_for}
+use Rattle.investor_desk.specs.InvestorDesk.{market_for}
 use Rattle.investor_desk.specs.InvestorRules.{InvestorMarket}
 use Rattle.investor_desk.specs.declared.events.InvestorEvent.TheVariants as at_investor
 use Rattle.request_room.specs.RoomFacts.{hears}

@@ -4,7 +4,7 @@ use Rattle.market_terms.specs.declared.duties.Duty.{Duty}
 use Rattle.market_terms.specs.declared.duties.Duty.TheVariants as duty
 use Rattle.market_terms.specs.declared.rooms.RoomRef.{RoomRef}
 use Rattle.venue_rows.specs.Rows.{Configuration, dealer_numbered}
-use Rattle.investor_desk.specs.InvestorOutput as investor_output
+use Rattle.investor_desk.specs.InvestorDesk as investor_desk
 use Rattle.investor_desk.specs.declared.events.InvestorEvent.TheVariants as at_investor
 use Rattle.request_room.specs.declared.events.RoomEvent.TheVariants as at_room
 use Rattle.venue_steps.specs.RoomSteps.{duties_of_pass, duties_of_expire}
@@ -69,4 +69,4 @@ unfoldable pub message_effect : Configuration → List Fact → ℕ → ℕ → 
 message_effect config facts firm moment bytes =
     if is_some (dealer_numbered config firm)
     then done_by (dealer_at config firm) (received_by_dealer config facts moment bytes)
-    else done_for (investor_output.market_for config firm) (received_by_investor facts moment bytes)
+    else done_for (investor_desk.market_for config firm) (received_by_investor facts moment bytes)

@@ -10,7 +10,7 @@ use Rattle.step_replay.specs.AuditTrail.{pending}
 use Rattle.step_replay.specs.declared.steps.Step.{Step}
 use Rattle.step_replay.specs.declared.steps.Step.TheVariants as step
 use Rattle.step_replay.specs.VenueFacts.{Fact, of_dealer}
-use Rattle.investor_desk.specs.InvestorOutput.{market_of}
+use Rattle.investor_desk.specs.InvestorDesk.{market_of}
 use Rattle.step_replay.specs.ActionKinds.{IsAction, by_dealer, by_hit, by_investor, by_room, idle}
 use Rattle.step_replay.specs.ActionKinds.{duty_action, message_action, sweep_action}
 use Rattle.step_replay.specs.Actions.{Effect}

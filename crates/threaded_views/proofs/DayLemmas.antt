@@ -6,7 +6,8 @@ use Rattle.std.specs.Prelude.{slice_get, option_and_then}
 use Rattle.std.proofs.lemmas.Bool.Decides.{nat_tests}
 use Rattle.venue_rows.specs.Rows.{Configuration, investor_numbered}
 use Rattle.venue_rows.specs.declared.investor_rows.InvestorRow.{InvestorRow}
-use Rattle.investor_desk.specs.InvestorOutput.{investor_output, market_for, market_of}
+use Rattle.investor_desk.specs.InvestorDesk.{market_for, market_of}
+use Rattle.investor_desk.specs.InvestorOutput.{investor_output}
 use Rattle.investor_desk.specs.InvestorRules.{InvestorMarket}
 use Rattle.step_replay.specs.OwnerLemmas.{same_value}
 use Rattle.step_replay.specs.PlaceLemmas.{get_within}

@@ -10,7 +10,7 @@ use Rattle.market_terms.specs.declared.rooms.RoomRef.{RoomRef}
 use Rattle.venue_rows.specs.Rows.{Configuration, dealer_numbered, has_room, investor_numbered}
 use Rattle.venue_rows.specs.declared.investor_rows.InvestorRow.{InvestorRow}
 use Rattle.investor_desk.specs.InvestorFacts.{InvestorBook, knows}
-use Rattle.investor_desk.specs.InvestorOutput.{market_for, market_of}
+use Rattle.investor_desk.specs.InvestorDesk.{market_for, market_of}
 use Rattle.investor_desk.specs.InvestorRules.{InvestorMarket}
 use Rattle.venue_steps.specs.InvestorSteps.{replies_to}
 use Rattle.venue_places.specs.Dealers.{Dealer, acting_dealer, has_word_for, offer_of, word_for}

@@ -28,7 +28,8 @@ use Rattle.investor_desk.specs.InvestorRules.{InvestorMarket, investor_verdict, 
 use Rattle.investor_desk.specs.InvestorRules.{request_refusal, request_verdict, arrival_verdict}
 use Rattle.investor_desk.specs.InvestorRules.{hit_of, pass_of, hit_verdict, pass_verdict}
 use Rattle.investor_desk.specs.InvestorRules as rules
-use Rattle.investor_desk.specs.InvestorOutput.{verdict_duty, market_of}
+use Rattle.investor_desk.specs.InvestorDesk.{market_of}
+use Rattle.investor_desk.specs.InvestorOutput.{verdict_duty}
 use Rattle.investor_desk.specs.declared.standing.ShownOffer.{ShownOffer}
 use Rattle.investor_desk.specs.declared.events.InvestorEvent.TheVariants as at_investor
 use Rattle.investor_desk.specs.declared.verdicts.InvestorVerdict.{InvestorVerdict}

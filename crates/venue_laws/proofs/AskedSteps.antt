@@ -17,7 +17,7 @@ use Rattle.dealer_desk.specs.DealerOutput.{number_in, unpost_dropped, further_dr
 use Rattle.dealer_desk.specs.declared.events.DealerEvent.{DealerEvent}
 use Rattle.dealer_desk.specs.declared.events.DealerEvent.TheVariants as at_desk
 use Rattle.investor_desk.specs.InvestorRules.{InvestorMarket}
-use Rattle.investor_desk.specs.InvestorOutput as investor_output
+use Rattle.investor_desk.specs.InvestorDesk as investor_desk
 use Rattle.investor_desk.specs.declared.events.InvestorEvent.{InvestorEvent}
 use Rattle.request_room.specs.RoomFacts.{is_vacant, is_open, request_of}
 use Rattle.request_room.specs.Book.{event_facts, hit_outcome, may_expire, passed, expired}
@@ -150,20 +150,20 @@ module _ (config : Configuration) where
         by_bears config (acting_dealer config by) _
         (λ dealer. room_bears room _ _ _ (follows_bears config _ _ tt))
     duty_bears by (duty.Relay room offer moment) bears =
-        for_bears config (investor_output.market_for config room.investor) _ (known_bears room.n
+        for_bears config (investor_desk.market_for config room.investor) _ (known_bears room.n
         None _)
     duty_bears by (duty.Unpost room quote moment) bears =
         by_bears config (acting_dealer config by) _
         (λ dealer. room_bears room _ _ _ (follows_bears config _ _ tt))
     duty_bears by (duty.Gone room word moment) bears =
-        for_bears config (investor_output.market_for config room.investor) _ (known_bears room.n
+        for_bears config (investor_desk.market_for config room.investor) _ (known_bears room.n
         None _)
     duty_bears by (duty.Decline room moment) bears =
         by_bears config (acting_dealer config by) _
         (λ dealer. room_bears room _ _ _ (follows_bears config _ _ tt))
     duty_bears by (duty.Declined room moment) bears =
         by_bears config (acting_dealer config by) _
-        (λ dealer. for_bears config (investor_output.market_for config room.investor) _
+        (λ dealer. for_bears config (investor_desk.market_for config room.investor) _
         (known_bears room.n None _))
     duty_bears by (duty.Hit room response word moment) bears =
         if_bears config _ _ nothing (hit_with_bears room response word moment _) (nothing_bears
@@ -175,11 +175,11 @@ module _ (config : Configuration) where
               (told_bear config room passed (dealers_of (request_of (of_room room facts))) moment),
         )
     duty_bears by (duty.Answer room response reply moment) bears =
-        for_bears config (investor_output.market_for config room.investor) _
+        for_bears config (investor_desk.market_for config room.investor) _
         (λ market. if_bears config (replies_to response.k reply) _ nothing
         (known_bears room.n response.k _ market) (nothing_bears config))
     duty_bears by (duty.Close room moment) bears =
-        for_bears config (investor_output.market_for config room.investor) _ (known_bears room.n
+        for_bears config (investor_desk.market_for config room.investor) _ (known_bears room.n
         None _)
     duty_bears by (duty.Tell dealer room close moment) bears =
         by_bears config (dealer_at config dealer) _

@@ -16,7 +16,8 @@ use Rattle.dealer_desk.specs.DealerOutput.{is_same_room}
 use Rattle.dealer_desk.specs.DealerOutput as dealer_output
 use Rattle.dealer_desk.specs.declared.events.DealerEvent.TheVariants as event
 use Rattle.investor_desk.specs.InvestorFacts.{InvestorFact, book_of, knows, requests_of}
-use Rattle.investor_desk.specs.InvestorOutput.{market_of, verdict_duty}
+use Rattle.investor_desk.specs.InvestorDesk.{market_of}
+use Rattle.investor_desk.specs.InvestorOutput.{verdict_duty}
 use Rattle.investor_desk.specs.InvestorRules.{InvestorMarket, investor_verdict}
 use Rattle.investor_desk.specs.declared.events.InvestorEvent.TheVariants as at_investor
 use Rattle.investor_desk.specs.declared.standing.AcceptedRequest.{AcceptedRequest}

@@ -29,10 +29,11 @@ use Rattle.investor_desk.specs.InvestorRules.{InvestorMarket, arrival_verdict, h
 use Rattle.investor_desk.specs.InvestorRules.{investor_verdict, message_verdict, pass_of}
 use Rattle.investor_desk.specs.InvestorRules.{pass_verdict, request_answer, request_checks}
 use Rattle.investor_desk.specs.InvestorRules.{request_refusal, request_verdict, dealer_numbers}
+use Rattle.investor_desk.specs.InvestorDesk.{market_of}
 use Rattle.investor_desk.specs.InvestorOutput.{answer_facts, close_by_answer, closed_facts}
-use Rattle.investor_desk.specs.InvestorOutput.{event_facts, expiry_facts, gone_facts, market_of}
-use Rattle.investor_desk.specs.InvestorOutput.{next_offer, offer_facts, own_facts, refusal_of}
-use Rattle.investor_desk.specs.InvestorOutput.{uses_number, withdrawal_facts}
+use Rattle.investor_desk.specs.InvestorOutput.{event_facts, expiry_facts, gone_facts, next_offer}
+use Rattle.investor_desk.specs.InvestorOutput.{offer_facts, own_facts, refusal_of, uses_number}
+use Rattle.investor_desk.specs.InvestorOutput.{withdrawal_facts}
 use Rattle.investor_desk.specs.declared.events.InvestorEvent.{InvestorEvent}
 use Rattle.investor_desk.specs.declared.events.InvestorEvent.TheVariants as event
 use Rattle.investor_desk.specs.declared.standing.AcceptedRequest.{AcceptedRequest}

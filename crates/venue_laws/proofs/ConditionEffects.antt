@@ -17,8 +17,8 @@ use Rattle.dealer_desk.specs.DealerOutput.{shown_room}
 use Rattle.dealer_desk.specs.DealerOutput as dealer_output
 use Rattle.dealer_desk.specs.declared.events.DealerEvent.{DealerEvent}
 use Rattle.investor_desk.specs.InvestorFacts.{InvestorFact, book_of}
-use Rattle.investor_desk.specs.InvestorOutput.{event_facts, event_messages, market_for, market_of}
-use Rattle.investor_desk.specs.InvestorOutput.{moment_of, written_from}
+use Rattle.investor_desk.specs.InvestorDesk.{market_for, market_of}
+use Rattle.investor_desk.specs.InvestorOutput.{event_facts, event_messages, moment_of, written_from}
 use Rattle.investor_desk.specs.InvestorRules.{InvestorMarket}
 use Rattle.investor_desk.specs.declared.events.InvestorEvent.{InvestorEvent}
 use Rattle.request_room.specs.Book.{where_so}

@@ -11,7 +11,7 @@ use Rattle.venue_rows.specs.declared.dealer_rows.DealerRow.{DealerRow}
 use Rattle.venue_rows.specs.declared.investor_rows.InvestorRow.{InvestorRow}
 use Rattle.dealer_desk.specs.DealerFacts.{number_to_drop}
 use Rattle.dealer_desk.specs.DealerOutput.{is_same_room}
-use Rattle.investor_desk.specs.InvestorOutput.{market_of}
+use Rattle.investor_desk.specs.InvestorDesk.{market_of}
 use Rattle.request_room.specs.Book.{book_of, hit_checks, hit_refusal, quote_meant, word_or}
 use Rattle.request_room.specs.RoomFacts.{Opened, RoomFact, first_said, is_named, is_vacant}
 use Rattle.request_room.specs.RoomFacts.{opened_for, request_of}

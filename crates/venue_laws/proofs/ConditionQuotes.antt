@@ -13,9 +13,9 @@ use Rattle.venue_rows.specs.Rows.{Configuration, dealer_numbered}
 use Rattle.venue_rows.specs.declared.dealer_rows.DealerRow.{DealerRow}
 use Rattle.dealer_desk.specs.DealerFacts.{book_of, number_to_drop, quote_to_drop}
 use Rattle.dealer_desk.specs.DealerRules.{dealer_verdict}
-use Rattle.dealer_desk.specs.DealerOutput.{DeskEvents, DeskState, book_at, goes_through}
-use Rattle.dealer_desk.specs.DealerOutput.{is_withdrawn, post_of, room_of, unpost_dropped}
-use Rattle.dealer_desk.specs.DealerOutput.{verdict_at, verdict_duty, word_asked}
+use Rattle.dealer_desk.specs.DealerDesk.{DeskEvents, book_at, verdict_at}
+use Rattle.dealer_desk.specs.DealerOutput.{DeskState, goes_through, is_withdrawn, post_of, room_of}
+use Rattle.dealer_desk.specs.DealerOutput.{unpost_dropped, verdict_duty, word_asked}
 use Rattle.dealer_desk.specs.declared.events.DealerEvent.TheVariants as event
 use Rattle.dealer_desk.specs.declared.standing.StandingQuote.{StandingQuote}
 use Rattle.dealer_desk.specs.declared.verdicts.DealerVerdict.{DealerVerdict}

@@ -9,7 +9,8 @@ use Rattle.venue_rows.specs.Rows.{Configuration, dealer_numbered, has_room, inve
 use Rattle.venue_rows.specs.Rows.{may_request}
 use Rattle.venue_rows.specs.declared.investor_rows.InvestorRow.{InvestorRow}
 use Rattle.investor_desk.specs.InvestorFacts.{InvestorFact, book_of, knows}
-use Rattle.investor_desk.specs.InvestorOutput.{event_facts, market_of, own_facts, verdict_duty}
+use Rattle.investor_desk.specs.InvestorDesk.{market_of}
+use Rattle.investor_desk.specs.InvestorOutput.{event_facts, own_facts, verdict_duty}
 use Rattle.investor_desk.specs.InvestorRules.{InvestorMarket, investor_verdict}
 use Rattle.investor_desk.specs.declared.events.InvestorEvent.TheVariants as at_investor
 use Rattle.investor_desk.specs.declared.verdicts.InvestorVerdict.{InvestorVerdict}

@@ -19,6 +19,7 @@ use Rattle.dealer_desk.specs.declared.events.DealerEvent.TheVariants as at_desk
 use Rattle.dealer_desk.specs.declared.verdicts.DealerVerdict.{DealerVerdict}
 use Rattle.investor_desk.specs.InvestorFacts.{InvestorBook}
 use Rattle.investor_desk.specs.InvestorRules.{InvestorMarket, investor_verdict}
+use Rattle.investor_desk.specs.InvestorDesk as investor_desk
 use Rattle.investor_desk.specs.InvestorOutput as investor_output
 use Rattle.investor_desk.specs.declared.events.InvestorEvent.TheVariants as at_investor
 use Rattle.investor_desk.specs.declared.verdicts.InvestorVerdict.{InvestorVerdict}
@@ -173,18 +174,18 @@ module _ (config : Configuration) (own : ℕ) (facts : List Fact) where
       done_alike config own facts (acting_dealer config by) _ _
       (posted_alike room quote price valid_until moment)
   duty_alike by (duty.Relay room offer moment) =
-      market_alike config own facts (investor_output.market_for config room.investor) _ _
+      market_alike config own facts (investor_desk.market_for config room.investor) _ _
       (known_alike config own facts room.n None (at_investor.QuoteCame room.n offer moment))
   duty_alike by (duty.Unpost room quote moment) =
       done_alike config own facts (acting_dealer config by) _ _ (unposted_alike room quote moment)
   duty_alike by (duty.Gone room word moment) =
-      market_alike config own facts (investor_output.market_for config room.investor) _ _
+      market_alike config own facts (investor_desk.market_for config room.investor) _ _
       (known_alike config own facts room.n None (at_investor.QuoteGone room.n word moment))
   duty_alike by (duty.Decline room moment) =
       done_alike config own facts (acting_dealer config by) _ _ (declined_alike room moment)
   duty_alike by (duty.Declined room moment) =
       done_alike config own facts (acting_dealer config by) _ _
-      (λ dealer. market_alike config own facts (investor_output.market_for config room.investor) _ _
+      (λ dealer. market_alike config own facts (investor_desk.market_for config room.investor) _ _
       (known_alike config own facts room.n None
       (at_investor.DealerDeclined room.n dealer.row.name moment)))
   duty_alike by (duty.Hit room response word moment) =
@@ -193,10 +194,10 @@ module _ (config : Configuration) (own : ℕ) (facts : List Fact) where
       event_alike room true true (at_room.Pass moment) (λ l. duties_of_pass l room response moment)
       refl (ap (map erase_duty) (pass_left (of_room room facts) room response moment))
   duty_alike by (duty.Answer room response reply moment) =
-      market_alike config own facts (investor_output.market_for config room.investor) _ _
+      market_alike config own facts (investor_desk.market_for config room.investor) _ _
       (answered_alike room response reply moment)
   duty_alike by (duty.Close room moment) =
-      market_alike config own facts (investor_output.market_for config room.investor) _ _
+      market_alike config own facts (investor_desk.market_for config room.investor) _ _
       (known_alike config own facts room.n None (at_investor.Closed room.n moment))
   duty_alike by (duty.Tell dealer room close moment) =
       done_alike config own facts (dealer_at config dealer) _ _
@@ -292,5 +293,5 @@ module _ (config : Configuration) (own : ℕ) (facts : List Fact) where
       either_alike (is_some (dealer_numbered config firm)) _ _ _ _
       (done_alike config own facts (dealer_at config firm) _ _
       (λ dealer. said_alike moment bytes bytes dealer refl refl))
-      (market_alike config own facts (investor_output.market_for config firm) _ _
+      (market_alike config own facts (investor_desk.market_for config firm) _ _
       (said_to_investor moment bytes))

@@ -29,7 +29,8 @@ use Rattle.investor_desk.specs.InvestorRules.{dealer_named, dealer_numbers, hit_
 use Rattle.investor_desk.specs.InvestorRules.{investor_verdict, message_verdict, pass_of}
 use Rattle.investor_desk.specs.InvestorRules.{pass_verdict, request_answer}
 use Rattle.investor_desk.specs.InvestorRules.{request_verdict}
-use Rattle.investor_desk.specs.InvestorOutput.{market_of, verdict_duty}
+use Rattle.investor_desk.specs.InvestorDesk.{market_of}
+use Rattle.investor_desk.specs.InvestorOutput.{verdict_duty}
 use Rattle.investor_desk.specs.declared.events.InvestorEvent.TheVariants as at_investor
 use Rattle.investor_desk.specs.declared.standing.ShownOffer.{ShownOffer}
 use Rattle.investor_desk.specs.declared.verdicts.InvestorVerdict.{InvestorVerdict}
