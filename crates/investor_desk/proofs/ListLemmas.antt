@@ -5,11 +5,6 @@ use Rattle.std.proofs.Common.{◌++◌, length, map, set, filter, find, Option, 
 use Rattle.std.proofs.Common.{slice_get, inl, inr, refl, sym, ap, ◌∙◌, arith}
 use Rattle.std.proofs.lemmas.Option.{none-some, same_Some}
 
--- a test that can't be true is false
-pub ruled_out : (b : Bool) → (b ≡ true → ⊥) → b ≡ false
-ruled_out true never = absurd (never refl)
-ruled_out false never = refl
-
 module _ {A : Type 0} where
   -- what stands at a place after one more was put behind the others
   pub pushed_at : (xs : List A) (y : A) (k : ℕ) (x : A) → slice_get (xs ++ y ∷ []) k ≡ Some x → (slice_get xs k ≡ Some x) ⊎ ((k ≡ length xs) × (y ≡ x))

@@ -1,7 +1,6 @@
 -- What the desk of an investor sends for all that comes to it is the investor view of what is due.
 use Rattle.std.proofs.Common.{◌≡◌, ℕ, ◌+◌, Bool, true, false, List, [], ◌∷◌, ◌++◌, map, fold}
-use Rattle.std.proofs.Common.{length}
-use Rattle.std.proofs.Common.{refl, ap, sym, subst, ◌∙◌, arith, ◌&&◌, None}
+use Rattle.std.proofs.Common.{length, refl, ap, sym, subst, ◌∙◌, arith, ◌&&◌, None}
 use Rattle.std.proofs.lemmas.List.{append-nil, append_assoc, map-append}
 use Rattle.quote_messages.specs.declared.out_messages.OutMessage.{OutMessage}
 use Rattle.investor_desk.specs.InvestorFacts.{InvestorFact, InvestorBook, book_of, knows, offers_of}
@@ -20,7 +19,7 @@ use Rattle.investor_views.specs.Comings.{Coming, Own, For, after_coming, desk_by
 use Rattle.investor_views.specs.DeskView.{coming_of, event_dues, event_dues_from, with_item}
 use Rattle.investor_views.specs.InvestorDues.{due_by, dues_from, number_of, quote_meant}
 use Rattle.investor_views.specs.InvestorView.{after_due, coming_by, offer_due, sent_at}
-use Rattle.investor_views.proofs.DeskLemmas.{desk_push}
+use Rattle.step_replay.specs.InvestorGrowth.{desk_push}
 use Rattle.investor_views.proofs.ClosingItems.{answered_answers, declined_answers, expired_answers}
 use Rattle.investor_views.proofs.ItemLemmas.{Answers, came_answers, gone_answers, own_answers}
 use Rattle.investor_views.proofs.NumberedBook.{book_same, knows_same}

@@ -1,7 +1,8 @@
 -- What an action does is what comes by the market's table.
-use Rattle.std.proofs.Common.{◌≡◌, ℕ, Bool, true, false, ◌&&◌, List, map, is_some}
-use Rattle.std.proofs.Common.{Option, Some, None, option_map, option_and_then, if◌then◌else◌}
-use Rattle.std.proofs.Common.{refl, sym, ap, subst}
+use Rattle.std.proofs.Common.{◌≡◌, ℕ, Bool, true, false, ◌&&◌, List, map, is_some, Option, Some}
+use Rattle.std.proofs.Common.{None, option_map, option_and_then, if◌then◌else◌, refl, sym, ap}
+use Rattle.std.proofs.Common.{subst}
+use Rattle.std.proofs.lemmas.Option.{same_Some}
 use Rattle.market_terms.specs.declared.duties.Duty.{Duty}
 use Rattle.market_terms.specs.declared.duties.Duty.TheVariants as duty
 use Rattle.market_terms.specs.declared.rooms.ResponseRef.{ResponseRef}
@@ -31,7 +32,6 @@ use Rattle.step_replay.specs.Actions.{dropped_by}
 use Rattle.step_replay.specs.DutyEffects.{duty_effect, sweep_effect}
 use Rattle.step_replay.specs.Coming.{dealer_gets, investor_gets, room_gets, arrival_effect}
 use Rattle.step_replay.specs.Coming.{effect_where}
-use Rattle.step_replay.specs.OwnerLemmas.{same_value}
 use Rattle.step_replay.specs.VenueFacts.{Fact, InRoom, of_room}
 
 module _ (config : Configuration) (facts : List Fact) where
@@ -139,7 +139,7 @@ module _ (config : Configuration) (facts : List Fact) where
       by_row None found same = cc
       by_row (Some row) found same =
           subst (λ (d : Dealer). dealer_at config d.number ≡ Some d)
-          (same_value (dealer_of number row) dealer same)
+          (same_Some (dealer_of number row) dealer same)
           (ap (option_map (dealer_of number)) found)
 
   -- The table.

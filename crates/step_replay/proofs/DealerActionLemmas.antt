@@ -25,9 +25,8 @@ use Rattle.venue_places.specs.declared.arrivals.ForDealer.TheVariants as to_deal
 use Rattle.step_replay.specs.Standing.{Stands, Does}
 use Rattle.step_replay.specs.declared.floor.DealerPlace.{DealerPlace}
 use Rattle.step_replay.specs.declared.floor.Floor.{Floor}
-use Rattle.step_replay.proofs.FoundDealers.{Found, dealer_found, by_found}
+use Rattle.step_replay.proofs.FoundDealers.{Found, dealer_found, by_found, book_is}
 use Rattle.step_replay.proofs.UnaskedEvents.{idle_stands, unasked_stands, show_does}
-use Rattle.step_replay.proofs.DealerMessages.{book_is}
 
 -- A closing notice.
 

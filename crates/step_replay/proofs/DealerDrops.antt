@@ -5,6 +5,7 @@ use Rattle.std.specs.Prelude.{slice_get}
 use Rattle.std.specs.Option.{option_to_list}
 use Rattle.std.specs.List.{list_any}
 use Rattle.std.specs.Vec.{with_item}
+use Rattle.std.proofs.Math.Bool.{or-false}
 use Rattle.quote_word.specs.PlainWords.{entry_in, Exchanges}
 use Rattle.quote_word.specs.declared.settled.Settled.{Settled}
 use Rattle.quote_word.specs.declared.settled.Settled.TheVariants as settled
@@ -28,21 +29,18 @@ use Rattle.step_replay.specs.declared.dues.Due.TheVariants as due
 use Rattle.step_replay.specs.declared.floor.DealerPlace.{DealerPlace}
 use Rattle.step_replay.specs.declared.floor.Floor.{Floor}
 use Rattle.step_replay.proofs.FloorLemmas.{event_stands}
-use Rattle.step_replay.proofs.FoundDealers.{dealer_found, by_found, leaving}
+use Rattle.step_replay.proofs.FoundDealers.{dealer_found, by_found, leaving, book_is}
 use Rattle.step_replay.proofs.AskLemmas.{asks_does}
 use Rattle.step_replay.proofs.AskedWords.{withdraws_by}
 use Rattle.step_replay.proofs.LiftingLemmas.{IsDueSo}
-use Rattle.step_replay.specs.DeskGrowth.{settled_undue}
-use Rattle.step_replay.proofs.DealerMessages.{book_is, or_false}
-
--- A drop.
+use Rattle.step_replay.specs.DealerGrowth.{settled_undue}
 
 drop_withdraws : (asked : Option ℕ) (settlement : Option Settled) (quote : ℕ)
     → list_any (withdraws quote) (settled_facts asked by.Cancel settlement)
     ≡ withdraws_by asked settlement quote
 drop_withdraws None settlement quote = refl
 drop_withdraws (Some asked) None quote = refl
-drop_withdraws (Some asked) (Some settled.Withdrawn) quote = or_false (asked == quote)
+drop_withdraws (Some asked) (Some settled.Withdrawn) quote = or-false (asked == quote)
 drop_withdraws (Some asked) (Some settled.Lifted) quote = refl
 
 -- what a contract speaks of

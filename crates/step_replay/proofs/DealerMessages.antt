@@ -1,11 +1,11 @@
 -- A message of a dealer of a replay does what it should.
-use Rattle.std.proofs.Common.{◌≡◌, ◌≤◌, ℕ, ◌==◌, Bool, true, false, ◌||◌, if◌then◌else◌, List, []}
-use Rattle.std.proofs.Common.{◌∷◌, length, Option, Some, None, IfSome, option_map, refl, ap, ◌∙◌}
-use Rattle.std.proofs.Common.{subst}
+use Rattle.std.proofs.Common.{◌≡◌, ◌≤◌, ℕ, ◌==◌, if◌then◌else◌, List, [], ◌∷◌, length, Option, Some}
+use Rattle.std.proofs.Common.{None, IfSome, option_map, refl, ap, ◌∙◌, subst}
 use Rattle.std.specs.Prelude.{slice_get}
 use Rattle.std.specs.Option.{option_to_list}
 use Rattle.std.specs.List.{list_any}
 use Rattle.std.specs.Vec.{with_item}
+use Rattle.std.proofs.Math.Bool.{or-false}
 use Rattle.quote_word.specs.PlainWords.{entry_in, Exchanges}
 use Rattle.quote_word.specs.declared.settled.Settled.{Settled}
 use Rattle.quote_word.specs.declared.settled.Settled.TheVariants as settled
@@ -13,55 +13,26 @@ use Rattle.venue_rows.specs.Rows.{Configuration}
 use Rattle.venue_rows.specs.declared.dealer_rows.DealerRow.{DealerRow}
 use Rattle.market_terms.specs.declared.duties.Duty.{Duty}
 use Rattle.market_terms.specs.declared.rooms.RoomRef.{RoomRef}
-use Rattle.dealer_desk.specs.DealerFacts.{DealerBook, book_of}
 use Rattle.dealer_desk.specs.DealerRules.{dealer_verdict}
-use Rattle.dealer_desk.specs.DealerDesk.{DeskEvents, book_at, rooms_at, verdict_at, with_event}
-use Rattle.dealer_desk.specs.DealerOutput.{DeskState, desk_after, word_asked, verdict_duty}
-use Rattle.dealer_desk.specs.DealerOutput.{event_facts, verdict_facts}
+use Rattle.dealer_desk.specs.DealerDesk.{DeskEvents, rooms_at, verdict_at, with_event}
+use Rattle.dealer_desk.specs.DealerOutput.{word_asked, verdict_duty, event_facts, verdict_facts}
 use Rattle.dealer_desk.specs.DeskLaws.{withdraws}
 use Rattle.dealer_desk.specs.declared.verdicts.DealerVerdict.{DealerVerdict}
 use Rattle.dealer_desk.specs.declared.verdicts.DealerVerdict.TheVariants as verdict
 use Rattle.dealer_desk.specs.declared.events.DealerEvent.TheVariants as event
 use Rattle.venue_steps.specs.Words.{AsksAtMost, settlement_in, has_word, word_of, word_to_ask}
 use Rattle.venue_steps.specs.DealerSteps.{own_word, desk_after_own, duties_of_own}
-use Rattle.step_replay.specs.DealerTrail.{DealerEntry, book_by, rooms_by}
+use Rattle.step_replay.specs.DealerTrail.{book_by, rooms_by}
 use Rattle.step_replay.specs.VenueFacts.{Fact, of_dealer}
 use Rattle.step_replay.specs.Actions.{dealer_of, dealer_at, done_by, first_word, received_by_dealer}
-use Rattle.step_replay.specs.Standing.{DealerStands, Stands, Does}
+use Rattle.step_replay.specs.Standing.{Stands, Does}
 use Rattle.step_replay.specs.declared.dues.Due.TheVariants as due
 use Rattle.step_replay.specs.declared.floor.DealerPlace.{DealerPlace}
 use Rattle.step_replay.specs.declared.floor.Floor.{Floor}
-use Rattle.step_replay.proofs.FoundDealers.{dealer_found, by_found, leaving}
+use Rattle.step_replay.proofs.FoundDealers.{dealer_found, by_found, leaving, verdict_is}
 use Rattle.step_replay.proofs.AskLemmas.{asks_does}
 use Rattle.step_replay.proofs.AskedWords.{withdraws_by}
-use Rattle.step_replay.specs.DeskGrowth.{verdict_undue}
-
--- A desk that stands.
-
-pub book_is : (config : Configuration) (number : ℕ) (row : DealerRow) (trail : List DealerEntry)
-    (place : DealerPlace) → DealerStands config number row trail place
-    → book_at place.desk ≡ book_by trail
-book_is config number row trail place stands =
-    ap (λ (d : List ℕ). book_of (desk_after d place.desk.row place.desk.events).facts) stands.date_is
-    ∙ ap (λ (r : DealerRow). book_of (desk_after config.date r place.desk.events).facts) stands.row_is
-    ∙ ap (λ (s : DeskState). book_of s.facts) stands.state_is
-
-pub verdict_is : (config : Configuration) (number : ℕ) (row : DealerRow) (trail : List DealerEntry)
-    (place : DealerPlace) (moment : ℕ) (bytes : List ℕ)
-    → DealerStands config number row trail place
-    → verdict_at place.desk moment bytes
-    ≡ dealer_verdict config.date row (book_by trail) moment bytes
-verdict_is config number row trail place moment bytes stands =
-    ap (λ (d : List ℕ). dealer_verdict d place.desk.row (book_at place.desk) moment bytes) stands.date_is
-    ∙ ap (λ (r : DealerRow). dealer_verdict config.date r (book_at place.desk) moment bytes) stands.row_is
-    ∙ ap (λ (b : DealerBook). dealer_verdict config.date row b moment bytes)
-    (book_is config number row trail place stands)
-
--- A message.
-
-pub or_false : (b : Bool) → (b || false) ≡ b
-or_false true = refl
-or_false false = refl
+use Rattle.step_replay.specs.DealerGrowth.{verdict_undue}
 
 -- what a verdict withdraws, by the settlement of the word that it asks
 said_withdraws : (v : DealerVerdict) (settlement : Option Settled) (quote : ℕ)
@@ -69,11 +40,11 @@ said_withdraws : (v : DealerVerdict) (settlement : Option Settled) (quote : ℕ)
 said_withdraws (verdict.QuoteAccepted request id own None) settlement quote = refl
 said_withdraws (verdict.QuoteAccepted request id own (Some replaced)) None quote = refl
 said_withdraws (verdict.QuoteAccepted request id own (Some replaced)) (Some settled.Withdrawn) quote =
-    or_false (replaced == quote)
+    or-false (replaced == quote)
 said_withdraws (verdict.QuoteAccepted request id own (Some replaced)) (Some settled.Lifted) quote = refl
 said_withdraws (verdict.CancelAccepted id own request) None quote = refl
 said_withdraws (verdict.CancelAccepted id own request) (Some settled.Withdrawn) quote =
-    or_false (own == quote)
+    or-false (own == quote)
 said_withdraws (verdict.CancelAccepted id own request) (Some settled.Lifted) quote = refl
 said_withdraws (verdict.DeclineAccepted request number) settlement quote = refl
 said_withdraws other settlement quote = refl

@@ -1,8 +1,9 @@
 -- An action does what comes by the market's table.
 use Rattle.std.proofs.Common.{◌≡◌, ◌≤◌, ◌<◌, ℕ, zero, suc, true, false, List, [], ◌∷◌, length}
-use Rattle.std.proofs.Common.{Option, Some, None, Result, Ok, Err, IfOk, is_some}
-use Rattle.std.proofs.Common.{refl, sym, ap, ◌∙◌, subst, arith}
+use Rattle.std.proofs.Common.{Option, Some, None, Result, Ok, Err, IfOk, is_some, refl, sym, ap}
+use Rattle.std.proofs.Common.{◌∙◌, subst, arith}
 use Rattle.std.specs.Prelude.{slice_get}
+use Rattle.std.proofs.lemmas.Option.{slice_get_past}
 use Rattle.venue_rows.specs.Rows.{Configuration}
 use Rattle.market_terms.specs.declared.duties.Duty.{Duty}
 use Rattle.step_replay.specs.VenueFacts.{Fact}
@@ -14,7 +15,6 @@ use Rattle.step_replay.specs.DutyEffects.{message_effect}
 use Rattle.investor_desk.specs.InvestorDesk.{market_for}
 use Rattle.step_replay.specs.Standing.{ActsOnce, Does, Stands}
 use Rattle.step_replay.specs.declared.floor.Floor.{Floor}
-use Rattle.step_replay.specs.PlaceLemmas.{not_lent}
 use Rattle.step_replay.proofs.FoundDealers.{idle_does}
 
 -- what follows where a call succeeded
@@ -92,5 +92,5 @@ investor_message config facts floor after firm moment bytes duties before beyond
     let count : length floor.dealers.items ≡ length config.dealers = before.dealer_count in
     let here : length config.dealers ≤ firm = omega arith in
     let none : is_some (slice_get config.dealers firm) ≡ false =
-    ap is_some (not_lent config.dealers firm here) in
+    ap is_some (slice_get_past config.dealers firm here) in
     rw none does

@@ -1,13 +1,14 @@
 -- The places of a replay stand where the facts have come, after an event at a dealer's desk.
-use Rattle.std.proofs.Common.{◌≡◌, ◌≢◌, ℕ, ◌-◌, ◌==◌, Bool, true, false, ◌||◌, List, [], ◌∷◌, ◌++◌}
-use Rattle.std.proofs.Common.{map, filter_map, length, slice_set, Option, Some, None, refl, sym, ap}
-use Rattle.std.proofs.Common.{◌∙◌, subst, arith}
+use Rattle.std.proofs.Common.{◌≡◌, ◌≢◌, ℕ, ◌-◌, ◌==◌, Bool, true, false, List, [], ◌∷◌, ◌++◌, map}
+use Rattle.std.proofs.Common.{filter_map, length, slice_set, Option, Some, None, refl, sym, ap, ◌∙◌}
+use Rattle.std.proofs.Common.{subst, arith, ap₂}
 use Rattle.std.specs.Prelude.{slice_get}
 use Rattle.std.specs.Option.{option_to_list}
 use Rattle.std.specs.Vec.{with_item}
 use Rattle.std.proofs.lemmas.Bool.Decides.{nat_tests}
-use Rattle.std.proofs.lemmas.List.{append-nil, length-set}
+use Rattle.std.proofs.lemmas.List.{length-set}
 use Rattle.std.proofs.lemmas.List.Elements.{filter_map-append}
+use Rattle.std.proofs.lemmas.Option.{same_Some, slice_get_within}
 use Rattle.quote_word.specs.declared.settled.Settled.{Settled}
 use Rattle.venue_rows.specs.Rows.{Configuration, dealer_numbered}
 use Rattle.venue_rows.specs.declared.dealer_rows.DealerRow.{DealerRow}
@@ -29,19 +30,12 @@ use Rattle.investor_desk.specs.InvestorOutput as investor_output
 use Rattle.step_replay.specs.InvestorTrail as investor_trail
 use Rattle.request_room.specs.RoomFacts.{RoomFact}
 use Rattle.request_room.specs.declared.events.RoomEvent.{RoomEvent}
-use Rattle.step_replay.specs.OwnerLemmas.{same_value}
-use Rattle.step_replay.specs.DeskGrowth.{both, desk_push, sent_is, facts_grown, sent_grown}
-use Rattle.step_replay.specs.DeskGrowth.{rooms_grown}
+use Rattle.step_replay.specs.DealerGrowth.{desk_with, desk_push, sent_is, facts_grown, sent_grown}
+use Rattle.step_replay.specs.DealerGrowth.{rooms_grown}
 use Rattle.step_replay.proofs.LiftingLemmas.{IsDueSo, dues_after_event, within_after_event}
-use Rattle.step_replay.specs.PlaceLemmas.{get_set_same, get_set_other, get_within, dealer_grown}
-use Rattle.step_replay.specs.PlaceLemmas.{room_grown, investor_grown, own_trail, other_trail}
-use Rattle.step_replay.specs.PlaceLemmas.{room_at_dealer, investor_at_dealer}
-
--- Small facts.
-
-pub or_false : (b : Bool) → (b || false) ≡ b
-or_false true = refl
-or_false false = refl
+use Rattle.step_replay.specs.PlaceLemmas.{get_set_same, get_set_other, dealer_grown, own_trail}
+use Rattle.step_replay.specs.PlaceLemmas.{other_trail, room_at_dealer, investor_at_dealer}
+use Rattle.step_replay.specs.PlaceLemmas.{dealer_stays, investor_stays, room_stays}
 
 -- A dealer's place after one event more.
 
@@ -64,7 +58,7 @@ event_stands config number row trail place desk more before is due_so = record {
   state_is = ap (λ (d : DeskEvents). desk_after config.date row d.events) is
       ∙ desk_push config.date row place.desk.events more
       ∙ ap (λ (state : DeskState). after_event config.date row state more) before.state_is
-      ∙ both _ _ _ _ (sym (facts_grown config.date row trail more))
+      ∙ ap₂ desk_with (sym (facts_grown config.date row trail more))
       (sent_is config.date row (sent_by trail) (moment_of more)
       (event_message config.date row (book_by trail) more)
       ∙ sym (sent_grown config.date row trail more));
@@ -136,21 +130,17 @@ module _ (config : Configuration) (facts : List Fact) (floor : Floor) (number : 
   pub other_now : (other : ℕ) → (number == other) ≡ false
       → of_dealer other now ≡ of_dealer other facts
   other_now other differs =
-      dealer_grown other facts (map (AtDealer number) added)
-      ∙ ap (λ l. of_dealer other facts ++ l) (other_trail other number differs added)
-      ∙ append-nil (of_dealer other facts)
+      dealer_stays other facts (map (AtDealer number) added)
+      (other_trail other number differs added)
 
   room_now : (room : RoomRef) → of_room room now ≡ of_room room facts
   room_now room =
-      room_grown room facts (map (AtDealer number) added)
-      ∙ ap (λ l. of_room room facts ++ l) (room_at_dealer room number added)
-      ∙ append-nil (of_room room facts)
+      room_stays room facts (map (AtDealer number) added) (room_at_dealer room number added)
 
   investor_now : (other : ℕ) → of_investor other now ≡ of_investor other facts
   investor_now other =
-      investor_grown other facts (map (AtDealer number) added)
-      ∙ ap (λ l. of_investor other facts ++ l) (investor_at_dealer other number added)
-      ∙ append-nil (of_investor other facts)
+      investor_stays other facts (map (AtDealer number) added)
+      (investor_at_dealer other number added)
 
   module _ (old place : DealerPlace) (words : List (Option Settled))
       (stood : slice_get floor.dealers.items number ≡ Some old)
@@ -170,9 +160,9 @@ module _ (config : Configuration) (facts : List Fact) (floor : Floor) (number : 
             (slice_get (slice_set floor.dealers.items number place) other)
         by_test true test =
             let equal : number ≡ other = grind (arith, nat_tests) in
-            let rows : row ≡ row_too = same_value row row_too
+            let rows : row ≡ row_too = same_Some row row_too
             (sym is ∙ ap (dealer_numbered config) equal ∙ is_too) in
-            let within = get_within floor.dealers.items number old stood in
+            let within = slice_get_within floor.dealers.items number old stood in
             let Own : ℕ → DealerRow → Type 0 = λ n r.
             DealerStandsIn config n r (of_dealer n now)
             (slice_get (slice_set floor.dealers.items number place) n) in

@@ -1,9 +1,10 @@
--- Looking a dealer of a replay up: one that stands has a place and a row, and what it does is done
--- by it.
+-- Looking a dealer of a replay up: one that stands has a place, a row and the book of its trail, and
+-- what it does is done by it.
 use Rattle.std.proofs.Common.{◌≡◌, ◌<◌, ◌≤◌, ℕ, List, [], length, Option, Some, None, option_map}
 use Rattle.std.proofs.Common.{refl, sym, ap, ◌∙◌, subst, arith}
 use Rattle.std.specs.Prelude.{slice_get}
 use Rattle.std.proofs.lemmas.List.{append-nil}
+use Rattle.std.proofs.lemmas.Option.{slice_get_within}
 use Rattle.venue_rows.specs.Rows.{Configuration, dealer_numbered}
 use Rattle.venue_rows.specs.declared.dealer_rows.DealerRow.{DealerRow}
 use Rattle.market_terms.specs.declared.duties.Duty.{Duty}
@@ -12,9 +13,12 @@ use Rattle.step_replay.specs.Actions.{Effect, Dealer, dealer_of, dealer_at, done
 use Rattle.step_replay.specs.Standing.{DealerStands, DealerStandsIn, Stands, Does}
 use Rattle.step_replay.specs.declared.floor.DealerPlace.{DealerPlace}
 use Rattle.step_replay.specs.declared.floor.Floor.{Floor}
-use Rattle.step_replay.specs.PlaceLemmas.{get_within, get_beyond}
-
--- Looking a dealer up.
+use Rattle.step_replay.specs.PlaceLemmas.{get_beyond}
+use Rattle.dealer_desk.specs.DealerFacts.{DealerBook, book_of}
+use Rattle.dealer_desk.specs.DealerRules.{dealer_verdict}
+use Rattle.dealer_desk.specs.DealerOutput.{DeskState, desk_after}
+use Rattle.dealer_desk.specs.DealerDesk.{book_at, verdict_at}
+use Rattle.step_replay.specs.DealerTrail.{DealerEntry, book_by}
 
 -- a dealer that stands has a place and a row
 pub record Found (config : Configuration) (facts : List Fact) (number : ℕ) (place : DealerPlace)
@@ -34,7 +38,7 @@ dealer_found config facts floor number place stands is =
     by_row None none =
         let beyond : length config.dealers ≤ number = get_beyond config.dealers number none in
         let within : number < length floor.dealers.items =
-        get_within floor.dealers.items number place is in
+        slice_get_within floor.dealers.items number place is in
         let count : length floor.dealers.items ≡ length config.dealers = stands.dealer_count in
         absurd (omega arith)
     by_row (Some row) some = record {
@@ -55,6 +59,26 @@ no_dealer config facts floor number stands is = by_row (dealer_numbered config n
     by_row (Some row) some =
         absurd (subst (DealerStandsIn config number row (of_dealer number facts)) is
         (stands.dealers_are number row some))
+
+-- the book of a desk that stands is that of its trail, and so is its verdict
+pub book_is : (config : Configuration) (number : ℕ) (row : DealerRow) (trail : List DealerEntry)
+    (place : DealerPlace) → DealerStands config number row trail place
+    → book_at place.desk ≡ book_by trail
+book_is config number row trail place stands =
+    ap (λ (d : List ℕ). book_of (desk_after d place.desk.row place.desk.events).facts) stands.date_is
+    ∙ ap (λ (r : DealerRow). book_of (desk_after config.date r place.desk.events).facts) stands.row_is
+    ∙ ap (λ (s : DeskState). book_of s.facts) stands.state_is
+
+pub verdict_is : (config : Configuration) (number : ℕ) (row : DealerRow) (trail : List DealerEntry)
+    (place : DealerPlace) (moment : ℕ) (bytes : List ℕ)
+    → DealerStands config number row trail place
+    → verdict_at place.desk moment bytes
+    ≡ dealer_verdict config.date row (book_by trail) moment bytes
+verdict_is config number row trail place moment bytes stands =
+    ap (λ (d : List ℕ). dealer_verdict d place.desk.row (book_at place.desk) moment bytes) stands.date_is
+    ∙ ap (λ (r : DealerRow). dealer_verdict config.date r (book_at place.desk) moment bytes) stands.row_is
+    ∙ ap (λ (b : DealerBook). dealer_verdict config.date row b moment bytes)
+    (book_is config number row trail place stands)
 
 -- the dealer that is found is the one that acts
 found_at : (config : Configuration) (facts : List Fact) (number : ℕ) (place : DealerPlace)

@@ -25,9 +25,9 @@ use Rattle.step_replay.specs.RoomPlaces.{room_place}
 use Rattle.step_replay.specs.declared.floor.InvestorPlace.{InvestorPlace}
 use Rattle.step_replay.specs.declared.floor.Floor.{Floor}
 use Rattle.step_replay.specs.OwnerLemmas.{owned_by, has_owner, quote_at}
-use Rattle.step_replay.specs.PlaceLemmas.{room_grown}
 use Rattle.step_replay.proofs.RoomPlaceLemmas.{found_by_code}
 use Rattle.step_replay.proofs.RoomFloor.{in_room_stands}
+use Rattle.step_replay.specs.PlaceLemmas.{room_stays}
 
 -- The quote that has a word of the row.
 
@@ -118,9 +118,7 @@ module _ (config : Configuration) (facts : List Fact) (floor : Floor) (at : Room
       let found = found_by_code config (facts ++ lifted) base at investor index old events stands
       is_there value_there events_value in
       let room_same : of_room at (facts ++ lifted) ≡ known =
-      room_grown at facts lifted
-      ∙ ap (λ l. known ++ l) (room_of_lifting at (quote_with_word config word) outcome)
-      ∙ append-nil known in
+      room_stays at facts lifted (room_of_lifting at (quote_with_word config word) outcome) in
       subst (λ (l : List Fact). Stands config l (hit_floor base))
       (append_assoc facts lifted (map (InRoom at) (end_by outcome moment)))
       (in_room_stands config (facts ++ lifted) base at investor index old events stands

@@ -6,7 +6,8 @@ use Rattle.std.proofs.Common.{sym, ap, ◌∙◌, subst, arith}
 use Rattle.std.specs.Prelude.{slice_get}
 use Rattle.std.specs.Vec.{with_item}
 use Rattle.std.proofs.lemmas.Bool.Decides.{nat_tests}
-use Rattle.std.proofs.lemmas.List.{append-nil, length-set}
+use Rattle.std.proofs.lemmas.List.{length-set}
+use Rattle.std.proofs.lemmas.Option.{same_Some, slice_get_within}
 use Rattle.market_terms.specs.declared.rooms.RoomRef.{RoomRef}
 use Rattle.venue_rows.specs.Rows.{Configuration, investor_numbered}
 use Rattle.venue_rows.specs.declared.investor_rows.InvestorRow.{InvestorRow}
@@ -19,12 +20,12 @@ use Rattle.step_replay.specs.Standing.{DealerStandsIn, InvestorStands, InvestorS
 use Rattle.step_replay.specs.Standing.{word_is}
 use Rattle.step_replay.specs.declared.floor.InvestorPlace.{InvestorPlace}
 use Rattle.step_replay.specs.declared.floor.Floor.{Floor}
-use Rattle.step_replay.specs.OwnerLemmas.{same_value}
-use Rattle.step_replay.specs.PlaceLemmas.{get_set_same, get_set_other, get_within, get_beyond}
-use Rattle.step_replay.specs.PlaceLemmas.{dealer_grown, room_grown, investor_grown, own_investor}
-use Rattle.step_replay.specs.PlaceLemmas.{other_investor, trail_at_investor, room_at_investor}
+use Rattle.step_replay.specs.PlaceLemmas.{get_set_same, get_set_other, get_beyond, investor_grown}
+use Rattle.step_replay.specs.PlaceLemmas.{own_investor, other_investor, trail_at_investor}
+use Rattle.step_replay.specs.PlaceLemmas.{room_at_investor, dealer_stays, investor_stays}
+use Rattle.step_replay.specs.PlaceLemmas.{room_stays}
 use Rattle.step_replay.proofs.FloorLemmas.{room_kept, investor_kept, words_kept}
-use Rattle.step_replay.proofs.InvestorEvents.{desk_of, desk_push, trail_push}
+use Rattle.step_replay.specs.InvestorGrowth.{desk_of, desk_push, trail_push}
 
 -- The facts with what is added at an investor.
 
@@ -41,21 +42,17 @@ module _ (facts : List Fact) (number : ℕ) (added : List InvestorEntry) where
   other_now : (other : ℕ) → (number == other) ≡ false
       → of_investor other now ≡ of_investor other facts
   other_now other differs =
-      investor_grown other facts (map (AtInvestor number) added)
-      ∙ ap (λ l. of_investor other facts ++ l) (other_investor other number differs added)
-      ∙ append-nil (of_investor other facts)
+      investor_stays other facts (map (AtInvestor number) added)
+      (other_investor other number differs added)
 
   room_now : (room : RoomRef) → of_room room now ≡ of_room room facts
   room_now room =
-      room_grown room facts (map (AtInvestor number) added)
-      ∙ ap (λ l. of_room room facts ++ l) (room_at_investor room number added)
-      ∙ append-nil (of_room room facts)
+      room_stays room facts (map (AtInvestor number) added) (room_at_investor room number added)
 
   dealer_now : (other : ℕ) → of_dealer other now ≡ of_dealer other facts
   dealer_now other =
-      dealer_grown other facts (map (AtInvestor number) added)
-      ∙ ap (λ l. of_dealer other facts ++ l) (trail_at_investor other number added)
-      ∙ append-nil (of_dealer other facts)
+      dealer_stays other facts (map (AtInvestor number) added)
+      (trail_at_investor other number added)
 
 -- An investor's place after one event more.
 
@@ -130,7 +127,7 @@ investor_found config facts floor number place stands behind is =
         get_beyond config.investors (number - length config.dealers)
         (sym (numbered_at config number behind) ∙ none) in
         let within : number - length config.dealers < length floor.investors.items =
-        get_within floor.investors.items (number - length config.dealers) place is in
+        slice_get_within floor.investors.items (number - length config.dealers) place is in
         let count : length floor.investors.items ≡ length config.investors =
         stands.investor_count in
         absurd (omega arith)
@@ -179,9 +176,9 @@ module _ (config : Configuration) (facts : List Fact) (floor : Floor) (number : 
           (other - length config.dealers))
       by_test true test =
           let equal : number ≡ other = grind (arith, nat_tests) in
-          let rows : row ≡ row_too = same_value row row_too
+          let rows : row ≡ row_too = same_Some row row_too
           (sym is ∙ ap (investor_numbered config) equal ∙ is_too) in
-          let within = get_within floor.investors.items index old stood in
+          let within = slice_get_within floor.investors.items index old stood in
           let Own : ℕ → InvestorRow → Type 0 = λ n r.
           InvestorStandsIn config n r (now facts number added)
           (slice_get (slice_set floor.investors.items index place)

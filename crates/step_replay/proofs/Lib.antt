@@ -16,7 +16,6 @@ mod HitLemmas
 mod HitRefused
 mod HitSettled
 mod InvestorActionLemmas
-mod InvestorEvents
 mod InvestorOpeningLemmas
 mod InvestorPlaceLemmas
 mod ItemLemmas

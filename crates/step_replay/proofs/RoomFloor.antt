@@ -5,6 +5,7 @@ use Rattle.std.specs.Prelude.{slice_get}
 use Rattle.std.specs.Vec.{with_item}
 use Rattle.std.proofs.lemmas.Bool.Decides.{nat_tests}
 use Rattle.std.proofs.lemmas.List.{length-set}
+use Rattle.std.proofs.lemmas.Option.{same_Some, slice_get_within}
 use Rattle.venue_rows.specs.Rows.{Configuration, investor_numbered}
 use Rattle.venue_rows.specs.declared.investor_rows.InvestorRow.{InvestorRow}
 use Rattle.market_terms.specs.declared.rooms.RoomRef.{RoomRef}
@@ -18,14 +19,12 @@ use Rattle.step_replay.specs.declared.floor.InvestorPlace.{InvestorPlace}
 use Rattle.step_replay.specs.declared.floor.Floor.{Floor}
 use Rattle.step_replay.specs.InvestorTrail as investor_trail
 use Rattle.investor_desk.specs.InvestorOutput as investor_output
-use Rattle.step_replay.specs.OwnerLemmas.{same_value}
 use Rattle.step_replay.proofs.FloorLemmas.{room_kept, investor_kept, words_kept}
-use Rattle.step_replay.specs.PlaceLemmas.{get_set_same, get_set_other, get_within}
+use Rattle.step_replay.specs.PlaceLemmas.{get_set_same, get_set_other}
 use Rattle.step_replay.proofs.RoomGrowth.{now, dealer_now, investor_now, own_now, other_now}
 use Rattle.step_replay.proofs.RoomGrowth.{other_number, other_owner}
-use Rattle.step_replay.proofs.RoomPlaceLemmas.{investor_from, FoundRoom}
-
--- The floor after more facts in one room.
+use Rattle.step_replay.proofs.RoomPlaceLemmas.{FoundRoom}
+use Rattle.step_replay.proofs.InvestorPlaceLemmas.{behind_dealers}
 
 module _ (config : Configuration) (facts : List Fact) (floor : Floor) (at : RoomRef)
     (investor index : ℕ) (old : InvestorPlace) (events : List RoomEvent)
@@ -56,7 +55,7 @@ module _ (config : Configuration) (facts : List Fact) (floor : Floor) (at : Room
             (slice_get (slice_set old.rooms.items index new) k)) found.index_is
             (subst (RoomStandsIn (of_room at (now facts at added)))
             (sym (get_set_same old.rooms.items index new
-            (get_within old.rooms.items index events found.events_there)))
+            (slice_get_within old.rooms.items index events found.events_there)))
             (grown ∙ sym (own_now facts at added)))
 
         by_test : (same : Bool) → (at.n == n) ≡ same
@@ -115,7 +114,7 @@ module _ (config : Configuration) (facts : List Fact) (floor : Floor) (at : Room
             (slice_get places k)) found.investor_is
             (subst (InvestorStandsIn config at.investor found.row (now facts at added))
             (sym (get_set_same floor.investors.items investor place_now
-            (get_within floor.investors.items investor old found.there)))
+            (slice_get_within floor.investors.items investor old found.there)))
             own_place)
 
         by_test : (same : Bool) → (at.investor == number) ≡ same
@@ -123,7 +122,7 @@ module _ (config : Configuration) (facts : List Fact) (floor : Floor) (at : Room
             (slice_get places (number - length config.dealers))
         by_test true test =
             let equal : at.investor ≡ number = grind (arith, nat_tests) in
-            let rows : found.row ≡ row = same_value found.row row
+            let rows : found.row ≡ row = same_Some found.row row
             (sym found.row_is ∙ ap (investor_numbered config) equal ∙ is) in
             subst (λ (n : ℕ). InvestorStandsIn config n row (now facts at added)
             (slice_get places (n - length config.dealers))) equal
@@ -131,7 +130,7 @@ module _ (config : Configuration) (facts : List Fact) (floor : Floor) (at : Room
             (now facts at added)
             (slice_get places (at.investor - length config.dealers))) rows own)
         by_test false test =
-            let behind : length config.dealers ≤ number = investor_from config number row is in
+            let behind : length config.dealers ≤ number = behind_dealers config number row is in
             let from : length config.dealers ≤ at.investor = found.from in
             let place_is : investor ≡ at.investor - length config.dealers = found.investor_is in
             let other : at.investor ≢ number = grind (arith, nat_tests, test) in

@@ -1,14 +1,12 @@
 -- The facts that stand after some more in one room: those of each other place are as before.
 use Rattle.std.proofs.Common.{◌≡◌, ℕ, ◌==◌, Bool, true, false, ◌&&◌, List, ◌++◌, map, refl, ap, ◌∙◌}
-use Rattle.std.proofs.lemmas.List.{append-nil}
 use Rattle.market_terms.specs.declared.rooms.RoomRef.{RoomRef}
 use Rattle.dealer_desk.specs.DealerOutput.{is_same_room}
 use Rattle.request_room.specs.RoomFacts.{RoomFact}
 use Rattle.step_replay.specs.VenueFacts.{Fact, InRoom, of_dealer, of_room, of_investor}
-use Rattle.step_replay.specs.PlaceLemmas.{dealer_grown, room_grown, investor_grown, own_room}
-use Rattle.step_replay.specs.PlaceLemmas.{other_room, trail_in_room, investor_in_room}
-
--- The facts after some more in one room.
+use Rattle.step_replay.specs.PlaceLemmas.{room_grown, own_room, other_room, trail_in_room}
+use Rattle.step_replay.specs.PlaceLemmas.{investor_in_room, dealer_stays, investor_stays}
+use Rattle.step_replay.specs.PlaceLemmas.{room_stays}
 
 module _ (facts : List Fact) (at : RoomRef) (added : List RoomFact) where
   -- the facts with what is added in the room
@@ -17,15 +15,11 @@ module _ (facts : List Fact) (at : RoomRef) (added : List RoomFact) where
 
   pub dealer_now : (number : ℕ) → of_dealer number now ≡ of_dealer number facts
   dealer_now number =
-      dealer_grown number facts (map (InRoom at) added)
-      ∙ ap (λ l. of_dealer number facts ++ l) (trail_in_room number at added)
-      ∙ append-nil (of_dealer number facts)
+      dealer_stays number facts (map (InRoom at) added) (trail_in_room number at added)
 
   pub investor_now : (number : ℕ) → of_investor number now ≡ of_investor number facts
   investor_now number =
-      investor_grown number facts (map (InRoom at) added)
-      ∙ ap (λ l. of_investor number facts ++ l) (investor_in_room number at added)
-      ∙ append-nil (of_investor number facts)
+      investor_stays number facts (map (InRoom at) added) (investor_in_room number at added)
 
   pub own_now : of_room at now ≡ of_room at facts ++ added
   own_now =
@@ -35,9 +29,7 @@ module _ (facts : List Fact) (at : RoomRef) (added : List RoomFact) where
   pub other_now : (room : RoomRef) → is_same_room at room ≡ false
       → of_room room now ≡ of_room room facts
   other_now room differs =
-      room_grown room facts (map (InRoom at) added)
-      ∙ ap (λ l. of_room room facts ++ l) (other_room room at differs added)
-      ∙ append-nil (of_room room facts)
+      room_stays room facts (map (InRoom at) added) (other_room room at differs added)
 
 -- another room of the same investor, and a room of another one
 pub other_number : (at : RoomRef) (n : ℕ) → (at.n == n) ≡ false

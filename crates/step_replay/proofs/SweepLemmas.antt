@@ -1,7 +1,7 @@
 -- A sweep of a room: where the room is not due nothing happens, and else nothing in another room.
-use Rattle.std.proofs.Common.{◌≡◌, ◌≤◌, ℕ, zero, suc, Bool, true, false, ◌&&◌}
-use Rattle.std.proofs.Common.{List, [], ◌∷◌, ◌++◌, map, length, filter_map, count_by}
-use Rattle.std.proofs.Common.{Option, Some, None, if◌then◌else◌, refl, sym, ap, ◌∙◌, subst}
+use Rattle.std.proofs.Common.{◌≡◌, ◌≤◌, ℕ, zero, suc, Bool, true, false, ◌&&◌, List, [], ◌∷◌, ◌++◌}
+use Rattle.std.proofs.Common.{map, length, filter_map, count_by, Option, Some, None, if◌then◌else◌}
+use Rattle.std.proofs.Common.{refl, sym, ap, ◌∙◌, subst}
 use Rattle.std.specs.List.{AllByRecursion}
 use Rattle.std.proofs.lemmas.List.{append-nil}
 use Rattle.market_terms.specs.declared.closes.Close.{Close}
@@ -14,11 +14,10 @@ use Rattle.investor_desk.specs.InvestorDesk as investor_desk
 use Rattle.investor_desk.specs.InvestorRules.{InvestorMarket}
 use Rattle.investor_desk.specs.declared.events.InvestorEvent.TheVariants as at_investor
 use Rattle.request_room.specs.Book.{event_facts, expired, may_expire, where_so}
-use Rattle.request_room.specs.RoomFacts.{RoomFact, Ended}
+use Rattle.request_room.specs.RoomFacts.{RoomFact, Ended, request_of}
 use Rattle.request_room.specs.declared.ends.End.{End}
 use Rattle.venue_rows.specs.Rows.{Configuration, has_room}
 use Rattle.venue_steps.specs.RoomSteps.{close_for, dealers_of, duties_of_expire, told_in}
-use Rattle.request_room.specs.RoomFacts.{request_of}
 use Rattle.step_replay.specs.Actions.{Dealer, Effect, at_dealer, at_market, dealer_at, done_by}
 use Rattle.step_replay.specs.Actions.{done_for, nothing, told_of, told_to}
 use Rattle.step_replay.specs.DutyEffects.{duty_effect, sweep_effect}
@@ -32,11 +31,11 @@ use Rattle.step_replay.specs.declared.steps.Step.TheVariants as step
 use Rattle.step_replay.specs.declared.steps.TheConstants.{MOST_TURNS_BEHIND}
 use Rattle.step_replay.specs.GrowthLemmas.{same_room}
 use Rattle.step_replay.proofs.LiveLemmas.{idle_turns, no_turn}
-use Rattle.step_replay.specs.PlaceLemmas.{room_grown}
 use Rattle.step_replay.specs.QueueLemmas.{own_pending, own_turned}
 use Rattle.step_replay.specs.ActionKinds.{duty_action, sweep_action}
 use Rattle.step_replay.proofs.RoomEffects.{AreOf, action_there}
 use Rattle.step_replay.proofs.StartLemmas.{swept, turned}
+use Rattle.step_replay.specs.PlaceLemmas.{room_stays}
 
 -- A room that is not due.
 
@@ -175,9 +174,7 @@ sweep_tells config facts room moment =
 room_kept : (room : RoomRef) (facts more : List Fact) → of_room room more ≡ []
     → of_room room (facts ++ more) ≡ of_room room facts
 room_kept room facts more none =
-    room_grown room facts more
-    ∙ ap (λ (l : List RoomFact). of_room room facts ++ l) none
-    ∙ append-nil (of_room room facts)
+    room_stays room facts more none
 
 -- what one turn keeps
 record TellsNext (config : Configuration) (room : RoomRef) (trail : AuditTrail) : Type 0 where

@@ -7,6 +7,7 @@ use Rattle.std.specs.Vec.{with_item}
 use Rattle.std.proofs.lemmas.Bool.Decides.{nat_tests}
 use Rattle.std.proofs.lemmas.List.{append-nil}
 use Rattle.std.proofs.lemmas.List.Folds.{list_any-append}
+use Rattle.std.proofs.Math.Bool.{or-false}
 use Rattle.venue_rows.specs.Rows.{Configuration}
 use Rattle.venue_rows.specs.declared.dealer_rows.DealerRow.{DealerRow}
 use Rattle.market_terms.specs.declared.asks.Ask.{Ask}
@@ -26,11 +27,11 @@ use Rattle.step_replay.specs.RowOfWords.{word_if}
 use Rattle.step_replay.specs.Standing.{DealerStands, Stands, word_is, Does}
 use Rattle.step_replay.specs.declared.floor.DealerPlace.{DealerPlace}
 use Rattle.step_replay.specs.declared.floor.Floor.{Floor}
-use Rattle.step_replay.specs.DeskGrowth.{facts_grown, lifted_grown}
+use Rattle.step_replay.specs.DealerGrowth.{facts_grown, lifted_grown}
 use Rattle.step_replay.proofs.LiftingLemmas.{IsDueSo}
-use Rattle.step_replay.specs.PlaceLemmas.{dealer_grown, own_trail, other_trail}
+use Rattle.step_replay.specs.PlaceLemmas.{dealer_grown, own_trail, other_trail, dealer_stays}
 use Rattle.step_replay.proofs.FoundDealers.{Found, dealer_found, by_found}
-use Rattle.step_replay.proofs.FloorLemmas.{or_false, event_stands, words_kept, at_dealer_stands}
+use Rattle.step_replay.proofs.FloorLemmas.{event_stands, words_kept, at_dealer_stands}
 
 -- The words after an event that asks none.
 
@@ -58,7 +59,7 @@ unasked_word config facts number row more none other quote = by_test (number == 
         (list_any-append (withdraws quote) (facts_of (of_dealer number facts))
         (event_facts config.date row (book_by (of_dealer number facts)) more)
         ∙ ap (λ b. was_withdrawn (of_dealer number facts) quote || b) (none quote)
-        ∙ or_false (was_withdrawn (of_dealer number facts) quote))
+        ∙ or-false (was_withdrawn (of_dealer number facts) quote))
 
     by_test : (same : Bool) → (number == other) ≡ same
         → word_is (of_dealer other (facts ++ map (AtDealer number) added)) quote
@@ -73,9 +74,8 @@ unasked_word config facts number row more none other quote = by_test (number == 
         ∙ own)
     by_test false test =
         ap (λ l. word_is l quote)
-        (dealer_grown other facts (map (AtDealer number) added)
-        ∙ ap (λ l. of_dealer other facts ++ l) (other_trail other number test added)
-        ∙ append-nil (of_dealer other facts))
+        (dealer_stays other facts (map (AtDealer number) added)
+        (other_trail other number test added))
 
 -- one event that asks no word
 pub unasked_stands : (config : Configuration) (facts : List Fact) (floor : Floor) (number : ℕ)

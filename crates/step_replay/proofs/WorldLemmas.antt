@@ -1,10 +1,11 @@
 -- What a venue has of the day of each firm, where its places stand.
-use Rattle.std.proofs.Common.{◌≡◌, ◌<◌, ◌≤◌, ℕ, zero, suc, ◌+◌, ◌-◌, List, [], ◌∷◌, ◌++◌, length, map}
-use Rattle.std.proofs.Common.{Option, Some, None, option_map, refl, sym, ap, ◌∙◌, subst, arith}
+use Rattle.std.proofs.Common.{◌≡◌, ◌<◌, ◌≤◌, ℕ, zero, suc, ◌+◌, ◌-◌, List, [], ◌∷◌, ◌++◌, length}
+use Rattle.std.proofs.Common.{map, Option, Some, None, option_map, refl, sym, ap, ◌∙◌, subst, arith}
 use Rattle.std.proofs.Common.{append_assoc}
 use Rattle.std.specs.Prelude.{slice_get}
 use Rattle.std.proofs.lemmas.List.{length-map, map-append}
 use Rattle.std.proofs.lemmas.Option.{slice_get-map}
+use Rattle.std.proofs.lemmas.Simd.{map-map}
 use Rattle.venue_rows.specs.Rows.{Configuration, investor_numbered}
 use Rattle.venue_rows.specs.declared.dealer_rows.DealerRow.{DealerRow}
 use Rattle.venue_rows.specs.declared.investor_rows.InvestorRow.{InvestorRow}
@@ -16,11 +17,11 @@ use Rattle.investor_desk.specs.InvestorOutput as investor
 use Rattle.investor_desk.specs.InvestorRules.{InvestorMarket}
 use Rattle.investor_desk.specs.RequestLines as requests
 use Rattle.step_replay.specs.FirmDays.{dealer_day, dealer_days, investor_day, investor_days}
-use Rattle.market_terms.specs.DayLines.{OfDealer, OfInvestor}
 use Rattle.step_replay.specs.FirmDays.{FirmDay, firm_days}
+use Rattle.market_terms.specs.DayLines.{OfDealer, OfInvestor}
 use Rattle.step_replay.specs.FloorDays.{dealer_day_at, investor_day_at, days_of_floor}
-use Rattle.step_replay.specs.Standing.{DealerStands, DealerStandsIn, InvestorStands, InvestorStandsIn}
-use Rattle.step_replay.specs.Standing.{Stands}
+use Rattle.step_replay.specs.Standing.{DealerStands, DealerStandsIn, InvestorStands}
+use Rattle.step_replay.specs.Standing.{InvestorStandsIn, Stands}
 use Rattle.step_replay.specs.VenueFacts.{Fact, of_dealer}
 use Rattle.step_replay.specs.declared.floor.DealerPlace.{DealerPlace}
 use Rattle.step_replay.specs.declared.floor.Floor.{Floor}
@@ -194,11 +195,6 @@ mapped_more f g start done before now y x was is same =
     ∙ append_assoc start (map g done) (g y ∷ [])
     ∙ ap (λ l. start ++ l) (sym (map-append g done (y ∷ [])))
 
-mapped_twice : {X Y Z : Type 0} (g : Y → Z) (f : X → Y) (xs : List X)
-    → map g (map f xs) ≡ map (λ x. g (f x)) xs
-mapped_twice g f [] = refl
-mapped_twice g f (x ∷ xs) = ap (λ l. g (f x) ∷ l) (mapped_twice g f xs)
-
 sent_mapped : (dealers : List DealerPlace) (investors : List InvestorPlace)
     → map (λ (day : FirmDay). day.sent) (map dealer_day_at dealers ++ map investor_day_at investors)
     ≡ map (λ place. (dealer_day_at place).sent) dealers
@@ -207,9 +203,9 @@ sent_mapped dealers investors =
     map-append (λ (day : FirmDay). day.sent) (map dealer_day_at dealers)
     (map investor_day_at investors)
     ∙ ap (λ l. l ++ map (λ (day : FirmDay). day.sent) (map investor_day_at investors))
-    (mapped_twice (λ (day : FirmDay). day.sent) dealer_day_at dealers)
+    (map-map (λ (day : FirmDay). day.sent) dealer_day_at dealers)
     ∙ ap (λ l. map (λ place. (dealer_day_at place).sent) dealers ++ l)
-    (mapped_twice (λ (day : FirmDay). day.sent) investor_day_at investors)
+    (map-map (λ (day : FirmDay). day.sent) investor_day_at investors)
 
 -- the dealers' first, and then the investors'
 pub all_sent : {X : Type 0} (items : X → List (List ℕ)) (dealers : List DealerPlace)

@@ -17,8 +17,6 @@ use Rattle.step_replay.specs.Actions.{told_to, in_room, opened, posted_by, unpos
 use Rattle.step_replay.specs.Actions.{hit_in, received_by_investor, where_known, done_for}
 use Rattle.step_replay.specs.Actions.{at_investor_of, answered_by}
 
--- All duties.
-
 -- What a duty does, line by line of the market's table.
 unfoldable pub duty_effect : Configuration → List Fact → Actor → Duty → Effect
 duty_effect config facts actor (duty.Open room ask dealers moment) =

@@ -1,4 +1,5 @@
--- What is so kept of a dealer's trail is kept by a hit in any room.
+-- What is kept of a dealer's trail by each of the five kinds of what can happen there is kept by a
+-- hit in any room.
 use Rattle.std.proofs.Common.{◌≡◌, ℕ, ◌+◌, ◌==◌, Bool, true, false, ◌&&◌, nat_le, List, [], ◌++◌}
 use Rattle.std.proofs.Common.{map, Option, Some, None, option_map, if◌then◌else◌, Result, Ok, Err}
 use Rattle.std.proofs.Common.{refl, sym, ap, ◌∙◌, subst, arith, eq-eqb}
@@ -35,8 +36,6 @@ module _ (config : Configuration) (own : ℕ) (row : DealerRow)
   abbrev Keeps : List Fact → Effect → Type 0
   Keeps facts effect =
       P (trail facts) → P (trail (facts ++ effect.facts))
-
-  -- A hit.
 
   -- the quote whose word is asked, where no check refuses the hit
   abbrev unless_refused : Option HitRefusal → Option QuoteRef → Option QuoteRef

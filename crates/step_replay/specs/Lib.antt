@@ -3,9 +3,9 @@ pub mod Actions
 pub mod AuditTrail
 pub mod Coming
 pub mod Deadlines
+pub mod DealerGrowth
 pub mod DealerTrail
 pub mod DealerView
-pub mod DeskGrowth
 pub mod DoneSteps
 pub mod DueList
 pub mod DutyEffects
@@ -15,6 +15,7 @@ pub mod FloorDays
 pub mod Following
 pub mod GrowthLemmas
 pub mod HitKept
+pub mod InvestorGrowth
 pub mod InvestorTrail
 pub mod IsolationLemmas
 pub mod Liftings

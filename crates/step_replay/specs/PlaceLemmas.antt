@@ -1,18 +1,18 @@
 -- The facts of each place after an action, and the places of a replay.
-use Rattle.std.proofs.Common.{◌≡◌, ◌≢◌, ◌<◌, ◌≤◌, ℕ, zero, suc, ◌==◌, true, false}
-use Rattle.std.proofs.Common.{List, [], ◌∷◌, ◌++◌, map, filter_map, length, slice_set, get_or}
-use Rattle.std.proofs.Common.{Option, Some, None}
-use Rattle.std.proofs.Common.{refl, sym, ap, arith, eq-eqb}
+use Rattle.std.proofs.Common.{◌≡◌, ◌≢◌, ◌<◌, ◌≤◌, ℕ, zero, suc, ◌==◌, true, false, List, [], ◌∷◌}
+use Rattle.std.proofs.Common.{◌++◌, map, filter_map, length, slice_set, get_or, Option, Some, None}
+use Rattle.std.proofs.Common.{refl, sym, ap, ◌∙◌, arith, eq-eqb}
 use Rattle.std.specs.Prelude.{slice_get}
+use Rattle.std.proofs.lemmas.List.{append-nil}
 use Rattle.std.proofs.lemmas.List.Elements.{filter_map-append}
 use Rattle.market_terms.specs.declared.rooms.RoomRef.{RoomRef}
 use Rattle.dealer_desk.specs.DealerOutput.{is_same_room}
 use Rattle.request_room.specs.RoomFacts.{RoomFact}
 use Rattle.step_replay.specs.DealerTrail.{DealerEntry}
 use Rattle.step_replay.specs.InvestorTrail.{InvestorEntry}
-use Rattle.step_replay.specs.VenueFacts.{Fact, AtDealer, InRoom, AtInvestor}
-use Rattle.step_replay.specs.VenueFacts.{of_dealer, of_room, of_investor}
-use Rattle.step_replay.specs.VenueFacts.{entry_at_dealer, fact_in_room, entry_at_investor}
+use Rattle.step_replay.specs.VenueFacts.{Fact, AtDealer, InRoom, AtInvestor, of_dealer, of_room}
+use Rattle.step_replay.specs.VenueFacts.{of_investor, entry_at_dealer, fact_in_room}
+use Rattle.step_replay.specs.VenueFacts.{entry_at_investor}
 
 -- Lists.
 
@@ -33,14 +33,6 @@ get_set_other (y ∷ xs) (suc i) zero x differs = refl
 get_set_other (y ∷ xs) (suc i) (suc j) x differs =
     let rest : j ≢ i = λ same. differs (ap suc same) in
     get_set_other xs i j x rest
-
-pub get_within : {X : Type 0} (xs : List X) (i : ℕ) (x : X) → slice_get xs i ≡ Some x
-    → i < length xs
-get_within [] i x is = cc
-get_within (y ∷ xs) zero x is = omega arith
-get_within (y ∷ xs) (suc i) x is =
-    let rest : i < length xs = get_within xs i x is in
-    omega arith
 
 pub get_beyond : {X : Type 0} (xs : List X) (i : ℕ) → slice_get xs i ≡ None → length xs ≤ i
 get_beyond [] i is = omega arith
@@ -66,14 +58,37 @@ pub investor_grown : (number : ℕ) (facts more : List Fact)
 unfolding of_investor
 investor_grown number facts more = filter_map-append (entry_at_investor number) facts more
 
+-- What adds nothing to a place leaves its facts.
+
+pub dealer_stays : (number : ℕ) (facts more : List Fact) → of_dealer number more ≡ []
+    → of_dealer number (facts ++ more) ≡ of_dealer number facts
+dealer_stays number facts more none =
+    dealer_grown number facts more
+    ∙ ap (λ l. of_dealer number facts ++ l) none
+    ∙ append-nil (of_dealer number facts)
+
+pub room_stays : (room : RoomRef) (facts more : List Fact) → of_room room more ≡ []
+    → of_room room (facts ++ more) ≡ of_room room facts
+room_stays room facts more none =
+    room_grown room facts more
+    ∙ ap (λ l. of_room room facts ++ l) none
+    ∙ append-nil (of_room room facts)
+
+pub investor_stays : (number : ℕ) (facts more : List Fact) → of_investor number more ≡ []
+    → of_investor number (facts ++ more) ≡ of_investor number facts
+investor_stays number facts more none =
+    investor_grown number facts more
+    ∙ ap (λ l. of_investor number facts ++ l) none
+    ∙ append-nil (of_investor number facts)
+
 -- Facts of one place say nothing of another.
 
-pub nothing_of : {A B : Type 0} (of : Fact → Option B) (f : A → Fact) → ((x : A) → of (f x) ≡ None)
+pub nothing_of : {X A B : Type 0} (of : X → Option B) (f : A → X) → ((x : A) → of (f x) ≡ None)
     → (xs : List A) → filter_map of (map f xs) ≡ []
 nothing_of of f none [] = refl
 nothing_of of f none (x ∷ xs) = rw (none x) (nothing_of of f none xs)
 
-everything_of : {A : Type 0} (of : Fact → Option A) (f : A → Fact) → ((x : A) → of (f x) ≡ Some x)
+pub everything_of : {X A : Type 0} (of : X → Option A) (f : A → X) → ((x : A) → of (f x) ≡ Some x)
     → (xs : List A) → filter_map of (map f xs) ≡ xs
 everything_of of f all [] = refl
 everything_of of f all (x ∷ xs) = rw (all x) (ap (λ l. x ∷ l) (everything_of of f all xs))
@@ -160,10 +175,3 @@ lent (y ∷ xs) zero x within is = ap (λ z. Some z) (sym is)
 lent (y ∷ xs) (suc i) x within is =
     let rest : i < length xs = omega arith in
     lent xs i x rest is
-
-pub not_lent : {X : Type 0} (xs : List X) (i : ℕ) → length xs ≤ i → slice_get xs i ≡ None
-not_lent [] i beyond = refl
-not_lent (y ∷ xs) zero beyond = absurd (omega arith)
-not_lent (y ∷ xs) (suc i) beyond =
-    let rest : length xs ≤ i = omega arith in
-    not_lent xs i rest

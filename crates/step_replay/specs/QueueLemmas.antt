@@ -1,28 +1,17 @@
 -- The duties that an actor has still to do, after a step of its own and of another.
-use Rattle.std.proofs.Common.{◌≡◌, ◌≤◌, ℕ, zero, suc, ◌+◌, Bool, true, false}
-use Rattle.std.proofs.Common.{List, [], ◌∷◌, ◌++◌, map, filter_map, drop, length, count_by}
-use Rattle.std.proofs.Common.{if◌then◌else◌, cond}
-use Rattle.std.proofs.Common.{refl, ap, ◌∙◌, arith, eq-eqb}
-use Rattle.std.proofs.lemmas.List.{append-nil, length-append}
+use Rattle.std.proofs.Common.{◌≡◌, ◌≤◌, ℕ, zero, suc, ◌+◌, Bool, true, false, List, [], ◌∷◌, ◌++◌}
+use Rattle.std.proofs.Common.{map, filter_map, drop, length, count_by, if◌then◌else◌, cond, refl}
+use Rattle.std.proofs.Common.{ap, ◌∙◌, arith, eq-eqb}
+use Rattle.std.proofs.lemmas.List.{append-nil, length-append, drop-append-le}
 use Rattle.std.proofs.lemmas.List.Sums.{sum_by-append}
 use Rattle.std.proofs.lemmas.List.Elements.{filter_map-append}
 use Rattle.market_terms.specs.declared.duties.Duty.{Duty}
 use Rattle.step_replay.specs.Actions.{Effect}
-use Rattle.step_replay.specs.AuditTrail.{AuditTrail, is_same_actor, duty_of, pending}
-use Rattle.step_replay.specs.AuditTrail.{with_effect}
+use Rattle.step_replay.specs.AuditTrail.{AuditTrail, is_same_actor, duty_of, pending, with_effect}
 use Rattle.venue_places.specs.declared.actors.Actor.{Actor}
 use Rattle.venue_places.specs.declared.actors.Actor.TheVariants as actor
 
 -- Lists.
-
--- what is left behind so many, with more behind
-drop_before : {X : Type 0} (n : ℕ) (xs ys : List X) → n ≤ length xs
-    → drop n (xs ++ ys) ≡ drop n xs ++ ys
-drop_before zero xs ys within = refl
-drop_before (suc n) [] ys within = absurd (omega arith)
-drop_before (suc n) (x ∷ xs) ys within =
-    let rest : n ≤ length xs = omega arith in
-    drop_before n xs ys rest
 
 -- the first that is left is taken
 drop_next : {X : Type 0} (n : ℕ) (xs : List X) (x : X) (rest : List X) → drop n xs ≡ x ∷ rest
@@ -89,7 +78,7 @@ pub own_pending : (by : Actor) (trail : AuditTrail) (effect : Effect)
 own_pending by trail effect within =
     ap (drop (count_by (is_same_actor by) trail.done))
     (caused_grown by by trail effect.duties effect.duties (own_caused by effect.duties))
-    ∙ drop_before (count_by (is_same_actor by) trail.done)
+    ∙ drop-append-le (count_by (is_same_actor by) trail.done)
     (filter_map (duty_of by) trail.caused) effect.duties within
 
 -- another has what it had
@@ -119,7 +108,7 @@ own_turned by trail effect duty rest is =
     ap (λ n. drop n (filter_map (duty_of by) (turned by trail effect).caused)) counted
     ∙ ap (drop (suc done))
     (caused_grown by by trail effect.duties effect.duties (own_caused by effect.duties))
-    ∙ drop_before (suc done) caused effect.duties taken.1
+    ∙ drop-append-le (suc done) caused effect.duties taken.1
     ∙ ap (λ l. l ++ effect.duties) taken.0
   where
     one_more : (n : ℕ) → n + 1 ≡ suc n

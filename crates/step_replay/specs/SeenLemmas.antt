@@ -1,7 +1,7 @@
 -- The dealer view of what was due to a dealer by its trail has the trail's facts and messages.
 use Rattle.std.proofs.Common.{◌≡◌, ℕ, ◌==◌, Bool, true, false, ◌||◌, ◌&&◌, not, nat_le, List, []}
 use Rattle.std.proofs.Common.{◌∷◌, ◌++◌, filter_map, Option, Some, None, option_map, is_some}
-use Rattle.std.proofs.Common.{if◌then◌else◌, refl, sym, ap, ◌∙◌}
+use Rattle.std.proofs.Common.{if◌then◌else◌, refl, sym, ap, ◌∙◌, ap₂}
 use Rattle.std.specs.Option.{option_to_list}
 use Rattle.std.specs.List.{list_any}
 use Rattle.std.proofs.lemmas.List.{append-nil}
@@ -31,8 +31,9 @@ use Rattle.step_replay.specs.DealerView.{DealerView, after_due, view_after, view
 use Rattle.step_replay.specs.DealerView.{answer_to, no_room}
 use Rattle.step_replay.specs.declared.dues.Due.{Due}
 use Rattle.step_replay.specs.declared.dues.Due.TheVariants as due
-use Rattle.step_replay.specs.DeskGrowth.{both, desk_push, sent_is, settled_undue, verdict_undue}
-use Rattle.step_replay.specs.DeskGrowth.{facts_grown, sent_grown, due_grown, lifted_grown}
+use Rattle.step_replay.specs.DealerGrowth.{desk_with, desk_push, sent_is, settled_undue}
+use Rattle.step_replay.specs.DealerGrowth.{verdict_undue, facts_grown, sent_grown, due_grown}
+use Rattle.step_replay.specs.DealerGrowth.{lifted_grown}
 
 -- the view at a desk with these events, where these quotes are lifted
 abbrev pub view_of : List ℕ → DealerRow → List DealerEvent → List ℕ → DealerView
@@ -80,7 +81,7 @@ module _ (date : List ℕ) (row : DealerRow) (trail : List DealerEntry) (more : 
         ∙ view;
     state_is = desk_push date row before.events seen
         ∙ ap (λ state. after_event date row state seen) before.state_is
-        ∙ both _ _ _ _ (ap (λ l. facts_of trail ++ l) same_facts ∙ sym (facts_grown date row trail
+        ∙ ap₂ desk_with (ap (λ l. facts_of trail ++ l) same_facts ∙ sym (facts_grown date row trail
         more))
         (sent_is date row (sent_by trail) (moment_of seen)
         (event_message date row (book_by trail) seen)
@@ -191,7 +192,7 @@ module _ (date : List ℕ) (row : DealerRow) (trail : List DealerEntry) (before 
           ∙ ap (λ v. after_due v (due.Lifted quote)) before.view_is
           ∙ ap view_if counts;
       state_is = before.state_is
-          ∙ both _ _ _ _
+          ∙ ap₂ desk_with
           (sym (filter_map-append fact_in trail (Lifted quote ∷ []) ∙ append-nil (facts_of trail)))
           (sym (filter_map-append message_in trail (Lifted quote ∷ []) ∙ append-nil (sent_by trail)));
       lifted_are = λ other.

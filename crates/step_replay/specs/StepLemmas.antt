@@ -1,4 +1,5 @@
--- What is so kept of a dealer's trail is kept by every step of the venue.
+-- What is kept of a dealer's trail by each of the five kinds of what can happen there is kept by
+-- every step of the venue.
 use Rattle.std.proofs.Common.{◌≡◌, ℕ, List, [], ◌∷◌, ◌++◌, fold, Option, Some, sym, subst}
 use Rattle.market_terms.specs.declared.duties.Duty.{Duty}
 use Rattle.market_terms.specs.declared.rooms.RoomRef.{RoomRef}

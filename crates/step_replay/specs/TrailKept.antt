@@ -5,6 +5,7 @@ use Rattle.std.proofs.Common.{map, Some, is_some, refl, sym, ap, ◌∙◌, subs
 use Rattle.std.proofs.lemmas.Bool.Decides.{nat_tests}
 use Rattle.std.proofs.lemmas.List.{append-nil}
 use Rattle.std.proofs.lemmas.List.Elements.{filter_map-append}
+use Rattle.std.proofs.lemmas.Option.{same_Some}
 use Rattle.market_terms.specs.declared.asks.Ask.{Ask}
 use Rattle.market_terms.specs.declared.closes.Close.{Close}
 use Rattle.market_terms.specs.declared.duties.Duty.{Duty}
@@ -19,8 +20,6 @@ use Rattle.investor_desk.specs.declared.events.InvestorEvent.{InvestorEvent}
 use Rattle.request_room.specs.RoomFacts.{RoomFact}
 use Rattle.step_replay.specs.DealerTrail.{DealerEntry, Lifted, entries_of, was_withdrawn, book_by}
 use Rattle.step_replay.specs.InvestorTrail.{InvestorEntry}
-use Rattle.step_replay.specs.declared.steps.Step.TheVariants as step
-use Rattle.step_replay.specs.OwnerLemmas.{same_value}
 use Rattle.step_replay.specs.VenueFacts.{Fact, AtDealer, InRoom, AtInvestor, of_dealer}
 use Rattle.step_replay.specs.VenueFacts.{entry_at_dealer}
 use Rattle.step_replay.specs.ActionKinds.{Comes, dropped, said, shown, told}
@@ -160,7 +159,7 @@ module _ (config : Configuration) (own : ℕ) (row : DealerRow)
       by_test false test comes = other_keeps facts (dealer_of number other) event duties test
       by_test true test comes =
           let equal : number ≡ own = grind (arith, nat_tests) in
-          let row_is : row ≡ other = same_value row other
+          let row_is : row ≡ other = same_Some row other
           (sym is_dealer ∙ ap (dealer_numbered config) (sym equal) ∙ found) in
           subst (λ (dealer : Dealer). Comes config.date dealer.row (of_dealer dealer.number facts) event
           → Keeps facts (at_dealer config facts dealer event duties))

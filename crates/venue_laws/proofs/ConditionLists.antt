@@ -1,28 +1,26 @@
 -- What stands at each fact of a place, and what a queue of duties says.
 use Rattle.std.proofs.Common.{◌≡◌, ◌≤◌, ℕ, zero, suc, ◌+◌, ◌==◌, Bool, true, false, ◌&&◌, ◌||◌, not}
-use Rattle.std.proofs.Common.{List, [], ◌∷◌, filter_map, take}
-use Rattle.std.proofs.Common.{Some, if◌then◌else◌}
-use Rattle.std.proofs.Common.{refl, sym, ◌∙◌, subst, arith}
+use Rattle.std.proofs.Common.{List, [], ◌∷◌, filter_map, take, Some, if◌then◌else◌, refl, sym, ◌∙◌}
+use Rattle.std.proofs.Common.{subst, arith}
 use Rattle.std.specs.List.{list_any}
 use Rattle.std.proofs.lemmas.Bool.Decides.{nat_tests}
+use Rattle.std.proofs.lemmas.Option.{same_Some}
 use Rattle.market_terms.specs.declared.duties.Duty.{Duty}
 use Rattle.market_terms.specs.declared.duties.Duty.TheVariants as duty
 use Rattle.market_terms.specs.declared.rooms.RoomRef.{RoomRef}
 use Rattle.venue_rows.specs.Rows.{Configuration}
 use Rattle.dealer_desk.specs.DealerFacts.{Told, tells}
 use Rattle.dealer_desk.specs.DealerOutput.{is_same_room, number_from}
-use Rattle.request_room.specs.RoomFacts.{Readied, RoomFact}
-use Rattle.request_room.specs.RoomFacts.{is_readied}
+use Rattle.request_room.specs.RoomFacts.{Readied, RoomFact, is_readied}
 use Rattle.step_replay.specs.DealerTrail.{AtDesk, DealerEntry, ShownIn, facts_of, rooms_by}
 use Rattle.step_replay.specs.VenueFacts.{AtDealer, AtInvestor, Fact, InRoom, entry_at_dealer}
 use Rattle.step_replay.specs.VenueFacts.{fact_in_room, of_dealer, of_room}
 use Rattle.venue_places.specs.declared.actors.Actor.{Actor}
-use Rattle.venue_laws.proofs.ConditionInvariant.{DutyFit}
-use Rattle.venue_laws.proofs.ConditionInvariant.{TellsBy}
+use Rattle.venue_laws.proofs.ConditionInvariant.{DutyFit, TellsBy}
 use Rattle.venue_laws.proofs.ConditionOnce.{EntryDone, ToldBy, tells_it}
 use Rattle.venue_laws.proofs.CountLemmas.{number_within}
 use Rattle.step_replay.specs.EachLemmas.{Every}
-use Rattle.step_replay.specs.GrowthLemmas.{same_room, some_same}
+use Rattle.step_replay.specs.GrowthLemmas.{same_room}
 
 -- Lists.
 
@@ -108,7 +106,7 @@ one_number first (shown ∷ rooms) one other number is also =
     never : (room : RoomRef) → Some first ≡ Some number
         → number_from (first + 1) rooms room ≡ Some number → {A : Type 0} → A
     never room here later =
-        let same : first ≡ number = some_same first number here in
+        let same : first ≡ number = same_Some first number here in
         let beyond : first + 1 ≤ number = (number_within (first + 1) rooms room number later).0 in
         absurd (omega arith)
 

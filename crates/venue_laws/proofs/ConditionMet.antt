@@ -2,6 +2,7 @@
 use Rattle.std.proofs.Common.{◌≡◌, ℕ, Bool, true, false, ◌&&◌, ◌||◌, nat_le, nat_lt, List, [], ◌∷◌}
 use Rattle.std.proofs.Common.{count_by, filter_map, take, Option, Some, None, option_map, is_some}
 use Rattle.std.proofs.Common.{is_none, refl, sym, ap, ◌∙◌, subst}
+use Rattle.std.proofs.lemmas.Option.{same_Some}
 use Rattle.market_terms.specs.declared.closes.HitRefusal.{HitRefusal}
 use Rattle.market_terms.specs.declared.duties.Duty.{Duty}
 use Rattle.market_terms.specs.declared.duties.Duty.TheVariants as duty
@@ -32,7 +33,7 @@ use Rattle.venue_laws.proofs.ConditionInvariant.{ByDealer, ByNamed, DutyFit, Fac
 use Rattle.venue_laws.proofs.ConditionInvariant.{KnownIn, OpenedFit}
 use Rattle.venue_laws.proofs.ConditionQuotes.{AsksOfDay, DropsOfDay, asks_of_day, drops_of_day}
 use Rattle.step_replay.specs.EachLemmas.{Every}
-use Rattle.step_replay.specs.GrowthLemmas.{names_some, same_room, some_same}
+use Rattle.step_replay.specs.GrowthLemmas.{names_some, same_room}
 use Rattle.venue_laws.proofs.KnownLemmas.{both_so}
 use Rattle.venue_laws.proofs.AcceptedQuotes.{none_holds}
 use Rattle.venue_laws.proofs.VenueInvariant.{DutyOk, PostOk, RoomOk, VenueOk, duties_by}
@@ -58,7 +59,7 @@ pub first_opened : (P : RoomFact → Type 0) (request : RoomRequest) (facts : Li
     → first_said opened_for facts ≡ Some request → Every P facts → P (Opened request)
 first_opened P request [] is every = cc
 first_opened P request (Opened other ∷ facts) is every =
-    subst (λ (r : RoomRequest). P (Opened r)) (some_same other request is) every.0
+    subst (λ (r : RoomRequest). P (Opened r)) (same_Some other request is) every.0
 first_opened P request (fact ∷ facts) is every = first_opened P request facts is every.1
 
 module _ (config : Configuration) (now : List Fact) (room : RoomRef) where

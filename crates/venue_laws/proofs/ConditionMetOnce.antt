@@ -1,10 +1,10 @@
 -- A duty to open a room, to show its request, to make it ready or to tell how it ended meets its
 -- test as its turn comes: the same was not done before.
-use Rattle.std.proofs.Common.{◌≡◌, ℕ, Bool, true, false, ◌&&◌, not}
-use Rattle.std.proofs.Common.{List, ◌∷◌, count_by, take}
-use Rattle.std.proofs.Common.{Option, Some, None, option_map, is_none, is_some}
-use Rattle.std.proofs.Common.{refl, sym, ap, ◌∙◌, subst}
+use Rattle.std.proofs.Common.{◌≡◌, ℕ, Bool, true, false, ◌&&◌, not, List, ◌∷◌, count_by, take}
+use Rattle.std.proofs.Common.{Option, Some, None, option_map, is_none, is_some, refl, sym, ap, ◌∙◌}
+use Rattle.std.proofs.Common.{subst}
 use Rattle.std.specs.List.{list_any}
+use Rattle.std.proofs.lemmas.Option.{same_Some}
 use Rattle.market_terms.specs.declared.closes.Close.{Close}
 use Rattle.market_terms.specs.declared.duties.Duty.{Duty}
 use Rattle.market_terms.specs.declared.duties.Duty.TheVariants as duty
@@ -12,21 +12,19 @@ use Rattle.market_terms.specs.declared.rooms.RoomRef.{RoomRef}
 use Rattle.venue_rows.specs.Rows.{Configuration, dealer_numbered}
 use Rattle.venue_rows.specs.declared.dealer_rows.DealerRow.{DealerRow}
 use Rattle.dealer_desk.specs.DealerOutput.{closable}
-use Rattle.request_room.specs.RoomFacts.{RoomFact, end_of, is_ended, is_named, is_opening}
-use Rattle.request_room.specs.RoomFacts.{is_ready, is_vacant, request_of}
+use Rattle.request_room.specs.RoomFacts.{RoomFact, end_of, is_ended, is_named, is_opening, is_ready}
+use Rattle.request_room.specs.RoomFacts.{is_vacant, request_of}
 use Rattle.request_room.specs.declared.ends.End.{End}
 use Rattle.request_room.specs.declared.requests.RoomRequest.{RoomRequest}
 use Rattle.step_replay.specs.Actions.{Dealer, dealer_at, dealer_of}
 use Rattle.step_replay.specs.AuditTrail.{AuditTrail, is_same_actor, pending}
-use Rattle.venue_laws.specs.Conditions.{holds_for, is_closable, is_met, is_room}
-use Rattle.venue_laws.specs.Conditions.{is_unshown, is_untold}
+use Rattle.venue_laws.specs.Conditions.{holds_for, is_closable, is_met, is_room, is_unshown}
+use Rattle.venue_laws.specs.Conditions.{is_untold}
 use Rattle.step_replay.specs.DealerTrail.{DealerEntry, book_by, rooms_by}
-use Rattle.step_replay.specs.VenueFacts.{InRoom}
-use Rattle.step_replay.specs.VenueFacts.{of_dealer, of_room}
+use Rattle.step_replay.specs.VenueFacts.{InRoom, of_dealer, of_room}
 use Rattle.venue_places.specs.declared.actors.Actor.{Actor}
 use Rattle.venue_places.specs.declared.actors.Actor.TheVariants as actor
-use Rattle.venue_laws.proofs.ConditionInvariant.{DutyFit, Fit, OpensIn, ReadiesBy, ShowsIn}
-use Rattle.venue_laws.proofs.ConditionInvariant.{TellsBy}
+use Rattle.venue_laws.proofs.ConditionInvariant.{DutyFit, Fit, OpensIn, ReadiesBy, ShowsIn, TellsBy}
 use Rattle.venue_laws.proofs.ConditionInvariant.{closer}
 use Rattle.venue_laws.proofs.ConditionMet.{first_opened, is_lasting, known_opened, met}
 use Rattle.venue_laws.proofs.ConditionOnce.{EntryDone, FactDone, Once, OnceOk, ToldBy, begins}
@@ -35,7 +33,7 @@ use Rattle.venue_laws.proofs.ConditionQuotes.{DropsOfDay}
 use Rattle.venue_laws.proofs.ConditionTable.{duties_fit}
 use Rattle.venue_laws.proofs.CountLemmas.{numbered_shown}
 use Rattle.step_replay.specs.EachLemmas.{Every, each_of}
-use Rattle.step_replay.specs.GrowthLemmas.{names_some, some_same}
+use Rattle.step_replay.specs.GrowthLemmas.{names_some}
 use Rattle.venue_laws.proofs.KnownLemmas.{both_so}
 use Rattle.venue_laws.proofs.ShownRequests.{told_or_closable}
 use Rattle.venue_laws.proofs.VenueInvariant.{DutyOk, IsDealer, TellsIn, VenueOk, duties_by}
@@ -188,7 +186,7 @@ module _ (config : Configuration) (venue : AuditTrail) (stood : VenueOk config v
       one_actor : (other : Actor) → TellsBy config venue.facts other room → by ≡ other
       one_actor other fits_too =
           let same : fits.end ≡ fits_too.end =
-          some_same fits.end fits_too.end (sym fits.end_is ∙ fits_too.end_is) in
+          same_Some fits.end fits_too.end (sym fits.end_is ∙ fits_too.end_is) in
           fits.by_is ∙ ap (λ (e : End). closer e.kind room) same ∙ sym fits_too.by_is
 
       told_never : (request : ℕ) → number_for venue.facts dealer room ≡ Some request

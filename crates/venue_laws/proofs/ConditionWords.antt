@@ -6,6 +6,7 @@ use Rattle.std.specs.Prelude.{slice_get}
 use Rattle.std.specs.List.{list_any}
 use Rattle.std.proofs.lemmas.Bool.Decides.{nat_tests}
 use Rattle.std.proofs.lemmas.List.Sums.{sum_by-cons}
+use Rattle.std.proofs.lemmas.Option.{same_Some}
 use Rattle.venue_rows.specs.Rows.{Configuration, dealer_numbered}
 use Rattle.venue_rows.specs.declared.dealer_rows.DealerRow.{DealerRow}
 use Rattle.request_room.specs.Book.{book_of, quote_meant, takes_out}
@@ -15,8 +16,6 @@ use Rattle.venue_steps.specs.Words.{has_word}
 use Rattle.step_replay.specs.Actions.{dealer_of, has_word_for, quotes_of, word_for, words_of}
 use Rattle.venue_laws.proofs.ConditionQuotes.{OfRow}
 use Rattle.step_replay.specs.EachLemmas.{Every}
-use Rattle.step_replay.specs.GrowthLemmas.{some_same}
-use Rattle.step_replay.specs.OwnerLemmas.{same_value}
 
 -- Words.
 
@@ -26,7 +25,7 @@ pub word_in_rows : (rows : List DealerRow) (place : ℕ) (row : DealerRow) (quot
 word_in_rows [] place row quote at within = cc
 word_in_rows (first ∷ rows) zero row quote at within =
     let same : first.quotes ≡ row.quotes =
-    ap (λ (r : DealerRow). r.quotes) (same_value first row at) in
+    ap (λ (r : DealerRow). r.quotes) (same_Some first row at) in
     let sum : quotes_of (first ∷ rows) ≡ first.quotes + quotes_of rows =
     sum_by-cons (λ (r : DealerRow). r.quotes) first rows in
     let least : 1 ≤ quote = grind (arith, nat_tests) in
@@ -83,7 +82,7 @@ posted_in P word (Posted other ∷ facts) quote is every =
         → (find means (book_of facts) ≡ Some quote → (quote.word ≡ word) × P (Posted quote))
         → (quote.word ≡ word) × P (Posted quote)
     by_test true test found later =
-        let same : other ≡ quote = some_same other quote found in
+        let same : other ≡ quote = same_Some other quote found in
         let words : other.word ≡ word = grind (arith, nat_tests) in (
           ap (λ (q : BookQuote). q.word) (sym same) ∙ words,
           subst (λ (q : BookQuote). P (Posted q)) same every.0,

@@ -24,7 +24,7 @@ use Rattle.step_replay.specs.DealerTrail.{fact_in, room_in, rooms_by}
 use Rattle.venue_laws.specs.Notices.{was_shown}
 use Rattle.step_replay.specs.EachLemmas.{Every}
 use Rattle.venue_laws.proofs.SilentEntries.{settled_each, verdict_each}
-use Rattle.step_replay.specs.DeskGrowth.{facts_grown, rooms_grown}
+use Rattle.step_replay.specs.DealerGrowth.{facts_grown, rooms_grown}
 use Rattle.step_replay.specs.TrailKept.{IsKept}
 
 -- what a fact shows

@@ -4,6 +4,7 @@ use Rattle.std.proofs.Common.{None, if◌then◌else◌, cond, Result, Ok, Err, 
 use Rattle.std.proofs.Common.{arith}
 use Rattle.std.specs.List.{list_any}
 use Rattle.std.proofs.lemmas.Bool.Decides.{nat_tests}
+use Rattle.std.proofs.lemmas.Option.{same_Some}
 use Rattle.market_terms.specs.declared.closes.Close.TheVariants as closes
 use Rattle.market_terms.specs.declared.closes.HitRefusal.{HitRefusal}
 use Rattle.market_terms.specs.declared.closes.HitRefusal.TheVariants as refusal
@@ -15,7 +16,6 @@ use Rattle.request_room.specs.declared.ends.End.{End}
 use Rattle.request_room.specs.declared.quotes.PostedQuote.{PostedQuote as BookQuote}
 use Rattle.venue_steps.specs.RoomSteps.{is_winner, is_cover}
 use Rattle.step_replay.specs.EachLemmas.{Every}
-use Rattle.step_replay.specs.GrowthLemmas.{some_same}
 
 -- a hit that awards asked a word that no check refused, and ends as the book says
 pub record Awards (facts : List RoomFact) (word moment : ℕ) (award : End) : Type 0 where
@@ -70,7 +70,7 @@ posted_fact P word (Posted other ∷ facts) quote is every =
         → (find means (book_of facts) ≡ Some quote → (quote.word ≡ word) × P (Posted quote))
         → (quote.word ≡ word) × P (Posted quote)
     by_test true test found later =
-        let same : other ≡ quote = some_same other quote found in
+        let same : other ≡ quote = same_Some other quote found in
         let words : other.word ≡ word = grind (arith, nat_tests) in (
           ap (λ (q : BookQuote). q.word) (sym same) ∙ words,
           subst (λ (q : BookQuote). P (Posted q)) same every.0,

@@ -6,13 +6,13 @@ use Rattle.std.specs.List.{list_any}
 use Rattle.std.proofs.lemmas.Bool.Decides.{nat_tests}
 use Rattle.std.proofs.lemmas.List.{append-nil}
 use Rattle.std.proofs.lemmas.List.Folds.{list_any-append}
+use Rattle.std.proofs.lemmas.Option.{same_Some}
 use Rattle.investor_desk.specs.InvestorFacts.{InvestorFact, Came, Asked, Offered, requests_of}
 use Rattle.investor_desk.specs.InvestorFacts.{offers_of, book_of, request_numbered, offer_numbered}
 use Rattle.investor_desk.specs.InvestorFacts.{knows, knows_quote, was_shown_on}
 use Rattle.investor_desk.specs.declared.standing.AcceptedRequest.{AcceptedRequest}
 use Rattle.investor_desk.specs.declared.standing.ShownOffer.{ShownOffer}
 use Rattle.step_replay.specs.EachLemmas.{Every, every_both, every_weaker}
-use Rattle.step_replay.specs.GrowthLemmas.{some_same}
 use Rattle.venue_laws.proofs.KnownLemmas.{both_so, found_holds, asks, asked, asked_is}
 use Rattle.venue_laws.proofs.KnownLemmas.{requests_both, offers_both, asked_grown}
 
@@ -53,7 +53,7 @@ counted_found first (other ∷ offers) test shown all is =
         → (find test offers ≡ Some shown → Numbered (first + 1) offers shown)
         → Numbered first (other ∷ offers) shown
     by_test true is_it found later =
-        let same : other ≡ shown = some_same other shown found in
+        let same : other ≡ shown = same_Some other shown found in
         let number : other.number ≡ shown.number = ap (λ (o : ShownOffer). o.number) same in
         let least : first ≤ shown.number = omega arith in
         record {

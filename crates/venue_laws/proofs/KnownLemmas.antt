@@ -3,13 +3,14 @@ use Rattle.std.proofs.Common.{◌≡◌, ℕ, ◌+◌, ◌==◌, Bool, true, fal
 use Rattle.std.proofs.Common.{find, length, cond, Option, Some, None, is_some, refl, sym, ap, ◌∙◌}
 use Rattle.std.proofs.Common.{subst, arith}
 use Rattle.std.specs.List.{list_any}
+use Rattle.std.proofs.lemmas.Option.{same_Some}
 use Rattle.investor_desk.specs.InvestorFacts.{InvestorFact, Asked, Offered, StandingRequest}
 use Rattle.investor_desk.specs.InvestorFacts.{standing_request, requests_of, offers_of, book_of}
 use Rattle.investor_desk.specs.InvestorFacts.{request_numbered, offer_numbered, knows, knows_quote}
 use Rattle.investor_desk.specs.InvestorFacts.{was_shown_on}
 use Rattle.investor_desk.specs.declared.standing.ShownOffer.{ShownOffer}
 use Rattle.step_replay.specs.EachLemmas.{Every}
-use Rattle.step_replay.specs.GrowthLemmas.{any_left, some_same}
+use Rattle.step_replay.specs.GrowthLemmas.{any_left}
 use Rattle.venue_laws.proofs.VenueRoomFacts.{both_true}
 
 -- Lists and tests.
@@ -39,7 +40,7 @@ found_holds P test (y ∷ xs) x is all =
   where
     by_test : (b : Bool) → test y ≡ b → cond b (Some y) (find test xs) ≡ Some x
         → (find test xs ≡ Some x → P x) → P x
-    by_test true is_it found later = subst P (some_same y x found) all.0
+    by_test true is_it found later = subst P (same_Some y x found) all.0
     by_test false is_it found later = later found
 
 -- Requests.

@@ -5,6 +5,7 @@ use Rattle.std.proofs.Common.{is_none, is_some, if◌then◌else◌, cond, inl, 
 use Rattle.std.proofs.Common.{subst, arith, eq-eqb}
 use Rattle.std.specs.List.{list_any}
 use Rattle.std.proofs.lemmas.Bool.Decides.{nat_tests}
+use Rattle.std.proofs.lemmas.Option.{same_Some}
 use Rattle.market_terms.specs.declared.closes.Close.TheVariants as closes
 use Rattle.market_terms.specs.declared.rooms.RoomRef.{RoomRef}
 use Rattle.venue_rows.specs.Rows.{Configuration}
@@ -25,7 +26,7 @@ use Rattle.step_replay.specs.DealerTrail.{DealerEntry, Sent, book_by, facts_of, 
 use Rattle.step_replay.specs.DealerTrail.{was_lifted, was_withdrawn}
 use Rattle.venue_laws.specs.Notices.{NamesLiftedQuote, next_sent}
 use Rattle.step_replay.specs.VenueFacts.{Fact, of_dealer}
-use Rattle.step_replay.specs.GrowthLemmas.{In, some_same}
+use Rattle.step_replay.specs.GrowthLemmas.{In}
 use Rattle.venue_laws.proofs.VenueInvariant.{DeskOk, LiftedIn, number_for}
 
 -- The quotes of a dealer on one request: at most one is live.
@@ -159,7 +160,7 @@ module _ (lone : LoneQuotes) (config : Configuration) (facts : List Fact) (deale
       own = hit.quoted.own
 
       request_is : own.request ≡ request
-      request_is = some_same own.request request (sym hit.quoted.request_is ∙ is)
+      request_is = same_Some own.request request (sym hit.quoted.request_is ∙ is)
 
       stands : StandsIn own (facts_of trail)
       stands = stands_in own (facts_of trail) hit.quoted.quoted
@@ -201,7 +202,7 @@ module _ (lone : LoneQuotes) (config : Configuration) (facts : List Fact) (deale
       of_one : (other : StandingRequest) (b : Bool) → other.is_told ≡ b
           → (if b then None else Some other) ≡ Some found → other ≡ found
       of_one other true told closes_it = cc
-      of_one other false told closes_it = some_same other found closes_it
+      of_one other false told closes_it = same_Some other found closes_it
 
       of_found : (requests : List StandingRequest)
           → untold (find same requests) ≡ Some found → found.number ≡ request

@@ -22,7 +22,7 @@ use Rattle.venue_laws.specs.Notices.{was_shown}
 use Rattle.step_replay.specs.VenueFacts.{of_dealer}
 use Rattle.step_replay.specs.declared.steps.Step.{Step}
 use Rattle.step_replay.specs.EachLemmas.{Each, Every, each_of, every_both}
-use Rattle.step_replay.specs.DeskGrowth.{facts_grown}
+use Rattle.step_replay.specs.DealerGrowth.{facts_grown}
 use Rattle.step_replay.specs.StepLemmas.{kept_by_all}
 use Rattle.step_replay.specs.TrailKept.{IsKept}
 use Rattle.venue_laws.proofs.ShownRequests.{closable_shown}

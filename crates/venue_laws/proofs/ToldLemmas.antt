@@ -1,11 +1,11 @@
 -- Where every queue is empty and a room has ended, each dealer that it names was told so once.
-use Rattle.std.proofs.Common.{◌≡◌, ◌≤◌, ℕ, ◌+◌, ◌==◌, Bool, true, false, ◌||◌}
-use Rattle.std.proofs.Common.{List, [], ◌∷◌, ◌++◌, filter, filter_map, length, count_by}
-use Rattle.std.proofs.Common.{Option, Some, None, is_some, if◌then◌else◌, cond, inl, inr}
-use Rattle.std.proofs.Common.{refl, sym, ap, ◌∙◌, subst, arith}
+use Rattle.std.proofs.Common.{◌≡◌, ◌≤◌, ℕ, ◌+◌, ◌==◌, Bool, true, false, ◌||◌, List, [], ◌∷◌, ◌++◌}
+use Rattle.std.proofs.Common.{filter, filter_map, length, count_by, Option, Some, None, is_some}
+use Rattle.std.proofs.Common.{if◌then◌else◌, cond, inl, inr, refl, sym, ap, ◌∙◌, subst, arith}
 use Rattle.std.specs.List.{list_any}
 use Rattle.std.proofs.lemmas.Bool.Decides.{nat_tests}
 use Rattle.std.proofs.lemmas.List.{append-nil, take-append-drop}
+use Rattle.std.proofs.lemmas.Option.{same_Some}
 use Rattle.market_terms.specs.declared.closes.Close.{Close}
 use Rattle.market_terms.specs.declared.duties.Duty.{Duty}
 use Rattle.market_terms.specs.declared.duties.Duty.TheVariants as duty
@@ -24,7 +24,7 @@ use Rattle.step_replay.specs.VenueFacts.{AtDealer, Fact, entry_at_dealer, of_dea
 use Rattle.venue_places.specs.declared.actors.Actor.{Actor}
 use Rattle.venue_laws.proofs.CountLemmas.{number_within}
 use Rattle.step_replay.specs.EachLemmas.{Every}
-use Rattle.step_replay.specs.GrowthLemmas.{In, same_room, some_same}
+use Rattle.step_replay.specs.GrowthLemmas.{In, same_room}
 use Rattle.step_replay.specs.QueueLemmas.{same_actor}
 use Rattle.venue_laws.proofs.VenueInvariant.{ClosedIn, DoneOk, EntryOk, FactOk, IsDealer, VenueOk}
 use Rattle.venue_laws.proofs.VenueInvariant.{WasTold, done_by, duties_by}
@@ -107,7 +107,7 @@ same_number first (shown ∷ rooms) one other number is also =
     never : (room : RoomRef) → Some first ≡ Some number
         → number_from (first + 1) rooms room ≡ Some number → {A : Type 0} → A
     never room here later =
-        let same : first ≡ number = some_same first number here in
+        let same : first ≡ number = same_Some first number here in
         let beyond : first + 1 ≤ number = (number_within (first + 1) rooms room number later).0 in
         absurd (omega arith)
 
@@ -198,7 +198,7 @@ module _ (config : Configuration) (venue : AuditTrail) (before : VenueOk config 
       same_number 1 (rooms_by (of_dealer dealer venue.facts)) closed.room room
       was_told.request closed.request_is was_told.request_is in
       let ends : closed.end ≡ end =
-      some_same closed.end end (sym closed.end_is
+      same_Some closed.end end (sym closed.end_is
       ∙ ap (λ (r : RoomRef). end_of (of_room r venue.facts)) rooms ∙ end_is) in
       closed.close_is ∙ ap (λ (e : End). close_for e dealer) ends
 

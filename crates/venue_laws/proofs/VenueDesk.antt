@@ -3,6 +3,7 @@ use Rattle.std.proofs.Common.{◌≡◌, ◌≤◌, ℕ, ◌+◌, ◌-◌, Bool,
 use Rattle.std.proofs.Common.{◌++◌, map, option_to_list, Option, Some, None, option_map}
 use Rattle.std.proofs.Common.{if◌then◌else◌, inl, inr, refl, sym, ap, ◌∙◌, subst, arith}
 use Rattle.std.proofs.lemmas.List.Elements.{filter_map-append}
+use Rattle.std.proofs.lemmas.Option.{same_Some}
 use Rattle.market_terms.specs.declared.duties.Duty.{Duty}
 use Rattle.market_terms.specs.declared.duties.Duty.TheVariants as duty
 use Rattle.market_terms.specs.declared.rooms.RoomRef.{RoomRef}
@@ -33,7 +34,6 @@ use Rattle.venue_places.specs.declared.actors.Actor.TheVariants as actor
 use Rattle.step_replay.specs.EachLemmas.{Every, every_both}
 use Rattle.step_replay.specs.GrowthLemmas.{AreNumbered, In, in_right}
 use Rattle.venue_laws.proofs.SilentEntries.{settled_silent, verdict_silent}
-use Rattle.step_replay.specs.OwnerLemmas.{same_value}
 use Rattle.step_replay.specs.PlaceLemmas.{dealer_grown, own_trail}
 use Rattle.step_replay.specs.TrailLemmas.{facts_added}
 use Rattle.venue_laws.proofs.VenueGrowth.{number_for_grown}
@@ -107,7 +107,7 @@ module _ (config : Configuration) (venue : AuditTrail) where
             };
             within = λ row_too is_too.
                 ap (λ (r : DealerRow). nat_le 1 quote.number && nat_le quote.number r.quotes)
-                (same_value row_too row (sym is_too ∙ is)) ∙ within;
+                (same_Some row_too row (sym is_too ∙ is)) ∙ within;
           };
           unready = refl;
         }

@@ -2,6 +2,7 @@
 use Rattle.std.proofs.Common.{◌≡◌, ℕ, ◌==◌, Bool, true, false, if◌then◌else◌, List, [], ◌∷◌, ◌++◌}
 use Rattle.std.proofs.Common.{map, Option, Some, None, option_map, refl, sym, ap, ◌∙◌, subst, arith}
 use Rattle.std.proofs.lemmas.Bool.Decides.{nat_tests}
+use Rattle.std.proofs.lemmas.Option.{same_Some}
 use Rattle.market_terms.specs.declared.duties.Duty.{Duty}
 use Rattle.venue_rows.specs.Rows.{Configuration, dealer_numbered}
 use Rattle.venue_rows.specs.declared.dealer_rows.DealerRow.{DealerRow}
@@ -18,7 +19,6 @@ use Rattle.step_replay.specs.VenueFacts.{Fact, AtDealer, AtInvestor, of_dealer}
 use Rattle.venue_places.specs.declared.actors.Actor.{Actor}
 use Rattle.step_replay.specs.EachLemmas.{Each, Every, every_weaker}
 use Rattle.step_replay.specs.GrowthLemmas.{AreNumbered}
-use Rattle.step_replay.specs.OwnerLemmas.{same_value}
 use Rattle.step_replay.specs.PlaceLemmas.{own_trail, other_trail}
 use Rattle.venue_laws.proofs.VenueInvariant.{DutyOk, EntryOk, FactOk, InOrder, NamesLifted, VenueOk}
 use Rattle.venue_laws.proofs.VenueInvariant.{duties_by}
@@ -189,7 +189,7 @@ module _ (config : Configuration) where
             (of_dealer other added)
         names_at other row_too is_too true test =
             let same : dealer ≡ other = grind (arith, nat_tests) in
-            let rows : row ≡ row_too = same_value row row_too
+            let rows : row ≡ row_too = same_Some row row_too
             (sym own ∙ ap (dealer_numbered config) same ∙ is_too) in
             subst (λ (d : ℕ). Each (NamesLifted config.date row_too) (of_dealer d venue.facts)
             (of_dealer d added)) same

@@ -4,6 +4,7 @@ use Rattle.std.proofs.Common.{filter_map, Option, Some, None, is_some, is_none, 
 use Rattle.std.proofs.Common.{ap, ◌∙◌, subst, arith, eq-eqb}
 use Rattle.std.specs.List.{list_any}
 use Rattle.std.proofs.lemmas.Bool.Decides.{nat_tests}
+use Rattle.std.proofs.lemmas.Option.{same_Some}
 use Rattle.market_terms.specs.declared.asks.Ask.{Ask}
 use Rattle.market_terms.specs.declared.duties.Duty.{Duty}
 use Rattle.market_terms.specs.declared.duties.Duty.TheVariants as duty
@@ -17,7 +18,7 @@ use Rattle.request_room.specs.declared.requests.RoomRequest.{RoomRequest}
 use Rattle.step_replay.specs.AuditTrail.{Caused}
 use Rattle.step_replay.specs.VenueFacts.{Fact, InRoom, fact_in_room, of_room}
 use Rattle.step_replay.specs.EachLemmas.{Every}
-use Rattle.step_replay.specs.GrowthLemmas.{In, same_room, some_same}
+use Rattle.step_replay.specs.GrowthLemmas.{In, same_room}
 use Rattle.venue_laws.proofs.VenueInvariant.{DoneOk, FactOk, IsDealer, RoomOk, number_for, shows}
 
 -- Tests.
@@ -110,14 +111,14 @@ pub ended_fact : (P : RoomFact → Type 0) (end : End) (facts : List RoomFact)
     → first_said ended_as facts ≡ Some end → Every P facts → (moment : ℕ) × P (Ended end moment)
 ended_fact P end [] is every = cc
 ended_fact P end (Ended other moment ∷ facts) is every =
-    (moment, subst (λ (e : End). P (Ended e moment)) (some_same other end is) every.0)
+    (moment, subst (λ (e : End). P (Ended e moment)) (same_Some other end is) every.0)
 ended_fact P end (fact ∷ facts) is every = ended_fact P end facts is every.1
 
 pub opened_fact : (P : RoomFact → Type 0) (request : RoomRequest) (facts : List RoomFact)
     → first_said opened_for facts ≡ Some request → Every P facts → P (Opened request)
 opened_fact P request [] is every = cc
 opened_fact P request (Opened other ∷ facts) is every =
-    subst (λ (r : RoomRequest). P (Opened r)) (some_same other request is) every.0
+    subst (λ (r : RoomRequest). P (Opened r)) (same_Some other request is) every.0
 opened_fact P request (fact ∷ facts) is every = opened_fact P request facts is every.1
 
 pub ready_fact : (P : RoomFact → Type 0) (facts : List RoomFact) → list_any is_readied facts ≡ true

@@ -7,6 +7,7 @@ use Rattle.std.proofs.lemmas.List.{append-nil}
 use Rattle.std.proofs.lemmas.List.Elements.{filter_map-append}
 use Rattle.std.proofs.lemmas.List.Folds.{list_any-append}
 use Rattle.std.proofs.lemmas.List.Sums.{fold-append}
+use Rattle.std.proofs.Math.Bool.{or-false}
 use Rattle.quote_word.specs.declared.settled.Settled.{Settled}
 use Rattle.quote_word.specs.declared.settled.Settled.TheVariants as settled
 use Rattle.venue_rows.specs.declared.dealer_rows.DealerRow.{DealerRow}
@@ -29,20 +30,9 @@ use Rattle.step_replay.specs.declared.dues.Due.{Due}
 use Rattle.step_replay.specs.TrailLemmas.{rooms_added, facts_added, sent_added, due_added}
 use Rattle.step_replay.specs.TrailLemmas.{lifts_none}
 
--- Small facts.
-
 -- a desk with these facts, whose dealer was sent these messages
-abbrev desk_with : List DealerFact → List (List ℕ) → DeskState
+abbrev pub desk_with : List DealerFact → List (List ℕ) → DeskState
 desk_with facts sent = record { facts = facts; sent = sent }
-
-pub both : (facts facts_too : List DealerFact) (sent sent_too : List (List ℕ))
-    → facts ≡ facts_too → sent ≡ sent_too → desk_with facts sent ≡ desk_with facts_too sent_too
-both facts facts_too sent sent_too one other =
-    ap (λ f. desk_with f sent) one ∙ ap (λ s. desk_with facts_too s) other
-
-or_false : (b : Bool) → (b || false) ≡ b
-or_false true = refl
-or_false false = refl
 
 -- a desk after one event more
 pub desk_push : (date : List ℕ) (row : DealerRow) (events : List DealerEvent) (more : DealerEvent)
@@ -137,4 +127,4 @@ module _ (date : List ℕ) (row : DealerRow) (trail : List DealerEntry) (more : 
       ∙ ap (λ b. was_lifted trail quote || b) (lifts_none (event_facts date row (book_by trail) more)
       (option_to_list (shown_room more))
       (option_to_list (message_by date row trail more)) quote)
-      ∙ or_false (was_lifted trail quote)
+      ∙ or-false (was_lifted trail quote)

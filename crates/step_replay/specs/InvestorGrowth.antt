@@ -1,6 +1,6 @@
 -- What an event at an investor's desk adds to its trail: the desk stands where its trail has come.
-use Rattle.std.proofs.Common.{◌≡◌, ℕ, ◌+◌, List, [], ◌∷◌, ◌++◌, map, filter_map, length, Option}
-use Rattle.std.proofs.Common.{Some, None, refl, sym, ap, ◌∙◌}
+use Rattle.std.proofs.Common.{◌≡◌, ℕ, ◌+◌, List, [], ◌∷◌, ◌++◌, map, filter_map, length, refl, sym}
+use Rattle.std.proofs.Common.{ap, ap₂, ◌∙◌}
 use Rattle.std.proofs.lemmas.List.{append-nil}
 use Rattle.std.proofs.lemmas.List.Elements.{filter_map-append}
 use Rattle.std.proofs.lemmas.List.Sums.{fold-append}
@@ -9,37 +9,26 @@ use Rattle.investor_desk.specs.InvestorRules.{InvestorMarket}
 use Rattle.investor_desk.specs.InvestorOutput.{DeskState, desk_after, after_event, no_facts}
 use Rattle.investor_desk.specs.InvestorOutput.{event_facts, event_messages, moment_of, written_from}
 use Rattle.investor_desk.specs.declared.events.InvestorEvent.{InvestorEvent}
+use Rattle.step_replay.specs.PlaceLemmas.{nothing_of, everything_of}
 use Rattle.step_replay.specs.InvestorTrail.{InvestorEntry, AtDesk, Sent, fact_in, message_in}
 use Rattle.step_replay.specs.InvestorTrail.{facts_of, book_by, sent_by, entries_of}
-
--- What an event adds to an investor's trail.
-
-none_of : {A Y : Type 0} (h : InvestorEntry → Option Y) (f : A → InvestorEntry)
-    → ((x : A) → h (f x) ≡ None) → (xs : List A) → filter_map h (map f xs) ≡ []
-none_of h f none [] = refl
-none_of h f none (x ∷ xs) = rw (none x) (none_of h f none xs)
-
-each_of : {A : Type 0} (h : InvestorEntry → Option A) (f : A → InvestorEntry)
-    → ((x : A) → h (f x) ≡ Some x) → (xs : List A) → filter_map h (map f xs) ≡ xs
-each_of h f each [] = refl
-each_of h f each (x ∷ xs) = rw (each x) (ap (λ l. x ∷ l) (each_of h f each xs))
 
 facts_added : (facts : List InvestorFact) (messages : List (List ℕ))
     → filter_map fact_in (map AtDesk facts ++ map Sent messages) ≡ facts
 facts_added facts messages =
     filter_map-append fact_in (map AtDesk facts) (map Sent messages)
     ∙ ap (λ l. filter_map fact_in (map AtDesk facts) ++ l)
-    (none_of fact_in Sent (λ m. refl) messages)
+    (nothing_of fact_in Sent (λ m. refl) messages)
     ∙ append-nil (filter_map fact_in (map AtDesk facts))
-    ∙ each_of fact_in AtDesk (λ fact. refl) facts
+    ∙ everything_of fact_in AtDesk (λ fact. refl) facts
 
 sent_added : (facts : List InvestorFact) (messages : List (List ℕ))
     → filter_map message_in (map AtDesk facts ++ map Sent messages) ≡ messages
 sent_added facts messages =
     filter_map-append message_in (map AtDesk facts) (map Sent messages)
     ∙ ap (λ l. l ++ filter_map message_in (map Sent messages))
-    (none_of message_in AtDesk (λ fact. refl) facts)
-    ∙ each_of message_in Sent (λ m. refl) messages
+    (nothing_of message_in AtDesk (λ fact. refl) facts)
+    ∙ everything_of message_in Sent (λ m. refl) messages
 
 module _ (market : InvestorMarket) (trail : List InvestorEntry) (more : InvestorEvent) where
   -- the messages that the event sends
@@ -70,11 +59,6 @@ desk_with facts sent = record { facts = facts; sent = sent }
 abbrev pub desk_of : List InvestorEntry → DeskState
 desk_of trail = desk_with (facts_of trail) (sent_by trail)
 
-both : (facts facts_too : List InvestorFact) (sent sent_too : List (List ℕ))
-    → facts ≡ facts_too → sent ≡ sent_too → desk_with facts sent ≡ desk_with facts_too sent_too
-both facts facts_too sent sent_too one other =
-    ap (λ f. desk_with f sent) one ∙ ap (λ s. desk_with facts_too s) other
-
 -- a desk after one event more
 pub desk_push : (market : InvestorMarket) (events : List InvestorEvent) (more : InvestorEvent)
     → desk_after market (events ++ more ∷ []) ≡ after_event market (desk_after market events) more
@@ -85,4 +69,4 @@ desk_push market events more = fold-append (after_event market) no_facts events 
 pub trail_push : (market : InvestorMarket) (trail : List InvestorEntry) (more : InvestorEvent)
     → after_event market (desk_of trail) more ≡ desk_of (trail ++ entries_of market trail more)
 trail_push market trail more =
-    both _ _ _ _ (sym (facts_grown market trail more)) (sym (sent_grown market trail more))
+    ap₂ desk_with (sym (facts_grown market trail more)) (sym (sent_grown market trail more))
