@@ -10,7 +10,7 @@ use Rattle.std.specs.Prelude.{find, unwrap_or}
 use Rattle.std.specs.Str.{bytes_eq}
 use Rattle.clap.specs.Lexer.{has_byte}
 use Rattle.clap.specs.Simple.{App, Shape, built, built_leaf, filled_from, help_rule, help_shape}
-use Rattle.clap.specs.Simple.{inherited, names_of, new_app, on_top, with_rule}
+use Rattle.clap.specs.Simple.{inherited, new_app, on_top, with_rule}
 use Rattle.clap.specs.Walk.{Names, Rule, Text}
 use Rattle.command_arguments.specs.ArgumentWords.{is_among}
 use Rattle.command_arguments.specs.Arguments.{Line, commands, flag_rule, line_app, line_of}
@@ -22,6 +22,7 @@ use Rattle.command_arguments.proofs.TableSpots.{above, shape}
 -- ---- the commands as clap builds them
 
 -- a command with rules more
+
 ruled : (app : App) (rules : List Rule) → fold with_rule app rules ≡ on_top (λ s. record s { rules = s.rules ++ rules }) app
 ruled app [] = ap (λ rs. on_top (λ s. record s { rules = rs }) app) (sym (append-nil app.top.rules))
 ruled app (rule ∷ rules) =
@@ -58,9 +59,6 @@ label l = (l.name, [])
 
 abbrev pub names : Names
 names = map label commands ++ (codes "help", []) ∷ []
-
-names_are : names_of (built venue_app) ≡ names
-names_are = refl
 
 pub subs_are : (built venue_app).subs ≡ map leaf_shape commands ++ help_leaf ∷ []
 subs_are = ap (λ (shapes : List Shape). shapes ++ help_leaf ∷ []) (leaves_are commands)

@@ -1,7 +1,7 @@
 -- Words as clap reads them, and lists of kinds of errors.
-use Rattle.std.proofs.Common.{◌≡◌, ◌∙◌, ◌⊎◌, ◌||◌, ◌&&◌, ◌==◌, ◌<◌, arith, refl, sym, ap, subst, inl, inr}
-use Rattle.std.proofs.Common.{ℕ, Bool, true, false, [], ◌∷◌, length, Option, Some}
-use Rattle.std.proofs.Common.{None, cond, not, codes}
+use Rattle.std.proofs.Common.{◌≡◌, ◌∙◌, ◌⊎◌, ◌||◌, ◌&&◌, ◌==◌, ◌<◌, arith, refl, sym, ap, subst}
+use Rattle.std.proofs.Common.{inl, inr, ℕ, Bool, true, false, [], ◌∷◌, length, Option, Some, None}
+use Rattle.std.proofs.Common.{cond, not, codes}
 use Rattle.std.proofs.lemmas.Bool.{eqb-true, false≢true, false_from_ne_true}
 use Rattle.std.proofs.lemmas.List.Sums.{take_while-cons}
 use Rattle.std.proofs.lemmas.Slice.Eq.{bytes_eq-Decides}
@@ -10,8 +10,8 @@ use Rattle.std.specs.Prelude.{if◌then◌else◌, is_some, option_and_then, sli
 use Rattle.std.specs.Str.{bytes_eq, chars}
 use Rattle.clap.specs.declared.error.kind.ErrorKind.{ErrorKind}
 use Rattle.clap.specs.Kinds.{Kinds, or_else}
-use Rattle.clap.specs.Lexer.{has_byte, long_of, long_of_rest, name_and_value, short_of, short_of_rest}
-use Rattle.clap.specs.Lexer.{strip_byte}
+use Rattle.clap.specs.Lexer.{has_byte, long_of, long_of_rest, name_and_value, short_of}
+use Rattle.clap.specs.Lexer.{short_of_rest, strip_byte}
 use Rattle.clap.specs.Walk.{Text}
 use Rattle.command_arguments.specs.ArgumentWords.{is_dashes, is_flag, spelled}
 
@@ -44,10 +44,6 @@ NameIs n text name valued = bytes_eq n text ≡ (bytes_eq n name && not valued)
 no_name : (x : ℕ) (xs : Text) (b v : Bool) → (x == 61) ≡ b → NameIs [] (x ∷ xs) (cond (not b) (x ∷ before_first (λ y. y == 61) xs) []) (b || v)
 no_name x xs true v is = refl
 no_name x xs false v is = refl
-
-and_false : (a : Bool) → false ≡ (a && false)
-and_false true = refl
-and_false false = refl
 
 and_assoc : (a b c : Bool) → (a && (b && c)) ≡ ((a && b) && c)
 and_assoc true b c = refl

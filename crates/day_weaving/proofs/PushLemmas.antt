@@ -24,8 +24,6 @@ module _ (day : RecordedDay) (table : Table) (before after : Search) (now : Acti
     → slice_get before.way.items (length before.way.items - 1) ≡ Some last
     → IsDirectlyBefore day now last)
     (pushes : Pushes table before after now) where
-  at_end : ℕ
-  at_end = length before.way.items
 
   push_within : index_in table.firsts now < length before.marks.items
   push_within =

@@ -12,7 +12,7 @@ use Rattle.venue_places.specs.declared.actors.Actor.TheVariants as actor
 use Rattle.venue_rows.specs.Rows.{Configuration}
 use Rattle.day_weaving.specs.DayForm.{AreNamedOnce, HasFirmsOf}
 use Rattle.day_weaving.specs.DayOrder.{grants, is_granted}
-use Rattle.day_weaving.specs.OrderCounts.{Counts, SetsCount, count_in, key_of}
+use Rattle.day_weaving.specs.OrderCounts.{Counts, count_in, key_of}
 use Rattle.day_weaving.specs.OrderLaws.{StandsIn}
 use Rattle.day_weaving.specs.OrderSearch.{HasActor, IsAction, IsBound, IsBuilt, IsChain, IsInTable}
 use Rattle.day_weaving.specs.OrderSearch.{IsSlot, IsTable, Links, Puts, index_in}
@@ -24,7 +24,6 @@ use Rattle.day_weaving.specs.declared.weave_table.Table.{Table}
 use Rattle.day_weaving.proofs.DayFormLemmas.{action_within}
 use Rattle.day_weaving.proofs.NumberedLemmas.{mapped}
 use Rattle.day_weaving.proofs.RecordRoomLemmas.{firm_within}
-use Rattle.day_weaving.proofs.PlaceNotes.{key_apart}
 use Rattle.day_weaving.proofs.ListPlaces.{got_left, got_end, got_push}
 
 -- Places.
@@ -181,17 +180,6 @@ pub stand_more : (before after : Table) (now action : ActionRef) (place : ℕ)
 stand_more before after now action place puts stands =
     subst (λ (slots : List Slot). StandsIn slots action place) (sym puts.slots_are)
     (stands_more before.slots.items puts.slot action place stands)
-
--- the first place of one actor is no other's
-pub others_stay : (before after : Counts) (slots : List Slot) (by other : Actor) (place : ℕ)
-    → SetsCount before after (key_of by) place → (other ≡ by → ⊥) → (number : ℕ)
-    → StandsIn slots (other, number) (index_in before (other, number))
-    → StandsIn slots (other, number) (index_in after (other, number))
-others_stay before after slots by other place sets apart number stands =
-    let differs : key_of other ≡ key_of by → ⊥ = λ same. apart (key_apart other by same) in
-    let count : count_in after (key_of other) ≡ count_in before (key_of other) =
-    sets.others (key_of other) differs in
-    subst (λ (n : ℕ). StandsIn slots (other, number) (n + (number - 1))) (sym count) stands
 
 pub actor_whole : (day : RecordedDay) (table : Table) (by : Actor) (actions : List Action)
     (up_to first : ℕ) → actions_of day by ≡ Some actions → length actions ≤ up_to

@@ -173,21 +173,6 @@ module _ {A : Type 0} where
       found_later (p z) z x (find p xs) (others zero z refl (λ e. cc))
       (find_unique p xs place x at pass (λ k y there other. others (suc k) y there (λ e. let g : k ≡ place = cc in other g)))
 
-  -- where one at most passes, the one that does is found
-  first_found : (b : Bool) (z : A) (rest : Option A) (x : A) → b ≡ false → rest ≡ Some x → cond b (Some z) rest ≡ Some x
-  first_found true z rest x e h = cc
-  first_found false z rest x e h = h
-
-  pub lone_found : (p : A → Bool) (xs : List A) (place : ℕ) (x : A) → length (filter p xs) ≤ 1 → slice_get xs place ≡ Some x → p x ≡ true → find p xs ≡ Some x
-  lone_found p [] place x few at pass = absurd (none-some x at)
-  lone_found p (z ∷ xs) zero x few at pass =
-      let first : p z ≡ true = ap p (same_Some z x at) ∙ pass in
-      rw first at
-  lone_found p (z ∷ xs) (suc place) x few at pass =
-      let count : length (filter p (z ∷ xs)) ≡ cond (p z) 1 0 + length (filter p xs) = passes_more (p z) z (filter p xs) in
-      let rest : length (filter p xs) ≤ 1 = omega arith in
-      first_found (p z) z (find p xs) x (lone_others p (z ∷ xs) (suc place) x few at pass zero z refl (λ e. cc)) (lone_found p xs place x rest at pass)
-
   -- fewer pass after a change by which none begins to pass
   pub fewer_pass : (p : A → Bool) (f : A → A) → ((y : A) → p (f y) ≡ true → p y ≡ true) → (xs : List A) → length (filter p (map f xs)) ≤ length (filter p xs)
   fewer_pass p f only [] = omega arith

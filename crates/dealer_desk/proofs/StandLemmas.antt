@@ -11,8 +11,8 @@ use Rattle.venue_rows.specs.Texts.{same_text}
 use Rattle.venue_rows.specs.declared.dealer_rows.DealerRow.{DealerRow}
 use Rattle.market_terms.specs.declared.asks.Ask.{Ask}
 use Rattle.market_terms.specs.declared.closes.Close.{Close}
-use Rattle.dealer_desk.specs.DealerFacts.{Came, Shown, Quoted, Withdrawn, Late, Dropped, Declined}
-use Rattle.dealer_desk.specs.DealerFacts.{Told, DealerBook, is_live, live_quantity, quantity_beside}
+use Rattle.dealer_desk.specs.DealerFacts.{Shown, Quoted, Withdrawn, Late, Dropped, Declined, Told}
+use Rattle.dealer_desk.specs.DealerFacts.{DealerBook, is_live, live_quantity, quantity_beside}
 use Rattle.dealer_desk.specs.DealerFacts.{standing_quote, quote_with_id, live_quote_on}
 use Rattle.dealer_desk.specs.DealerFacts.{exposure_beside}
 use Rattle.dealer_desk.specs.BookChanges.{IsSound, FitsBook, book_after, ended_at, late_at}
@@ -24,8 +24,8 @@ use Rattle.dealer_desk.specs.declared.standing.StandingQuote.{StandingQuote}
 use Rattle.dealer_desk.specs.declared.standing.Withdrawal.{Withdrawal}
 use Rattle.dealer_desk.specs.declared.standing.QuoteEnd.{QuoteEnd}
 use Rattle.dealer_desk.specs.declared.standing.QuoteEnd.TheVariants as end
-use Rattle.dealer_desk.proofs.BookLemmas.{came_book, dropped_book, shown_book, quoted_book}
-use Rattle.dealer_desk.proofs.BookLemmas.{withdrawn_book, late_book, declined_book, told_book}
+use Rattle.dealer_desk.proofs.BookLemmas.{dropped_book, shown_book, quoted_book, withdrawn_book}
+use Rattle.dealer_desk.proofs.BookLemmas.{late_book, declined_book, told_book}
 use Rattle.dealer_desk.proofs.SoundLemmas.{sound_empty, sound_mapped, sound_requests, sound_shown}
 use Rattle.dealer_desk.proofs.SoundLemmas.{sound_quoted}
 use Rattle.dealer_desk.proofs.QuoteChanges.{ended_keeps, ended_lives, late_keeps, late_lives}
@@ -34,6 +34,7 @@ use Rattle.dealer_desk.proofs.TableGrowth.{replaced_none, sum_beside}
 use Rattle.dealer_desk.proofs.IndexLemmas.{closed_keeps}
 
 -- what stands at a desk
+
 pub record Stands (row : DealerRow) (requests : List StandingRequest) (quotes : List StandingQuote) : Type 0 where
   pub sound : IsSound requests quotes
   pub within : sum_by live_quantity quotes ≤ row.exposure
@@ -105,9 +106,6 @@ stands_requests row requests quotes f keeps stands = record {
 }
 
 -- Facts one by one.
-
-pub came_stands : (row : DealerRow) (book : DealerBook) (moment : ℕ) (bytes : List ℕ) (used : Bool) → StandsIn row book → StandsIn row (book_after book (Came moment bytes used))
-came_stands row book moment bytes used stands = subst (λ (b : DealerBook). StandsIn row b) (sym (came_book book moment bytes used)) stands
 
 pub dropped_stands : (row : DealerRow) (book : DealerBook) (last moment : ℕ) → StandsIn row book → StandsIn row (book_after book (Dropped last moment))
 dropped_stands row book last moment stands = subst (λ (b : DealerBook). StandsIn row b) (sym (dropped_book book last moment)) stands

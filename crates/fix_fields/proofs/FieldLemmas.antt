@@ -22,6 +22,7 @@ use Rattle.fix_fields.proofs.Digits.{plain, count_of, counted_digits}
 use Rattle.fix_fields.proofs.PlaceLemmas.{place_of, place_behind, free_before, cut_at}
 
 -- the parts of a field and what stands behind it
+
 pub regroup : (d v rest : List ℕ) → (d ++ (61 ∷ (v ++ (1 ∷ [])))) ++ rest ≡ d ++ (61 ∷ (v ++ (1 ∷ rest)))
 regroup d v rest = simp append_assoc
 
@@ -76,10 +77,6 @@ placed_in text field rest lawful is =
 pub rest_is : (text : List ℕ) (tag : ℕ) (value rest : List ℕ) → IsPlaced text tag value rest
     → drop (value_len_of text + 1) (drop (tag_len text + 1) text) ≡ rest
 rest_is text tag value rest p = rw (p.value_at, p.behind) (drop-append-add value (1 ∷ rest) 1)
-
-pub value_is : (text : List ℕ) (tag : ℕ) (value rest : List ℕ) → IsPlaced text tag value rest
-    → take (value_len_of text) (drop (tag_len text + 1) text) ≡ value
-value_is text tag value rest p = rw (p.value_at, p.behind) (take-append_seam value (1 ∷ rest))
 
 -- a text whose parts stand so begins with a field
 pub record HasParts (text : List ℕ) (n m : ℕ) : Type 0 where

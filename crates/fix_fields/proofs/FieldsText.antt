@@ -14,12 +14,13 @@ use Rattle.std.proofs.lemmas.Fmt.{digits_decimal, digits_value-decimal}
 use Rattle.std.proofs.Math.Seq.{take-append_seam, drop-append-add}
 use Rattle.fix_fields.specs.Frame.{Field, IsValue, IsField, AreBody, value_of, field_text}
 use Rattle.fix_fields.specs.Frame.{fields_text, pieces_of, field_of, fields_of}
-use Rattle.fix_fields.specs.Scan.{BeginsWithField, HoldsFields, HoldsBody, IsFieldsText, IsBodyText}
+use Rattle.fix_fields.specs.Scan.{HoldsFields, HoldsBody, IsFieldsText, IsBodyText}
 use Rattle.fix_fields.proofs.Digits.{plain}
 use Rattle.fix_fields.proofs.PlaceLemmas.{IsFree, place_of, place_behind, free_digits, free_append}
 use Rattle.fix_fields.proofs.FieldLemmas.{regroup, tag_len, placed_in}
 
 -- cutting what was written gives the fields
+
 pub pieces_of-append : (piece rest : List ℕ) → IsFree 1 piece → pieces_of (piece ++ (1 ∷ rest)) ≡ piece ∷ pieces_of rest
 unfolding pieces_of
 pieces_of-append [] rest free = refl
@@ -106,14 +107,6 @@ few_fields [] = omega arith
 few_fields (field ∷ fields) =
     omega (arith, few_fields fields, length-append (field_text field) (fields_text fields), length-append (decimal field.0) (61 ∷ (field.1 ++ (1 ∷ []))))
 
--- a step of the iterator
-pub none_first : (text : List ℕ) → IsFieldsText text → ¬ (BeginsWithField text) → fields_of text ≡ []
-none_first text cut none = go (fields_of text) cut.lawful cut.is where
-  go : (fields : List Field) → AllByRecursion IsField fields → text ≡ fields_text fields → fields ≡ []
-  go [] lawful is = refl
-  go (field ∷ fields) lawful is =
-      absurd (none (record { field = field; lawful = lawful.0; rest = fields_text fields; is = is }))
-
 pub one_first : (text : List ℕ) (field : Field) (rest : List ℕ) → IsField field → text ≡ field_text field ++ rest
     → fields_of text ≡ field ∷ fields_of rest
 one_first text field rest lawful is = ap fields_of is ∙ fields_of-cons field rest lawful
@@ -128,13 +121,6 @@ rest_is_fields text field rest lawful is cut =
       is = append_cancel_left (field_text field) rest (fields_text (fields_of rest)) (sym is ∙ (cut.is ∙ ap fields_text first));
       fits = (let fits = cut.fits in omega (arith, ap length is, length-append (field_text field) rest));
     }
-
-pub is_fields_text : (text : List ℕ) → IsBodyText text → IsFieldsText text
-is_fields_text text body = record {
-  lawful = AreBody-lawful (fields_of text) body.body;
-  is = body.is;
-  fits = (let fits = body.fits in omega arith);
-}
 
 -- a value that is found is one of a lawful field
 pub value_in : (tag : ℕ) (fields : List Field) (value : List ℕ) → AllByRecursion IsField fields

@@ -1,6 +1,7 @@
 -- The parts of an input, and texts that are no UTF-8.
-use Rattle.std.proofs.Common.{◌≡◌, ℕ, ◌+◌, ◌-◌, ◌<◌, ◌≤◌, ◌==◌, Bool, true, false, List, [], ◌∷◌, ◌++◌, length, take, drop, suc}
-use Rattle.std.proofs.Common.{Ok, Err, refl, sym, ap, ◌∙◌, arith, inl, inr, append_assoc, add-one}
+use Rattle.std.proofs.Common.{◌≡◌, ℕ, ◌+◌, ◌-◌, ◌<◌, ◌≤◌, ◌==◌, Bool, true, false, List, [], ◌∷◌}
+use Rattle.std.proofs.Common.{◌++◌, length, take, drop, suc, Ok, Err, refl, sym, ap, ◌∙◌, arith}
+use Rattle.std.proofs.Common.{inl, inr, append_assoc, add-one}
 use Rattle.std.proofs.Math.Nat.{add_comm}
 use Rattle.std.specs.List.{list_any, before_first, after_first, position_or_len}
 use Rattle.std.specs.Str.{IsUtf8, is_utf8}
@@ -15,7 +16,7 @@ use Rattle.input_lines.specs.Lines.{lines_of, parts_of}
 use Rattle.input_lines.specs.PartReading.{StandsApart}
 use Rattle.input_lines.specs.VenueParts.{is_divider, text_of_lines, divided}
 use Rattle.input_lines.specs.declared.faults.ProgramFault.TheVariants.{Parts}
-use Rattle.input_lines.proofs.CutLemmas.{parts_of-cut, parts_of-empty}
+use Rattle.input_lines.proofs.CutLemmas.{parts_of-cut}
 
 -- Texts.
 
@@ -114,17 +115,6 @@ pub record Reached (text : List ℕ) (count : ℕ) (rest : List ℕ) : Type 0 wh
   pub text_is : (length rest == 0) ≡ false → text ≡ text_of_lines done ++ rest
   pub fits : count + length rest ≤ length text
 
-pub reached_first : (text : List ℕ) → Reached text 0 text
-reached_first text = record {
-  done = [];
-  lines = refl;
-  none = refl;
-  count_is = refl;
-  closed = λ tail. refl;
-  text_is = λ some. refl;
-  fits = omega arith;
-}
-
 module _ (text : List ℕ) (count : ℕ) (rest line behind : List ℕ) (at : Reached text count rest) (some : (length rest == 0) ≡ false)
     (front : line ≡ before_first (λ (c : ℕ). c == 10) rest) (back : behind ≡ after_first (λ (c : ℕ). c == 10) rest) (shorter : length behind < length rest) where
   lines_then : lines_of text ≡ at.done ++ line ∷ lines_of behind
@@ -171,10 +161,6 @@ module _ (text : List ℕ) (count : ℕ) (rest line behind : List ℕ) (at : Rea
         behind_fits = omega (arith, at.fits, shorter);
         before_fits = omega (arith, ap length before, long);
       }
-
-pub reached_end : (text : List ℕ) (count : ℕ) (rest : List ℕ) → Reached text count rest → (length rest == 0) ≡ true → list_any is_divider (lines_of text) ≡ false
-reached_end text count rest at none =
-    ap (list_any is_divider) (at.lines ∙ ap (λ lines. at.done ++ lines) (parts_of-empty 10 rest none) ∙ append-nil at.done) ∙ at.none
 
 -- The same of parts.
 

@@ -1,6 +1,6 @@
 -- The parts of a list before and behind its first element that passes a test.
-use Rattle.std.proofs.Common.{◌≡◌, ◌+◌, ◌||◌, Bool, true, false, List, [], ◌∷◌, ◌++◌, length, take}
-use Rattle.std.proofs.Common.{drop, suc, refl, sym, ap, ◌∙◌, arith, inl, inr, add-one}
+use Rattle.std.proofs.Common.{◌≡◌, ◌+◌, Bool, true, false, List, [], ◌∷◌, ◌++◌, length, take, drop}
+use Rattle.std.proofs.Common.{suc, refl, sym, ap, ◌∙◌, arith, inl, inr, add-one}
 use Rattle.std.proofs.Math.Nat.{add_comm}
 use Rattle.std.specs.List.{list_any, before_first, after_first, position_or_len}
 use Rattle.std.proofs.lemmas.Bool.{cases_Bool, false≢true}
@@ -71,6 +71,3 @@ after_more p (x ∷ xs) more none =
       | inl here ↦ (let never : true ≡ false = rw here at none in cc)
       | inr other ↦ after_skip p x (xs ++ more) other ∙ after_more p xs more (rw other at none)
     ]
-
-any_or : (a b : Bool) → a ≡ false → (a || b) ≡ b
-any_or a b e = rw e refl

@@ -16,7 +16,7 @@ use Rattle.dealer_desk.specs.declared.events.DealerEvent.{DealerEvent}
 use Rattle.step_replay.specs.DealerView.{DealerView, after_due, answer_to, view_after}
 use Rattle.step_replay.specs.declared.dues.Due.{Due}
 use Rattle.step_replay.specs.declared.dues.Due.TheVariants as due
-use Rattle.recorded_days.specs.DayDues.{DayDues, after_recorded, settlement_taken, lifting_learned}
+use Rattle.recorded_days.specs.DayDues.{after_recorded, settlement_taken, lifting_learned}
 use Rattle.recorded_days.proofs.DayDueLemmas.{AreOne, none_says}
 use Rattle.recorded_days.proofs.DeskLemmas.{view_of}
 use Rattle.recorded_days.proofs.DaySeenLemmas.{WithdrawnIsSaid, IsOfDay, walk_of, DaySeen, or_false}
@@ -36,11 +36,6 @@ module _ (date : List ℕ) (row : DealerRow) where
 
     abbrev told : List ℕ → Option Settled → DealerView
     told lifted settlement = view_of date row (before.seen ++ put settlement ∷ []) lifted
-
-    -- the desks have the event as it came
-    abbrev came : Option Settled → DayDues → DealerEvent → Type 0
-    came settlement next now =
-        after_recorded (walk_of date row before.walked before.dues) now ≡ next
 
     not_lifted : (quote : ℕ) → word_of quote ≡ Some Withdrawn → AreOne word_of words
         → list_any (λ (one : ℕ). one == quote) before.lifted ≡ false

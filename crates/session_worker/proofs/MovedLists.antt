@@ -1,13 +1,14 @@
 -- Lists of which one grows by what the other loses.
-use Rattle.std.proofs.Common.{◌≡◌, ◌<◌, ◌≤◌, ◌∙◌, sym, ap, refl, ℕ, ◌+◌, ◌-◌, suc, List, [], ◌∷◌}
-use Rattle.std.proofs.Common.{◌++◌, length, map, take, drop, get_or, ◌⊎◌, inl, inr, append_assoc}
-use Rattle.std.proofs.Common.{arith, length-append, length-drop}
+use Rattle.std.proofs.Common.{◌≡◌, ◌<◌, ◌∙◌, sym, ap, refl, ℕ, ◌+◌, ◌-◌, suc, List, [], ◌∷◌, ◌++◌}
+use Rattle.std.proofs.Common.{length, map, take, drop, get_or, ◌⊎◌, inl, inr, append_assoc, arith}
+use Rattle.std.proofs.Common.{length-append, length-drop}
 use Rattle.std.proofs.lemmas.List.{append-nil, drop_more, map-append}
-use Rattle.std.proofs.lemmas.Grind.{common_steps, take_at_read}
+use Rattle.std.proofs.lemmas.Grind.{take_at_read}
 
 -- Lists.
 
 -- a list that is cut one item further on
+
 module _ {A : Type 0} (xs : List A) (i : ℕ) where
   cut_within : (x : A) (rest : List A) → drop i xs ≡ x ∷ rest → i < length xs
   cut_within x rest is =
@@ -28,20 +29,6 @@ module _ {A : Type 0} (xs : List A) (i : ℕ) where
       sym is ∙ drop_more xs i x (cut_within x rest is) in
       let same : get_or xs i x ≡ x = cc in
       (take_at_read xs i x (cut_within x rest is)).1 ∙ ap (λ y. take i xs ++ y ∷ []) same
-
-  pub drop_past : drop i xs ≡ [] → drop (i + 1) xs ≡ []
-  drop_past is =
-      let left : length (drop i xs) ≡ length xs - i = length-drop i xs in
-      let none : length (drop i xs) ≡ 0 = ap length is in
-      let past : length xs ≤ i = omega (arith, left, none) in
-      grind (arith, common_steps)
-
-  pub take_past : drop i xs ≡ [] → take (i + 1) xs ≡ take i xs
-  take_past is =
-      let left : length (drop i xs) ≡ length xs - i = length-drop i xs in
-      let none : length (drop i xs) ≡ 0 = ap length is in
-      let past : length xs ≤ i = omega (arith, left, none) in
-      grind (arith, common_steps)
 
 -- lists of one length, of which one has ended
 pub ended_too : {A B : Type 0} (xs : List A) (ys : List B) → length xs ≡ length ys → xs ≡ []

@@ -18,6 +18,7 @@ use Rattle.session_worker.proofs.MovedLists.{take_next}
 -- One room, or the rooms of one investor, more.
 
 -- a room more is named by the next number
+
 pub names_pushed : (before rooms : List DayRoom) (room : DayRoom) (investor n : ℕ)
     → names_of rooms ≡ names_of before ++ names_from investor 1 n
     → room.at ≡ record { investor = investor; n = n + 1 }
@@ -54,13 +55,6 @@ own_more own day rooms i room rest so_far is cut =
 
 -- no room is left to be taken
 module _ {A : Type 0} (xs : List A) (i n : ℕ) where
-  pub take_no_more : drop i xs ≡ [] → i ≤ n → take i xs ≡ take n xs
-  take_no_more is below =
-      let left : length (drop i xs) ≡ length xs - i = length-drop i xs in
-      let none : length (drop i xs) ≡ 0 = ap length is in
-      let past : length xs ≤ i = omega (arith, left, none) in
-      let beyond : length xs ≤ n = omega (arith, past, below) in
-      grind (arith, common_steps)
 
   pub drop_no_more : drop i xs ≡ [] → i ≤ n → drop n xs ≡ []
   drop_no_more is below =

@@ -168,9 +168,6 @@ exchanged_stand config facts now number row quote words after wish settlement is
             let clash : true ≡ false = sym is_same ∙ test in
             cc
 
-if_lifted : (b : Bool) → word_if true b ≡ Some settled.Lifted
-if_lifted b = refl
-
 if_withdrawn : (lifted : Bool) → (lifted && true) ≡ false → word_if lifted true ≡ Some settled.Withdrawn
 if_withdrawn true one = cc
 if_withdrawn false one = refl

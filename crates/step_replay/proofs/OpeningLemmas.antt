@@ -22,7 +22,7 @@ use Rattle.step_replay.specs.Liftings.{dues_behind}
 use Rattle.step_replay.specs.Openings.{DealerOpens, DealerOpensIn, DealersOpen, InvestorOpensIn}
 use Rattle.step_replay.specs.Openings.{Opens, owners_from}
 use Rattle.step_replay.specs.Standing.{DealerStands, DealerStandsIn, Stands, word_is}
-use Rattle.step_replay.specs.VenueFacts.{of_dealer, of_investor}
+use Rattle.step_replay.specs.VenueFacts.{of_dealer}
 use Rattle.step_replay.specs.declared.floor.DealerPlace.{DealerPlace}
 use Rattle.step_replay.specs.declared.floor.Floor.{Floor}
 use Rattle.step_replay.specs.declared.floor.Lifting.{Lifting}
@@ -161,10 +161,6 @@ dealers_grow config at row places place within is before opens = record {
 no_trail : (number : ℕ) → of_dealer number [] ≡ []
 unfolding of_dealer
 no_trail number = refl
-
-no_market : (number : ℕ) → of_investor number [] ≡ []
-unfolding of_investor
-no_market number = refl
 
 dealer_begins : (config : Configuration) (number : ℕ) (row : DealerRow) (place : DealerPlace)
     → DealerOpens config number row place → DealerStands config number row [] place

@@ -1,10 +1,10 @@
 -- A day before its first step, and its steps one after the other.
-use Rattle.std.proofs.Common.{◌≡◌, ◌<◌, ◌≤◌, ℕ, zero, suc, ◌+◌, nat_lt, true, false, Bool}
-use Rattle.std.proofs.Common.{if◌then◌else◌, List, [], ◌∷◌, ◌++◌, length, take, replicate, get_or}
-use Rattle.std.proofs.Common.{Option, Some, None, refl, sym, ap, ◌∙◌, subst, arith, fold}
+use Rattle.std.proofs.Common.{◌≡◌, ◌<◌, ℕ, zero, suc, ◌+◌, nat_lt, true, false, Bool, if◌then◌else◌}
+use Rattle.std.proofs.Common.{List, [], ◌∷◌, ◌++◌, length, take, replicate, get_or, Option, Some}
+use Rattle.std.proofs.Common.{None, refl, sym, ap, ◌∙◌, subst, arith, fold}
 use Rattle.std.specs.Prelude.{slice_get}
 use Rattle.std.proofs.lemmas.Bool.Decides.{nat_tests}
-use Rattle.std.proofs.lemmas.List.{length-replicate, take_all, take_more}
+use Rattle.std.proofs.lemmas.List.{length-replicate, take_more}
 use Rattle.std.proofs.lemmas.List.Elements.{All-cons, All-nil}
 use Rattle.std.proofs.lemmas.List.Sums.{fold-append}
 use Rattle.std.proofs.lemmas.Option.{slice_get_read, same_Some}
@@ -176,8 +176,3 @@ day_more config steps at s within is =
     ap (fold (after_step config) no_steps) (take_more steps at s within
     ∙ ap (λ (found : Step). take at steps ++ found ∷ []) (sym is))
     ∙ fold-append (after_step config) no_steps (take at steps) (s ∷ [])
-
--- all steps
-pub day_whole : (config : Configuration) (steps : List Step) (at : ℕ) → length steps ≤ at
-    → audit_trail config (take at steps) ≡ audit_trail config steps
-day_whole config steps at past = ap (audit_trail config) (take_all at steps past)

@@ -1,10 +1,9 @@
 -- What a venue has of the day of each firm, where its places stand.
 use Rattle.std.proofs.Common.{◌≡◌, ◌<◌, ◌≤◌, ℕ, zero, suc, ◌+◌, ◌-◌, List, [], ◌∷◌, ◌++◌, length}
-use Rattle.std.proofs.Common.{map, Option, Some, None, option_map, refl, sym, ap, ◌∙◌, subst, arith}
+use Rattle.std.proofs.Common.{map, Option, Some, None, refl, sym, ap, ◌∙◌, subst, arith}
 use Rattle.std.proofs.Common.{append_assoc}
 use Rattle.std.specs.Prelude.{slice_get}
-use Rattle.std.proofs.lemmas.List.{length-map, map-append}
-use Rattle.std.proofs.lemmas.Option.{slice_get-map}
+use Rattle.std.proofs.lemmas.List.{map-append}
 use Rattle.std.proofs.lemmas.Simd.{map-map}
 use Rattle.venue_rows.specs.Rows.{Configuration, investor_numbered}
 use Rattle.venue_rows.specs.declared.dealer_rows.DealerRow.{DealerRow}
@@ -158,30 +157,6 @@ get_second (x ∷ xs) ys (suc i) beyond =
     let inner : length xs ≤ i = omega arith in
     let same : i - length xs ≡ suc i - length (x ∷ xs) = omega arith in
     get_second xs ys i inner ∙ ap (slice_get ys) same
-
-pub dealer_read : (floor : Floor) (firm : ℕ) → firm < length floor.dealers.items
-    → slice_get (days_of_floor floor) firm
-    ≡ option_map dealer_day_at (slice_get floor.dealers.items firm)
-dealer_read floor firm within =
-    let mapped : firm < length (map dealer_day_at floor.dealers.items) =
-    subst (λ n. firm < n) (sym (length-map floor.dealers.items dealer_day_at)) within in
-    get_first (map dealer_day_at floor.dealers.items)
-    (map investor_day_at floor.investors.items) firm mapped
-    ∙ slice_get-map dealer_day_at floor.dealers.items firm
-
-pub investor_read : (floor : Floor) (firm : ℕ) → length floor.dealers.items ≤ firm
-    → slice_get (days_of_floor floor) firm
-    ≡ option_map investor_day_at
-    (slice_get floor.investors.items (firm - length floor.dealers.items))
-investor_read floor firm beyond =
-    let count : length (map dealer_day_at floor.dealers.items) ≡ length floor.dealers.items =
-    length-map floor.dealers.items dealer_day_at in
-    let mapped : length (map dealer_day_at floor.dealers.items) ≤ firm =
-    subst (λ n. n ≤ firm) (sym count) beyond in
-    get_second (map dealer_day_at floor.dealers.items)
-    (map investor_day_at floor.investors.items) firm mapped
-    ∙ ap (λ n. slice_get (map investor_day_at floor.investors.items) (firm - n)) count
-    ∙ slice_get-map investor_day_at floor.investors.items (firm - length floor.dealers.items)
 
 -- What each firm was sent, taken out of its place.
 

@@ -1,7 +1,7 @@
 -- The quote that has a word is one of its dealer's day.
 use Rattle.std.proofs.Common.{◌≡◌, ◌≤◌, ℕ, zero, suc, ◌+◌, ◌-◌, Bool, true, false, ◌&&◌, nat_le}
-use Rattle.std.proofs.Common.{nat_lt, List, [], ◌∷◌, Option, Some, None, if◌then◌else◌, refl, ap}
-use Rattle.std.proofs.Common.{arith, sym, ◌∙◌, take}
+use Rattle.std.proofs.Common.{nat_lt, List, [], ◌∷◌, Some, if◌then◌else◌, refl, ap, arith, sym, ◌∙◌}
+use Rattle.std.proofs.Common.{take}
 use Rattle.std.specs.Prelude.{slice_get}
 use Rattle.std.proofs.lemmas.Bool.Decides.{nat_tests}
 use Rattle.venue_rows.specs.declared.dealer_rows.DealerRow.{DealerRow}
@@ -10,11 +10,6 @@ use Rattle.std.proofs.lemmas.List.Sums.{sum_by-cons}
 use Rattle.std.proofs.lemmas.Option.{same_Some}
 
 -- Small facts.
-
--- what is there, or this
-abbrev value_or : {A : Type 0} → A → Option A → A
-value_or other None = other
-value_or other (Some x) = x
 
 -- a quote of the first of some dealers
 abbrev first_quote : ℕ → ℕ → QuoteRef

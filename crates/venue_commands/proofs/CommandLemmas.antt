@@ -1,5 +1,5 @@
 -- How a run ends by its arguments.
-use Rattle.std.proofs.Common.{◌≡◌, ◌<◌, ◌||◌, ◌⊎◌, ◌==◌, refl, sym, subst, inl, inr, ℕ, Bool, true}
+use Rattle.std.proofs.Common.{◌≡◌, ◌<◌, ◌||◌, ◌⊎◌, ◌==◌, refl, subst, inl, inr, ℕ, Bool, true}
 use Rattle.std.proofs.Common.{false, List, [], ◌∷◌, length, map, arith, Option, Some, None}
 use Rattle.std.proofs.lemmas.Bool.{false≢true}
 use Rattle.std.specs.List.{list_any}
@@ -14,7 +14,8 @@ use Rattle.input_lines.specs.declared.faults.ProgramFault.TheVariants.{Memory}
 use Rattle.live_runs.specs.LineForms.{LineForm, meant_form}
 use Rattle.command_arguments.specs.Arguments.{Command, arguments_fault, command_of, is_help}
 use Rattle.command_arguments.specs.Arguments.{is_mistake, may_be_help, may_be_mistake}
-use Rattle.venue_commands.specs.Runs.{EndsAsAsked, EndsBy, EndsInCommand, EndsInMemory, EndsOf, EndsTold, line_form, word_of}
+use Rattle.venue_commands.specs.Runs.{EndsAsAsked, EndsBy, EndsInCommand, EndsInMemory, EndsOf}
+use Rattle.venue_commands.specs.Runs.{EndsTold, line_form, word_of}
 use Rattle.live_runs.specs.LiveRuns.{EndsInLive, EndsOver}
 use Rattle.live_runs.specs.Written.{Streams, Written}
 use Rattle.live_runs.specs.declared.line_forms.LineForm.{LineForm as RustForm}
@@ -99,12 +100,6 @@ asked_told text (argument ∷ arguments) error status streams some is ends =
     let words = map text (argument ∷ arguments) in
     ends_by (command_of words) (arguments_fault words) status streams (lawful_arguments (text argument) (map text arguments)).1
     (told_of (arguments_fault words) (kind_of error) status streams.out streams.err is ends)
-
--- a run of a command
-pub asked_command : (words : List Text) (command : Command) (status : ℕ) (streams : Streams) → command_of words ≡ Some command
-    → EndsOf (line_form command) command status streams → EndsAsAsked words status streams
-asked_command words command status streams is ends =
-    subst (λ (asked : Option Command). EndsBy asked (arguments_fault words) status streams) (sym is) ends
 
 -- some arguments are there
 pub some_arguments : {A : Type 0} (arguments : List A) → false ≡ (length arguments == 0) → 0 < length arguments

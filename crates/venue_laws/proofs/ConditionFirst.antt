@@ -1,6 +1,6 @@
 -- What each kind of effect brings of what happens once.
-use Rattle.std.proofs.Common.{◌≡◌, ℕ, Bool, true, false, ◌&&◌, List, [], ◌∷◌, ◌++◌, map}
-use Rattle.std.proofs.Common.{option_to_list, Option, Some, None, option_map, if◌then◌else◌, refl}
+use Rattle.std.proofs.Common.{◌≡◌, ℕ, Bool, true, false, List, [], ◌∷◌, ◌++◌, map, option_to_list}
+use Rattle.std.proofs.Common.{Option, Some, None, option_map, if◌then◌else◌, refl}
 use Rattle.market_terms.specs.declared.duties.Duty.{Duty}
 use Rattle.market_terms.specs.declared.rooms.RoomRef.{RoomRef}
 use Rattle.venue_rows.specs.Rows.{Configuration, dealer_numbered, investor_numbered}
@@ -23,7 +23,6 @@ use Rattle.step_replay.specs.Actions.{at_market, dealer_at, dealer_of, done_by, 
 use Rattle.step_replay.specs.Actions.{dropped_by, left_by, left_by_drop, nothing}
 use Rattle.step_replay.specs.Actions.{received_by_dealer, where_known}
 use Rattle.step_replay.specs.AuditTrail.{AuditTrail}
-use Rattle.venue_laws.specs.Conditions.{is_room}
 use Rattle.step_replay.specs.DealerTrail.{AtDesk, DealerEntry, Sent, ShownIn, book_by, entries_of}
 use Rattle.step_replay.specs.DealerTrail.{message_by, rooms_by}
 use Rattle.step_replay.specs.InvestorTrail as investor_trail
@@ -204,19 +203,6 @@ module _ (config : Configuration) (venue : AuditTrail) (by : Actor) (did : Actor
         (dropped_free (rooms_by trail_now) moment settlement own) (further_free _ last moment)))
 
   -- In a room.
-
-  pub room_first : (room : RoomRef) (added : List RoomFact) (duties : List Duty)
-      → Every (FactDone (venue.facts ++ map (InRoom room) added) did) (map (InRoom room) added)
-      → Each OnceOk (duties_by by venue.caused) duties
-      → BringsFirst (record { facts = map (InRoom room) added; duties = duties })
-  room_first room added duties done order = record { order = order; done = done }
-
-  pub in_room_first : (room : RoomRef) (may : Bool) (added : List RoomFact) (duties : List Duty)
-      → BringsFirst (record { facts = map (InRoom room) added; duties = duties })
-      → BringsFirst (if is_room config room && may
-      then record { facts = map (InRoom room) added; duties = duties } else nothing)
-  in_room_first room may added duties brings =
-      when_first (is_room config room && may) _ (λ test. brings)
 
   pub so_first : (now : List Fact) (room : RoomRef) (b : Bool) (fact : RoomFact)
       → FactDone now did (InRoom room fact)

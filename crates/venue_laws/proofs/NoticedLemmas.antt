@@ -16,6 +16,7 @@ use Rattle.venue_laws.proofs.ShownRequests.{still_untold, closable_shown}
 -- Notices.
 
 -- the request that a fact is a closing notice of
+
 abbrev pub told_in : DealerFact → Option ℕ
 told_in (Told request close moment) = Some request
 told_in fact = None
@@ -46,11 +47,6 @@ none_filtered request [] none = refl
 none_filtered request (fact ∷ facts) none =
     let parts = none_left (tells request fact) (list_any (tells request) facts) none in
     rw (parts.0) (none_filtered request facts parts.1)
-
-one_of : (b c : Bool) → (b || c) ≡ true → c ≡ false → b ≡ true
-one_of true c is none = refl
-one_of false true is none = cc
-one_of false false is none = is
 
 module _ (trail added : List DealerEntry) (more : List DealerFact)
     (grown : facts_of (trail ++ added) ≡ facts_of trail ++ more) where

@@ -73,9 +73,6 @@ module _ (config : Configuration) (venue : AuditTrail) where
     abbrev FineNow : Duty → Type 0
     FineNow left = Fine config now (actor.Firm dealer) left
 
-    one_fine : (left : Duty) → FineNow left → Every FineNow (left ∷ [])
-    one_fine left fine = (fine, tt)
-
     if_fine : (b : Bool) (found : Option RoomRef) (left : RoomRef → Duty)
         → ((room : RoomRef) → b ≡ true → found ≡ Some room → FineNow (left room))
         → Every FineNow (option_to_list (if b then option_map left found else None))
