@@ -1,6 +1,6 @@
 -- The commands as clap builds them, and the line of a table that has a name.
-use Rattle.std.proofs.Common.{◌≡◌, ◌∙◌, ◌||◌, ◌&&◌, refl, sym, ap, ap₂, subst, Bool, true, false}
-use Rattle.std.proofs.Common.{List, [], ◌∷◌, ◌++◌, map, Some, cond, not, codes, fold}
+use Rattle.std.proofs.Common.{◌≡◌, ◌∙◌, ◌&&◌, refl, sym, ap, ap₂, subst, Bool, true, false, List}
+use Rattle.std.proofs.Common.{[], ◌∷◌, ◌++◌, map, Some, cond, not, codes, fold}
 use Rattle.std.proofs.lemmas.Bool.{and_parts, not-true}
 use Rattle.std.proofs.lemmas.List.{append-nil, append_assoc}
 use Rattle.std.proofs.lemmas.Slice.Eq.{bytes_eq-Decides}
@@ -74,10 +74,6 @@ module _ {X : Type 0} (f : Line → X) (p : X → Bool) (rest : List X) (name : 
           → cond b (Some (f l)) (find p (map f lines ++ rest)) ≡ option_map_or (λ m. Some (f m)) (cond b (Some l) (line_of name lines)) (find p rest)
       go true others = refl
       go false others = others
-
-pub or_none : (b : Bool) → (b || false) ≡ b
-or_none true = refl
-or_none false = refl
 
 -- what each line of a table has to be
 abbrev pub is_lawful : Line → Bool

@@ -2,7 +2,7 @@
 use Rattle.std.proofs.Common.{◌≡◌, ◌∙◌, ◌⊎◌, ◌||◌, ◌&&◌, ◌==◌, ◌<◌, arith, refl, sym, ap, subst}
 use Rattle.std.proofs.Common.{inl, inr, ℕ, Bool, true, false, [], ◌∷◌, length, Option, Some, None}
 use Rattle.std.proofs.Common.{cond, not, codes}
-use Rattle.std.proofs.lemmas.Bool.{eqb-true, false≢true, false_from_ne_true}
+use Rattle.std.proofs.lemmas.Bool.{eqb-true, false≢true, false_from_ne_true, or_parts}
 use Rattle.std.proofs.lemmas.List.Sums.{take_while-cons}
 use Rattle.std.proofs.lemmas.Slice.Eq.{bytes_eq-Decides}
 use Rattle.std.specs.List.{before_first}
@@ -27,10 +27,6 @@ neither (k ∷ ks) b e = absurd (never k ks e)
 pub or_nothing : (a : Kinds) → or_else a [] ≡ a
 or_nothing [] = refl
 or_nothing (k ∷ ks) = refl
-
-pub both_false : (a b : Bool) → (a || b) ≡ false → (a ≡ false) × (b ≡ false)
-both_false true b e = cc
-both_false false b e = (refl, e)
 
 -- ---- the name of a long flag
 
@@ -71,7 +67,7 @@ name_is (m ∷ ms) [] plain = refl
 name_is [] (x ∷ xs) plain =
     no_name x xs (x == 61) (has_byte 61 xs) refl ∙ ap (λ (t : Text). bytes_eq [] t && not ((x == 61) || has_byte 61 xs)) (sym (before_cons x xs))
 name_is (m ∷ ms) (x ∷ xs) plain =
-    let parts = both_false (m == 61) (has_byte 61 ms) plain in
+    let parts = or_parts (m == 61) (has_byte 61 ms) plain in
     by_head m x ms xs (x == 61) parts.0 (name_is ms xs parts.1) refl
     ∙ ap (λ (t : Text). bytes_eq (m ∷ ms) t && not ((x == 61) || has_byte 61 xs)) (sym (before_cons x xs))
 

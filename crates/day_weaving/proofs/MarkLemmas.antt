@@ -1,7 +1,6 @@
 -- Marks of the search for an order: where one is set, and what is left to do by it.
-use Rattle.std.proofs.Common.{◌≡◌, ◌<◌, ◌≤◌, ℕ, ◌+◌, ◌==◌, Bool, true, false, ◌⊎◌, inl, inr, nat_lt}
-use Rattle.std.proofs.Common.{List, length, slice_get, slice_set, slice_index_or, Some, arith, refl}
-use Rattle.std.proofs.Common.{sym, ap, ◌∙◌, eq-eqb}
+use Rattle.std.proofs.Common.{◌≡◌, ◌<◌, ◌≤◌, ℕ, ◌+◌, Bool, true, false, nat_lt, List, length}
+use Rattle.std.proofs.Common.{slice_get, slice_set, slice_index_or, Some, arith, refl, sym, ap, ◌∙◌}
 use Rattle.std.specs.List.{sum_by}
 use Rattle.std.proofs.lemmas.Bool.Decides.{nat_tests}
 use Rattle.std.proofs.lemmas.List.Sums.{sum_by-set}
@@ -33,17 +32,6 @@ one_place day table one other whole is is_too same =
     sym first.there ∙ ap (slice_get table.slots.items) same ∙ second.there in
     let slot : first.slot ≡ second.slot = cc in
     sym first.is_it ∙ ap (λ (s : Slot). s.action) slot ∙ second.is_it
-
-pub same_or_not : (a b : ℕ) → (a ≡ b) ⊎ (a ≡ b → ⊥)
-same_or_not a b = by_test (a == b) refl
-  where
-    by_test : (t : Bool) → (a == b) ≡ t → (a ≡ b) ⊎ (a ≡ b → ⊥)
-    by_test true test = let same : a ≡ b = grind (arith, nat_tests) in inl same
-    by_test false test =
-        inr (λ same.
-        let equal : (a == b) ≡ true = eq-eqb a b same in
-        let clash : true ≡ false = sym equal ∙ test in
-        absurd cc)
 
 pub less_or_not : (a b : ℕ) → a ≤ b → (a ≡ b → ⊥) → a < b
 less_or_not a b most apart = by_test (nat_lt a b) refl

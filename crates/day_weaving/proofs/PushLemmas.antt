@@ -3,6 +3,7 @@ use Rattle.std.proofs.Common.{◌≡◌, ◌<◌, ℕ, ◌+◌, ◌-◌, ◌⊎�
 use Rattle.std.proofs.Common.{slice_get, Some, arith, refl, sym, ap, subst, ◌∙◌}
 use Rattle.std.proofs.lemmas.List.{length-set}
 use Rattle.std.proofs.lemmas.Option.{slice_get_within}
+use Rattle.std.proofs.lemmas.Bool.{cases_eq}
 use Rattle.day_weaving.specs.DayOrder.{IsDirectlyBefore}
 use Rattle.day_weaving.specs.OrderCounts.{Counts}
 use Rattle.day_weaving.specs.OrderSearch.{HasCome, HasOrder, IsAction, IsLeft, IsOnWay, IsTable}
@@ -13,7 +14,7 @@ use Rattle.day_weaving.specs.declared.weave_search.Mark.TheVariants as mark
 use Rattle.day_weaving.specs.declared.weave_search.Search.{Search}
 use Rattle.day_weaving.specs.declared.weave_table.Table.{Table}
 use Rattle.day_weaving.proofs.ListPlaces.{got_end, got_left, got_push}
-use Rattle.day_weaving.proofs.MarkLemmas.{one_place, same_or_not, mark_here, mark_else, less_by}
+use Rattle.day_weaving.proofs.MarkLemmas.{one_place, mark_here, mark_else, less_by}
 
 -- An action comes onto the way.
 
@@ -45,7 +46,7 @@ module _ (day : RecordedDay) (table : Table) (before after : Search) (now : Acti
   pushed_placed : (action : ActionRef) → IsAction day action
       → mark_of table after.marks.items action ≡ Some mark.Placed → HasCome after.done action
   pushed_placed action is_too marked =
-      by_place (same_or_not (index_in table.firsts now) (index_in table.firsts action))
+      by_place (cases_eq (index_in table.firsts now) (index_in table.firsts action))
     where
       by_place : (index_in table.firsts now ≡ index_in table.firsts action)
           ⊎ (index_in table.firsts now ≡ index_in table.firsts action → ⊥)
@@ -62,7 +63,7 @@ module _ (day : RecordedDay) (table : Table) (before after : Search) (now : Acti
       → mark_of table after.marks.items action ≡ Some (mark.OnWay at)
       → slice_get after.way.items at ≡ Some action
   pushed_marked action at is_too marked =
-      by_place (same_or_not (index_in table.firsts now) (index_in table.firsts action))
+      by_place (cases_eq (index_in table.firsts now) (index_in table.firsts action))
     where
       by_place : (index_in table.firsts now ≡ index_in table.firsts action)
           ⊎ (index_in table.firsts now ≡ index_in table.firsts action → ⊥)

@@ -4,6 +4,7 @@ use Rattle.std.proofs.Common.{nat_le, nat_lt, List, length, slice_get, Option, S
 use Rattle.std.proofs.Common.{refl, sym, ap, subst, ◌∙◌, eq-eqb}
 use Rattle.std.specs.Option.{option_map_or}
 use Rattle.std.proofs.lemmas.Bool.Decides.{nat_tests}
+use Rattle.std.proofs.lemmas.Bool.{and_parts}
 use Rattle.quote_word.specs.declared.settled.Settled.{Settled}
 use Rattle.step_replay.specs.AuditTrail.{is_same_actor}
 use Rattle.venue_places.specs.declared.actors.Actor.{Actor}
@@ -20,10 +21,6 @@ use Rattle.day_weaving.proofs.DayFormLemmas.{action_there, action_within}
 use Rattle.day_weaving.proofs.MessageLemmas.{same_self}
 
 -- Tests.
-
-both_true : (a b : Bool) → (a && b) ≡ true → (a ≡ true) × (b ≡ true)
-both_true true b is = (refl, is)
-both_true false b is = cc
 
 pub come_of : (done : Counts) (action : ActionRef) (b : Bool)
     → b ≡ nat_le action.1 (count_in done (key_of action.0)) → b ≡ true → HasCome done action
@@ -83,7 +80,7 @@ granted_asks action word granted = by_word action.word refl
         (asked.0 == word) && is_as_wished action.kind asked.1) w false) (sym is) ∙ granted in
         absurd cc
     by_word (Some asked) is =
-        let parts = both_true (asked.0 == word) (is_as_wished action.kind asked.1)
+        let parts = and_parts (asked.0 == word) (is_as_wished action.kind asked.1)
         (ap (λ (w : Option (ℕ × Settled)). option_map_or (λ (one : ℕ × Settled).
         (one.0 == word) && is_as_wished action.kind one.1) w false) (sym is) ∙ granted) in
         let same : asked.0 ≡ word = grind (arith, nat_tests, parts.0) in
@@ -109,7 +106,7 @@ refused_asks action word refused = by_word action.word refl
         (asked.0 == word) && not (is_as_wished action.kind asked.1)) w false) (sym is) ∙ refused in
         absurd cc
     by_word (Some asked) is =
-        let parts = both_true (asked.0 == word) (not (is_as_wished action.kind asked.1))
+        let parts = and_parts (asked.0 == word) (not (is_as_wished action.kind asked.1))
         (ap (λ (w : Option (ℕ × Settled)). option_map_or (λ (one : ℕ × Settled).
         (one.0 == word) && not (is_as_wished action.kind one.1)) w false) (sym is) ∙ refused) in
         let same : asked.0 ≡ word = grind (arith, nat_tests, parts.0) in

@@ -1,24 +1,24 @@
 -- The numbers of firms and the rooms of investors, by the values of a configuration.
 use Rattle.std.proofs.Common.{◌≡◌, ℕ, ◌+◌, Bool, true, false, List, [], ◌∷◌, ◌++◌, length, map}
 use Rattle.std.proofs.Common.{cond, Option, Some, None, option_map, refl, sym, ap, ◌∙◌, arith}
-use Rattle.std.proofs.Common.{position}
-use Rattle.std.proofs.Common.{◌-◌, ◌<◌, nat_le, nat_lt, inl, inr}
+use Rattle.std.proofs.Common.{position, ◌-◌, ◌<◌, nat_le, nat_lt, inl, inr}
 use Rattle.std.specs.List.{position_from}
 use Rattle.std.proofs.lemmas.Bool.{cases_Bool}
 use Rattle.std.proofs.lemmas.Bool.Decides.{nat_tests}
-use Rattle.std.proofs.lemmas.List.{length-append}
+use Rattle.std.proofs.lemmas.List.{length-append, length-map}
 use Rattle.std.proofs.lemmas.Option.{slice_get-map}
 use Rattle.venue_rows.specs.Rows as rows
-use Rattle.venue_rows.specs.Rows.{Configuration, DealerValues, InvestorValues, values_of, dealer_values, investor_values}
-use Rattle.venue_rows.specs.Rows.{firm_names, firm_number, has_room, may_request}
+use Rattle.venue_rows.specs.Rows.{Configuration, DealerValues, InvestorValues, values_of}
+use Rattle.venue_rows.specs.Rows.{dealer_values, investor_values, firm_names, firm_number, has_room}
+use Rattle.venue_rows.specs.Rows.{may_request}
 use Rattle.venue_rows.specs.Texts.{same_text}
 use Rattle.venue_rows.specs.declared.dealer_rows.DealerRow.{DealerRow}
 use Rattle.venue_rows.specs.declared.investor_rows.InvestorRow.{InvestorRow}
 use Rattle.step_replay.specs.StepFaults.{firms_of}
 use Rattle.input_lines.specs.StepLines as by_values
 use Rattle.input_lines.specs.StepLines.{names_of_firms, firm_named, is_request_of, is_room}
-use Rattle.std.proofs.lemmas.List.{length-map}
 use Rattle.std.proofs.lemmas.Iterator.Adapters.{position_from-zero}
+use Rattle.std.proofs.lemmas.Simd.{map-map}
 
 -- where a test passes in front, and where it passes nowhere there
 found_more : (test : Bool) (i k : ℕ) (rest all : Option ℕ) → cond test (Some i) rest ≡ Some k → (rest ≡ Some k → all ≡ Some k) → cond test (Some i) all ≡ Some k
@@ -73,16 +73,12 @@ module _ {X Y : Type 0} (p : List ℕ → Bool) (f : X → List ℕ) (g : Y → 
 
 -- By the values of a configuration.
 
-mapped_twice : {X Y Z : Type 0} (g : Y → Z) (f : X → Y) (xs : List X) → map g (map f xs) ≡ map (λ x. g (f x)) xs
-mapped_twice g f [] = refl
-mapped_twice g f (x ∷ xs) = ap (λ rest. g (f x) ∷ rest) (mapped_twice g f xs)
-
 pub same_names : (config : Configuration) → names_of_firms (values_of config) ≡ firm_names config
 same_names config =
     ap (λ names. names ++ map (λ (row : InvestorValues). row.name) (map investor_values config.investors))
-    (mapped_twice (λ (row : DealerValues). row.name) dealer_values config.dealers)
+    (map-map (λ (row : DealerValues). row.name) dealer_values config.dealers)
     ∙ ap (λ names. map (λ (row : DealerRow). row.name) config.dealers ++ names)
-    (mapped_twice (λ (row : InvestorValues). row.name) investor_values config.investors)
+    (map-map (λ (row : InvestorValues). row.name) investor_values config.investors)
 
 pub same_firm : (config : Configuration) (name : List ℕ) → firm_named (values_of config) name ≡ firm_number config name
 same_firm config name = ap (position (λ own. same_text own name)) (same_names config)

@@ -6,6 +6,7 @@ use Rattle.std.specs.List.{list_any}
 use Rattle.std.proofs.lemmas.List.{append-nil}
 use Rattle.std.proofs.lemmas.List.Elements.{All-head}
 use Rattle.std.proofs.lemmas.List.Folds.{list_any-append}
+use Rattle.std.proofs.Math.Bool.{or-false}
 use Rattle.quote_word.specs.declared.settled.Settled.{Settled}
 use Rattle.quote_word.specs.declared.settled.Settled.TheVariants.{Withdrawn, Lifted}
 use Rattle.venue_rows.specs.declared.dealer_rows.DealerRow.{DealerRow}
@@ -19,9 +20,8 @@ use Rattle.step_replay.specs.declared.dues.Due.TheVariants as due
 use Rattle.recorded_days.specs.DayDues.{after_recorded, settlement_taken, lifting_learned}
 use Rattle.recorded_days.proofs.DayDueLemmas.{AreOne, none_says}
 use Rattle.recorded_days.proofs.DeskLemmas.{view_of}
-use Rattle.recorded_days.proofs.DaySeenLemmas.{WithdrawnIsSaid, IsOfDay, walk_of, DaySeen, or_false}
-use Rattle.recorded_days.proofs.DaySeenLemmas.{or_true, pushed, walk_pushed, view_pushed}
-use Rattle.recorded_days.proofs.DaySeenLemmas.{lifting_seen}
+use Rattle.recorded_days.proofs.DaySeenLemmas.{WithdrawnIsSaid, IsOfDay, walk_of, DaySeen, or_true}
+use Rattle.recorded_days.proofs.DaySeenLemmas.{pushed, walk_pushed, view_pushed, lifting_seen}
 
 module _ (date : List ℕ) (row : DealerRow) where
   -- A message or a drop.
@@ -109,7 +109,7 @@ module _ (date : List ℕ) (row : DealerRow) where
           lifted_are = λ other. before.lifted_are other
               ∙ sym (ap (list_any (says_lifted other)) said_now
               ∙ list_any-append (says_lifted other) words ((quote, Withdrawn) ∷ [])
-              ∙ or_false (list_any (says_lifted other) words));
+              ∙ or-false (list_any (says_lifted other) words));
         }
     asking_seen (Some quote) (Some Lifted) both_are of_day recorded due_is said_now one last =
         let is : word_of quote ≡ Some Lifted =

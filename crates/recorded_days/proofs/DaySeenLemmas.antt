@@ -64,10 +64,6 @@ start_is_seen date row = record {
   lifted_are = λ quote. refl;
 }
 
-pub or_false : (b : Bool) → (b || false) ≡ b
-or_false true = refl
-or_false false = refl
-
 pub or_true : (b : Bool) → (b || (true || false)) ≡ true
 or_true true = refl
 or_true false = refl

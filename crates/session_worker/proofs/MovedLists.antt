@@ -2,7 +2,7 @@
 use Rattle.std.proofs.Common.{◌≡◌, ◌<◌, ◌∙◌, sym, ap, refl, ℕ, ◌+◌, ◌-◌, suc, List, [], ◌∷◌, ◌++◌}
 use Rattle.std.proofs.Common.{length, map, take, drop, get_or, ◌⊎◌, inl, inr, append_assoc, arith}
 use Rattle.std.proofs.Common.{length-append, length-drop}
-use Rattle.std.proofs.lemmas.List.{append-nil, drop_more, map-append}
+use Rattle.std.proofs.lemmas.List.{append-nil, drop_more, map-append, nil_from_length}
 use Rattle.std.proofs.lemmas.Grind.{take_at_read}
 
 -- Lists.
@@ -39,17 +39,13 @@ ended_too xs (y ∷ ys) same is =
     let some : length ys + 1 ≡ 0 = omega (arith, none, same) in
     absurd (omega (arith, some))
 
-pub none_left : {A : Type 0} (xs : List A) → length xs ≡ 0 → xs ≡ []
-none_left [] is = refl
-none_left (x ∷ xs) is = let some : suc (length xs) ≡ 0 = is in absurd (omega (arith, some))
-
 -- two lists of one length have both ended where one has
 pub both_ended : {A B : Type 0} (xs : List A) (ys : List B) (m n : ℕ) → m ≡ length xs
     → n ≡ length ys → length ys ≡ length xs → (m ≡ 0) ⊎ (n ≡ 0) → (xs ≡ []) × (ys ≡ [])
 both_ended xs ys m n first second same (inl none) =
-    (none_left xs (sym first ∙ none), none_left ys (same ∙ sym first ∙ none))
+    (nil_from_length xs (sym first ∙ none), nil_from_length ys (same ∙ sym first ∙ none))
 both_ended xs ys m n first second same (inr none) =
-    (none_left xs (sym same ∙ sym second ∙ none), none_left ys (sym second ∙ none))
+    (nil_from_length xs (sym same ∙ sym second ∙ none), nil_from_length ys (sym second ∙ none))
 
 -- one list grows by what the other loses
 pub moved : {A B C : Type 0} (f : A → C) (h : B → C) (xs : List A) (x : A) (y : B)

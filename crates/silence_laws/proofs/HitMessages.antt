@@ -3,6 +3,7 @@ use Rattle.std.proofs.Common.{◌≡◌, ℕ, Bool, true, false, ◌&&◌, not, 
 use Rattle.std.proofs.Common.{None, option_map, is_some, fold, refl, if◌then◌else◌}
 use Rattle.std.specs.List.{list_any}
 use Rattle.std.specs.Option.{option_to_list}
+use Rattle.std.proofs.lemmas.Bool.{or_parts}
 use Rattle.fix_fields.specs.Frame.{frame_of}
 use Rattle.market_terms.specs.declared.duties.Duty.{Duty}
 use Rattle.market_terms.specs.declared.duties.Duty.TheVariants as duty
@@ -28,7 +29,6 @@ use Rattle.step_replay.specs.declared.steps.Step.{Step}
 use Rattle.step_replay.specs.declared.steps.Step.TheVariants as step
 use Rattle.silence_laws.specs.Silence.{is_hit, has_hit, says_hit, brings_hit, is_of_another}
 use Rattle.silence_laws.specs.Silence.{acts_as_another}
-use Rattle.silence_laws.proofs.FilterLemmas.{or_parts}
 use Rattle.silence_laws.proofs.LeftDuties.{quoting_plain, said_quoting}
 use Rattle.silence_laws.proofs.Quiet.{IsPlain, IsQuoting, Fits, is_plain, is_quoting}
 use Rattle.silence_laws.proofs.QuietVerdicts.{hits}

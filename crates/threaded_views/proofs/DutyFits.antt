@@ -3,6 +3,7 @@ use Rattle.std.proofs.Common.{◌≡◌, ℕ, ◌==◌, ◌&&◌, Bool, true, fa
 use Rattle.std.proofs.Common.{is_some, option_map, if◌then◌else◌, refl, ap, subst, ◌∙◌, arith}
 use Rattle.std.specs.Prelude.{option_and_then}
 use Rattle.std.proofs.lemmas.Bool.Decides.{nat_tests}
+use Rattle.std.proofs.lemmas.Bool.{and_from}
 use Rattle.market_terms.specs.declared.duties.Duty.{Duty}
 use Rattle.market_terms.specs.declared.duties.Duty.TheVariants as duty
 use Rattle.market_terms.specs.declared.rooms.ResponseRef.{ResponseRef}
@@ -30,7 +31,7 @@ use Rattle.step_replay.specs.VenueFacts.{Fact, of_investor}
 use Rattle.venue_laws.specs.Conditions.{holds_for, is_known, is_known_to, is_met}
 use Rattle.investor_views.specs.Comings.{Coming, For, at_desk_of}
 use Rattle.threaded_views.specs.DayViews.{fits}
-use Rattle.threaded_views.proofs.FitLemmas.{both_hold, first_holds, second_holds}
+use Rattle.threaded_views.proofs.FitLemmas.{first_holds, second_holds}
 
 -- whether what comes to a desk with this book fits, where something comes
 abbrev pub fits_if : InvestorBook → Option Coming → Bool
@@ -128,7 +129,7 @@ module _ (config : Configuration) (number : ℕ) (row : InvestorRow)
       → (meets && is_known config facts room response.k) ≡ true
       → (room.investor == number) ≡ true → (knows book room.n response.k && meets) ≡ true
   answer_fits room response meets met same =
-      both_hold (knows book room.n response.k) meets
+      and_from (knows book room.n response.k) meets
       (knows_it room response.k
       (second_holds meets (is_known config facts room response.k) met) same)
       (first_holds meets (is_known config facts room response.k) met)

@@ -29,10 +29,6 @@ pub second_holds : (a b : Bool) → (a && b) ≡ true → b ≡ true
 second_holds true b is = is
 second_holds false b is = cc
 
-pub both_hold : (a b : Bool) → a ≡ true → b ≡ true → (a && b) ≡ true
-both_hold true b one other = other
-both_hold false b one other = cc
-
 -- What fits leaves its event.
 
 where_true : (may : Bool) (desk : DeskEvents) (more : InvestorEvent) → may ≡ true

@@ -1,7 +1,7 @@
 -- How a run ends by its arguments.
 use Rattle.std.proofs.Common.{◌≡◌, ◌<◌, ◌||◌, ◌⊎◌, ◌==◌, refl, subst, inl, inr, ℕ, Bool, true}
 use Rattle.std.proofs.Common.{false, List, [], ◌∷◌, length, map, arith, Option, Some, None}
-use Rattle.std.proofs.lemmas.Bool.{false≢true}
+use Rattle.std.proofs.lemmas.Bool.{false≢true, or_right}
 use Rattle.std.specs.List.{list_any}
 use Rattle.std.specs.Prelude.{is_some, option_map}
 use Rattle.clap.specs.declared.error.Error.{Error}
@@ -27,15 +27,11 @@ first_or : (a b : Bool) → (a || false) ≡ true → (a || b) ≡ true
 first_or true b h = refl
 first_or false b h = cc
 
-second_or : (a b : Bool) → b ≡ true → (a || b) ≡ true
-second_or true b h = refl
-second_or false b h = h
-
 -- what holds of a kind holds of one of the kinds that it is among
 any_among : (p : ErrorKind → Bool) (k : ErrorKind) (kinds : Kinds) → IsAmong k kinds → list_any p (k ∷ []) ≡ true → list_any p kinds ≡ true
 any_among p k [] is h = absurd is
 any_among p k (x ∷ xs) (inl e) h = first_or (p x) (list_any p xs) (subst (λ y. (p y || false) ≡ true) e h)
-any_among p k (x ∷ xs) (inr is) h = second_or (p x) (list_any p xs) (any_among p k xs is h)
+any_among p k (x ∷ xs) (inr is) h = or_right (p x) (list_any p xs) (any_among p k xs is h)
 
 -- what is told of an error is told of the arguments that it may come of
 told_of : (kinds : Kinds) (k : ErrorKind) (status : ℕ) (out err : Written) → (k ≡ OutOfMemory) ⊎ IsAmong k kinds

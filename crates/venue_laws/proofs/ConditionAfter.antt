@@ -8,6 +8,7 @@ use Rattle.std.proofs.lemmas.List.{append-nil}
 use Rattle.std.proofs.lemmas.List.Elements.{filter_map-append}
 use Rattle.std.proofs.lemmas.List.Folds.{list_any-append}
 use Rattle.std.proofs.lemmas.List.Sums.{sum_by-append}
+use Rattle.std.proofs.lemmas.Bool.{and_parts, not-true}
 use Rattle.market_terms.specs.Dealers.{are_distinct}
 use Rattle.market_terms.specs.declared.duties.Duty.{Duty}
 use Rattle.step_replay.specs.Actions.{Effect}
@@ -18,7 +19,7 @@ use Rattle.step_replay.specs.EachLemmas.{Each, Every, each_append, every_both, e
 use Rattle.step_replay.specs.GrowthLemmas.{In, any_right}
 use Rattle.step_replay.specs.QueueLemmas.{same_actor}
 use Rattle.venue_laws.proofs.VenueInvariant.{duties_by}
-use Rattle.venue_laws.proofs.VenueRoomFacts.{both_true, named_in, not_so}
+use Rattle.venue_laws.proofs.VenueRoomFacts.{named_in}
 use Rattle.venue_laws.proofs.VenueTurns.{actors_are, left_by, next_of}
 use Rattle.venue_laws.proofs.ConditionOnce.{OnceOk, once_stays, FactDone, Grows, done_stays, did_in}
 use Rattle.venue_laws.proofs.ConditionOnce.{Once, venue_with, FirstIn}
@@ -175,9 +176,9 @@ module _ (make : ℕ → Duty) (test : ℕ → Duty → Bool)
       → Each OnceOk front (map make dealers)
   each_once front [] distinct clear = tt
   each_once front (dealer ∷ dealers) distinct clear =
-      let parts = both_true (not (list_any (λ (named : ℕ). named == dealer) dealers))
+      let parts = and_parts (not (list_any (λ (named : ℕ). named == dealer) dealers))
       (are_distinct dealers) distinct in
-      let apart = not_so (list_any (λ (named : ℕ). named == dealer) dealers) parts.0 in (
+      let apart = not-true (list_any (λ (named : ℕ). named == dealer) dealers) parts.0 in (
         once front dealer (map make dealers) (clear dealer (inl refl)),
         each_once (front ++ make dealer ∷ []) dealers parts.1
             (λ other is.

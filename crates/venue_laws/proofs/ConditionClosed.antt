@@ -4,6 +4,7 @@ use Rattle.std.proofs.Common.{Option, Some, None, if◌then◌else◌, refl, ap,
 use Rattle.std.specs.Prelude.{Result, Ok, Err}
 use Rattle.std.specs.List.{list_any}
 use Rattle.std.proofs.lemmas.List.Folds.{list_any-append}
+use Rattle.std.proofs.lemmas.Bool.{and_parts, not-true}
 use Rattle.market_terms.specs.declared.closes.HitRefusal.{HitRefusal}
 use Rattle.market_terms.specs.declared.duties.Duty.{Duty}
 use Rattle.market_terms.specs.declared.duties.Duty.TheVariants as duty
@@ -33,7 +34,7 @@ use Rattle.venue_laws.proofs.ConditionAfter.{each_once}
 use Rattle.venue_laws.proofs.ConditionOnce.{FactDone, OnceOk, tells_it}
 use Rattle.step_replay.specs.EachLemmas.{Each, Every, every_both}
 use Rattle.venue_laws.proofs.VenueInvariant.{VenueOk, duties_by}
-use Rattle.venue_laws.proofs.VenueRoomFacts.{both_true, none_some, not_so}
+use Rattle.venue_laws.proofs.VenueRoomFacts.{none_some}
 use Rattle.venue_laws.proofs.ConditionTurns.{none_of, untold}
 
 module _ (config : Configuration) (venue : AuditTrail) (stood : VenueOk config venue)
@@ -71,8 +72,8 @@ module _ (config : Configuration) (venue : AuditTrail) (stood : VenueOk config v
       → ((dealer : ℕ) → tells_it dealer room head ≡ false) → is_open (known room) ≡ true
       → Each OnceOk queue (head ∷ told_in (known room) room end moment)
   ended_order room end moment head free silent was_open =
-      let none = none_some (end_of (known room)) (not_so (is_ended (known room))
-      (both_true (is_ready (known room)) (not (is_ended (known room))) was_open).1) in (
+      let none = none_some (end_of (known room)) (not-true (is_ended (known room))
+      (and_parts (is_ready (known room)) (not (is_ended (known room))) was_open).1) in (
         free_once queue head (told_in (known room) room end moment) free,
         told_order (queue ++ head ∷ []) room end moment
             (λ dealer. list_any-append (tells_it dealer room) queue (head ∷ [])
@@ -119,7 +120,7 @@ module _ (config : Configuration) (venue : AuditTrail) (stood : VenueOk config v
       by_test : (b : Bool) → may_expire (known room) moment ≡ b → Brings (effect b)
       by_test true is = record {
         order = ended_order room expired moment (duty.Close room moment) refl (λ dealer. refl)
-            (both_true (is_open (known room))
+            (and_parts (is_open (known room))
             (is_past_deadline (request_of (known room)) moment) is).0;
         done = (tt, tt);
       }

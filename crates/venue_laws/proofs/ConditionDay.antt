@@ -1,11 +1,11 @@
 -- What happens once happens once in every venue, after every list of steps.
-use Rattle.std.proofs.Common.{◌≡◌, ◌≤◌, ℕ, ◌+◌, ◌==◌, Bool, true, false, ◌&&◌}
-use Rattle.std.proofs.Common.{List, [], ◌∷◌, ◌++◌, length, option_to_list}
-use Rattle.std.proofs.Common.{None, option_map, is_some, if◌then◌else◌}
+use Rattle.std.proofs.Common.{◌≡◌, ◌≤◌, ℕ, ◌+◌, ◌==◌, Bool, true, false, ◌&&◌, List, [], ◌∷◌, ◌++◌}
+use Rattle.std.proofs.Common.{length, option_to_list, None, option_map, is_some, if◌then◌else◌}
 use Rattle.std.proofs.Common.{refl, sym, ap, ◌∙◌, subst, arith, eq-eqb}
 use Rattle.std.specs.List.{list_any}
 use Rattle.std.proofs.lemmas.List.{append-nil, append_assoc}
 use Rattle.std.proofs.lemmas.List.Sums.{fold-append}
+use Rattle.std.proofs.lemmas.Bool.{and_from}
 use Rattle.market_terms.specs.declared.duties.Duty.{Duty}
 use Rattle.market_terms.specs.declared.duties.Duty.TheVariants as duty
 use Rattle.market_terms.specs.declared.rooms.RoomRef.{RoomRef}
@@ -57,7 +57,7 @@ use Rattle.venue_laws.proofs.ConditionTurns.{by_investor, none_of, opened_first,
 use Rattle.venue_laws.proofs.ConditionTurns.{unless_first}
 use Rattle.step_replay.specs.EachLemmas.{Each}
 use Rattle.step_replay.specs.GrowthLemmas.{same_room}
-use Rattle.venue_laws.proofs.KnownLemmas.{both_so, known_asked}
+use Rattle.venue_laws.proofs.KnownLemmas.{known_asked}
 use Rattle.venue_laws.proofs.VenueDay.{venue_ok}
 use Rattle.venue_laws.proofs.VenueInvariant.{VenueOk, duties_by, number_for, shows}
 use Rattle.venue_laws.proofs.VenueRoomFacts.{room_self}
@@ -83,7 +83,7 @@ module _ (config : Configuration) where
       pair_self : (dealer : ℕ) (room : RoomRef)
           → ((dealer == dealer) && is_same_room room room) ≡ true
       pair_self dealer room =
-          both_so (dealer == dealer) (is_same_room room room) (eq-eqb dealer dealer refl)
+          and_from (dealer == dealer) (is_same_room room room) (eq-eqb dealer dealer refl)
           (room_self room)
 
       -- a duty that was just done

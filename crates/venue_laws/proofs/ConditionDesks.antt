@@ -1,9 +1,10 @@
 -- What comes to an investor's desk brings what stands of its requests and quotes.
-use Rattle.std.proofs.Common.{◌≡◌, ℕ, ◌+◌, ◌==◌, Bool, true, false, ◌&&◌, ◌||◌, not, nat_le}
-use Rattle.std.proofs.Common.{List, [], ◌∷◌, ◌++◌, length}
-use Rattle.std.proofs.Common.{Option, Some, None, is_some}
-use Rattle.std.proofs.Common.{refl, sym, ap, ◌∙◌, arith, eq-eqb}
+use Rattle.std.proofs.Common.{◌≡◌, ℕ, ◌+◌, ◌==◌, Bool, true, false, ◌&&◌, ◌||◌, nat_le, List, []}
+use Rattle.std.proofs.Common.{◌∷◌, ◌++◌, length, Option, Some, None, is_some, refl, sym, ap, ◌∙◌}
+use Rattle.std.proofs.Common.{arith, eq-eqb}
 use Rattle.std.proofs.lemmas.Bool.Decides.{nat_tests}
+use Rattle.std.proofs.Math.Bool.{or-true}
+use Rattle.std.proofs.lemmas.Bool.{not-false}
 use Rattle.market_terms.specs.Dealers.{are_distinct}
 use Rattle.market_terms.specs.declared.closes.Reply.{Reply}
 use Rattle.market_terms.specs.declared.rooms.Offer.{Offer}
@@ -72,14 +73,6 @@ VerdictFit row facts (verdict.Hits request response word) = HitFit facts request
 VerdictFit row facts (verdict.Passes request response) = PassFit facts request response
 VerdictFit row facts other = Unit {0}
 
-or_true : (b : Bool) → (b || true) ≡ true
-or_true true = refl
-or_true false = refl
-
-not_false : (b : Bool) → not b ≡ false → b ≡ true
-not_false true is = refl
-not_false false is = cc
-
 requests_asked : (facts : List InvestorFact)
     → Every (λ (own : StandingRequest). asked facts own.request.number ≡ true) (requests_of facts)
 requests_asked [] = tt
@@ -88,7 +81,7 @@ requests_asked (Asked request ∷ facts) = (
   every_weaker (λ (own : StandingRequest). asked facts own.request.number ≡ true)
       (λ (own : StandingRequest). asked (Asked request ∷ facts) own.request.number ≡ true)
       (λ own is. ap (λ b. (request.number == own.request.number) || b) is
-      ∙ or_true (request.number == own.request.number))
+      ∙ or-true (request.number == own.request.number))
       (requests_of facts) (requests_asked facts),
 )
 requests_asked (fact ∷ facts) = requests_asked facts
@@ -114,7 +107,7 @@ module _ (config : Configuration) (firm : ℕ) (row : InvestorRow) (may : ℕ �
         record {
           number_is = refl;
           within = of_day (length (requests_of facts)) checks.1.1.1.1.1.1.1.1.0;
-          distinct = not_false (are_distinct (dealer_numbers market request.dealers))
+          distinct = not-false (are_distinct (dealer_numbers market request.dealers))
               checks.1.1.1.1.1.0;
         }
       where

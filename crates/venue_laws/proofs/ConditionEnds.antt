@@ -1,8 +1,8 @@
 -- The end of a room brings what makes the duties that are left meet their tests.
-use Rattle.std.proofs.Common.{◌≡◌, ℕ, Bool, true, false, not}
-use Rattle.std.proofs.Common.{List, [], ◌∷◌, ◌++◌, map, Option, Some, None, is_some}
-use Rattle.std.proofs.Common.{if◌then◌else◌, refl, sym, ap, ◌∙◌}
+use Rattle.std.proofs.Common.{◌≡◌, ℕ, Bool, true, false, not, List, [], ◌∷◌, ◌++◌, map, Option}
+use Rattle.std.proofs.Common.{Some, None, is_some, if◌then◌else◌, refl, sym, ap, ◌∙◌}
 use Rattle.std.specs.Prelude.{Result, Ok, Err}
+use Rattle.std.proofs.lemmas.Bool.{and_parts, not-true}
 use Rattle.market_terms.specs.declared.closes.HitRefusal.{HitRefusal}
 use Rattle.market_terms.specs.declared.closes.HitRefusal.TheVariants as refusal
 use Rattle.market_terms.specs.declared.duties.Duty.{Duty}
@@ -14,20 +14,16 @@ use Rattle.venue_rows.specs.Rows.{Configuration}
 use Rattle.request_room.specs.Book.{award_of, end_by, event_facts, expired, hit_checks, hit_outcome}
 use Rattle.request_room.specs.Book.{hit_refusal, hit_settled, is_lift, is_past_deadline, may_expire}
 use Rattle.request_room.specs.Book.{passed, reply_of, where_so}
-use Rattle.request_room.specs.RoomFacts.{Ended, RoomFact}
-use Rattle.request_room.specs.RoomFacts.{end_of, ended_as, is_ended, is_open}
-use Rattle.request_room.specs.RoomFacts.{is_ready}
-use Rattle.request_room.specs.RoomFacts.{request_of}
+use Rattle.request_room.specs.RoomFacts.{Ended, RoomFact, end_of, ended_as, is_ended, is_open}
+use Rattle.request_room.specs.RoomFacts.{is_ready, request_of}
 use Rattle.request_room.specs.declared.ends.End.{End}
 use Rattle.request_room.specs.declared.ends.EndKind.{EndKind}
 use Rattle.request_room.specs.declared.ends.EndKind.TheVariants as ends
 use Rattle.request_room.specs.declared.events.RoomEvent.TheVariants as at_room
 use Rattle.request_room.specs.declared.requests.RoomRequest.{RoomRequest}
 use Rattle.venue_steps.specs.InvestorSteps.{replies_to}
-use Rattle.venue_steps.specs.RoomSteps.{close_for, dealers_of, duties_of_expire}
-use Rattle.venue_steps.specs.RoomSteps.{duties_of_pass}
-use Rattle.venue_steps.specs.RoomSteps.{reply_to_pass}
-use Rattle.venue_steps.specs.RoomSteps.{told_in, told_of_hit}
+use Rattle.venue_steps.specs.RoomSteps.{close_for, dealers_of, duties_of_expire, duties_of_pass}
+use Rattle.venue_steps.specs.RoomSteps.{reply_to_pass, told_in, told_of_hit}
 use Rattle.step_replay.specs.Actions.{Effect, QuoteRef, hit_with, in_room, lifting, quote_with_word}
 use Rattle.step_replay.specs.DutyEffects.{sweep_effect}
 use Rattle.step_replay.specs.AuditTrail.{Caused}
@@ -35,14 +31,13 @@ use Rattle.step_replay.specs.VenueFacts.{Fact, InRoom, of_investor, of_room}
 use Rattle.venue_places.specs.declared.actors.Actor.{Actor}
 use Rattle.venue_places.specs.declared.actors.Actor.TheVariants as actor
 use Rattle.venue_laws.proofs.ConditionEffects.{BringsFit, room_fits, same_desks}
-use Rattle.venue_laws.proofs.ConditionInvariant.{DutyFit, FactFit, Fit, HitsIn}
-use Rattle.venue_laws.proofs.ConditionInvariant.{PassesIn, closer, known_stays}
-use Rattle.venue_laws.proofs.ConditionInvariant.{opened_stays}
+use Rattle.venue_laws.proofs.ConditionInvariant.{DutyFit, FactFit, Fit, HitsIn, PassesIn, closer}
+use Rattle.venue_laws.proofs.ConditionInvariant.{known_stays, opened_stays}
 use Rattle.step_replay.specs.EachLemmas.{Every, every_both}
 use Rattle.step_replay.specs.GrowthLemmas.{said_after}
 use Rattle.step_replay.specs.PlaceLemmas.{investor_grown, investor_in_room, own_room, room_grown}
 use Rattle.venue_laws.proofs.AcceptedQuotes.{none_holds}
-use Rattle.venue_laws.proofs.VenueRoomFacts.{both_true, every_map, none_some, not_so}
+use Rattle.venue_laws.proofs.VenueRoomFacts.{every_map, none_some}
 use Rattle.venue_laws.proofs.ConditionRooms.{in_room_fits, room_now}
 
 -- what an award says
@@ -111,7 +106,7 @@ module _ (config : Configuration) (facts : List Fact) (caused : List Caused)
       ap end_of is
       ∙ said_after ended_as known (Ended end moment ∷ [])
       (none_some (end_of known)
-      (not_so (is_ended known) (both_true (is_ready known) (not (is_ended known)) was_open).1))
+      (not-true (is_ended known) (and_parts (is_ready known) (not (is_ended known)) was_open).1))
 
   pub passed_fits : (response : ResponseRef) (moment : ℕ) → PassesIn config facts by room response
       → Brings (in_room config facts room true (at_room.Pass moment)
@@ -181,7 +176,7 @@ module _ (config : Configuration) (facts : List Fact) (caused : List Caused)
       by_test : (b : Bool) → may_expire known moment ≡ b → Brings (effect b)
       by_test true is =
           let added = Ended expired moment ∷ [] in
-          let parts = both_true (is_open known) (is_past_deadline (request_of known) moment) is in
+          let parts = and_parts (is_open known) (is_past_deadline (request_of known) moment) is in
           room_fits config facts caused before by room added (left true) (tt, tt) (
             opened_stays config facts (map (InRoom room) added) room
                 (requested (request_of known) parts.1),

@@ -3,6 +3,7 @@ use Rattle.std.proofs.Common.{◌≡◌, ℕ, Bool, true, false, ◌&&◌, ◌||
 use Rattle.std.proofs.Common.{count_by, filter_map, take, Option, Some, None, option_map, is_some}
 use Rattle.std.proofs.Common.{is_none, refl, sym, ap, ◌∙◌, subst}
 use Rattle.std.proofs.lemmas.Option.{same_Some}
+use Rattle.std.proofs.lemmas.Bool.{and_from}
 use Rattle.market_terms.specs.declared.closes.HitRefusal.{HitRefusal}
 use Rattle.market_terms.specs.declared.duties.Duty.{Duty}
 use Rattle.market_terms.specs.declared.duties.Duty.TheVariants as duty
@@ -34,7 +35,6 @@ use Rattle.venue_laws.proofs.ConditionInvariant.{KnownIn, OpenedFit}
 use Rattle.venue_laws.proofs.ConditionQuotes.{AsksOfDay, DropsOfDay, asks_of_day, drops_of_day}
 use Rattle.step_replay.specs.EachLemmas.{Every}
 use Rattle.step_replay.specs.GrowthLemmas.{names_some, same_room}
-use Rattle.venue_laws.proofs.KnownLemmas.{both_so}
 use Rattle.venue_laws.proofs.AcceptedQuotes.{none_holds}
 use Rattle.venue_laws.proofs.VenueInvariant.{DutyOk, PostOk, RoomOk, VenueOk, duties_by}
 use Rattle.venue_laws.proofs.VenueRooms.{all_known}
@@ -141,7 +141,7 @@ module _ (config : Configuration) (venue : AuditTrail) (stood : VenueOk config v
   heard : (by : Actor) (room : RoomRef) (named : ByNamed config venue.facts by room)
       → is_heard config venue.facts room (dealer_of named.who.dealer named.who.row) ≡ true
   heard by room named =
-      both_so (is_room config room) _ (known_named room named.who.dealer named.named).has
+      and_from (is_room config room) _ (known_named room named.who.dealer named.named).has
       (or_true (is_vacant (known room)) (is_named (known room) named.who.dealer) named.named)
 
   heard_on : (by : Actor) (room : RoomRef) (named : ByNamed config venue.facts by room)
@@ -150,7 +150,7 @@ module _ (config : Configuration) (venue : AuditTrail) (stood : VenueOk config v
   heard_on by room named quote within =
       let own = dealer_of named.who.dealer named.who.row in
       acts by named.who (is_heard_on config venue.facts room quote)
-      (both_so (has_word_for config own quote) (is_heard config venue.facts room own)
+      (and_from (has_word_for config own quote) (is_heard config venue.facts room own)
       (word_within config named.who.dealer named.who.row named.who.row_is quote within)
       (heard by room named))
 
@@ -204,16 +204,16 @@ module _ (config : Configuration) (venue : AuditTrail) (stood : VenueOk config v
   met drops by (duty.Decline room moment) lasts fits ok =
       acts by fits.who (is_heard config venue.facts room) (heard by room fits)
   met drops by (duty.Declined room moment) lasts fits ok =
-      both_so (is_some (acting_dealer config by)) (is_known config venue.facts room None)
+      and_from (is_some (acting_dealer config by)) (is_known config venue.facts room None)
       (is_acting by fits.who)
       (is_known_in room None (known_named room fits.who.dealer fits.named))
   met drops by (duty.Hit room response word moment) lasts fits ok =
-      both_so (is_room config room)
+      and_from (is_room config room)
       (has_word (words_of config) (hit_word (known room) word moment))
       fits.known.has (hit_asks room word moment)
   met drops by (duty.Pass room response moment) lasts fits ok = fits.known.has
   met drops by (duty.Answer room response reply moment) lasts fits ok =
-      both_so (replies_to response.k reply) (is_known config venue.facts room response.k)
+      and_from (replies_to response.k reply) (is_known config venue.facts room response.k)
       fits.answers_it (is_known_in room response.k fits.known)
   met drops by (duty.Close room moment) lasts fits ok =
       is_known_in room None (known_opened room fits)

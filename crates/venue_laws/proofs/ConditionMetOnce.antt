@@ -5,6 +5,7 @@ use Rattle.std.proofs.Common.{Option, Some, None, option_map, is_none, is_some, 
 use Rattle.std.proofs.Common.{subst}
 use Rattle.std.specs.List.{list_any}
 use Rattle.std.proofs.lemmas.Option.{same_Some}
+use Rattle.std.proofs.lemmas.Bool.{and_from}
 use Rattle.market_terms.specs.declared.closes.Close.{Close}
 use Rattle.market_terms.specs.declared.duties.Duty.{Duty}
 use Rattle.market_terms.specs.declared.duties.Duty.TheVariants as duty
@@ -34,7 +35,6 @@ use Rattle.venue_laws.proofs.ConditionTable.{duties_fit}
 use Rattle.venue_laws.proofs.CountLemmas.{numbered_shown}
 use Rattle.step_replay.specs.EachLemmas.{Every, each_of}
 use Rattle.step_replay.specs.GrowthLemmas.{names_some}
-use Rattle.venue_laws.proofs.KnownLemmas.{both_so}
 use Rattle.venue_laws.proofs.ShownRequests.{told_or_closable}
 use Rattle.venue_laws.proofs.VenueInvariant.{DutyOk, IsDealer, TellsIn, VenueOk, duties_by}
 use Rattle.venue_laws.proofs.VenueInvariant.{number_for, shows}
@@ -81,7 +81,7 @@ module _ (config : Configuration) (venue : AuditTrail) (stood : VenueOk config v
       → OpensIn config venue.facts by room dealers → list_any (begins room) (did by) ≡ false
       → (is_room config room && is_vacant (known room)) ≡ true
   open_met by room dealers opens none =
-      both_so (is_room config room) (is_vacant (known room)) opens.known.has
+      and_from (is_room config room) (is_vacant (known room)) opens.known.has
       (by_request (request_of (known room)) refl)
     where
       vacant : (request : Option RoomRequest) (b : Bool) → request ≡ None → b ≡ false
@@ -148,7 +148,7 @@ module _ (config : Configuration) (venue : AuditTrail) (stood : VenueOk config v
       → list_any (readies room) (did by) ≡ false
       → (is_room config room && is_opening (known room)) ≡ true
   ready_met by room fits none =
-      both_so (is_room config room) (is_opening (known room))
+      and_from (is_room config room) (is_opening (known room))
       (known_opened config venue stood fit room fits.opened).has
       (three (is_some (request_of (known room))) (is_ready (known room)) (is_ended (known room))
       fits.opened unready

@@ -1,41 +1,36 @@
 -- What happens in a room brings what makes the duties that are left meet their tests.
-use Rattle.std.proofs.Common.{◌≡◌, ℕ, Bool, true, false, ◌&&◌, not, is_none}
-use Rattle.std.proofs.Common.{List, [], ◌∷◌, ◌++◌, map, Option, Some, None, is_some}
-use Rattle.std.proofs.Common.{if◌then◌else◌, refl, ap, ◌∙◌}
+use Rattle.std.proofs.Common.{◌≡◌, ℕ, Bool, true, false, ◌&&◌, not, is_none, List, [], ◌∷◌, ◌++◌}
+use Rattle.std.proofs.Common.{map, Option, Some, None, is_some, if◌then◌else◌, refl, ap, ◌∙◌}
+use Rattle.std.proofs.lemmas.Bool.{and_parts}
 use Rattle.market_terms.specs.declared.asks.Ask.{Ask}
 use Rattle.market_terms.specs.declared.duties.Duty.{Duty}
 use Rattle.market_terms.specs.declared.duties.Duty.TheVariants as duty
 use Rattle.market_terms.specs.declared.rooms.RoomRef.{RoomRef}
 use Rattle.venue_rows.specs.Rows.{Configuration}
 use Rattle.venue_rows.specs.declared.dealer_rows.DealerRow.{DealerRow}
-use Rattle.request_room.specs.Book.{event_facts}
-use Rattle.request_room.specs.Book.{may_unpost, quote_posted, stands, where_so}
+use Rattle.request_room.specs.Book.{event_facts, may_unpost, quote_posted, stands, where_so}
 use Rattle.request_room.specs.Book.{book_of}
-use Rattle.request_room.specs.RoomFacts.{Noted, Opened, Posted, Readied, RoomFact, Unposted}
-use Rattle.request_room.specs.RoomFacts.{hears, is_ended}
-use Rattle.request_room.specs.RoomFacts.{is_opening, is_vacant, names, opened_for}
+use Rattle.request_room.specs.RoomFacts.{Noted, Opened, Posted, Readied, RoomFact, Unposted, hears}
+use Rattle.request_room.specs.RoomFacts.{is_ended, is_opening, is_vacant, names, opened_for}
 use Rattle.request_room.specs.RoomFacts.{request_of, takes_quotes}
 use Rattle.request_room.specs.declared.events.RoomEvent.{RoomEvent}
 use Rattle.request_room.specs.declared.events.RoomEvent.TheVariants as at_room
 use Rattle.request_room.specs.declared.requests.RoomRequest.{RoomRequest}
-use Rattle.venue_steps.specs.RoomSteps.{duties_of_open}
-use Rattle.venue_steps.specs.RoomSteps.{shown_then_ready}
-use Rattle.venue_steps.specs.RoomSteps.{where_follows}
+use Rattle.venue_steps.specs.RoomSteps.{duties_of_open, shown_then_ready, where_follows}
 use Rattle.step_replay.specs.Actions.{Effect, dealer_of, declined_by, has_word_for, in_room}
 use Rattle.step_replay.specs.Actions.{offer_of, opened, posted_by, unposted_by, word_for}
 use Rattle.step_replay.specs.AuditTrail.{Caused}
 use Rattle.venue_laws.specs.Conditions.{is_room}
 use Rattle.step_replay.specs.VenueFacts.{Fact, InRoom, of_room}
 use Rattle.venue_places.specs.declared.actors.Actor.{Actor}
-use Rattle.venue_laws.proofs.ConditionEffects.{BringsFit, follows_fits, room_fits}
-use Rattle.venue_laws.proofs.ConditionEffects.{so_fits, when_fits}
-use Rattle.venue_laws.proofs.ConditionInvariant.{ByNamed, DutyFit, Fit}
-use Rattle.venue_laws.proofs.ConditionInvariant.{IsOpened, OpensIn, known_stays}
-use Rattle.venue_laws.proofs.ConditionInvariant.{named_stays, opened_stays}
+use Rattle.venue_laws.proofs.ConditionEffects.{BringsFit, follows_fits, room_fits, so_fits}
+use Rattle.venue_laws.proofs.ConditionEffects.{when_fits}
+use Rattle.venue_laws.proofs.ConditionInvariant.{ByNamed, DutyFit, Fit, IsOpened, OpensIn}
+use Rattle.venue_laws.proofs.ConditionInvariant.{known_stays, named_stays, opened_stays}
 use Rattle.step_replay.specs.EachLemmas.{every_both}
 use Rattle.step_replay.specs.GrowthLemmas.{said_after}
 use Rattle.step_replay.specs.PlaceLemmas.{own_room, room_grown}
-use Rattle.venue_laws.proofs.VenueRoomFacts.{both_true, every_map, named_in}
+use Rattle.venue_laws.proofs.VenueRoomFacts.{every_map, named_in}
 
 none_is : {A : Type 0} (o : Option A) → is_none o ≡ true → o ≡ None
 none_is None is = refl
@@ -90,7 +85,7 @@ module _ (config : Configuration) (facts : List Fact) (caused : List Caused)
           ap request_of (room_now (Opened request ∷ []))
           ∙ said_after opened_for known (Opened request ∷ [])
           (none_is (request_of known)
-          (both_true (is_none (request_of known)) (not (is_ended known)) vacant).0)
+          (and_parts (is_none (request_of known)) (not (is_ended known)) vacant).0)
 
       effect : Bool → Effect
       effect b = record {
@@ -137,7 +132,7 @@ module _ (config : Configuration) (facts : List Fact) (caused : List Caused)
       → IsOpened (with_facts added) room
   opened_then added takes =
       opened_stays config facts (map (InRoom room) added) room
-      (both_true (is_some (request_of known)) (not (is_ended known)) takes).0
+      (and_parts (is_some (request_of known)) (not (is_ended known)) takes).0
 
   module _ (dealer : ℕ) (row : DealerRow) where
     pub posted_fits : (quote price : ℕ) (valid_until : Option ℕ) (moment : ℕ)
@@ -155,7 +150,7 @@ module _ (config : Configuration) (facts : List Fact) (caused : List Caused)
         (room_fits config facts caused before by room added (where_follows follows left)
         (so_fits config facts caused before by _ room (takes_quotes known) (Posted posted) tt)
         (follows_fits config facts caused before by _ follows left
-        (λ so. opened_then added (both_true (hears known dealer) (takes_quotes known) so).1)))
+        (λ so. opened_then added (and_parts (hears known dealer) (takes_quotes known) so).1)))
 
     pub unposted_fits : (quote moment : ℕ)
         → Brings (unposted_by config facts room quote moment (dealer_of dealer row))
@@ -173,8 +168,8 @@ module _ (config : Configuration) (facts : List Fact) (caused : List Caused)
         (so_fits config facts caused before by _ room may (Unposted dealer word) tt)
         (follows_fits config facts caused before by _ follows left
         (λ so. opened_then added
-        (both_true (takes_quotes known) (stands (book_of known) dealer word)
-        (both_true (hears known dealer) may so).1).0)))
+        (and_parts (takes_quotes known) (stands (book_of known) dealer word)
+        (and_parts (hears known dealer) may so).1).0)))
 
     pub declined_fits : (moment : ℕ) → ByNamed config facts by room
         → Brings (declined_by config facts room moment (dealer_of dealer row))

@@ -4,6 +4,7 @@ use Rattle.std.proofs.Common.{map, Option, Some, None, is_none, is_some, if◌th
 use Rattle.std.proofs.Common.{ap, ◌∙◌, subst}
 use Rattle.std.specs.List.{list_any}
 use Rattle.std.proofs.lemmas.List.Folds.{list_any-append}
+use Rattle.std.proofs.lemmas.Bool.{and_parts}
 use Rattle.market_terms.specs.declared.asks.Ask.{Ask}
 use Rattle.market_terms.specs.declared.closes.Close.{Close}
 use Rattle.market_terms.specs.declared.duties.Duty.{Duty}
@@ -38,7 +39,6 @@ use Rattle.step_replay.specs.EachLemmas.{Every, each_append, every_weaker}
 use Rattle.step_replay.specs.GrowthLemmas.{same_room}
 use Rattle.venue_laws.proofs.VenueGrowth.{number_for_grown}
 use Rattle.venue_laws.proofs.VenueInvariant.{VenueOk, duties_by, number_for, shows}
-use Rattle.venue_laws.proofs.VenueRoomFacts.{both_true}
 
 none_is : {A : Type 0} (o : Option A) → is_none o ≡ true → o ≡ None
 none_is None is = refl
@@ -144,7 +144,7 @@ module _ (config : Configuration) (venue : AuditTrail) (stood : VenueOk config v
       by_test : (b : Bool) → is_vacant (known room) ≡ b → Brings (effect b)
       by_test true vacant =
           let none = none_is (request_of (known room))
-          (both_true (is_none (request_of (known room))) (not (is_ended (known room))) vacant).0 in
+          (and_parts (is_none (request_of (known room))) (not (is_ended (known room))) vacant).0 in
           record {
             order = each_append OnceOk once_stays queue (map show dealers)
                 (duty.Ready room moment ∷ [])

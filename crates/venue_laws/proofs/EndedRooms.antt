@@ -2,6 +2,7 @@
 use Rattle.std.proofs.Common.{◌≡◌, ℕ, ◌==◌, true, not, List, [], ◌∷◌, ◌++◌, map, Option, Some, inr}
 use Rattle.std.proofs.Common.{refl, sym, ap, ◌∙◌, subst}
 use Rattle.std.specs.List.{list_any}
+use Rattle.std.proofs.lemmas.Bool.{and_parts, not-true}
 use Rattle.market_terms.specs.declared.closes.Close.TheVariants as closes
 use Rattle.market_terms.specs.declared.duties.Duty.{Duty}
 use Rattle.market_terms.specs.declared.duties.Duty.TheVariants as duty
@@ -24,8 +25,7 @@ use Rattle.venue_laws.proofs.VenueInvariant.{EndedIn, FactOk, LiftedIn, ReadyIn,
 use Rattle.venue_laws.proofs.PlainFacts.{Fine, is_plain_duty, is_plain_fact, is_quiet, plain_fact}
 use Rattle.venue_laws.proofs.PlainFacts.{plain_fine, plain_quiet}
 use Rattle.venue_laws.proofs.VenuePlain.{Brings, fine_brings}
-use Rattle.venue_laws.proofs.VenueRoomFacts.{both_true, every_map, in_map, in_named, named_in}
-use Rattle.venue_laws.proofs.VenueRoomFacts.{none_some, not_so}
+use Rattle.venue_laws.proofs.VenueRoomFacts.{every_map, in_map, in_named, named_in, none_some}
 use Rattle.venue_laws.proofs.VenueRooms.{here, known, quiet_room, ready_in, room_ok}
 use Rattle.venue_laws.proofs.VenueTurns.{left_by}
 
@@ -63,7 +63,7 @@ module _ (config : Configuration) (venue : AuditTrail) (before : VenueOk config 
         duties = left ∷ told
 
         parts : (is_ready (known_in room) ≡ true) × (not (is_ended (known_in room)) ≡ true)
-        parts = both_true (is_ready (known_in room)) (not (is_ended (known_in room))) is
+        parts = and_parts (is_ready (known_in room)) (not (is_ended (known_in room))) is
 
         ready : ReadyIn config venue.facts room
         ready = ready_in config venue before room parts.0
@@ -80,7 +80,7 @@ module _ (config : Configuration) (venue : AuditTrail) (before : VenueOk config 
         end_now =
             ap end_of room_then
             ∙ said_after ended_as (known_in room) (Ended end moment ∷ [])
-            (none_some (end_of (known_in room)) (not_so (is_ended (known_in room)) parts.1))
+            (none_some (end_of (known_in room)) (not-true (is_ended (known_in room)) parts.1))
 
         abbrev tell : ℕ → Duty
         tell dealer = duty.Tell dealer room (close_for end dealer) moment

@@ -7,14 +7,15 @@ use Rattle.std.proofs.lemmas.Bool.Decides.{nat_tests}
 use Rattle.std.proofs.lemmas.List.{append-nil}
 use Rattle.std.proofs.lemmas.List.Folds.{list_any-append}
 use Rattle.std.proofs.lemmas.Option.{same_Some}
+use Rattle.std.proofs.lemmas.Bool.{and_from}
 use Rattle.investor_desk.specs.InvestorFacts.{InvestorFact, Came, Asked, Offered, requests_of}
 use Rattle.investor_desk.specs.InvestorFacts.{offers_of, book_of, request_numbered, offer_numbered}
 use Rattle.investor_desk.specs.InvestorFacts.{knows, knows_quote, was_shown_on}
 use Rattle.investor_desk.specs.declared.standing.AcceptedRequest.{AcceptedRequest}
 use Rattle.investor_desk.specs.declared.standing.ShownOffer.{ShownOffer}
 use Rattle.step_replay.specs.EachLemmas.{Every, every_both, every_weaker}
-use Rattle.venue_laws.proofs.KnownLemmas.{both_so, found_holds, asks, asked, asked_is}
-use Rattle.venue_laws.proofs.KnownLemmas.{requests_both, offers_both, asked_grown}
+use Rattle.venue_laws.proofs.KnownLemmas.{found_holds, asks, asked, asked_is, requests_both}
+use Rattle.venue_laws.proofs.KnownLemmas.{offers_both, asked_grown}
 
 -- Numbers.
 
@@ -87,7 +88,7 @@ pub shown_known : (may : ℕ → Bool) (facts : List InvestorFact) → DeskFit m
     → knows (book_of facts) shown.request (Some shown.number) ≡ true
 unfolding offer_numbered
 shown_known may facts fit test shown is =
-    both_so (is_some (request_numbered (book_of facts) shown.request))
+    and_from (is_some (request_numbered (book_of facts) shown.request))
     (knows_quote (book_of facts) shown.request (Some shown.number))
     (asked_is shown.request facts
     ∙ found_holds (λ (s : ShownOffer). asked facts s.request ≡ true) test (offers_of facts) shown is

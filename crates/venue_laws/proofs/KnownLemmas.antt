@@ -1,9 +1,10 @@
 -- What an investor knows it goes on to know: the requests and the quotes at its desk.
-use Rattle.std.proofs.Common.{◌≡◌, ℕ, ◌+◌, ◌==◌, Bool, true, false, ◌&&◌, ◌||◌, List, [], ◌∷◌, ◌++◌}
-use Rattle.std.proofs.Common.{find, length, cond, Option, Some, None, is_some, refl, sym, ap, ◌∙◌}
-use Rattle.std.proofs.Common.{subst, arith}
+use Rattle.std.proofs.Common.{◌≡◌, ℕ, ◌+◌, ◌==◌, Bool, true, false, ◌||◌, List, [], ◌∷◌, ◌++◌, find}
+use Rattle.std.proofs.Common.{length, cond, Option, Some, None, is_some, refl, sym, ap, ◌∙◌, subst}
+use Rattle.std.proofs.Common.{arith}
 use Rattle.std.specs.List.{list_any}
 use Rattle.std.proofs.lemmas.Option.{same_Some}
+use Rattle.std.proofs.lemmas.Bool.{and_from, and_parts}
 use Rattle.investor_desk.specs.InvestorFacts.{InvestorFact, Asked, Offered, StandingRequest}
 use Rattle.investor_desk.specs.InvestorFacts.{standing_request, requests_of, offers_of, book_of}
 use Rattle.investor_desk.specs.InvestorFacts.{request_numbered, offer_numbered, knows, knows_quote}
@@ -11,13 +12,8 @@ use Rattle.investor_desk.specs.InvestorFacts.{was_shown_on}
 use Rattle.investor_desk.specs.declared.standing.ShownOffer.{ShownOffer}
 use Rattle.step_replay.specs.EachLemmas.{Every}
 use Rattle.step_replay.specs.GrowthLemmas.{any_left}
-use Rattle.venue_laws.proofs.VenueRoomFacts.{both_true}
 
 -- Lists and tests.
-
-pub both_so : (b c : Bool) → b ≡ true → c ≡ true → (b && c) ≡ true
-both_so true c one other = other
-both_so false c one other = cc
 
 pub find_grown : {A : Type 0} (test : A → Bool) (xs ys : List A) (x : A)
     → find test xs ≡ Some x → find test (xs ++ ys) ≡ Some x
@@ -116,9 +112,9 @@ module _ (facts more : List InvestorFact) (number : ℕ) where
   pub knows_grown : (quote : Option ℕ) → knows (book_of facts) number quote ≡ true
       → knows (book_of (facts ++ more)) number quote ≡ true
   knows_grown quote is =
-      let parts = both_true (is_some (request_numbered (book_of facts) number))
+      let parts = and_parts (is_some (request_numbered (book_of facts) number))
       (knows_quote (book_of facts) number quote) is in
-      both_so (is_some (request_numbered (book_of (facts ++ more)) number))
+      and_from (is_some (request_numbered (book_of (facts ++ more)) number))
       (knows_quote (book_of (facts ++ more)) number quote)
       (asked_is number (facts ++ more)
       ∙ asked_grown (sym (asked_is number facts) ∙ parts.0))
@@ -128,12 +124,12 @@ module _ (facts more : List InvestorFact) (number : ℕ) where
 pub asked_known : (facts : List InvestorFact) (number : ℕ) → asked facts number ≡ true
     → knows (book_of facts) number None ≡ true
 asked_known facts number is =
-    both_so (is_some (request_numbered (book_of facts) number)) true
+    and_from (is_some (request_numbered (book_of facts) number)) true
     (asked_is number facts ∙ is) refl
 
 pub known_asked : (facts : List InvestorFact) (number : ℕ) (quote : Option ℕ)
     → knows (book_of facts) number quote ≡ true → asked facts number ≡ true
 known_asked facts number quote is =
     sym (asked_is number facts)
-    ∙ (both_true (is_some (request_numbered (book_of facts) number))
+    ∙ (and_parts (is_some (request_numbered (book_of facts) number))
     (knows_quote (book_of facts) number quote) is).0

@@ -5,6 +5,7 @@ use Rattle.std.proofs.Common.{arith}
 use Rattle.std.specs.List.{list_any}
 use Rattle.std.proofs.lemmas.Bool.Decides.{nat_tests}
 use Rattle.std.proofs.lemmas.List.Folds.{list_any-append}
+use Rattle.std.proofs.lemmas.Bool.{or_parts}
 use Rattle.dealer_desk.specs.DealerFacts.{DealerFact, Shown, tells, request_numbered, requests_from}
 use Rattle.dealer_desk.specs.DealerFacts.{standing_request}
 use Rattle.dealer_desk.specs.DealerOutput.{closable, untold}
@@ -42,10 +43,6 @@ pub record StillUntold (number first : ℕ) (facts more : List DealerFact) : Typ
   pub silent : list_any (tells number) more ≡ false
   pub before : is_some (untold (found number first facts)) ≡ true
 
-pub none_left : (b c : Bool) → (b || c) ≡ false → (b ≡ false) × (c ≡ false)
-none_left true c is = cc
-none_left false c is = (refl, is)
-
 is_untold : (b : Bool) (request : StandingRequest)
     → is_some (if b then None else Some request) ≡ true → b ≡ false
 is_untold true request is = cc
@@ -75,7 +72,7 @@ still_untold number first (Shown ask moment ∷ later) more is unclosed =
         let none : list_any (tells first) (later ++ more) ≡ false =
         is_untold _ grown (ap (λ (o : Option StandingRequest). is_some (untold o)) (sym request)
         ∙ unclosed) in
-        let parts = none_left _ _ (sym (list_any-append (tells first) later more) ∙ none) in
+        let parts = or_parts _ _ (sym (list_any-append (tells first) later more) ∙ none) in
         record {
           silent = ap (λ (n : ℕ). list_any (tells n) more) (sym same) ∙ parts.1;
           before = ap (λ (b : Bool). is_some (untold (cond b

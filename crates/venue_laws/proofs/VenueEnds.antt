@@ -4,6 +4,7 @@ use Rattle.std.proofs.Common.{Option, Some, None, option_map, if◌then◌else�
 use Rattle.std.proofs.Common.{sym, ap, ◌∙◌, subst, arith, eq-eqb}
 use Rattle.std.specs.List.{list_any}
 use Rattle.std.proofs.lemmas.Bool.Decides.{nat_tests}
+use Rattle.std.proofs.lemmas.Bool.{and_parts}
 use Rattle.market_terms.specs.declared.closes.Close.TheVariants as closes
 use Rattle.market_terms.specs.declared.closes.HitRefusal.{HitRefusal}
 use Rattle.market_terms.specs.declared.duties.Duty.{Duty}
@@ -36,7 +37,6 @@ use Rattle.venue_laws.proofs.VenueGrowth.{quoted_grown}
 use Rattle.venue_laws.proofs.VenueInvariant.{LiftedIn, PostedIn, RoomOk, VenueOk}
 use Rattle.venue_laws.proofs.PlainFacts.{is_plain_fact, plain_fine}
 use Rattle.venue_laws.proofs.VenuePlain.{Brings}
-use Rattle.venue_laws.proofs.VenueRoomFacts.{both_true}
 use Rattle.venue_laws.proofs.VenueRooms.{all_known, here, in_room_brings, known, room_brings}
 use Rattle.venue_laws.proofs.HitAwards.{awards, posted_fact, winner_is}
 use Rattle.venue_laws.proofs.EndedRooms.{ended_brings}
@@ -112,7 +112,7 @@ module _ (config : Configuration) (venue : AuditTrail) (before : VenueOk config 
         by_test true is =
             ended_brings config venue before by room expired moment (duty.Close room moment) refl []
             tt (none_here room)
-            (both_true (is_open (known_in room))
+            (and_parts (is_open (known_in room))
             (is_past_deadline (request_of (known_in room)) moment) is).0
             (λ dealer hit. never dealer hit)
         by_test false is = room_brings config venue before by room [] [] tt tt

@@ -1,5 +1,5 @@
 -- The facts of a room among those of a venue, and lists of the dealers that it names.
-use Rattle.std.proofs.Common.{◌≡◌, ℕ, ◌==◌, Bool, true, false, ◌&&◌, ◌||◌, not, List, [], ◌∷◌, map}
+use Rattle.std.proofs.Common.{◌≡◌, ℕ, ◌==◌, Bool, true, false, ◌&&◌, ◌||◌, List, [], ◌∷◌, map}
 use Rattle.std.proofs.Common.{filter_map, Option, Some, None, is_some, is_none, inl, inr, refl, sym}
 use Rattle.std.proofs.Common.{ap, ◌∙◌, subst, arith, eq-eqb}
 use Rattle.std.specs.List.{list_any}
@@ -22,15 +22,6 @@ use Rattle.step_replay.specs.GrowthLemmas.{In, same_room}
 use Rattle.venue_laws.proofs.VenueInvariant.{DoneOk, FactOk, IsDealer, RoomOk, number_for, shows}
 
 -- Tests.
-
-pub both_true : (b c : Bool) → (b && c) ≡ true → (b ≡ true) × (c ≡ true)
-both_true true true is = (refl, refl)
-both_true true false is = cc
-both_true false c is = cc
-
-pub not_so : (b : Bool) → not b ≡ true → b ≡ false
-not_so true is = cc
-not_so false is = refl
 
 pub none_is : {A : Type 0} (o : Option A) → is_none o ≡ true → o ≡ None
 none_is None is = refl

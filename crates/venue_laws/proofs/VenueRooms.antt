@@ -1,6 +1,7 @@
 -- What happens in a room brings what stands in a venue.
 use Rattle.std.proofs.Common.{◌≡◌, ℕ, Bool, true, false, ◌&&◌, not, List, [], ◌∷◌, ◌++◌, map}
 use Rattle.std.proofs.Common.{Option, Some, is_none, if◌then◌else◌, refl, sym, ap, ◌∙◌}
+use Rattle.std.proofs.lemmas.Bool.{and_parts}
 use Rattle.market_terms.specs.declared.asks.Ask.{Ask}
 use Rattle.market_terms.specs.declared.duties.Duty.{Duty}
 use Rattle.market_terms.specs.declared.duties.Duty.TheVariants as duty
@@ -34,9 +35,9 @@ use Rattle.venue_laws.proofs.VenuePlain.{Brings, fine_brings, if_brings, nothing
 use Rattle.venue_laws.proofs.VenuePlain.{quiet_brings}
 use Rattle.venue_laws.proofs.VenueSteps.{order_after}
 use Rattle.venue_laws.proofs.VenueTurns.{left_by}
-use Rattle.venue_laws.proofs.VenueRoomFacts.{both_true, none_is, in_named, every_in, shown_each}
-use Rattle.venue_laws.proofs.VenueRoomFacts.{ended_fact, opened_fact, ready_fact, shown_done}
-use Rattle.venue_laws.proofs.VenueRoomFacts.{room_self, facts_of_room}
+use Rattle.venue_laws.proofs.VenueRoomFacts.{none_is, in_named, every_in, shown_each, ended_fact}
+use Rattle.venue_laws.proofs.VenueRoomFacts.{opened_fact, ready_fact, shown_done, room_self}
+use Rattle.venue_laws.proofs.VenueRoomFacts.{facts_of_room}
 
 module _ (config : Configuration) (venue : AuditTrail) (before : VenueOk config venue) where
   -- what stands in a room
@@ -153,7 +154,7 @@ module _ (config : Configuration) (venue : AuditTrail) (before : VenueOk config 
             ap request_of (room_now room (Opened request ∷ []))
             ∙ said_after opened_for (known room) (Opened request ∷ [])
             (none_is (request_of (known room))
-            (both_true (is_none (request_of (known room))) (not (is_ended (known room))) vacant).0)
+            (and_parts (is_none (request_of (known room))) (not (is_ended (known room))) vacant).0)
 
         readies : is_vacant (known room) ≡ true
             → ReadiesIn config now (duties_by by venue.caused ++ shown) room

@@ -1,10 +1,11 @@
 -- Who is told where a step has just ended a room.
 use Rattle.std.proofs.Common.{◌≡◌, ℕ, Bool, true, false, not, cond, List, [], ◌∷◌, ◌++◌, Option}
-use Rattle.std.proofs.Common.{Some, None, is_some, unwrap_or, refl, sym, ap, ◌∙◌}
+use Rattle.std.proofs.Common.{Some, None, is_some, refl, sym, ap, ◌∙◌}
 use Rattle.std.specs.Prelude.{Result, Ok, Err}
 use Rattle.std.specs.Option.{option_or}
 use Rattle.std.proofs.lemmas.Bool.{and_parts, not-true}
 use Rattle.std.proofs.lemmas.List.Sums.{fold-append}
+use Rattle.std.proofs.lemmas.Option.{cond_some}
 use Rattle.market_terms.specs.Checks.{first_refusal}
 use Rattle.market_terms.specs.declared.closes.HitRefusal.{HitRefusal}
 use Rattle.market_terms.specs.declared.closes.HitRefusal.TheVariants.{NotOpen}
@@ -166,11 +167,6 @@ hit_told events new at word moment settlement (Ok award) is more =
     ∙ told_after events (event.Hit word moment settlement) award moment at moment (hit_adds facts word moment settlement award is)
     (not_ended facts (open_at_hit facts word moment none))
 
--- the word was there, and was answered so
-was_asked : (has : Bool) (given settlement : Option Settled) → cond has (Some given) None ≡ Some settlement → (has ≡ true) × (given ≡ settlement)
-was_asked true given settlement is = (refl, ap (λ (o : Option (Option Settled)). unwrap_or o given) is)
-was_asked false given settlement is = absurd (cc)
-
 pub hit_duties_are : (events new : List RoomEvent) (at : RoomRef) (response : ResponseRef) (word moment : ℕ) (has : Bool) (given settlement : Option Settled) (said : Reply) (items : List Duty)
     → cond has (Some given) None ≡ Some settlement
     → said ≡ reply_of (hit_outcome (room_after events) word moment settlement)
@@ -180,7 +176,7 @@ pub hit_duties_are : (events new : List RoomEvent) (at : RoomRef) (response : Re
 hit_duties_are events new at response word moment has given settlement said items asked says more are =
     let facts = room_after events in
     let outcome = hit_outcome facts word moment settlement in
-    let was = was_asked has given settlement asked in
+    let was = cond_some has given settlement asked in
     are
     ∙ ap (λ (s : Reply). duty.Answer at response s moment ∷ cond (is_award s) (told_of_end (room_after new) at moment) []) says
     ∙ ap (λ (ds : List Duty). duty.Answer at response (reply_of outcome) moment ∷ ds) (hit_told events new at word moment settlement outcome refl more)
