@@ -10,7 +10,8 @@ use Rattle.recorded_days.specs.Records.{ActionRef, RecordedDay}
 use Rattle.day_weaving.specs.declared.weave_plan.Slot.{Slot}
 use Rattle.day_weaving.specs.declared.weave_search.Mark.{Mark}
 use Rattle.day_weaving.specs.declared.weave_table.Table.{Table}
-use Rattle.day_weaving.proofs.ListPlaces.{set_else, set_here}
+use Rattle.day_weaving.proofs.ListPlaces.{set_else}
+use Rattle.step_replay.specs.PlaceLemmas.{get_set_same}
 
 -- Marks.
 
@@ -51,7 +52,7 @@ module _ (table : Table) (marks after : List Mark) (now : ActionRef) (new : Mark
   mark_here action within same =
       ap (λ (list : List Mark). slice_get list (index_in table.firsts action)) are
       ∙ ap (slice_get (slice_set marks (index_in table.firsts now) new)) (sym same)
-      ∙ set_here marks (index_in table.firsts now) new within
+      ∙ get_set_same marks (index_in table.firsts now) new within
 
   pub mark_else : (action : ActionRef)
       → (index_in table.firsts now ≡ index_in table.firsts action → ⊥)

@@ -19,9 +19,10 @@ use Rattle.day_weaving.specs.declared.weave_plan.Slot.{Slot}
 use Rattle.day_weaving.specs.declared.weave_search.Search.{Search}
 use Rattle.day_weaving.specs.declared.weave_table.Table.{Table}
 use Rattle.day_weaving.proofs.DayFormLemmas.{action_within}
-use Rattle.day_weaving.proofs.MessageLemmas.{count_one, one_actor, same_self}
+use Rattle.day_weaving.proofs.MessageLemmas.{count_one}
 use Rattle.day_weaving.proofs.PlaceNotes.{key_apart}
 use Rattle.day_weaving.proofs.ListPlaces.{got_push}
+use Rattle.step_replay.specs.QueueLemmas.{same_actor, one_actor}
 
 -- The last action of the way is placed.
 
@@ -134,7 +135,7 @@ module _ (day : RecordedDay) (table : Table) (before after : Search) (slot : Slo
           let apart : key_of by ≡ key_of slot.action.0 → ⊥ =
           λ same.
           let one : by ≡ slot.action.0 = key_apart by slot.action.0 same in
-          let clash : true ≡ false = sym (same_self slot.action.0)
+          let clash : true ≡ false = sym (same_actor slot.action.0)
           ∙ ap (is_same_actor slot.action.0) (sym one) ∙ test in
           absurd cc in
           let now : count_in after.done (key_of by) ≡ count_in before.done (key_of by) =

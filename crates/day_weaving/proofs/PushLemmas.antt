@@ -13,8 +13,9 @@ use Rattle.day_weaving.specs.declared.weave_plan.Slot.{Slot}
 use Rattle.day_weaving.specs.declared.weave_search.Mark.TheVariants as mark
 use Rattle.day_weaving.specs.declared.weave_search.Search.{Search}
 use Rattle.day_weaving.specs.declared.weave_table.Table.{Table}
-use Rattle.day_weaving.proofs.ListPlaces.{got_end, got_left, got_push}
+use Rattle.day_weaving.proofs.ListPlaces.{got_end, got_push}
 use Rattle.day_weaving.proofs.MarkLemmas.{one_place, mark_here, mark_else, less_by}
+use Rattle.step_replay.specs.PlaceLemmas.{get_first}
 
 -- An action comes onto the way.
 
@@ -25,7 +26,6 @@ module _ (day : RecordedDay) (table : Table) (before after : Search) (now : Acti
     → slice_get before.way.items (length before.way.items - 1) ≡ Some last
     → IsDirectlyBefore day now last)
     (pushes : Pushes table before after now) where
-
   push_within : index_in table.firsts now < length before.marks.items
   push_within =
       slice_get_within before.marks.items (index_in table.firsts now) mark.New new
@@ -80,7 +80,7 @@ module _ (day : RecordedDay) (table : Table) (before after : Search) (now : Acti
           let was : slice_get before.way.items at ≡ Some action =
           stands.marked action at is_too (sym (pushed_else action apart) ∙ marked) in
           ap (λ (way : List ActionRef). slice_get way at) pushes.way_is
-          ∙ got_left before.way.items (now ∷ []) at
+          ∙ get_first before.way.items (now ∷ []) at
           (slice_get_within before.way.items at action was) ∙ was
 
   pushed_on_way : (at : ℕ) (action : ActionRef) → slice_get after.way.items at ≡ Some action

@@ -24,7 +24,8 @@ use Rattle.day_weaving.specs.declared.weave_table.Table.{Table}
 use Rattle.day_weaving.proofs.DayFormLemmas.{action_within}
 use Rattle.day_weaving.proofs.NumberedLemmas.{mapped}
 use Rattle.day_weaving.proofs.RecordRoomLemmas.{firm_within}
-use Rattle.day_weaving.proofs.ListPlaces.{got_left, got_end, got_push}
+use Rattle.day_weaving.proofs.ListPlaces.{got_end, got_push}
+use Rattle.step_replay.specs.PlaceLemmas.{get_first}
 
 -- Places.
 
@@ -32,7 +33,7 @@ pub stands_more : (slots : List Slot) (now : Slot) (action : ActionRef) (place :
     → StandsIn slots action place → StandsIn (slots ++ now ∷ []) action place
 stands_more slots now action place stands = record {
   slot = stands.slot;
-  there = got_left slots (now ∷ []) place (slice_get_within slots place stands.slot stands.there)
+  there = get_first slots (now ∷ []) place (slice_get_within slots place stands.slot stands.there)
       ∙ stands.there;
   is_it = stands.is_it;
 }
@@ -52,10 +53,10 @@ bound_more day slots now word up_to bound was most =
       within = was.within;
       granted = λ slot least there.
           let inside : bound - 1 < length slots = omega arith in
-          was.granted slot least (sym (got_left slots (now ∷ []) (bound - 1) inside) ∙ there);
+          was.granted slot least (sym (get_first slots (now ∷ []) (bound - 1) inside) ∙ there);
       none = λ place slot from below there.
           let inside : place < length slots = omega arith in
-          was.none place slot from below (sym (got_left slots (now ∷ []) place inside) ∙ there);
+          was.none place slot from below (sym (get_first slots (now ∷ []) place inside) ∙ there);
     }
 
 pub chain_more : (day : RecordedDay) (slots : List Slot) (below : List ℕ) (last after : Counts)
@@ -83,7 +84,7 @@ chain_more day slots below last after now action behind bound chain is behind_is
         let within : place < length slots = omega arith in
         let most : place ≤ length slots = omega arith in
         bound_more day slots now word place at
-        (chain.links word place at slot was (sym (got_left slots (now ∷ []) place within) ∙ there)
+        (chain.links word place at slot was (sym (get_first slots (now ∷ []) place within) ∙ there)
         granted) most
     by_place word place at slot there granted (inr last_one) =
         let place_is : place ≡ length slots = last_one.0 ∙ chain.long in
@@ -127,7 +128,7 @@ chain_more day slots below last after now action behind bound chain is behind_is
               let least_too : 0 < count_in last word = omega (arith, least, count) in
               let inside : count_in last word - 1 < length slots = omega arith in
               was.granted slot least_too
-              (sym (got_left slots (now ∷ []) (count_in last word - 1) inside)
+              (sym (get_first slots (now ∷ []) (count_in last word - 1) inside)
               ∙ ap (λ (n : ℕ). slice_get (slots ++ now ∷ []) (n - 1)) (sym count) ∙ there);
           none = λ place slot from under there.
               by_end place slot (omega (arith, from, count)) (got_push slots now place slot there);

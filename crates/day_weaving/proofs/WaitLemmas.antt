@@ -18,7 +18,7 @@ use Rattle.recorded_days.specs.declared.actions.Action.{Action}
 use Rattle.day_weaving.specs.declared.weave_plan.Slot.{Slot}
 use Rattle.day_weaving.specs.declared.weave_table.Table.{Table}
 use Rattle.day_weaving.proofs.DayFormLemmas.{action_there, action_within}
-use Rattle.day_weaving.proofs.MessageLemmas.{same_self}
+use Rattle.step_replay.specs.QueueLemmas.{same_actor}
 
 -- Tests.
 
@@ -50,7 +50,7 @@ before_of_actor day done one other is by next least left =
     record {
       is_action = one_is;
       before = ByActor (record {
-        same = ap (λ (actor : Actor). is_same_actor actor other.0) by ∙ same_self other.0;
+        same = ap (λ (actor : Actor). is_same_actor actor other.0) by ∙ same_actor other.0;
         earlier = omega arith;
         one_is = one_is;
         other_is = is;

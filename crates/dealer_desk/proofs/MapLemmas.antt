@@ -53,7 +53,7 @@ same_key key id =
       | inr apart ↦ then_apart (nat_cmp (rank_of key) (rank_of id)) (slice_cmp nat_cmp key id) (is_eq-slice_cmp key id ∙ apart) ∙ sym apart
     ]
 
-or_none : {A : Type 0} (o : Option A) → option_or o None ≡ o
+pub or_none : {A : Type 0} (o : Option A) → option_or o None ≡ o
 or_none None = refl
 or_none (Some x) = refl
 

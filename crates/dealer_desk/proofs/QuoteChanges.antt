@@ -38,7 +38,7 @@ pub or_some : (end : Option QuoteEnd) (how : QuoteEnd) → is_none (option_or en
 or_some None how = refl
 or_some (Some was) how = refl
 
-ended_by : (b : Bool) (how : QuoteEnd) (own : StandingQuote) → is_live (cond b (record own { end = option_or own.end (Some how) }) own) ≡ true → is_live own ≡ true
+pub ended_by : (b : Bool) (how : QuoteEnd) (own : StandingQuote) → is_live (cond b (record own { end = option_or own.end (Some how) }) own) ≡ true → is_live own ≡ true
 ended_by true how own h = let never = or_some own.end how in cc
 ended_by false how own h = h
 

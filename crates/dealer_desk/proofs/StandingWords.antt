@@ -22,6 +22,7 @@ use Rattle.dealer_desk.specs.declared.standing.QuoteEnd.TheVariants as end
 use Rattle.dealer_desk.specs.declared.standing.Withdrawal.{Withdrawal}
 use Rattle.dealer_desk.proofs.BookPush.{any_push}
 use Rattle.dealer_desk.proofs.ListLemmas.{mapped_at, pushed_at, within_from}
+use Rattle.dealer_desk.proofs.QuoteChanges.{nothing}
 
 -- a quote stands as its word was settled
 pub record AsAnswered (words : List (ℕ × Settled)) (own : StandingQuote) : Type 0 where
@@ -79,10 +80,6 @@ ended_one false number how words own is live said = record {
   lifted = said.lifted ∙ sym (no_more_lifted words own.quote.number number);
 }
 
-no_end : (e : Option QuoteEnd) → is_none e ≡ true → e ≡ None
-no_end None h = refl
-no_end (Some how) h = cc
-
 -- the live quote of a number, and any other of that number, are one
 one_live : (requests : List StandingRequest) (quotes : List StandingQuote) (number k : ℕ) (own : StandingQuote) → IsSound requests quotes → IsLiveNumber quotes number → slice_get quotes k ≡ Some own
     → own.quote.number ≡ number → own.end ≡ None
@@ -91,7 +88,7 @@ one_live requests quotes number k own sound live at same =
     let there : number ≡ live.place + 1 = live.number_is in
     let place : k ≡ live.place = omega arith in
     let one : own ≡ live.own = same_Some own live.own (sym at ∙ ap (slice_get quotes) place ∙ live.stands) in
-    no_end own.end (ap (λ (q : StandingQuote). is_none q.end) one ∙ live.live)
+    nothing own.end (ap (λ (q : StandingQuote). is_none q.end) one ∙ live.live)
 
 live_inside : (quotes : List StandingQuote) (number : ℕ) → IsLiveNumber quotes number → number ≤ length quotes
 live_inside quotes number live =

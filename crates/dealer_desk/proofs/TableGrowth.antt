@@ -37,6 +37,7 @@ use Rattle.dealer_desk.proofs.QuoteChanges.{ended_own, or_some, other_number}
 use Rattle.dealer_desk.proofs.TableLemmas.{quantity_live, requests_kept, sum_changed}
 use Rattle.dealer_desk.proofs.TableReads.{read_at}
 use Rattle.dealer_desk.proofs.TableClosing.{first_holds}
+use Rattle.dealer_desk.proofs.MapLemmas.{or_none}
 
 -- a row that is read by the number of its request
 pub row_read : (rows : List RequestRow) (quotes : List StandingQuote) (lines : List QuoteLine) (exposure first number : ℕ) (row : RequestRow)
@@ -83,10 +84,6 @@ push_request_table rows quotes lines exposure first ask table =
     }
 
 -- A quote behind the others.
-
-or_none : {A : Type 0} (o : Option A) → option_or o None ≡ o
-or_none None = refl
-or_none (Some x) = refl
 
 -- the row of the request of a quote that was put behind the others
 row_pushed : (quotes : List StandingQuote) (quote : AcceptedQuote) (row : RequestRow) → find (is_live_on quote.request) quotes ≡ None

@@ -4,7 +4,6 @@ mod CompareLemmas
 mod DayLemmas
 mod FaultLemmas
 mod LineLemmas
-mod NumberLemmas
 mod ReadBackLists
 mod ReadBackMessages
 mod ReadBackParts

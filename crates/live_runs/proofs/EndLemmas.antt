@@ -108,7 +108,6 @@ TextAnywhere day text = (config : Configuration) (sought : Sought) (taken : Take
     → text ≡ sought_text sought config taken.steps
 
 module _ (day : SoughtDay) (o o' : Option (List ℕ)) where
-
   pub closes_unprinted : (text : List ℕ) (fault : ProgramFault) → fault ≡ Write → TextAnywhere day text
       → GainsPart text (record { before = o; after = o' }) → CloseFails (stage.Kept day) fault (record { before = o; after = o' })
   closes_unprinted text fault write texts part (answered form) lines start err is = absurd is

@@ -28,7 +28,6 @@ abbrev pub still : Option (List ℕ) → Written
 still known = record { before = known; after = known }
 
 module _ (form : LineForm) (number : ℕ) (line : List ℕ) (before : Stage) where
-
   pub stage_opens : (after : Stage) (t : Vec ℕ Global) (now : List ℕ) (o e : Option (List ℕ)) → before ≡ stage.Configuration t
       → IsNext form line t.items now (Some after) → StageTakes form number line before after (still o) (still e)
   stage_opens after t now o e was next lines start at had =
@@ -104,7 +103,6 @@ refused_behind form number line before fault o e is lines start at had more =
     })
 
 module _ (form : LineForm) (number : ℕ) (line : List ℕ) (before : Stage) where
-
   pub stage_keeps : (after : Stage) (d d' : SoughtDay) (out err err' : Option (List ℕ)) → before ≡ stage.Kept d
       → after ≡ stage.Kept d' → KeepsStep number line d d' (record { before = err; after = err' })
       → StageTakes form number line before after (still out) (record { before = err; after = err' })

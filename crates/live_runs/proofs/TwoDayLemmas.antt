@@ -71,7 +71,6 @@ one_taken whom lines day out err first = record {
 
 module _ (whom : Whom) (lines first : List (List ℕ)) (divider : List ℕ) (behind : List (List ℕ)) (two : AreTwo lines first divider behind)
     (day : SoughtDay) (out err : Written) (goes : FirstGoes whom first day out err) where
-
   first_spelled : venue_of (configuration_in lines) ≡ Ok (values_of goes.goes.config)
   first_spelled =
       ap (λ l. venue_of (configuration_in l)) two.split

@@ -109,7 +109,7 @@ times_same n one total all field rest o e h =
     omega (arith, counted, h)
 
 -- no fault before a fault
-or_next-none : (a b : Option SessionFault) → or_next a b ≡ None → (a ≡ None) × (b ≡ None)
+pub or_next-none : (a b : Option SessionFault) → or_next a b ≡ None → (a ≡ None) × (b ≡ None)
 or_next-none None b h = (refl, h)
 or_next-none (Some fault) b h = absurd (cc_none fault h) where
   cc_none : (fault : SessionFault) → Some fault ≡ None → ⊥

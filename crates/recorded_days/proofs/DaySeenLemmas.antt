@@ -14,7 +14,8 @@ use Rattle.step_replay.specs.DealerView.{DealerView, after_due, view_after, view
 use Rattle.step_replay.specs.declared.dues.Due.{Due}
 use Rattle.step_replay.specs.declared.dues.Due.TheVariants as due
 use Rattle.recorded_days.specs.DayDues.{DayDues, after_recorded, dues_after, dues_at_start}
-use Rattle.recorded_days.proofs.DeskLemmas.{desk_push, view_of}
+use Rattle.recorded_days.proofs.DeskLemmas.{view_of}
+use Rattle.step_replay.specs.DealerGrowth.{desk_push}
 
 -- the laws of a desk that are used: the words that are asked stand in the facts, event by event
 abbrev pub WordsGrow : Type 0

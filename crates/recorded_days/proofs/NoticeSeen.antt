@@ -19,8 +19,9 @@ use Rattle.dealer_desk.specs.declared.events.DealerEvent.TheVariants as event
 use Rattle.step_replay.specs.DealerView.{DealerView, after_due, no_room}
 use Rattle.step_replay.specs.declared.dues.Due.TheVariants as due
 use Rattle.recorded_days.specs.DayDues.{DayDues, after_recorded}
-use Rattle.recorded_days.proofs.DeskLemmas.{both, desk_push, view_of}
+use Rattle.recorded_days.proofs.DeskLemmas.{both, view_of}
 use Rattle.recorded_days.proofs.DaySeenLemmas.{WordsGrow, DaySeen, pushed, walk_pushed, view_pushed}
+use Rattle.step_replay.specs.DealerGrowth.{desk_push}
 
 module _ (date : List ℕ) (row : DealerRow) where
   -- A request is shown.

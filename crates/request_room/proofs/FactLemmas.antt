@@ -12,7 +12,7 @@ use Rattle.request_room.specs.RoomFacts.{RoomFact, Opened, Readied, Posted, Unpo
 use Rattle.request_room.specs.RoomFacts.{first_said, is_readied, is_ready}
 use Rattle.request_room.specs.Book.{book_of, takes_out}
 
-or_none : {A : Type 0} (o : Option A) → option_or o None ≡ o
+pub or_none : {A : Type 0} (o : Option A) → option_or o None ≡ o
 or_none None = refl
 or_none (Some x) = refl
 

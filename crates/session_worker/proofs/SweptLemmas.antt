@@ -33,7 +33,7 @@ found_same one other =
     ∙ ap (λ b. b && is_eq (nat_cmp one.n other.n)) (number_is one.investor other.investor)
     ∙ ap (λ b. (other.investor == one.investor) && b) (number_is one.n other.n)
 
-number_same : (one other : ℕ) → (one == other) ≡ true → one ≡ other
+pub number_same : (one other : ℕ) → (one == other) ≡ true → one ≡ other
 number_same one other is = grind (arith, nat_tests, is)
 
 -- rooms that are the same are equal

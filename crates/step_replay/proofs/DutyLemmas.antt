@@ -1,7 +1,6 @@
 -- An action does what comes by the market's table.
-use Rattle.std.proofs.Common.{◌≡◌, ◌≤◌, ◌<◌, ℕ, zero, suc, true, false, List, [], ◌∷◌, length}
-use Rattle.std.proofs.Common.{Option, Some, None, Result, Ok, Err, IfOk, is_some, refl, sym, ap}
-use Rattle.std.proofs.Common.{◌∙◌, subst, arith}
+use Rattle.std.proofs.Common.{◌≡◌, ◌≤◌, ◌<◌, ℕ, false, List, [], length, Option, Some, None, Result}
+use Rattle.std.proofs.Common.{Ok, Err, IfOk, is_some, sym, ap, ◌∙◌, subst, arith}
 use Rattle.std.specs.Prelude.{slice_get}
 use Rattle.std.proofs.lemmas.Option.{slice_get_past}
 use Rattle.venue_rows.specs.Rows.{Configuration}
@@ -16,6 +15,7 @@ use Rattle.investor_desk.specs.InvestorDesk.{market_for}
 use Rattle.step_replay.specs.Standing.{ActsOnce, Does, Stands}
 use Rattle.step_replay.specs.declared.floor.Floor.{Floor}
 use Rattle.step_replay.proofs.FoundDealers.{idle_does}
+use Rattle.step_replay.specs.PlaceLemmas.{has_item}
 
 -- what follows where a call succeeded
 pub where_ok : {A E : Type 0} (P Q : A → Type 0) (result : Result A E) → ((x : A) → P x → Q x)
@@ -62,13 +62,6 @@ module _ (effect : Configuration → List Fact → Effect) (placed : Configurati
 
 -- A message of a firm: of a dealer where its number is that of one.
 
-get_there : {X : Type 0} (xs : List X) (i : ℕ) → i < length xs → is_some (slice_get xs i) ≡ true
-get_there [] i within = absurd (omega arith)
-get_there (x ∷ xs) zero within = refl
-get_there (x ∷ xs) (suc i) within =
-    let rest : i < length xs = omega arith in
-    get_there xs i rest
-
 pub dealer_message : (config : Configuration) (facts : List Fact) (floor after : Floor)
     (firm moment : ℕ) (bytes : List ℕ) (duties : List Duty) → Stands config facts floor
     → firm < length floor.dealers.items
@@ -79,7 +72,7 @@ unfolding message_effect
 dealer_message config facts floor after firm moment bytes duties before within does =
     let count : length floor.dealers.items ≡ length config.dealers = before.dealer_count in
     let here : firm < length config.dealers = omega arith in
-    rw (get_there config.dealers firm here) does
+    rw (has_item config.dealers firm here) does
 
 pub investor_message : (config : Configuration) (facts : List Fact) (floor after : Floor)
     (firm moment : ℕ) (bytes : List ℕ) (duties : List Duty) → Stands config facts floor

@@ -17,7 +17,7 @@ use Rattle.step_replay.specs.Openings.{InvestorOpens, InvestorOpensIn, Investors
 use Rattle.step_replay.specs.Standing.{InvestorStands, InvestorStandsIn, RoomStandsIn}
 use Rattle.step_replay.specs.VenueFacts.{of_investor, of_room}
 use Rattle.step_replay.specs.declared.floor.InvestorPlace.{InvestorPlace}
-use Rattle.step_replay.proofs.InvestorPlaceLemmas.{numbered_at}
+use Rattle.step_replay.specs.PlaceLemmas.{numbered_at}
 use Rattle.step_replay.proofs.ListEnds.{get_before, get_last}
 
 vacant : (many : ℕ) (at : ℕ) → at < many

@@ -1,8 +1,8 @@
 -- An investor's place stands where the facts have come, after what happens at its desk; its rooms
 -- and all other places stay.
 use Rattle.std.proofs.Common.{◌≡◌, ◌≢◌, ◌<◌, ◌≤◌, ℕ, ◌-◌, ◌==◌, Bool, true, false, List, ◌++◌, map}
-use Rattle.std.proofs.Common.{length, slice_set, nat_le, Option, Some, None, if◌then◌else◌, refl}
-use Rattle.std.proofs.Common.{sym, ap, ◌∙◌, subst, arith}
+use Rattle.std.proofs.Common.{length, slice_set, Option, Some, None, refl, sym, ap, ◌∙◌, subst}
+use Rattle.std.proofs.Common.{arith}
 use Rattle.std.specs.Prelude.{slice_get}
 use Rattle.std.specs.Vec.{with_item}
 use Rattle.std.proofs.lemmas.Bool.Decides.{nat_tests}
@@ -23,7 +23,7 @@ use Rattle.step_replay.specs.declared.floor.Floor.{Floor}
 use Rattle.step_replay.specs.PlaceLemmas.{get_set_same, get_set_other, get_beyond, investor_grown}
 use Rattle.step_replay.specs.PlaceLemmas.{own_investor, other_investor, trail_at_investor}
 use Rattle.step_replay.specs.PlaceLemmas.{room_at_investor, dealer_stays, investor_stays}
-use Rattle.step_replay.specs.PlaceLemmas.{room_stays}
+use Rattle.step_replay.specs.PlaceLemmas.{room_stays, behind_dealers, numbered_at}
 use Rattle.step_replay.proofs.FloorLemmas.{room_kept, investor_kept, words_kept}
 use Rattle.step_replay.specs.InvestorGrowth.{desk_of, desk_push, trail_push}
 
@@ -94,24 +94,6 @@ pub record InvestorFound (config : Configuration) (facts : List Fact) (number : 
   pub row : InvestorRow
   pub row_is : investor_numbered config number ≡ Some row
   pub stands : InvestorStands config number row facts place
-
-pub numbered_at : (config : Configuration) (number : ℕ) → length config.dealers ≤ number
-    → investor_numbered config number
-    ≡ slice_get config.investors (number - length config.dealers)
-numbered_at config number behind =
-    let test : nat_le (length config.dealers) number ≡ true = grind (arith, nat_tests) in
-    ap (λ (b : Bool). if b then slice_get config.investors (number - length config.dealers)
-    else None) test
-
-pub behind_dealers : (config : Configuration) (number : ℕ) (row : InvestorRow)
-    → investor_numbered config number ≡ Some row → length config.dealers ≤ number
-behind_dealers config number row is = by_test (nat_le (length config.dealers) number) refl is
-  where
-    by_test : (b : Bool) → nat_le (length config.dealers) number ≡ b
-        → (if b then slice_get config.investors (number - length config.dealers) else None)
-        ≡ Some row → length config.dealers ≤ number
-    by_test true test found = grind (arith, nat_tests)
-    by_test false test found = cc
 
 pub investor_found : (config : Configuration) (facts : List Fact) (floor : Floor) (number : ℕ)
     (place : InvestorPlace) → Stands config facts floor → length config.dealers ≤ number

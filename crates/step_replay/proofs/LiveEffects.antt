@@ -1,7 +1,6 @@
 -- What a step sends, it sends to one firm.
-use Rattle.std.proofs.Common.{◌≡◌, ◌<◌, ℕ, ◌-◌, Bool, true, false, nat_lt, List, [], ◌∷◌, ◌++◌}
-use Rattle.std.proofs.Common.{length, map, filter_map, Option, Some, None, refl, sym, ap, ◌∙◌}
-use Rattle.std.proofs.Common.{subst, arith}
+use Rattle.std.proofs.Common.{◌≡◌, ◌<◌, ℕ, Bool, true, false, nat_lt, List, [], ◌∷◌, ◌++◌, length}
+use Rattle.std.proofs.Common.{map, filter_map, Option, Some, None, refl, sym, ap, ◌∙◌, subst, arith}
 use Rattle.std.specs.Prelude.{is_some, Result, Ok, Err}
 use Rattle.std.proofs.lemmas.Bool.Decides.{nat_tests}
 use Rattle.std.proofs.lemmas.List.{append-nil}
@@ -32,8 +31,8 @@ use Rattle.step_replay.specs.VenueFacts.{Fact, AtDealer, InRoom, AtInvestor, of_
 use Rattle.venue_places.specs.declared.actors.Actor.{Actor}
 use Rattle.step_replay.specs.declared.steps.Step.{Step}
 use Rattle.step_replay.specs.declared.steps.Step.TheVariants as step
-use Rattle.step_replay.proofs.InvestorPlaceLemmas.{behind_dealers, numbered_at}
-use Rattle.step_replay.specs.PlaceLemmas.{nothing_of, own_trail, own_investor}
+use Rattle.step_replay.specs.PlaceLemmas.{behind_dealers, nothing_of, own_trail, own_investor}
+use Rattle.step_replay.specs.PlaceLemmas.{investor_within}
 use Rattle.step_replay.proofs.RoomEffects.{AreOf, action_there, nothing_there}
 
 -- a message and its firm
@@ -55,15 +54,6 @@ pub dealer_within : (config : Configuration) (firm : ℕ) (row : DealerRow)
     → dealer_numbered config firm ≡ Some row → nat_lt firm (firms_of config) ≡ true
 dealer_within config firm row is =
     let within : firm < length config.dealers = slice_get_within config.dealers firm row is in
-    grind (arith, nat_tests)
-
-pub investor_within : (config : Configuration) (firm : ℕ) (row : InvestorRow)
-    → investor_numbered config firm ≡ Some row → nat_lt firm (firms_of config) ≡ true
-investor_within config firm row is =
-    let behind = behind_dealers config firm row is in
-    let there : firm - length config.dealers < length config.investors =
-    slice_get_within config.investors (firm - length config.dealers) row
-    (sym (numbered_at config firm behind) ∙ is) in
     grind (arith, nat_tests)
 
 -- What one place's entries send.

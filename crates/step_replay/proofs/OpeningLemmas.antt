@@ -27,7 +27,8 @@ use Rattle.step_replay.specs.declared.floor.DealerPlace.{DealerPlace}
 use Rattle.step_replay.specs.declared.floor.Floor.{Floor}
 use Rattle.step_replay.specs.declared.floor.Lifting.{Lifting}
 use Rattle.step_replay.proofs.InvestorOpeningLemmas.{investor_begins_in}
-use Rattle.step_replay.proofs.InvestorPlaceLemmas.{behind_dealers, numbered_at}
+use Rattle.step_replay.specs.PlaceLemmas.{numbered_at}
+use Rattle.step_replay.specs.PlaceLemmas.{behind_dealers}
 use Rattle.step_replay.proofs.ListEnds.{get_before, get_last}
 
 -- The owners of words.

@@ -1,16 +1,15 @@
 -- What comes to a room of a replay does what it should.
-use Rattle.std.proofs.Common.{◌≡◌, ℕ, Bool, true, false, ◌&&◌, List, [], ◌∷◌, ◌++◌, map, None}
+use Rattle.std.proofs.Common.{◌≡◌, ℕ, Bool, true, false, ◌&&◌, List, [], ◌++◌, map, None}
 use Rattle.std.proofs.Common.{if◌then◌else◌, refl, sym, ap, ◌∙◌, subst}
 use Rattle.std.specs.Vec.{with_item}
 use Rattle.std.proofs.lemmas.List.{append-nil}
-use Rattle.std.proofs.lemmas.List.Sums.{fold-append}
 use Rattle.venue_rows.specs.Rows.{Configuration}
 use Rattle.market_terms.specs.declared.duties.Duty.{Duty}
 use Rattle.market_terms.specs.declared.duties.Duty.TheVariants as duty
 use Rattle.market_terms.specs.declared.rooms.RoomRef.{RoomRef}
 use Rattle.request_room.specs.RoomFacts.{Opened, Readied, is_vacant, is_opening, hears}
 use Rattle.request_room.specs.RoomFacts.{takes_quotes}
-use Rattle.request_room.specs.Book.{room_after, event_facts, after_event, where_so, may_unpost}
+use Rattle.request_room.specs.Book.{room_after, event_facts, where_so, may_unpost}
 use Rattle.request_room.specs.declared.events.RoomEvent.{RoomEvent}
 use Rattle.request_room.specs.declared.events.RoomEvent.TheVariants as at_room
 use Rattle.venue_places.specs.Brought.{room_with, duties_in_room}
@@ -29,20 +28,16 @@ use Rattle.step_replay.specs.declared.floor.Floor.{Floor}
 use Rattle.step_replay.proofs.FoundDealers.{idle_does}
 use Rattle.step_replay.proofs.RoomPlaceLemmas.{FoundRoom, no_room}
 use Rattle.step_replay.proofs.RoomFloor.{in_room_stands}
+use Rattle.venue_steps.proofs.EndLemmas.{after_more}
 
 -- The room after one event more.
-
-pub room_push : (events : List RoomEvent) (event : RoomEvent)
-    → room_after (events ++ event ∷ []) ≡ room_after events ++ event_facts (room_after events) event
-unfolding room_after
-room_push events event = fold-append after_event [] events (event ∷ [])
 
 -- an event that is left out where it would add nothing
 pub push_where : (events : List RoomEvent) (event : RoomEvent) (b : Bool)
     → (b ≡ false → event_facts (room_after events) event ≡ [])
     → room_after (where_done b events event)
     ≡ room_after events ++ event_facts (room_after events) event
-push_where events event true none = room_push events event
+push_where events event true none = after_more events event
 push_where events event false none =
     sym (append-nil (room_after events)) ∙ ap (λ l. room_after events ++ l) (sym (none refl))
 
@@ -99,7 +94,7 @@ module _ (config : Configuration) (facts : List Fact) (floor : Floor) (at : Room
       → (may ≡ true → left ≡ duties) → (may ≡ false → left ≡ [])
       → Does config facts (in_room config facts at may event duties) (floor_with new) left
   step_where true event new duties left grown done not_done =
-      step_done event new duties left (ap room_after grown ∙ room_push events event) (done refl)
+      step_done event new duties left (ap room_after grown ∙ after_more events event) (done refl)
   step_where false event new duties left grown done not_done =
       step_not_done event new duties left grown (not_done refl)
 
@@ -149,11 +144,11 @@ module _ (config : Configuration) (facts : List Fact) (floor : Floor) (at : Room
       (duty.Declined at moment)) no)
   room_does (to_room.Pass response moment) new left grown leaves =
       step_done (at_room.Pass moment) new _ left
-      (ap room_after grown ∙ room_push events (at_room.Pass moment))
+      (ap room_after grown ∙ after_more events (at_room.Pass moment))
       (leaves ∙ ap (λ l. duties_of_pass l at response moment) found.known)
   room_does (to_room.Expire moment) new left grown leaves =
       step_done (at_room.Expire moment) new _ left
-      (ap room_after grown ∙ room_push events (at_room.Expire moment))
+      (ap room_after grown ∙ after_more events (at_room.Expire moment))
       (leaves ∙ ap (λ l. duties_of_expire l at moment) found.known)
 
 -- Where the venue has no such room.

@@ -24,7 +24,7 @@ use Rattle.step_replay.specs.PlaceLemmas.{get_set_same, get_set_other}
 use Rattle.step_replay.proofs.RoomGrowth.{now, dealer_now, investor_now, own_now, other_now}
 use Rattle.step_replay.proofs.RoomGrowth.{other_number, other_owner}
 use Rattle.step_replay.proofs.RoomPlaceLemmas.{FoundRoom}
-use Rattle.step_replay.proofs.InvestorPlaceLemmas.{behind_dealers}
+use Rattle.step_replay.specs.PlaceLemmas.{behind_dealers}
 
 module _ (config : Configuration) (facts : List Fact) (floor : Floor) (at : RoomRef)
     (investor index : ℕ) (old : InvestorPlace) (events : List RoomEvent)

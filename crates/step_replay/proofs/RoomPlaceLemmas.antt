@@ -16,7 +16,7 @@ use Rattle.step_replay.specs.Standing.{InvestorStands, InvestorStandsIn, RoomSta
 use Rattle.step_replay.specs.declared.floor.InvestorPlace.{InvestorPlace}
 use Rattle.step_replay.specs.declared.floor.Floor.{Floor}
 use Rattle.step_replay.specs.PlaceLemmas.{get_beyond, lent}
-use Rattle.step_replay.proofs.InvestorPlaceLemmas.{behind_dealers}
+use Rattle.step_replay.specs.PlaceLemmas.{behind_dealers}
 
 -- the place that the code found for a room
 pub record PlaceOf (floor : Floor) (at : RoomRef) (investor index : ℕ) : Type 0 where

@@ -171,11 +171,6 @@ sweep_tells config facts room moment =
 
 -- The rooms behind turns of the clock that tell.
 
-room_kept : (room : RoomRef) (facts more : List Fact) → of_room room more ≡ []
-    → of_room room (facts ++ more) ≡ of_room room facts
-room_kept room facts more none =
-    room_stays room facts more none
-
 -- what one turn keeps
 record TellsNext (config : Configuration) (room : RoomRef) (trail : AuditTrail) : Type 0 where
   kept : of_room room (after_step config trail (step.Turn actor.Clock)).facts
@@ -201,7 +196,7 @@ turn_tells config room trail (first ∷ later) is all =
     ∙ ap (λ (l : List Duty). later ++ l) none ∙ append-nil later in
     record {
       kept = ap (λ (t : AuditTrail). of_room room t.facts) same
-          ∙ room_kept room trail.facts effect.facts
+          ∙ room_stays room trail.facts effect.facts
           (in_no_room_by config trail.facts actor.Clock first all.0 room);
       tells = subst AreTellings (sym left) all.1;
     }
@@ -259,7 +254,7 @@ other_kept config moment trail at room rests other =
     turns_tell config room MOST_TURNS_BEHIND (after_step config trail (step.Expire at moment))
     (subst AreTellings (sym left) (sweep_tells config trail.facts at moment))
     ∙ ap (λ (t : AuditTrail). of_room room t.facts) same
-    ∙ room_kept room trail.facts effect.facts
+    ∙ room_stays room trail.facts effect.facts
     ((action_there config trail.facts _ _ _ (sweep_action config trail.facts at moment)).elsewhere
     room other)
 

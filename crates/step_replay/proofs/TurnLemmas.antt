@@ -19,6 +19,7 @@ use Rattle.venue_places.specs.declared.actors.Actor.TheVariants as actor
 use Rattle.step_replay.specs.PlaceLemmas.{get_set_same, get_set_other}
 use Rattle.step_replay.specs.QueueLemmas.{turned, own_turned, other_turned, own_within}
 use Rattle.step_replay.specs.QueueLemmas.{other_within, own_pending, other_pending, grown_within}
+use Rattle.step_replay.specs.QueueLemmas.{same_either, one_actor}
 
 -- Actors and their queues.
 
@@ -57,24 +58,6 @@ queues_apart config actor.Clock (actor.Firm two) known known_too differs =
     let low : two < firms_of config = grind (arith, nat_tests) in
     λ same. absurd (omega arith)
 queues_apart config actor.Clock actor.Clock known known_too differs = cc
-
--- whether two actors are one is asked either way
-same_either : (by other : Actor) → is_same_actor by other ≡ false → is_same_actor other by ≡ false
-same_either (actor.Firm one) (actor.Firm two) differs =
-    let apart : one ≢ two = grind (arith, nat_tests) in
-    grind (arith, nat_tests, apart)
-same_either (actor.Firm one) actor.Clock differs = refl
-same_either actor.Clock (actor.Firm two) differs = refl
-same_either actor.Clock actor.Clock differs = differs
-
--- one actor by the test
-one_actor : (by other : Actor) → is_same_actor by other ≡ true → by ≡ other
-one_actor (actor.Firm one) (actor.Firm two) same =
-    let equal : one ≡ two = grind (arith, nat_tests) in
-    ap (λ (n : ℕ). actor.Firm n) equal
-one_actor (actor.Firm one) actor.Clock same = cc
-one_actor actor.Clock (actor.Firm two) same = cc
-one_actor actor.Clock actor.Clock same = refl
 
 -- A queue that is changed twice is changed once.
 pub set_twice : {X : Type 0} (xs : List X) (i : ℕ) (x y : X)

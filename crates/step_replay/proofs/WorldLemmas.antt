@@ -1,7 +1,6 @@
 -- What a venue has of the day of each firm, where its places stand.
-use Rattle.std.proofs.Common.{◌≡◌, ◌<◌, ◌≤◌, ℕ, zero, suc, ◌+◌, ◌-◌, List, [], ◌∷◌, ◌++◌, length}
-use Rattle.std.proofs.Common.{map, Option, Some, None, refl, sym, ap, ◌∙◌, subst, arith}
-use Rattle.std.proofs.Common.{append_assoc}
+use Rattle.std.proofs.Common.{◌≡◌, ◌≤◌, ℕ, zero, suc, ◌+◌, ◌-◌, List, [], ◌∷◌, ◌++◌, length, map}
+use Rattle.std.proofs.Common.{Option, Some, None, refl, sym, ap, ◌∙◌, subst, arith, append_assoc}
 use Rattle.std.specs.Prelude.{slice_get}
 use Rattle.std.proofs.lemmas.List.{map-append}
 use Rattle.std.proofs.lemmas.Simd.{map-map}
@@ -25,7 +24,7 @@ use Rattle.step_replay.specs.VenueFacts.{Fact, of_dealer}
 use Rattle.step_replay.specs.declared.floor.DealerPlace.{DealerPlace}
 use Rattle.step_replay.specs.declared.floor.Floor.{Floor}
 use Rattle.step_replay.specs.declared.floor.InvestorPlace.{InvestorPlace}
-use Rattle.step_replay.proofs.InvestorPlaceLemmas.{numbered_at}
+use Rattle.step_replay.specs.PlaceLemmas.{numbered_at}
 
 -- One firm.
 
@@ -138,14 +137,6 @@ days_stand config facts floor stands =
     (stands.investors_are number row there))))
 
 -- A firm's day is read at its place.
-
-pub get_first : {X : Type 0} (xs ys : List X) (i : ℕ) → i < length xs
-    → slice_get (xs ++ ys) i ≡ slice_get xs i
-get_first [] ys i within = absurd (omega arith)
-get_first (x ∷ xs) ys zero within = refl
-get_first (x ∷ xs) ys (suc i) within =
-    let inner : i < length xs = omega arith in
-    get_first xs ys i inner
 
 pub get_second : {X : Type 0} (xs ys : List X) (i : ℕ) → length xs ≤ i
     → slice_get (xs ++ ys) i ≡ slice_get ys (i - length xs)

@@ -1,8 +1,13 @@
 -- The facts of each place after an action, and the places of a replay.
 use Rattle.std.proofs.Common.{◌≡◌, ◌≢◌, ◌<◌, ◌≤◌, ℕ, zero, suc, ◌==◌, true, false, List, [], ◌∷◌}
 use Rattle.std.proofs.Common.{◌++◌, map, filter_map, length, slice_set, get_or, Option, Some, None}
-use Rattle.std.proofs.Common.{refl, sym, ap, ◌∙◌, arith, eq-eqb}
-use Rattle.std.specs.Prelude.{slice_get}
+use Rattle.std.proofs.Common.{refl, sym, ap, ◌∙◌, arith, eq-eqb, ◌≡◌, ◌<◌, ℕ, zero, suc, true, List}
+use Rattle.std.proofs.Common.{[], ◌∷◌, length, refl, arith, ◌≡◌, ◌<◌, ℕ, zero, suc, List, [], ◌∷◌}
+use Rattle.std.proofs.Common.{◌++◌, length, refl, arith, ◌≡◌, ◌≤◌, ℕ, ◌-◌, Bool, true, false}
+use Rattle.std.proofs.Common.{length, nat_le, Some, None, if◌then◌else◌, refl, arith, ◌≡◌, ◌≤◌, ℕ}
+use Rattle.std.proofs.Common.{◌-◌, Bool, true, length, nat_le, None, if◌then◌else◌, ap, arith, ◌≡◌}
+use Rattle.std.proofs.Common.{◌<◌, ℕ, ◌-◌, true, nat_lt, length, Some, sym, ◌∙◌, arith}
+use Rattle.std.specs.Prelude.{slice_get, slice_get, is_some, slice_get, slice_get, slice_get}
 use Rattle.std.proofs.lemmas.List.{append-nil}
 use Rattle.std.proofs.lemmas.List.Elements.{filter_map-append}
 use Rattle.market_terms.specs.declared.rooms.RoomRef.{RoomRef}
@@ -13,6 +18,12 @@ use Rattle.step_replay.specs.InvestorTrail.{InvestorEntry}
 use Rattle.step_replay.specs.VenueFacts.{Fact, AtDealer, InRoom, AtInvestor, of_dealer, of_room}
 use Rattle.step_replay.specs.VenueFacts.{of_investor, entry_at_dealer, fact_in_room}
 use Rattle.step_replay.specs.VenueFacts.{entry_at_investor}
+use Rattle.std.proofs.lemmas.Bool.Decides.{nat_tests, nat_tests, nat_tests}
+use Rattle.venue_rows.specs.Rows.{Configuration, investor_numbered, Configuration}
+use Rattle.venue_rows.specs.Rows.{investor_numbered, Configuration, investor_numbered}
+use Rattle.venue_rows.specs.declared.investor_rows.InvestorRow.{InvestorRow, InvestorRow}
+use Rattle.std.proofs.lemmas.Option.{slice_get_within}
+use Rattle.step_replay.specs.StepFaults.{firms_of}
 
 -- Lists.
 
@@ -40,6 +51,21 @@ get_beyond (y ∷ xs) zero is = cc
 get_beyond (y ∷ xs) (suc i) is =
     let rest : length xs ≤ i = get_beyond xs i is in
     omega arith
+
+pub get_first : {X : Type 0} (xs ys : List X) (i : ℕ) → i < length xs
+    → slice_get (xs ++ ys) i ≡ slice_get xs i
+get_first [] ys i within = absurd (omega arith)
+get_first (x ∷ xs) ys zero within = refl
+get_first (x ∷ xs) ys (suc i) within =
+    let inner : i < length xs = omega arith in
+    get_first xs ys i inner
+
+pub has_item : {X : Type 0} (xs : List X) (i : ℕ) → i < length xs → is_some (slice_get xs i) ≡ true
+has_item [] i within = absurd (omega arith)
+has_item (x ∷ xs) zero within = refl
+has_item (x ∷ xs) (suc i) within =
+    let inner : i < length xs = omega arith in
+    has_item xs i inner
 
 -- The facts of a place after more facts.
 
@@ -175,3 +201,32 @@ lent (y ∷ xs) zero x within is = ap (λ z. Some z) (sym is)
 lent (y ∷ xs) (suc i) x within is =
     let rest : i < length xs = omega arith in
     lent xs i x rest is
+
+-- An investor's number: behind those of the dealers, and of a firm of the venue.
+
+pub behind_dealers : (config : Configuration) (number : ℕ) (row : InvestorRow)
+    → investor_numbered config number ≡ Some row → length config.dealers ≤ number
+behind_dealers config number row is = by_test (nat_le (length config.dealers) number) refl is
+  where
+    by_test : (b : Bool) → nat_le (length config.dealers) number ≡ b
+        → (if b then slice_get config.investors (number - length config.dealers) else None)
+        ≡ Some row → length config.dealers ≤ number
+    by_test true test found = grind (arith, nat_tests)
+    by_test false test found = cc
+
+pub numbered_at : (config : Configuration) (number : ℕ) → length config.dealers ≤ number
+    → investor_numbered config number
+    ≡ slice_get config.investors (number - length config.dealers)
+numbered_at config number behind =
+    let test : nat_le (length config.dealers) number ≡ true = grind (arith, nat_tests) in
+    ap (λ (b : Bool). if b then slice_get config.investors (number - length config.dealers)
+    else None) test
+
+pub investor_within : (config : Configuration) (firm : ℕ) (row : InvestorRow)
+    → investor_numbered config firm ≡ Some row → nat_lt firm (firms_of config) ≡ true
+investor_within config firm row is =
+    let behind = behind_dealers config firm row is in
+    let there : firm - length config.dealers < length config.investors =
+    slice_get_within config.investors (firm - length config.dealers) row
+    (sym (numbered_at config firm behind) ∙ is) in
+    grind (arith, nat_tests)

@@ -1,14 +1,19 @@
 -- The duties that an actor has still to do, after a step of its own and of another.
 use Rattle.std.proofs.Common.{◌≡◌, ◌≤◌, ℕ, zero, suc, ◌+◌, Bool, true, false, List, [], ◌∷◌, ◌++◌}
 use Rattle.std.proofs.Common.{map, filter_map, drop, length, count_by, if◌then◌else◌, cond, refl}
-use Rattle.std.proofs.Common.{ap, ◌∙◌, arith, eq-eqb}
+use Rattle.std.proofs.Common.{ap, ◌∙◌, arith, eq-eqb, ◌≡◌, ◌≢◌, false, refl, arith, ◌≡◌, ℕ, true}
+use Rattle.std.proofs.Common.{refl, ap, arith}
 use Rattle.std.proofs.lemmas.List.{append-nil, length-append, drop-append-le}
 use Rattle.std.proofs.lemmas.List.Sums.{sum_by-append}
 use Rattle.std.proofs.lemmas.List.Elements.{filter_map-append}
 use Rattle.market_terms.specs.declared.duties.Duty.{Duty}
 use Rattle.step_replay.specs.Actions.{Effect}
 use Rattle.step_replay.specs.AuditTrail.{AuditTrail, is_same_actor, duty_of, pending, with_effect}
-use Rattle.venue_places.specs.declared.actors.Actor.{Actor}
+use Rattle.step_replay.specs.AuditTrail.{is_same_actor, is_same_actor}
+use Rattle.venue_places.specs.declared.actors.Actor.{Actor, Actor, Actor}
+use Rattle.venue_places.specs.declared.actors.Actor.TheVariants as actor
+use Rattle.std.proofs.lemmas.Bool.Decides.{nat_tests, nat_tests}
+use Rattle.venue_places.specs.declared.actors.Actor.TheVariants as actor
 use Rattle.venue_places.specs.declared.actors.Actor.TheVariants as actor
 
 -- Lists.
@@ -33,6 +38,24 @@ pub same_actor : (by : Actor) → is_same_actor by by ≡ true
 same_actor (actor.Firm number) = eq-eqb number number refl
 same_actor actor.Clock = refl
 
+-- one actor by the test
+pub one_actor : (by other : Actor) → is_same_actor by other ≡ true → by ≡ other
+one_actor (actor.Firm one) (actor.Firm two) same =
+    let equal : one ≡ two = grind (arith, nat_tests) in
+    ap (λ (n : ℕ). actor.Firm n) equal
+one_actor (actor.Firm one) actor.Clock same = cc
+one_actor actor.Clock (actor.Firm two) same = cc
+one_actor actor.Clock actor.Clock same = refl
+
+-- whether two actors are one is asked either way
+pub same_either : (by other : Actor) → is_same_actor by other ≡ false → is_same_actor other by ≡ false
+same_either (actor.Firm one) (actor.Firm two) differs =
+    let apart : one ≢ two = grind (arith, nat_tests) in
+    grind (arith, nat_tests, apart)
+same_either (actor.Firm one) actor.Clock differs = refl
+same_either actor.Clock (actor.Firm two) differs = refl
+same_either actor.Clock actor.Clock differs = differs
+
 -- what an actor caused is its own
 own_caused : (by : Actor) (duties : List Duty)
     → filter_map (duty_of by) (map (λ (duty : Duty). record { by = by; duty = duty }) duties) ≡ duties
@@ -48,7 +71,7 @@ other_caused by other differs (duty ∷ duties) = rw differs (other_caused by ot
 -- Turns and duties more.
 
 -- one turn more of an actor
-turn_counted : (by other : Actor) (done : List Actor) (b : Bool) → is_same_actor other by ≡ b
+pub turn_counted : (by other : Actor) (done : List Actor) (b : Bool) → is_same_actor other by ≡ b
     → count_by (is_same_actor other) (done ++ by ∷ [])
     ≡ count_by (is_same_actor other) done + (if b then 1 else 0)
 turn_counted by other done b is =

@@ -18,11 +18,9 @@ use Rattle.recorded_days.specs.Records.{InvestorLists, RecordedDay, investor_in}
 use Rattle.session_worker.specs.KeptDays.{InvestorKeeps, InvestorsKeep}
 use Rattle.threaded_views.specs.DayViews.{EventsFit, investor_dues_of, investor_sent_on}
 use Rattle.threaded_views.proofs.FitLemmas.{ComingsSend, EventsSend, event_views_are_one}
+use Rattle.step_replay.specs.PlaceLemmas.{behind_dealers}
 
 -- Tests of numbers.
-
-is_at_most : (one other : ℕ) → nat_le one other ≡ true → one ≤ other
-is_at_most one other test = grind (arith, nat_tests)
 
 is_not_below : (one other : ℕ) → other ≤ one → nat_lt one other ≡ false
 is_not_below one other behind = grind (arith, nat_tests)
@@ -35,12 +33,6 @@ row_found : (config : Configuration) (number : ℕ) (row : InvestorRow) (b : Boo
     → (b ≡ true) × (slice_get config.investors (number - length config.dealers) ≡ Some row)
 row_found config number row true is = (refl, is)
 row_found config number row false is = absurd cc
-
-behind_dealers : (config : Configuration) (number : ℕ) (row : InvestorRow)
-    → investor_numbered config number ≡ Some row → length config.dealers ≤ number
-behind_dealers config number row is =
-    let found = row_found config number row (nat_le (length config.dealers) number) is in
-    is_at_most (length config.dealers) number found.0
 
 -- an investor is a firm of the venue
 pub is_firm : (config : Configuration) (number : ℕ) (row : InvestorRow)

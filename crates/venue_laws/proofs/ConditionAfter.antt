@@ -17,23 +17,14 @@ use Rattle.step_replay.specs.VenueFacts.{Fact}
 use Rattle.venue_places.specs.declared.actors.Actor.{Actor}
 use Rattle.step_replay.specs.EachLemmas.{Each, Every, each_append, every_both, every_weaker}
 use Rattle.step_replay.specs.GrowthLemmas.{In, any_right}
-use Rattle.step_replay.specs.QueueLemmas.{same_actor}
+use Rattle.step_replay.specs.QueueLemmas.{same_actor, one_actor}
 use Rattle.venue_laws.proofs.VenueInvariant.{duties_by}
 use Rattle.venue_laws.proofs.VenueRoomFacts.{named_in}
-use Rattle.venue_laws.proofs.VenueTurns.{actors_are, left_by, next_of}
+use Rattle.venue_laws.proofs.VenueTurns.{left_by, next_of, own_left, other_left}
 use Rattle.venue_laws.proofs.ConditionOnce.{OnceOk, once_stays, FactDone, Grows, done_stays, did_in}
 use Rattle.venue_laws.proofs.ConditionOnce.{Once, venue_with, FirstIn}
 
 -- Queues.
-
-own_part : (by : Actor) (duties : List Duty) → duties_by by (left_by by duties) ≡ duties
-own_part by [] = refl
-own_part by (one ∷ duties) = rw (same_actor by) (ap (λ l. one ∷ l) (own_part by duties))
-
-other_part : (by other : Actor) → is_same_actor by other ≡ false → (duties : List Duty)
-    → duties_by other (left_by by duties) ≡ []
-other_part by other differs [] = refl
-other_part by other differs (one ∷ duties) = rw differs (other_part by other differs duties)
 
 any_take : (test : Duty → Bool) (n m : ℕ) (xs ys : List Duty) → n ≤ m
     → list_any test (take n xs) ≡ true → list_any test (take m (xs ++ ys)) ≡ true
@@ -130,20 +121,20 @@ module _ (venue : AuditTrail) (by : Actor) (effect : Effect) where
       own_order =
           subst (Each OnceOk [])
           (sym (caused_parts by
-          ∙ ap (λ l. duties_by by venue.caused ++ l) (own_part by effect.duties)))
+          ∙ ap (λ l. duties_by by venue.caused ++ l) (own_left by effect.duties)))
           (each_append OnceOk once_stays [] (duties_by by venue.caused) effect.duties
           (before.order by) first.order)
 
       by_test : (other : Actor) (b : Bool) → is_same_actor by other ≡ b
           → Each OnceOk [] (duties_by other caused_now)
       by_test other true same =
-          subst (λ (a : Actor). Each OnceOk [] (duties_by a caused_now)) (actors_are by other same)
+          subst (λ (a : Actor). Each OnceOk [] (duties_by a caused_now)) (one_actor by other same)
           own_order
       by_test other false differs =
           subst (Each OnceOk [])
           (sym (caused_parts other
           ∙ ap (λ l. duties_by other venue.caused ++ l)
-          (other_part by other differs effect.duties)
+          (other_left by other differs effect.duties)
           ∙ append-nil (duties_by other venue.caused)))
           (before.order other)
 

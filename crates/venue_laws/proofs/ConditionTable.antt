@@ -30,7 +30,8 @@ use Rattle.venue_laws.proofs.ConditionRooms.{unposted_fits}
 use Rattle.step_replay.specs.EachLemmas.{Every}
 use Rattle.venue_laws.proofs.VenueGrowth.{named_later}
 use Rattle.venue_laws.proofs.VenueInvariant.{VenueOk, duties_by}
-use Rattle.venue_laws.proofs.VenueTurns.{actors_are, next_of}
+use Rattle.venue_laws.proofs.VenueTurns.{next_of}
+use Rattle.step_replay.specs.QueueLemmas.{one_actor}
 
 every_at : {A : Type 0} (P : A → Type 0) (front : List A) (x : A) (rest : List A)
     → Every P (front ++ x ∷ rest) → P x
@@ -51,7 +52,7 @@ module _ (config : Configuration) where
       by_test true same later =
           rw same (
             subst (λ (a : Actor). DutyFit config facts a one.duty)
-                (actors_are one.by by same) every.0,
+                (one_actor one.by by same) every.0,
             later,
           )
       by_test false same later = rw same later

@@ -47,7 +47,7 @@ ends_same own quote fact = refl
 
 -- The book.
 
-or_map : {X Y : Type 0} (e : X → Y) (one other : Option X)
+pub or_map : {X Y : Type 0} (e : X → Y) (one other : Option X)
     → option_or (option_map e one) (option_map e other) ≡ option_map e (option_or one other)
 or_map e None other = refl
 or_map e (Some x) other = refl

@@ -1,10 +1,7 @@
 -- The desk of an investor without prices: no price goes into its verdicts, nor into what it is sent
 -- but as the price that is shown.
-use Rattle.std.proofs.Common.{◌≡◌, ℕ, ◌==◌, Bool, true, false, ◌&&◌, not, cond}
-use Rattle.std.proofs.Common.{List, [], ◌∷◌, map, Option, Some, None}
-use Rattle.std.proofs.Common.{option_map, is_some, refl, ap, ◌∙◌}
-use Rattle.std.proofs.Common.{if◌then◌else◌}
-use Rattle.std.specs.Option.{option_or}
+use Rattle.std.proofs.Common.{◌≡◌, ℕ, ◌==◌, Bool, true, false, ◌&&◌, not, cond, List, [], ◌∷◌, map}
+use Rattle.std.proofs.Common.{Option, Some, None, option_map, is_some, refl, ap, ◌∙◌, if◌then◌else◌}
 use Rattle.std.proofs.lemmas.List.{length-map}
 use Rattle.quote_messages.specs.declared.arrivals.Arrival.{Arrival}
 use Rattle.quote_messages.specs.declared.arrivals.Arrival.TheVariants as arrival
@@ -18,24 +15,24 @@ use Rattle.quote_messages.specs.Arrivals.{investor_arrival}
 use Rattle.quote_messages.specs.Written.{quote_name}
 use Rattle.venue_rows.specs.Texts.{same_text}
 use Rattle.venue_rows.specs.declared.bond_rows.BondRow.{BondRow}
-use Rattle.investor_desk.specs.InvestorFacts.{InvestorFact, InvestorBook, StandingRequest}
-use Rattle.investor_desk.specs.InvestorFacts.{Asked, Offered, Gone, Closed, used_number}
-use Rattle.investor_desk.specs.InvestorFacts.{closes, says_gone, first_said, stands_on, standing_on}
-use Rattle.investor_desk.specs.InvestorFacts.{requests_of, offers_of, book_of}
-use Rattle.investor_desk.specs.InvestorFacts.{expected_number, requests_accepted, offers_shown}
-use Rattle.investor_desk.specs.InvestorFacts.{is_open, requests_open, request_with_id}
-use Rattle.investor_desk.specs.InvestorFacts.{request_numbered, while_open, open_request}
-use Rattle.investor_desk.specs.InvestorFacts.{offer_named, offer_numbered, offer_of_dealer}
-use Rattle.investor_desk.specs.InvestorFacts.{offer_with_word, was_shown_on, knows_quote, knows}
+use Rattle.investor_desk.specs.InvestorFacts.{InvestorFact, InvestorBook, StandingRequest, Asked}
+use Rattle.investor_desk.specs.InvestorFacts.{Offered, Gone, Closed, used_number, closes, says_gone}
+use Rattle.investor_desk.specs.InvestorFacts.{first_said, stands_on, standing_on, requests_of}
+use Rattle.investor_desk.specs.InvestorFacts.{offers_of, book_of, expected_number}
+use Rattle.investor_desk.specs.InvestorFacts.{requests_accepted, offers_shown, is_open}
+use Rattle.investor_desk.specs.InvestorFacts.{requests_open, request_with_id, request_numbered}
+use Rattle.investor_desk.specs.InvestorFacts.{while_open, open_request, offer_named, offer_numbered}
+use Rattle.investor_desk.specs.InvestorFacts.{offer_of_dealer, offer_with_word, was_shown_on}
+use Rattle.investor_desk.specs.InvestorFacts.{knows_quote, knows}
 use Rattle.investor_desk.specs.InvestorRules.{InvestorMarket, request_refusal, request_answer}
 use Rattle.investor_desk.specs.InvestorRules.{request_verdict, bond_with_id, hit_of, hit_verdict}
 use Rattle.investor_desk.specs.InvestorRules.{pass_of, pass_verdict, arrival_verdict}
 use Rattle.investor_desk.specs.InvestorRules.{investor_verdict}
 use Rattle.investor_desk.specs.declared.standing.ShownOffer.{ShownOffer}
-use Rattle.venue_laws.proofs.Erasing.{erase_shown, erase_request_close}
-use Rattle.venue_laws.proofs.Erasing.{erase_investor_fact, erase_request, erase_investor_book}
-use Rattle.venue_laws.proofs.ErasedLists.{find_erased, any_erased, count_erased, some_map}
-use Rattle.venue_laws.proofs.ErasedLists.{map_cond}
+use Rattle.venue_laws.proofs.Erasing.{erase_shown, erase_request_close, erase_investor_fact}
+use Rattle.venue_laws.proofs.Erasing.{erase_request, erase_investor_book}
+use Rattle.venue_laws.proofs.ErasedLists.{find_erased, any_erased, count_erased, some_map, map_cond}
+use Rattle.venue_laws.proofs.ErasedBook.{or_map}
 
 -- What one fact says.
 
@@ -60,11 +57,6 @@ gone_same number quote (Gone request gone) = refl
 gone_same number quote fact = refl
 
 -- The book.
-
-or_map : {X Y : Type 0} (e : X → Y) (one other : Option X)
-    → option_or (option_map e one) (option_map e other) ≡ option_map e (option_or one other)
-or_map e None other = refl
-or_map e (Some x) other = refl
 
 close_same : (number : ℕ) (later : List InvestorFact)
     → first_said (closes number) (map erase_investor_fact later)

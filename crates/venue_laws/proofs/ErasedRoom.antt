@@ -1,23 +1,21 @@
 -- A room without prices and covers: its phase, its book, its hits and its duties ask for neither,
 -- but for who is the cover.
-use Rattle.std.proofs.Common.{◌≡◌, ℕ, ◌==◌, Bool, true, false, ◌||◌, ◌&&◌, not}
-use Rattle.std.proofs.Common.{List, [], ◌∷◌, map, Option, Some, None, option_map, is_some}
-use Rattle.std.proofs.Common.{refl, sym, ap, ◌∙◌, Result, Ok, Err}
-use Rattle.std.proofs.Common.{if◌then◌else◌}
+use Rattle.std.proofs.Common.{◌≡◌, ℕ, ◌==◌, Bool, true, false, ◌||◌, ◌&&◌, not, List, [], ◌∷◌, map}
+use Rattle.std.proofs.Common.{Option, Some, None, option_map, is_some, refl, sym, ap, ◌∙◌, Result}
+use Rattle.std.proofs.Common.{Ok, Err, if◌then◌else◌}
 use Rattle.std.specs.List.{list_any}
-use Rattle.std.specs.Option.{option_or}
 use Rattle.market_terms.specs.declared.closes.HitRefusal.{HitRefusal}
 use Rattle.market_terms.specs.declared.closes.HitRefusal.TheVariants as refusal
 use Rattle.quote_word.specs.declared.settled.Settled.{Settled}
 use Rattle.request_room.specs.RoomFacts.{RoomFact, Opened, Readied, Posted, Unposted, Noted, Ended}
-use Rattle.request_room.specs.RoomFacts.{opened_for, ended_as, is_readied, request_of}
-use Rattle.request_room.specs.RoomFacts.{end_of, is_ready, is_ended, is_vacant, is_opening, is_open}
+use Rattle.request_room.specs.RoomFacts.{opened_for, ended_as, is_readied, request_of, end_of}
+use Rattle.request_room.specs.RoomFacts.{is_ready, is_ended, is_vacant, is_opening, is_open}
 use Rattle.request_room.specs.RoomFacts.{takes_quotes, hears, names}
 use Rattle.request_room.specs.Book.{takes_out, book_of, is_quote_of, stands, quote_meant}
 use Rattle.request_room.specs.Book.{is_expired, is_past_deadline, hit_refusal, hit_settled}
-use Rattle.request_room.specs.Book.{hit_outcome, award_of, is_lift, passed, expired}
-use Rattle.request_room.specs.Book.{may_expire, may_unpost, quote_posted, where_so, end_by}
-use Rattle.request_room.specs.Book.{event_facts, word_or}
+use Rattle.request_room.specs.Book.{hit_outcome, award_of, is_lift, passed, expired, may_expire}
+use Rattle.request_room.specs.Book.{may_unpost, quote_posted, where_so, end_by, event_facts}
+use Rattle.request_room.specs.Book.{word_or}
 use Rattle.request_room.specs.declared.ends.End.{End}
 use Rattle.request_room.specs.declared.ends.EndKind.TheVariants as ends
 use Rattle.request_room.specs.declared.events.RoomEvent.{RoomEvent}
@@ -27,6 +25,7 @@ use Rattle.request_room.specs.declared.requests.RoomRequest.{RoomRequest}
 use Rattle.venue_steps.specs.RoomSteps.{word_asked_by, hit_word}
 use Rattle.venue_laws.proofs.Erasing.{erase_posted, erase_cover, erase_room_fact}
 use Rattle.venue_laws.proofs.ErasedLists.{find_erased, any_erased, some_map, map_twice}
+use Rattle.venue_laws.proofs.ErasedBook.{or_map}
 
 -- What one fact says.
 
@@ -54,11 +53,6 @@ takes_out_same quote (Unposted dealer word) = refl
 takes_out_same quote fact = refl
 
 -- The facts of a room.
-
-or_map : {X Y : Type 0} (e : X → Y) (one other : Option X)
-    → option_or (option_map e one) (option_map e other) ≡ option_map e (option_or one other)
-or_map e None other = refl
-or_map e (Some x) other = refl
 
 if_same : (e : PostedQuote → PostedQuote) (b : Bool) (quote : PostedQuote)
     (rest : List PostedQuote)

@@ -1,21 +1,14 @@
 -- A hit that awards: what its word asked, the quote of the book, and its winner.
-use Rattle.std.proofs.Common.{◌≡◌, ℕ, ◌==◌, Bool, true, false, List, [], ◌∷◌, find, Option, Some}
-use Rattle.std.proofs.Common.{None, if◌then◌else◌, cond, Result, Ok, Err, refl, sym, ap, ◌∙◌, subst}
-use Rattle.std.proofs.Common.{arith}
-use Rattle.std.specs.List.{list_any}
-use Rattle.std.proofs.lemmas.Bool.Decides.{nat_tests}
-use Rattle.std.proofs.lemmas.Option.{same_Some}
+use Rattle.std.proofs.Common.{◌≡◌, ℕ, Bool, true, false, List, Option, Some, None, if◌then◌else◌}
+use Rattle.std.proofs.Common.{Result, Ok, Err, refl, sym, ap}
 use Rattle.market_terms.specs.declared.closes.Close.TheVariants as closes
 use Rattle.market_terms.specs.declared.closes.HitRefusal.{HitRefusal}
 use Rattle.market_terms.specs.declared.closes.HitRefusal.TheVariants as refusal
 use Rattle.quote_word.specs.declared.settled.Settled.{Settled}
-use Rattle.request_room.specs.RoomFacts.{RoomFact, Posted}
-use Rattle.request_room.specs.Book.{award_of, book_of, hit_outcome, hit_refusal, hit_settled}
-use Rattle.request_room.specs.Book.{is_lift, quote_meant, takes_out}
+use Rattle.request_room.specs.RoomFacts.{RoomFact}
+use Rattle.request_room.specs.Book.{award_of, hit_outcome, hit_refusal, hit_settled, is_lift}
 use Rattle.request_room.specs.declared.ends.End.{End}
-use Rattle.request_room.specs.declared.quotes.PostedQuote.{PostedQuote as BookQuote}
 use Rattle.venue_steps.specs.RoomSteps.{is_winner, is_cover}
-use Rattle.step_replay.specs.EachLemmas.{Every}
 
 -- a hit that awards asked a word that no check refused, and ends as the book says
 pub record Awards (facts : List RoomFact) (word moment : ℕ) (award : End) : Type 0 where
@@ -52,38 +45,6 @@ awards facts word moment settlement award is =
         → Awards facts word moment award
     by_refusal (Some why) refused found = cc
     by_refusal None refused found = by_lift (is_lift settlement) refused found
-
--- a quote of the book was posted
-pub posted_fact : (P : RoomFact → Type 0) (word : ℕ) (facts : List RoomFact) (quote : BookQuote)
-    → quote_meant (book_of facts) word ≡ Some quote → Every P facts
-    → (quote.word ≡ word) × P (Posted quote)
-posted_fact P word [] quote is every = cc
-posted_fact P word (Posted other ∷ facts) quote is every =
-    by_out (list_any (takes_out other) facts) is
-    (λ found. posted_fact P word facts quote found every.1)
-  where
-    means : BookQuote → Bool
-    means q = q.word == word
-
-    by_test : (b : Bool) → means other ≡ b
-        → cond b (Some other) (find means (book_of facts)) ≡ Some quote
-        → (find means (book_of facts) ≡ Some quote → (quote.word ≡ word) × P (Posted quote))
-        → (quote.word ≡ word) × P (Posted quote)
-    by_test true test found later =
-        let same : other ≡ quote = same_Some other quote found in
-        let words : other.word ≡ word = grind (arith, nat_tests) in (
-          ap (λ (q : BookQuote). q.word) (sym same) ∙ words,
-          subst (λ (q : BookQuote). P (Posted q)) same every.0,
-        )
-    by_test false test found later = later found
-
-    by_out : (b : Bool)
-        → find means (if b then book_of facts else other ∷ book_of facts) ≡ Some quote
-        → (find means (book_of facts) ≡ Some quote → (quote.word ≡ word) × P (Posted quote))
-        → (quote.word ≡ word) × P (Posted quote)
-    by_out true found later = later found
-    by_out false found later = by_test (means other) refl found later
-posted_fact P word (fact ∷ facts) quote is every = posted_fact P word facts quote is every.1
 
 -- who is told of a hit is the winner
 pub winner_is : (winner : Option (ℕ × ℕ)) (cover : Option ℕ) (dealer : ℕ)

@@ -1,7 +1,7 @@
 -- Where every queue is empty and a room has ended, each dealer that it names was told so once.
-use Rattle.std.proofs.Common.{◌≡◌, ◌≤◌, ℕ, ◌+◌, ◌==◌, Bool, true, false, ◌||◌, List, [], ◌∷◌, ◌++◌}
+use Rattle.std.proofs.Common.{◌≡◌, ◌≤◌, ℕ, ◌==◌, Bool, true, false, ◌||◌, List, [], ◌∷◌, ◌++◌}
 use Rattle.std.proofs.Common.{filter, filter_map, length, count_by, Option, Some, None, is_some}
-use Rattle.std.proofs.Common.{if◌then◌else◌, cond, inl, inr, refl, sym, ap, ◌∙◌, subst, arith}
+use Rattle.std.proofs.Common.{cond, inl, inr, refl, sym, ap, ◌∙◌, subst, arith}
 use Rattle.std.specs.List.{list_any}
 use Rattle.std.proofs.lemmas.Bool.Decides.{nat_tests}
 use Rattle.std.proofs.lemmas.List.{append-nil, take-append-drop}
@@ -13,7 +13,6 @@ use Rattle.market_terms.specs.declared.rooms.RoomRef.{RoomRef}
 use Rattle.venue_rows.specs.Rows.{Configuration, dealer_numbered}
 use Rattle.venue_rows.specs.declared.dealer_rows.DealerRow.{DealerRow}
 use Rattle.dealer_desk.specs.DealerFacts.{DealerFact, Told, tells}
-use Rattle.dealer_desk.specs.DealerOutput.{is_same_room, number_from}
 use Rattle.request_room.specs.RoomFacts.{end_of, is_named}
 use Rattle.request_room.specs.declared.ends.End.{End}
 use Rattle.venue_steps.specs.RoomSteps.{close_for}
@@ -22,14 +21,14 @@ use Rattle.step_replay.specs.DealerTrail.{AtDesk, DealerEntry, facts_of, rooms_b
 use Rattle.venue_laws.specs.Notices.{IsToldOnce}
 use Rattle.step_replay.specs.VenueFacts.{AtDealer, Fact, entry_at_dealer, of_dealer, of_room}
 use Rattle.venue_places.specs.declared.actors.Actor.{Actor}
-use Rattle.venue_laws.proofs.CountLemmas.{number_within}
 use Rattle.step_replay.specs.EachLemmas.{Every}
-use Rattle.step_replay.specs.GrowthLemmas.{In, same_room}
+use Rattle.step_replay.specs.GrowthLemmas.{In}
 use Rattle.step_replay.specs.QueueLemmas.{same_actor}
 use Rattle.venue_laws.proofs.VenueInvariant.{ClosedIn, DoneOk, EntryOk, FactOk, IsDealer, VenueOk}
 use Rattle.venue_laws.proofs.VenueInvariant.{WasTold, done_by, duties_by}
 use Rattle.venue_laws.proofs.VenueRoomFacts.{every_in}
 use Rattle.venue_laws.proofs.VenueRooms.{ended_in, is_dealer_named}
+use Rattle.venue_laws.proofs.ConditionLists.{one_number}
 
 -- The only notice of a request.
 
@@ -93,35 +92,6 @@ in_facts fact [] is = absurd is
 in_facts fact (AtDesk other ∷ trail) (inl is) = inl (ap AtDesk is)
 in_facts fact (AtDesk other ∷ trail) (inr is) = inr (in_facts fact trail is)
 in_facts fact (entry ∷ trail) is = inr (in_facts fact trail is)
-
--- two rooms of one number are one
-same_number : (first : ℕ) (rooms : List RoomRef) (one other : RoomRef) (number : ℕ)
-    → number_from first rooms one ≡ Some number → number_from first rooms other ≡ Some number
-    → one ≡ other
-same_number first [] one other number is also = cc
-same_number first (shown ∷ rooms) one other number is also =
-    by_tests (is_same_room shown one) refl (is_same_room shown other) refl is also
-    (λ found found_too. same_number (first + 1) rooms one other number found found_too)
-  where
-    -- the first number does not come again
-    never : (room : RoomRef) → Some first ≡ Some number
-        → number_from (first + 1) rooms room ≡ Some number → {A : Type 0} → A
-    never room here later =
-        let same : first ≡ number = same_Some first number here in
-        let beyond : first + 1 ≤ number = (number_within (first + 1) rooms room number later).0 in
-        absurd (omega arith)
-
-    by_tests : (b : Bool) → is_same_room shown one ≡ b → (c : Bool) → is_same_room shown other ≡ c
-        → (if b then Some first else number_from (first + 1) rooms one) ≡ Some number
-        → (if c then Some first else number_from (first + 1) rooms other) ≡ Some number
-        → (number_from (first + 1) rooms one ≡ Some number
-        → number_from (first + 1) rooms other ≡ Some number → one ≡ other)
-        → one ≡ other
-    by_tests true here true here_too found found_too later =
-        sym (same_room shown one here) ∙ same_room shown other here_too
-    by_tests true here false there found found_too later = never other found found_too
-    by_tests false there true here found found_too later = never one found_too found
-    by_tests false there false there_too found found_too later = later found found_too
 
 entries_of_dealer : (config : Configuration) (facts : List Fact) (caused : List Caused)
     (dealer : ℕ) (some : List Fact) → Every (FactOk config facts caused) some
@@ -195,7 +165,7 @@ module _ (config : Configuration) (venue : AuditTrail) (before : VenueOk config 
       (entries_of_dealer config venue.facts venue.caused dealer venue.facts before.facts)
       (in_facts (Told was_told.request close moment) (of_dealer dealer venue.facts) stands) in
       let rooms : closed.room ≡ room =
-      same_number 1 (rooms_by (of_dealer dealer venue.facts)) closed.room room
+      one_number 1 (rooms_by (of_dealer dealer venue.facts)) closed.room room
       was_told.request closed.request_is was_told.request_is in
       let ends : closed.end ≡ end =
       same_Some closed.end end (sym closed.end_is

@@ -1,9 +1,7 @@
 -- What stands in a venue stands after every list of steps.
-use Rattle.std.proofs.Common.{◌≡◌, ◌≤◌, ◌<◌, ℕ, zero, suc, Bool, true, false, nat_lt, cond}
-use Rattle.std.proofs.Common.{List, [], ◌∷◌, fold, filter_map, length, count_by, option_to_list}
-use Rattle.std.proofs.Common.{Option, Some, None, option_map, is_some, position}
-use Rattle.std.proofs.Common.{refl, ap, subst, arith}
-use Rattle.std.specs.Prelude.{slice_get}
+use Rattle.std.proofs.Common.{◌≡◌, ◌≤◌, ◌<◌, ℕ, Bool, true, false, nat_lt, cond, List, [], ◌∷◌}
+use Rattle.std.proofs.Common.{fold, filter_map, length, count_by, option_to_list, Option, Some}
+use Rattle.std.proofs.Common.{None, option_map, is_some, position, refl, ap, subst, arith}
 use Rattle.std.specs.List.{position_or_len}
 use Rattle.std.proofs.lemmas.Bool.Decides.{nat_tests}
 use Rattle.std.proofs.lemmas.List.{length-map}
@@ -24,11 +22,10 @@ use Rattle.venue_rows.specs.declared.dealer_rows.DealerRow.{DealerRow}
 use Rattle.venue_rows.specs.declared.investor_rows.InvestorRow.{InvestorRow}
 use Rattle.investor_desk.specs.InvestorFacts.{InvestorBook, expected_number, request_with_id}
 use Rattle.investor_desk.specs.InvestorFacts.{StandingRequest, offer_named}
-use Rattle.investor_desk.specs.InvestorRules.{InvestorMarket, arrival_verdict}
-use Rattle.investor_desk.specs.InvestorRules.{dealer_named, dealer_numbers, hit_of, hit_verdict}
-use Rattle.investor_desk.specs.InvestorRules.{investor_verdict, message_verdict, pass_of}
-use Rattle.investor_desk.specs.InvestorRules.{pass_verdict, request_answer}
-use Rattle.investor_desk.specs.InvestorRules.{request_verdict}
+use Rattle.investor_desk.specs.InvestorRules.{InvestorMarket, arrival_verdict, dealer_named}
+use Rattle.investor_desk.specs.InvestorRules.{dealer_numbers, hit_of, hit_verdict, investor_verdict}
+use Rattle.investor_desk.specs.InvestorRules.{message_verdict, pass_of, pass_verdict}
+use Rattle.investor_desk.specs.InvestorRules.{request_answer, request_verdict}
 use Rattle.investor_desk.specs.InvestorDesk.{market_of}
 use Rattle.investor_desk.specs.InvestorOutput.{verdict_duty}
 use Rattle.investor_desk.specs.declared.events.InvestorEvent.TheVariants as at_investor
@@ -51,7 +48,7 @@ use Rattle.step_replay.specs.SeenLemmas.{start_seen}
 use Rattle.step_replay.specs.StepLemmas.{duty_keeps, message_keeps, sweep_keeps}
 use Rattle.venue_laws.proofs.VenueDesk.{said_brings}
 use Rattle.venue_laws.proofs.VenueEnds.{expired_brings}
-use Rattle.venue_laws.proofs.VenueInvariant.{DoneOk, DutyOk, InOrder, IsDealer, VenueOk, duties_by}
+use Rattle.venue_laws.proofs.VenueInvariant.{DutyOk, InOrder, IsDealer, VenueOk, duties_by}
 use Rattle.venue_laws.proofs.VenueInvariant as ran
 use Rattle.venue_laws.proofs.PlainFacts.{Fine, plain_fine}
 use Rattle.venue_laws.proofs.VenuePlain.{Brings, dealer_brings, if_brings, market_brings}
@@ -60,15 +57,9 @@ use Rattle.venue_laws.proofs.LiveQuotes.{LoneQuotes}
 use Rattle.venue_laws.proofs.VenueSteps.{Basic, KeepsDesks, effect_ok, turn_ok}
 use Rattle.venue_laws.proofs.VenueTurns.{NextOf, next_of}
 use Rattle.venue_laws.proofs.VenueTable.{Does, at_split, basic_is_kept, duties_ok, turn_does}
+use Rattle.step_replay.specs.PlaceLemmas.{has_item}
 
 -- A request names dealers of the venue.
-
-get_some : {A : Type 0} (xs : List A) (i : ℕ) → i < length xs → is_some (slice_get xs i) ≡ true
-get_some [] i within = absurd (omega arith)
-get_some (x ∷ xs) zero within = refl
-get_some (x ∷ xs) (suc i) within =
-    let rest : i < length xs = omega arith in
-    get_some xs i rest
 
 position_within : {A : Type 0} (test : A → Bool) (xs : List A) (i : ℕ)
     → position test xs ≡ Some i → i < length xs
@@ -114,7 +105,7 @@ module _ (config : Configuration) where
         (λ name dealer found.
         let within : dealer < length market.dealers =
         position_within (λ own. same_text own name) market.dealers dealer found in
-        get_some config.dealers dealer
+        has_item config.dealers dealer
         (subst (λ (n : ℕ). dealer < n)
         (length-map config.dealers (λ (d : DealerRow). d.name)) within))
 

@@ -38,8 +38,9 @@ use Rattle.venue_laws.proofs.VenueInvariant.{LiftedIn, PostedIn, RoomOk, VenueOk
 use Rattle.venue_laws.proofs.PlainFacts.{is_plain_fact, plain_fine}
 use Rattle.venue_laws.proofs.VenuePlain.{Brings}
 use Rattle.venue_laws.proofs.VenueRooms.{all_known, here, in_room_brings, known, room_brings}
-use Rattle.venue_laws.proofs.HitAwards.{awards, posted_fact, winner_is}
+use Rattle.venue_laws.proofs.HitAwards.{awards, winner_is}
 use Rattle.venue_laws.proofs.EndedRooms.{ended_brings}
+use Rattle.venue_laws.proofs.ConditionWords.{posted_in}
 
 -- nothing stands of a room in no facts
 none_here : (room : RoomRef) → of_room room [] ≡ []
@@ -194,7 +195,7 @@ module _ (config : Configuration) (venue : AuditTrail) (before : VenueOk config 
             → Lifts (quote_with_word config word) dealer
         by_quote None found wins = cc
         by_quote (Some quote) found wins =
-            let stood = posted_fact (RoomOk config venue.facts venue.caused room) word
+            let stood = posted_in (RoomOk config venue.facts venue.caused room) word
             (known_in room) quote found (all_known config venue before room) in
             let dealer_is : quote.dealer ≡ dealer = grind (arith, nat_tests) in
             subst (Lifts (quote_with_word config word)) dealer_is

@@ -21,14 +21,13 @@ use Rattle.step_replay.specs.EachLemmas.{every_weaker}
 use Rattle.step_replay.specs.GrowthLemmas.{AreNumbered}
 use Rattle.venue_laws.proofs.NoticedLemmas.{Noticed}
 use Rattle.step_replay.specs.PlaceLemmas.{dealer_grown}
-use Rattle.step_replay.specs.QueueLemmas.{same_actor}
+use Rattle.step_replay.specs.QueueLemmas.{same_actor, turn_counted, one_actor, same_either}
 use Rattle.step_replay.specs.SeenLemmas.{Seen}
 use Rattle.venue_laws.proofs.VenueGrowth.{done_stays, duty_stays, fact_stays, order_stays}
 use Rattle.venue_laws.proofs.VenueInvariant.{CausedOk, DeskOk, DoneOk, DutyOk, FactOk, InOrder}
 use Rattle.venue_laws.proofs.VenueInvariant.{NamesLifted, QueueOk, VenueOk, done_by, duties_by}
 use Rattle.step_replay.specs.WordLemmas.{IsOneOf}
-use Rattle.venue_laws.proofs.VenueTurns.{next_of, actors_are, actors_turned, left_by, own_left}
-use Rattle.venue_laws.proofs.VenueTurns.{other_left, left_grown, turn_more}
+use Rattle.venue_laws.proofs.VenueTurns.{next_of, left_by, own_left, other_left, left_grown}
 
 -- what every event at a desk keeps
 pub record Basic (date : List ℕ) (row : DealerRow) (trail : List DealerEntry) : Type 0 where
@@ -231,7 +230,7 @@ module _ (config : Configuration) where
         where
           by_test : (b : Bool) → is_same_actor by other ≡ b → QueueOk config (now_with done) other
           by_test true same =
-              subst (QueueOk config (now_with done)) (actors_are by other same) own
+              subst (QueueOk config (now_with done)) (one_actor by other same) own
           by_test false differs = others other differs
 
       -- after a message or a sweep
@@ -254,7 +253,7 @@ module _ (config : Configuration) where
           let n = count_by (is_same_actor by) venue.done in
           let next = next_of n (duties_by by venue.caused) left rest is in
           let counted : count_by (is_same_actor by) (venue.done ++ by ∷ []) ≡ suc n =
-          turn_more by by venue.done true (same_actor by) ∙ one_more n in
+          turn_counted by by venue.done true (same_actor by) ∙ one_more n in
           record {
             facts = facts_ok;
             caused = all_caused;
@@ -264,7 +263,7 @@ module _ (config : Configuration) where
                 (every_both (DoneOk config facts_now) (done_by by venue) (left ∷ []) (old_done by)
                 (done, tt))))
                 (λ other differs. other_queue other differs (venue.done ++ by ∷ [])
-                (turn_more by other venue.done false (actors_turned by other differs)
+                (turn_counted by other venue.done false (same_either by other differs)
                 ∙ no_more (count_by (is_same_actor other) venue.done)));
             desks = desk_ok;
           }

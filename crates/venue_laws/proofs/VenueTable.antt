@@ -1,8 +1,6 @@
 -- What stands in a venue stands after every step: one line a duty.
-use Rattle.std.proofs.Common.{◌≡◌, ℕ, Bool, true, false}
-use Rattle.std.proofs.Common.{List, [], ◌∷◌, ◌++◌}
-use Rattle.std.proofs.Common.{Option, Some, None, option_map, is_some}
-use Rattle.std.proofs.Common.{refl, sym, ap, ◌∙◌, subst}
+use Rattle.std.proofs.Common.{◌≡◌, ℕ, Bool, true, false, List, [], ◌∷◌, ◌++◌, Option, Some, None}
+use Rattle.std.proofs.Common.{option_map, is_some, refl, sym, ap, ◌∙◌, subst}
 use Rattle.market_terms.specs.declared.duties.Duty.{Duty}
 use Rattle.market_terms.specs.declared.duties.Duty.TheVariants as duty
 use Rattle.market_terms.specs.declared.rooms.RoomRef.{RoomRef}
@@ -28,8 +26,7 @@ use Rattle.step_replay.specs.TrailKept.{IsKept}
 use Rattle.venue_laws.proofs.VenueDesk.{dropped_brings}
 use Rattle.venue_laws.proofs.VenueEnds.{hit_brings, passed_brings}
 use Rattle.venue_laws.proofs.VenueInvariant.{CausedOk, DoneOk, DutyOk, InOrder, IsDealer, PostsIn}
-use Rattle.venue_laws.proofs.VenueInvariant.{ReadiesIn, TellsIn, VenueOk, WasTold, duties_by}
-use Rattle.venue_laws.proofs.VenueInvariant.{number_for}
+use Rattle.venue_laws.proofs.VenueInvariant.{VenueOk, duties_by, number_for}
 use Rattle.venue_laws.proofs.VenueInvariant as ran
 use Rattle.venue_laws.proofs.VenuePlain.{Brings, dealer_brings, if_brings, investor_brings}
 use Rattle.venue_laws.proofs.VenuePlain.{known_brings, nothing_brings}
@@ -38,8 +35,8 @@ use Rattle.venue_laws.proofs.VenueRooms.{ready_in, readied_brings, unposted_brin
 use Rattle.venue_laws.proofs.LiveQuotes.{LoneQuotes}
 use Rattle.venue_laws.proofs.VenueShow.{shown_brings, told_brings}
 use Rattle.venue_laws.proofs.VenueSteps.{Basic}
-use Rattle.venue_laws.proofs.VenueTurns.{actors_are}
 use Rattle.step_replay.specs.WordLemmas.{IsOneOf, one_is_kept}
+use Rattle.step_replay.specs.QueueLemmas.{one_actor}
 
 -- What every event at a desk keeps.
 pub basic_is_kept : (date : List ℕ) (row : DealerRow) → IsKept date row (Basic date row)
@@ -103,7 +100,7 @@ module _ (lone : LoneQuotes) (config : Configuration) where
       by_test true same later =
           rw same (
             subst (λ (a : Actor). DutyOk config facts a one.duty)
-                (actors_are one.by by same) every.0,
+                (one_actor one.by by same) every.0,
             later,
           )
       by_test false same later = rw same later

@@ -7,7 +7,7 @@ use Rattle.venue_text.proofs.DayLemmas.{take_more, one_at_some, one_at_none}
 
 -- the same at a place, as lists of one item or none
 
-same_one : {A : Type 0} (one other : List A) (place : ℕ) (item : Option A) → slice_get one place ≡ item → slice_get other place ≡ item
+pub same_one : {A : Type 0} (one other : List A) (place : ℕ) (item : Option A) → slice_get one place ≡ item → slice_get other place ≡ item
     → one_at place one ≡ one_at place other
 same_one one other place None is there = one_at_none one place is ∙ sym (one_at_none other place there)
 same_one one other place (Some x) is there = one_at_some one place x is ∙ sym (one_at_some other place x there)
@@ -21,7 +21,7 @@ same_more one other place before there =
     ∙ ap (λ xs. take place other ++ xs) (same_one one other place (slice_get other place) there refl)
     ∙ sym (take_more other place)
 
-take_whole : {A : Type 0} (xs : List A) (n : ℕ) → length xs ≤ n → take n xs ≡ xs
+pub take_whole : {A : Type 0} (xs : List A) (n : ℕ) → length xs ≤ n → take n xs ≡ xs
 take_whole [] zero long = refl
 take_whole [] (suc n) long = refl
 take_whole (x ∷ xs) zero long = absurd (omega arith)

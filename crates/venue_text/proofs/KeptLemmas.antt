@@ -1,8 +1,6 @@
 -- A day that comes line by line, and what is printed of it at its end.
-use Rattle.std.proofs.Common.{◌≡◌, ◌<◌, ◌++◌, ◌∷◌, [], ℕ, zero, suc, true, List, length, map}
-use Rattle.std.proofs.Common.{Option, Some, None, Result, Ok, Err, IsSome, is_some, refl, sym, ap}
-use Rattle.std.proofs.Common.{subst, ◌∙◌, arith}
-use Rattle.std.specs.Prelude.{slice_get}
+use Rattle.std.proofs.Common.{◌≡◌, ◌<◌, ◌++◌, ℕ, List, length, map, Option, Some, Result, Ok, Err}
+use Rattle.std.proofs.Common.{IsSome, refl, sym, ap, subst, ◌∙◌, arith}
 use Rattle.std.specs.Option.{option_to_list}
 use Rattle.std.proofs.lemmas.Iterator.Adapters.{position_from-zero}
 use Rattle.std.proofs.lemmas.List.{length-map}
@@ -18,7 +16,7 @@ use Rattle.venue_text.specs.KeptDays.{kept_text, text_if, text_of_asked}
 use Rattle.venue_text.specs.LiveAnswers.{Goes, Opens, Sends}
 use Rattle.venue_text.specs.LiveLines.{Taken}
 use Rattle.input_lines.specs.ResultSteps.{◌>>=◌}
-use Rattle.input_lines.specs.StepLines.{asked, dealer_named}
+use Rattle.input_lines.specs.StepLines.{dealer_named}
 use Rattle.input_lines.specs.declared.faults.ProgramFault.{ProgramFault}
 use Rattle.venue_text.specs.declared.kept_days.Asked.{Asked}
 use Rattle.venue_text.specs.declared.kept_days.Asked.TheVariants as by_number
@@ -27,6 +25,8 @@ use Rattle.venue_text.specs.declared.live_form.LiveForm.{LiveForm}
 use Rattle.venue_text.specs.declared.live_lines.LiveDay.{LiveDay}
 use Rattle.input_lines.specs.FirmLemmas.{found_within}
 use Rattle.venue_text.proofs.LiveLemmas.{faults_told}
+use Rattle.venue_text.proofs.FirmLineLemmas.{asked_firm_is}
+use Rattle.step_replay.specs.PlaceLemmas.{has_item}
 
 -- a day goes on in its own form, whichever that is
 
@@ -86,26 +86,17 @@ text_kept wanted config taken kept has text is printed keeps =
 
 -- The dealer of whom due text is wanted.
 
-asked_is_named : (found : Option ℕ) (number : ℕ) → asked found ≡ Ok number → found ≡ Some number
-asked_is_named None number is = cc
-asked_is_named (Some found) number is = cc
-
-item_at : {A : Type 0} (xs : List A) (n : ℕ) → n < length xs → is_some (slice_get xs n) ≡ true
-item_at [] n within = absurd (omega arith)
-item_at (x ∷ xs) zero within = refl
-item_at (x ∷ xs) (suc n) within = item_at xs n (omega arith)
-
 -- it is one of the venue
 pub dealer_is_known : (config : Configuration) (name : List ℕ) (dealer : ℕ)
     → dealer_by name (values_of config) ≡ Ok dealer → IsSome (dealer_numbered config dealer)
 dealer_is_known config name dealer is =
     let test = λ (row : DealerValues). same_text row.name name in
     let rows = map dealer_values config.dealers in
-    let found = asked_is_named (dealer_named (values_of config) name) dealer is in
+    let found = asked_firm_is (dealer_named (values_of config) name) dealer is in
     let below = found_within test 0 dealer rows (sym (position_from-zero test rows) ∙ found) in
     let many = length-map config.dealers dealer_values in
     let within : dealer < length config.dealers = omega (arith, below, many) in
-    item_at config.dealers dealer within
+    has_item config.dealers dealer within
 
 -- and it is the one that the day has
 dealer_of : (found : Result ℕ ProgramFault) (has : Asked)

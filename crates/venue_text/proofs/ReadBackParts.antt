@@ -166,7 +166,7 @@ bond_in_part bond is =
 
 -- Times of day.
 
-glyph : (d : ℕ) → is_in_part (48 + d) ≡ true
+pub glyph : (d : ℕ) → is_in_part (48 + d) ≡ true
 glyph d = grind (arith, nat_tests)
 
 two_in_part : (n : ℕ) → list_all is_in_part (two_digits n) ≡ true
