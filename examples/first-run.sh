@@ -4,8 +4,8 @@
 # the gateway, starts it with a log in SQLite, lets two dealers and an investor trade by stock
 # QuickFIX initiators, prints what each was sent, and ends all that it started.
 #
-#     examples/first-run.sh               45 minutes on four processors the first time, then seconds;
-#                                         90 on two
+#     examples/first-run.sh               37 minutes on four processors the first time, then seconds;
+#                                         more than an hour on two
 #     examples/first-run.sh --unproved    what can be seen in two minutes without a proof: the same
 #                                         program by `rt try`, on an auction as a text, and then the
 #                                         auction over TCP with the second implementation of the

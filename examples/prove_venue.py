@@ -3,10 +3,11 @@
 
 usage: prove_venue.py [--jobs N] [--program CRATE]
 
-The crates below the program are proved side by side, each as soon as those below it are; `rt run`
-alone proves them one behind the other. Since an rt keeps others out of every crate that it reads,
-each is proved in a copy of the repository, and what it made is moved here. What an earlier run
-proved is taken, and so is a program that is newer than all its sources.
+Each crate below the program is proved by an `rt ci CRATE` of its own, as soon as those below it are;
+`rt run` alone proves them one behind the other. They lie in a copy of the repository without tests
+and without wrong bodies, and what each run proves rt keeps for the next ones, and for the gate. A
+last `rt ci` over the whole copy takes all that, and proves, builds and runs the program. What an
+earlier run or a gate has proved is taken, and so is a program that is newer than all its sources.
 """
 
 import argparse
@@ -24,10 +25,11 @@ from typing import IO
 
 ROOT = Path(__file__).resolve().parent.parent
 MEMORY_OF_A_CRATE = 3 << 30  # bytes
-MINUTES_OF_ONE = 180  # for all, on one processor
-MORE = 2  # crates at work beyond the processors, for the time in which one can't fill its own
-BEHIND, NICEST = 5, 19  # how nice a proof is for each one for which more waits, at most
-LOOK, TELL = 1.0, 30.0  # seconds
+MINUTES_OF_ONE = 148  # for all, as if on one processor
+MORE = 1  # crates at work beyond the processors, for the time in which one can't fill its own
+BEHIND, NICEST = 3, 12  # how nice a proof is for each one for which more waits, at most
+LOOK, TELL = 0.5, 30.0  # seconds
+KEPT = "and that is kept"  # what rt says last where the next run may take what this one proved
 
 
 def crates_of(text: str) -> dict[str, list[str]]:
@@ -49,8 +51,8 @@ def below(crates: dict[str, list[str]], top: str) -> list[str]:
 
 
 def lines_of(name: str) -> int:
-    """The lines of a crate, its proofs among them."""
-    files = [each for kind in ("*.rt", "*.antt") for each in (ROOT / "crates" / name).rglob(kind)]
+    """The lines of a crate's code with its contracts, which tell best how long its proof takes."""
+    files = (ROOT / "crates" / name / "src").rglob("*.rt")
     return sum(each.read_bytes().count(b"\n") for each in files)
 
 
@@ -75,6 +77,17 @@ def is_newer(program: Path, names: list[str]) -> bool:
     return all(source.stat().st_mtime < made for source in sources)
 
 
+def copy_crates(names: list[str], to: Path) -> None:
+    """Copies these crates, and no others, to the top of a repository."""
+    lines = (ROOT / "crates.txt").read_text().splitlines(keepends=True)
+    named = [line for line in lines if line.partition(":")[0].split()[:1] in [[it] for it in names]]
+    (to / "crates.txt").write_text("".join(named))
+    shutil.copy2(ROOT / "HANDLES", to)
+    rest = shutil.ignore_patterns("out", "must-fail")
+    for name in names:
+        shutil.copytree(ROOT / "crates" / name, to / "crates" / name, ignore=rest)
+
+
 def crates_in_memory() -> int:
     memory = os.sysconf("SC_PAGE_SIZE") * os.sysconf("SC_PHYS_PAGES")
     return max(1, memory // MEMORY_OF_A_CRATE)
@@ -88,58 +101,22 @@ def clock(seconds: float) -> str:
     return "%d:%02d" % divmod(int(seconds), 60)
 
 
-class Copy:
-    """A copy of the repository, in which one crate is proved."""
-
-    def __init__(self, name: str, below: list[str], place: Path) -> None:
-        self.name = name
-        self.root = Path(tempfile.mkdtemp(prefix=f"{name}-", dir=place))
-        for file in ("crates.txt", "HANDLES"):
-            shutil.copy2(ROOT / file, self.root)
-        without_made = shutil.ignore_patterns("out")
-        shutil.copytree(ROOT / "crates", self.root / "crates", ignore=without_made)
-        for each in [*below, name]:
-            library = self.made(ROOT, each) / "rlib"
-            if library.is_dir():  # no file of a library is written to where it stands
-                shutil.copytree(library, self.made(self.root, each) / "rlib", copy_function=os.link)
-
-    @staticmethod
-    def made(root: Path, name: str) -> Path:
-        return root / "crates" / name / "out"
-
-    def folder(self) -> Path:
-        return self.root / "crates" / self.name
-
-    def move_made(self) -> None:
-        """What was made of the crate stands in the repository, in the place of what stood there."""
-        for made in self.made(self.root, self.name).iterdir():
-            there = self.made(ROOT, self.name) / made.name
-            if there.is_dir():
-                shutil.rmtree(there)
-            there.parent.mkdir(exist_ok=True)
-            made.rename(there)
-
-
 @dataclass
 class Proof:
-    """A crate that is being proved."""
+    """An `rt ci` of some crates, or of all, that goes on in a process group of its own."""
 
-    copy: Copy
+    name: str
     process: subprocess.Popen
     output: IO[bytes]
     began: float = field(default_factory=time.monotonic)
 
     @property
-    def name(self) -> str:
-        return self.copy.name
+    def took(self) -> float:
+        return time.monotonic() - self.began
 
     def text(self) -> str:
         self.output.seek(0)
         return self.output.read().decode(errors="replace")
-
-    def progress(self) -> str:
-        told = re.findall(r"so far: (\d+) of (\d+) functions", self.text())
-        return "%s %s of %s functions" % (self.name, *told[-1]) if told else self.name
 
     def why(self) -> str:
         """What rt tells of a crate that is not proved: its first faults, or else its last words."""
@@ -152,33 +129,35 @@ class Proof:
             os.killpg(self.process.pid, signal.SIGTERM)
         self.process.wait()
         self.output.close()
-        shutil.rmtree(self.copy.root, ignore_errors=True)
 
 
-def begin(copy: Copy, jobs: int, niceness: int) -> Proof:
+def begin(place: Path, name: str, words: list[str], niceness: int = 0) -> Proof:
     output = tempfile.TemporaryFile()
-    words = ["nice", "-n", str(niceness), "rt", "lib", "--jobs", str(jobs)]
     process = subprocess.Popen(
-        words,
-        cwd=copy.folder(),
+        ["nice", "-n", str(niceness), "rt", "ci", *words],
+        cwd=place,
         stdin=subprocess.DEVNULL,
         stdout=output,
         stderr=subprocess.STDOUT,
         process_group=0,  # and no session: between two of these niceness counts nothing
     )
-    return Proof(copy, process, output)
+    return Proof(name, process, output)
 
 
 class Prover:
+    """Proves crates side by side, those first for which most waits."""
+
     def __init__(
         self, crates: dict[str, list[str]], names: list[str], jobs: int, place: Path
     ) -> None:
-        self.crates, self.jobs, self.count, self.place = crates, jobs, len(names), place
+        self.crates, self.place, self.count = crates, place, len(names)
+        self.most = min(jobs + MORE, crates_in_memory())
         ways = ways_up(crates, names)
-        self.left = sorted(names, key=lambda name: -ways[name])
-        self.waiting = list(self.left)
+        self.waiting = sorted(names, key=lambda name: -ways[name])
+        self.ways = ways
         self.running: list[Proof] = []
         self.proved: set[str] = set()
+        self.is_kept = True
         self.began = self.told = time.monotonic()
 
     def tell(self, words: str) -> None:
@@ -188,39 +167,51 @@ class Prover:
 
     def begin_ready(self) -> None:
         ready = [name for name in self.waiting if self.proved.issuperset(self.crates[name])]
-        most = min(self.jobs + MORE, crates_in_memory())
-        for name in ready[: most - len(self.running)]:
+        for name in ready[: self.most - len(self.running)]:
             self.waiting.remove(name)
-            # A crate seldom fills all processors, and two nearly always do: more take half of them
-            # each, but for the two for which most waits.
-            rank = self.left.index(name)
-            jobs = self.jobs if rank < 2 or len(self.running) < 2 else max(1, self.jobs // 2)
-            copy = Copy(name, below(self.crates, name), self.place)
-            self.running.append(begin(copy, jobs, min(BEHIND * rank, NICEST)))
+            rank = sum(self.ways[each.name] > self.ways[name] for each in self.running)
+            self.running.append(begin(self.place, name, [name], min(BEHIND * rank, NICEST)))
 
     def take_ended(self) -> None:
         for proof in [each for each in self.running if each.process.poll() is not None]:
+            text = proof.text()
             if proof.process.returncode != 0:
                 sys.exit("%s was not proved:\n%s" % (proof.name, proof.why()))
-            proof.copy.move_made()
+            self.is_kept = self.is_kept and KEPT in text
             self.running.remove(proof)
-            self.left.remove(proof.name)
             self.proved.add(proof.name)
-            self.tell("%s in %s" % (proof.name, clock(time.monotonic() - proof.began)))
+            self.tell("%s in %s" % (proof.name, clock(proof.took)))
             proof.end()
 
     def run(self) -> None:
+        """Proves them all, or stops where rt can't keep what it proves, which would begin anew."""
         try:
-            while self.waiting or self.running:
+            while self.is_kept and (self.waiting or self.running):
                 self.begin_ready()
                 time.sleep(LOOK)
                 self.take_ended()
                 if self.running and time.monotonic() - self.told >= TELL:
-                    at_work = ", ".join(each.progress() for each in self.running)
-                    self.tell("at work: " + at_work)
+                    self.tell("at work: " + ", ".join(each.name for each in self.running))
         finally:
             for proof in self.running:
                 proof.end()
+
+
+def prove_all(place: Path) -> None:
+    """Proves what is not proved yet, in rt's own order, and builds and runs the program."""
+    proof = begin(place, "the program", [])
+    told = 0
+    try:
+        while proof.process.poll() is None:
+            time.sleep(LOOK)
+            proved = re.findall(r"^rt: (\w+) proved$", proof.text(), re.MULTILINE)
+            for name in proved[told:]:
+                print("%6s  %s" % (clock(proof.took), name), flush=True)
+            told = len(proved)
+        if proof.process.returncode != 0:
+            sys.exit("the program was not proved:\n%s" % proof.why())
+    finally:
+        proof.end()
 
 
 def main() -> None:
@@ -231,20 +222,24 @@ def main() -> None:
     signal.signal(signal.SIGTERM, lambda *_: sys.exit(143))
     crates = crates_of((ROOT / "crates.txt").read_text())
     names = below(crates, given.program)
-    program = ROOT / "crates" / given.program / "out" / given.program
+    made = ROOT / "crates" / given.program / "out"
+    program = made / given.program
     if is_newer(program, [*names, given.program]):
         print("%s stands, and is newer than its sources" % program)
         return
     print("Proving %d crates, %d at a time:" % (len(names), given.jobs), flush=True)
     minutes = MINUTES_OF_ONE // given.jobs
     print("about %d minutes the first time, where nothing else runs." % minutes, flush=True)
-    folder = ROOT / "crates" / given.program
-    (folder / "out").mkdir(exist_ok=True)
-    with tempfile.TemporaryDirectory(prefix="copies-", dir=folder / "out") as place:
-        Prover(crates, names, given.jobs, Path(place)).run()
-    words = ["rt", "run", "--", "--version"]
-    if subprocess.run(words, cwd=folder, stdin=subprocess.DEVNULL).returncode != 0:
-        sys.exit("the program was not proved")
+    # Outside the repository: rt ci runs at the top of one.
+    with tempfile.TemporaryDirectory(prefix="mireseason-") as name:
+        place = Path(name)
+        copy_crates([*names, given.program], place)
+        Prover(crates, names, given.jobs, place).run()
+        print("The program is proved, built and run:", flush=True)
+        prove_all(place)
+        made.mkdir(exist_ok=True)
+        shutil.copy2(place / "crates" / given.program / "out" / given.program, program)
+        program.touch()
     print("%s is proved and built" % program)
 
 

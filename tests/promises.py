@@ -43,7 +43,7 @@ CALLERS = {
     "input_lines": ("venue_text/src/day_arguments.rt", "read_open_day"),
     "live_runs": ("venue_commands/src/program.rt", "run_command"),
     "command_arguments": ("venue_commands/src/program.rt", "run_program"),
-    "venue_text": ("live_runs/src/live.rt", "answer_step"),
+    "venue_text": ("live_runs/src/stages.rt", "answer_step"),
     "venue_commands": ("rfq_venue/src/main.rt", "main"),
     "venue_places": ("session_worker/src/duties.rt", "act"),
     "blotter": ("venue_text/src/blotter_command.rt", "lines_text"),
@@ -52,7 +52,7 @@ CALLERS = {
 
 COMMENT = re.compile(r"^\s*// ?(?!/)(.*)$")
 DOC = re.compile(r"^\s*/// ?(.*)$")
-FUNCTION = re.compile(r"^(\s*)(pub )?(?:const |unsafe )?fn (\w+)")
+FUNCTION = re.compile(r'^(\s*)(pub )?(?:const |unsafe |extern "C" )*fn (\w+)')
 OWNER = re.compile(r"^(?:pub )?(impl|trait)\b(?:<(?:[^<>]|<[^<>]*>)*>)?\s*(.*?)\s*\{$")
 GHOST_LAW = re.compile(r"^    ghost (\w+): \{(.*)$")
 INVARIANT = re.compile(r"^    ghost invariant = \{(.*)$")
@@ -167,7 +167,7 @@ class FileReader:
                 self.doc.append(said.group(1))
                 continue
             self.read_line(line)
-            if line.strip() and not line.strip().startswith("#["):
+            if line.strip() and not line.strip().startswith(("#[", "//")):
                 self.doc = []
         return self.found
 
@@ -209,7 +209,7 @@ class FileReader:
 
 def exported(root: str) -> set[str]:
     """The names that a crate gives out, by its root file."""
-    names: set[str] = set()
+    names = set(re.findall(r'^pub (?:extern "C" )?fn (\w+)', root, re.MULTILINE))
     for several, one in EXPORT.findall(root):
         names.update(re.findall(r"\w+", several or one))
     return names
@@ -268,9 +268,12 @@ def caller_lines(crate: Path) -> list[str]:
 
 
 def bare_lines(promises: list[Promise]) -> list[str]:
-    """The public functions that have no clause, which are said to be safe and no more."""
+    """The public functions that have no clause, or ensure nothing: they are safe and no more."""
     bare = [f"`{promise.name}`" for promise in promises if not promise.clauses]
-    return [f"Without a clause: {', '.join(bare)}.", ""] if bare else []
+    asking = [f"`{promise.name}`" for promise in promises if promise.clauses
+              and all(clause.name.startswith("requires") for clause in promise.clauses)]
+    lines = [f"Without a clause: {', '.join(bare)}.", ""] if bare else []
+    return lines + ([f"Ensure nothing: {', '.join(asking)}.", ""] if asking else [])
 
 
 def crate_lines(crate: Path) -> list[str]:

@@ -1,7 +1,7 @@
 #!/bin/sh
-# Everything that is tried: the gate, and then short forms of the tests that stand beside it, which take
-# twelve minutes at most on a machine of four processors that does nothing else. Installs what is missing
-# from Debian. The last line counts all: `N passed, M failed`.
+# The gate, and then short forms of most tests that stand beside it, which take a quarter of an hour at most
+# on a machine of four processors that does nothing else (not among them: edits and long days). Installs
+# what is missing from Debian. The last line counts all: `N passed, M failed`.
 #
 #     tests/run.sh                 the gate first
 #     tests/run.sh --beside        the short forms alone, with the program that stands
@@ -128,6 +128,16 @@ build_gateway() {
             ctest --test-dir gateway/out --output-on-failure' build "$jobs"
 }
 
+# It runs tests of crates, too, as the gate has built them.
+try_refused_memory() {
+    if ! [ -x crates/venue_tests/out/venue_tests_tests ]; then
+        echo "refused_memory: not run: there are no built tests, which 'rt test' in crates/venue_tests builds"
+        return
+    fi
+    form refused_memory 1800 "gcc libc6-dev python3" 's/^\([0-9]*\) calls refused in all$/\1/p' \
+        tests/refused_memory/run.sh "$program"
+}
+
 # Hosts are network namespaces, whose disks are files.
 try_replicas() {
     if [ "$(id -u)" != 0 ] || ! unshare --net true 2>"$work/why" || ! losetup -f >"$work/why" 2>&1; then
@@ -165,6 +175,9 @@ beside() {
         python3 tests/model/investors.py threads 40 "$seed" "$program"
     form hostile 1800 python3 's/^\([0-9]*\) inputs from seed .*/\1/p' \
         python3 tests/hostile/inputs.py "$program" spoilt 1000 "$seed" "$jobs"
+    form full_day 1800 python3 's/^\([0-9]*\) days, each by the rules$/\1/p' \
+        python3 tests/hostile/full_day.py run "$program" 3
+    try_refused_memory
     build_gateway
     form gateway 5400 "$(gateway/packages.sh) openssl postgresql" 's/^\([0-9]*\) passed, 0 failed$/\1/p' \
         env VENUE="$program" GATEWAY="$gateway" SEED="$seed" tests/gateway/run.sh short

@@ -9,6 +9,7 @@ that in its last line.
 import base64
 import binascii
 import hashlib
+import os
 import subprocess
 import tempfile
 from collections.abc import Iterable, Iterator
@@ -77,13 +78,26 @@ def write_seal(what: Sealed, key: Path, path: Path) -> None:
     signature = base64.b64encode(sign(what.text, key))
     data = what.text + SIGNATURE.encode() + signature + b"\n"
     try:
-        with path.open("xb") as file:
-            file.write(data)
+        write_new(path, data)
     except FileExistsError:
         if path.read_bytes() != data:
             raise Unreadable("%s is there, and has another seal" % path) from None
     except OSError as fault:
         raise Unreadable("the seal can't be written: %s" % fault) from None
+
+
+def write_new(path: Path, data: bytes) -> None:
+    """Writes a file that was not there, and is on disk then. Where there is no room for all of it
+    none is left: a part of a seal would stand there as another one.
+    """
+    with path.open("xb") as file:
+        try:
+            file.write(data)
+            file.flush()
+            os.fsync(file.fileno())
+        except BaseException:
+            path.unlink()
+            raise
 
 
 def read_seal(path: Path, key: Path) -> Sealed:

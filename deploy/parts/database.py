@@ -3,16 +3,18 @@
 import os
 import pwd
 import signal
+from contextlib import suppress
 from dataclasses import dataclass
 from pathlib import Path
 
 from parts.disk import Disk
 from parts.place import Place
-from parts.run import Fault, run
+from parts.run import Fault, run, until
 from parts.service import Service
 from parts.site import Folders
 
 DISK_MEGABYTES = 900
+ENDS_WITHIN = 30  # seconds
 DATABASE = "mireseason"
 PSQL = "/usr/lib/postgresql/15/bin/psql"  # Debian's `psql` is a script that looks for this one
 USERS = {"etcd": "etcd", "postgres": "postgres"}  # folders on the disk, and whose they are
@@ -143,5 +145,18 @@ class DatabaseHost(Place):
         self.disk.make(USERS)
 
     def remove(self) -> None:
+        self.end_database()
         self.network.end_all(self.name)
         self.disk.remove()
+
+    def end_database(self) -> None:
+        """PostgreSQL ends at once, but by itself: its shared memory, which is not in this host's
+        namespace nor on its disk, would outlive a SIGKILL.
+        """
+        pid = self.postmaster()
+        if pid not in self.network.processes(self.name):
+            return
+        with suppress(ProcessLookupError, Fault):  # one that does not end is killed with the others
+            os.kill(pid, signal.SIGQUIT)
+            until("%s's PostgreSQL ends" % self.name, ENDS_WITHIN,
+                  lambda: pid not in self.network.processes(self.name))

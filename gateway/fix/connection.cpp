@@ -23,6 +23,10 @@ constexpr auto last_words = seconds(2);
 // How often a session looks at its clock.
 constexpr auto tick = milliseconds(500);
 
+// So many of the messages before a Logon may be none: each is told, and whoever connects may send
+// them.
+constexpr unsigned most_broken = 10;
+
 // The value of a tag in a message, empty without one.
 std::string value_in(const std::string &message, const char *tag) {
     const std::string mark = std::string("\x01") + tag + "=";
@@ -260,6 +264,10 @@ bool Connection::find_session(const std::string &logon) {
         return false;
     }
     if (!found->second->admit(*this, logon)) {
+        if (++broken_ == most_broken && !shut_) {
+            events_.refused("no logon", peer_);
+            shut("message after message that is none");
+        }
         return false;
     }
     session_ = found->second.get();

@@ -82,6 +82,7 @@ class Connection final : public FIX::Responder {
 
     // Of the connection's thread.
     FirmSession *session_ = nullptr;
+    unsigned broken_ = 0; // messages before it had a session that were none
     std::string writing_;
     std::size_t written_ = 0;
     bool wants_write_ = false;

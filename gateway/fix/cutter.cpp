@@ -56,7 +56,9 @@ Cutter::Result Cutter::next(std::string &message) {
         std::size_t length = 0;
         if (kept_.compare(first_end + 1, 2, "9=") != 0 ||
             !read_length(kept_, first_end + 3, second_end, length)) {
-            begin_ += 2;
+            // An `8=` between has the same end, and is none either: looked at one by one they
+            // would take a stranger's garbage the square of its length.
+            begin_ = first_end;
             continue;
         }
         if (length > longest_) {

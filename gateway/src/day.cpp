@@ -2,10 +2,12 @@
 
 #include "process.h"
 
+#include <chrono>
 #include <cstdlib>
 #include <fstream>
 #include <sstream>
 #include <stdexcept>
+#include <thread>
 
 #include <fmt/format.h>
 
@@ -13,14 +15,20 @@ namespace gateway {
 
 namespace {
 
+// How long a program may take to say what it is, and how much of that is kept.
+constexpr auto longest_answer = std::chrono::seconds(10);
+constexpr std::size_t longest_version = 4096;
+
 std::string first_line(const std::vector<std::string> &command) {
     try {
         Process process(command);
         process.close_input();
+        // One that does not know --version may do anything, and not end.
+        const std::jthread limit([&process] { process.end_within(longest_answer); });
         std::string text;
         for (std::string bytes = process.read_output(); !bytes.empty();
              bytes = process.read_output()) {
-            text += bytes;
+            text += bytes.substr(0, longest_version - text.size());
         }
         if (process.wait() != "ended with status 0" || text.empty()) {
             return "unknown";

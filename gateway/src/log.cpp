@@ -56,7 +56,9 @@ Log::Ticket Log::append_message(const std::string &firm, std::optional<std::uint
         // What this thread has not committed yet is not to wait with it.
         work_.notify_one();
     }
+    ++waiting_;
     room_.wait(lock, [&] { return (!held_ && has_room()) || !failure_.empty(); });
+    --waiting_;
     throw_if_failed();
     return append_here(std::move(entry), verb, rest, received, committer);
 }
@@ -96,15 +98,19 @@ Log::Hold::~Hold() {
 
 Log::Ticket Log::append_here(Entry entry, std::string_view verb, std::string_view rest,
                              std::chrono::steady_clock::time_point received, Committer committer) {
-    entry.place = next_place_++;
+    entry.place = next_place_;
     entry.term = term_;
     // Under the lock, so that places and moments rise together.
     entry.moment = text_of(clock_.now());
     entry.line.reserve(verb.size() + entry.moment.size() + rest.size());
     entry.line.append(verb).append(entry.moment).append(rest);
-    filling_.bytes += entry.line.size();
-    filling_.rows.entries.push_back(std::move(entry));
+    const std::size_t bytes = entry.line.size();
     filling_.received.push_back(received);
+    filling_.rows.entries.push_back(std::move(entry));
+    // Only now: where there was no memory for it, a place that was given all the same would be a
+    // gap of the log for good.
+    ++next_place_;
+    filling_.bytes += bytes;
     ++filling_.size;
     // Where there is a second one, its thread may be busy with more for a while.
     if (!writing_ && (committer == Committer::thread || filling_.received.size() > 1)) {
@@ -167,6 +173,11 @@ void Log::flush() {
 std::uint32_t Log::last_place() {
     const std::lock_guard lock(mutex_);
     return next_place_ - 1;
+}
+
+std::size_t Log::waiting() {
+    const std::lock_guard lock(mutex_);
+    return waiting_;
 }
 
 std::optional<std::chrono::steady_clock::time_point> Log::commits_since() {

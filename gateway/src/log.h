@@ -82,6 +82,8 @@ class Log {
     void flush();
 
     std::uint32_t last_place();
+    // How many messages wait now, for the end of a hold or for room.
+    std::size_t waiting();
     // When the commit of now began; nothing where none is waited for.
     std::optional<std::chrono::steady_clock::time_point> commits_since();
 
@@ -137,6 +139,7 @@ class Log {
     bool urgent_ = false;
     std::chrono::steady_clock::time_point whole_at_; // when a whole batch was taken last
     bool held_ = false;
+    std::size_t waiting_ = 0; // messages that have no place yet
     bool writing_ = false; // some thread has the writer
     std::chrono::steady_clock::time_point writing_since_;
     Ticket filling_ticket_ = 1;

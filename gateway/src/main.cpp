@@ -90,8 +90,10 @@ class Signals {
 
 int serve(const std::string &path, bool only_check) {
     std::vector<gateway::Config> configs = gateway::read_configs(path);
+    // Here, and not when the sessions begin: one that follows would find out only once it is to
+    // take over.
+    gateway::check_settings(configs.front().engine);
     if (only_check) {
-        gateway::check_settings(configs.front().engine);
         for (const gateway::Config &config : configs) {
             std::cout << path << " is a configuration of " << config.firms.names.size()
                       << " firms\n";

@@ -3,6 +3,8 @@
 #include "frame.h"
 #include "postgres_parts.h"
 
+#include <algorithm>
+#include <array>
 #include <chrono>
 #include <cstring>
 #include <mutex>
@@ -59,20 +61,29 @@ class Nullable {
     bool null_;
 };
 
-// Sees whether the server did not wait for a standby: that it says by a warning, and the commit
-// succeeds.
+// Hears what the server warns of. Where it did not wait for a standby a commit succeeds, and that
+// is all that it says: in words of its own language, so that these are not looked at.
 class Warnings final : public pqxx::errorhandler {
   public:
     explicit Warnings(pqxx::connection_base &connection) : errorhandler(connection) {}
 
+    // What is said from now on.
+    void listen() { heard_.fill('\0'); }
+
     bool operator()(const char text[]) noexcept override {
-        unsafe_ = unsafe_ || std::strstr(text, "wait for synchronous replication") != nullptr;
-        return !unsafe_;
+        std::strncpy(heard_.data(), text, heard_.size() - 1);
+        return true;
     }
-    bool unsafe() const { return unsafe_; }
+    // The last of it, in one line; empty where nothing was said.
+    std::string heard() const {
+        std::string text(heard_.data());
+        std::ranges::replace(text, '\n', ' ');
+        text.erase(text.find_last_not_of(' ') + 1);
+        return text;
+    }
 
   private:
-    bool unsafe_ = false;
+    std::array<char, 512> heard_{};
 };
 
 // The connection on which a gateway writes, in a term that is tied to it.
@@ -121,10 +132,12 @@ class WritingConnection {
 
   private:
     void commit(pqxx::work &work) {
+        warnings_.listen();
         work.commit();
-        if (warnings_.unsafe()) {
-            throw std::runtime_error("PostgreSQL: the wait for a standby was cancelled, and what "
-                                     "was committed may be on one machine alone");
+        const std::string warning = warnings_.heard();
+        if (!warning.empty()) {
+            throw std::runtime_error(fmt::format(
+                "PostgreSQL: what was committed may be on one machine alone: {}", warning));
         }
     }
 

@@ -9,6 +9,7 @@
 #include <fmt/format.h>
 #include <poll.h>
 #include <spawn.h>
+#include <sys/syscall.h>
 #include <sys/wait.h>
 #include <unistd.h>
 
@@ -149,13 +150,39 @@ std::string Process::read_errors() {
 }
 
 void Process::kill() {
+    const std::lock_guard lock(mutex_);
     if (pid_ > 0) {
         ::kill(-pid_, SIGKILL);
     }
 }
 
+bool Process::end_within(std::chrono::milliseconds longest) {
+    Descriptor process;
+    {
+        const std::lock_guard lock(mutex_);
+        if (pid_ < 0) {
+            return true;
+        }
+        // By its number: C++ can't link what <sys/pidfd.h> of Debian 12 declares.
+        process = Descriptor(static_cast<int>(::syscall(SYS_pidfd_open, pid_, 0)));
+    }
+    // Without a descriptor poll() waits for the time alone.
+    pollfd end{process.number(), POLLIN, 0};
+    const bool ended = ::poll(&end, 1, static_cast<int>(longest.count())) > 0;
+    if (!ended) {
+        kill();
+    }
+    return ended;
+}
+
 std::string Process::wait() {
+    // Until it is taken from it below its number is its own, and kill() may be called.
+    siginfo_t end{};
+    while (::waitid(P_PID, static_cast<id_t>(pid_), &end, WEXITED | WNOWAIT) < 0 &&
+           errno == EINTR) {
+    }
     int status = 0;
+    const std::lock_guard lock(mutex_);
     while (::waitpid(pid_, &status, 0) < 0 && errno == EINTR) {
     }
     pid_ = -1;

@@ -4,6 +4,8 @@
 
 #include "descriptor.h"
 
+#include <chrono>
+#include <mutex>
 #include <string>
 #include <string_view>
 #include <vector>
@@ -31,12 +33,16 @@ class Process {
     // The next bytes of its standard output or error, empty at the end.
     std::string read_output();
     std::string read_errors();
-    // And all that it has started: else its output would not end.
+    // And all that it has started: else its output would not end. Any thread may call it, and the
+    // next one.
     void kill();
+    // Waits for its end so long at most, and kills it then. Whether it ended by itself.
+    bool end_within(std::chrono::milliseconds longest);
     // Waits for its end, and says how it ended.
     std::string wait();
 
   private:
+    std::mutex mutex_; // over the end of its number, which another process may have after it
     pid_t pid_ = -1;
     Descriptor input_;
     Descriptor output_;

@@ -91,13 +91,15 @@ Digest hash_of(const Entry &entry) {
 }
 
 void check_link(const Entry &entry, std::uint32_t place, const Digest &before) {
+    // What stands in front of the place.
+    const std::string front = place == 0 ? "the begin" : fmt::format("entry {}", place - 1);
     if (entry.place != place) {
-        throw std::runtime_error(fmt::format("the log has no entry {}: behind {} comes {}", place,
-                                             place - 1, entry.place));
+        throw std::runtime_error(fmt::format("the log has no entry {}: behind {} comes entry {}",
+                                             place, front, entry.place));
     }
     if (entry.before != before) {
         throw std::runtime_error(
-            fmt::format("entry {} does not follow on entry {} as it is now", place, place - 1));
+            fmt::format("entry {} does not follow on {} as it is now", place, front));
     }
     if (entry.hash != hash_of(entry)) {
         throw std::runtime_error(fmt::format("entry {} was changed: its hash is another", place));

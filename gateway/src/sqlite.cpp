@@ -269,6 +269,7 @@ class Sqlite final : public Database {
         execute(connection_.get(), fmt::format("PRAGMA page_size = {}", page_bytes).c_str());
         execute(connection_.get(), "PRAGMA journal_mode = WAL");
         execute(connection_.get(), "PRAGMA synchronous = FULL");
+        take_what_was_left();
         if (!has_tables()) {
             const std::string text = fmt::format("BEGIN; {} COMMIT;", schema_text());
             execute(connection_.get(), text.c_str());
@@ -286,6 +287,17 @@ class Sqlite final : public Database {
     std::unique_ptr<LogWriter> writer() override { return std::make_unique<SqliteWriter>(path_); }
 
   private:
+    // Of a write-ahead log whose synchronisation failed, the system may take for written what never
+    // came to the disk: a start would read it, and a cut of power take all that was put behind it.
+    // So it is written into the file, and that is synchronised, before anything is built on it. A
+    // reader of the log may keep some of it where it is.
+    void take_what_was_left() {
+        const int result = sqlite3_wal_checkpoint_v2(connection_.get(), nullptr,
+                                                     SQLITE_CHECKPOINT_PASSIVE, nullptr, nullptr);
+        if (result != SQLITE_OK && result != SQLITE_BUSY) {
+            sqlite::fail(connection_.get(), "what stands beside the file");
+        }
+    }
     bool has_tables() {
         Statement tables(connection_.get(), "SELECT count(*) FROM sqlite_schema");
         return tables.step() && tables.number(0) != 0;

@@ -12,8 +12,16 @@ namespace gateway {
 
 namespace {
 
+using namespace std::chrono_literals;
+
 // Of the venue's standard error, kept as its last words.
 constexpr std::size_t longest_words = 2048;
+
+// Past all lines of a venue, whose frames have 4,096 bytes at most.
+constexpr std::size_t longest_line = 65536;
+
+// How long a process that is to end, or whose output has ended, may take for it.
+constexpr auto longest_end = 10s;
 
 std::string_view take_word(std::string_view &text) {
     const std::size_t end = text.find(' ');
@@ -48,10 +56,12 @@ void Venue::stop() {
     thread_.request_stop();
     {
         std::unique_lock lock(mutex_);
-        if (!changed_.wait_for(lock, std::chrono::seconds(10), [&] { return ended_; }) &&
-            running_ != nullptr) {
-            events_->error("venue does not end and is killed");
-            running_->kill();
+        // It may begin only now, once what was before it is in the log.
+        while (!changed_.wait_for(lock, longest_end, [&] { return ended_; })) {
+            if (running_ != nullptr) {
+                events_->error("venue does not end and is killed");
+                running_->kill();
+            }
         }
     }
     thread_.join();
@@ -97,9 +107,8 @@ std::string Venue::run_once(std::stop_token stop) {
     metrics_.venue_started();
     Process process(settings_.command);
     events_->info("venue started program=\"{}\"", settings_.command.front());
-    set_running(&process);
+    const Running running(*this, process);
     const std::exception_ptr fault = serve(process, stop);
-    set_running(nullptr);
     const std::string end = process.wait();
     if (!stop.stop_requested()) {
         events_->error("venue {} words=\"{}\"", end, last_words_);
@@ -117,23 +126,36 @@ void Venue::set_running(Process *process) {
 
 // Until the process ends, or says something at which it is killed: then that.
 std::exception_ptr Venue::serve(Process &process, const std::stop_token &stop) {
-    std::jthread errors([&] { listen_to_errors(process); });
-    Feeder feeder(process, log_, settings_.configuration + "%%\n#\n",
-                  [this](const std::vector<LoggedEntry> &entries) { note_fed(entries); });
-    const std::stop_callback forward(stop, [&] { feeder.stop(); });
-    std::exception_ptr fault;
+    const std::jthread errors([&] { listen_to_errors(process); });
+    try {
+        Feeder feeder(process, log_, settings_.configuration + "%%\n#\n",
+                      [this](const std::vector<LoggedEntry> &entries) { note_fed(entries); });
+        const std::stop_callback forward(stop, [&] { feeder.stop(); });
+        const std::exception_ptr fault = read_all(process);
+        feeder.stop();
+        if (!process.end_within(longest_end)) {
+            events_->error("venue says nothing any more, does not end, and is killed");
+        }
+        // What it has started and left may have its standard error still.
+        process.kill();
+        const std::string unfed = feeder.end();
+        return fault || unfed.empty() ? fault : std::make_exception_ptr(std::runtime_error(unfed));
+    } catch (...) {
+        // It is not fed.
+        process.kill();
+        return std::current_exception();
+    }
+}
+
+// Until its output ends. The other threads end where the process does.
+std::exception_ptr Venue::read_all(Process &process) {
     try {
         read(process);
+        return nullptr;
     } catch (...) {
-        // The threads end where the process does.
-        fault = std::current_exception();
         process.kill();
+        return std::current_exception();
     }
-    const std::string unfed = feeder.end();
-    if (!fault && !unfed.empty()) {
-        fault = std::make_exception_ptr(std::runtime_error(unfed));
-    }
-    return fault;
 }
 
 void Venue::note_fed(const std::vector<LoggedEntry> &entries) {
@@ -158,6 +180,10 @@ void Venue::read(Process &process) {
             rest.remove_prefix(end + 1);
         }
         buffer.erase(0, buffer.size() - rest.size());
+        if (buffer.size() > longest_line) {
+            throw std::runtime_error(
+                fmt::format("the venue gives a line of more than {} bytes", longest_line));
+        }
         listener_.venue_pauses();
     }
 }

@@ -64,6 +64,18 @@ class Venue {
     void stop();
 
   private:
+    // The process that stop() may have to kill, for as long as it lives.
+    class Running {
+      public:
+        Running(Venue &venue, Process &process) : venue_(venue) { venue_.set_running(&process); }
+        ~Running() { venue_.set_running(nullptr); }
+        Running(const Running &) = delete;
+        Running &operator=(const Running &) = delete;
+
+      private:
+        Venue &venue_;
+    };
+
     // An entry that was fed and is not answered yet.
     struct Fed {
         std::uint32_t place = 0;
@@ -77,6 +89,7 @@ class Venue {
     std::exception_ptr serve(Process &process, const std::stop_token &stop);
     void set_running(Process *process);
     void note_fed(const std::vector<LoggedEntry> &entries);
+    std::exception_ptr read_all(Process &process);
     void read(Process &process);
     void take_line(std::string_view line);
     void take_mark(std::string_view line);

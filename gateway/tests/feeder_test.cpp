@@ -144,6 +144,18 @@ void killed_with_its_own() {
     check(rest.get().empty(), "it says something more");
 }
 
+// One whose output has ended, and that goes on: it is given its time, and then killed.
+void ended_in_time() {
+    Process lasting({"sh", "-c", "exec sleep 200 >&- 2>&-"});
+    check(lasting.read_output().empty(), "it says something");
+    check(!lasting.end_within(std::chrono::milliseconds(1)), "it has ended by itself");
+    same<std::string>("was ended by signal 9", lasting.wait(), "its end");
+    check(lasting.end_within(std::chrono::seconds(60)), "it has not ended");
+    Process soon({"sh", "-c", "exit 3"});
+    check(soon.end_within(std::chrono::seconds(60)), "it does not end by itself");
+    same<std::string>("ended with status 3", soon.wait(), "its end");
+}
+
 std::string fresh(const std::filesystem::path &folder, const std::string &name) {
     const std::filesystem::path file = folder / name;
     for (const char *suffix : {"", "-wal", "-shm", ".lock"}) {
@@ -163,5 +175,6 @@ int main(int count, char **words) {
         a_broken_chain(fresh(given[0], "feeder_broken.db"));
         kept_by_their_bytes();
         killed_with_its_own();
+        ended_in_time();
     });
 }

@@ -1,14 +1,43 @@
-// The log: places without a gap from many threads, commits together, the chain, and a commit that
-// fails.
+// The log: places without a gap from many threads, commits together, the chain, a commit that
+// fails, a message for which there is no memory, and what a crash left.
 //
 // usage: log_test FOLDER [CONNECTION]    SQLite in the folder, or a PostgreSQL database
 #include "check.h"
 #include "log.h"
+#include "sqlite_statement.h"
 
+#include <cstdlib>
 #include <filesystem>
 #include <iostream>
+#include <new>
 
 #include <unistd.h>
+
+namespace {
+
+// Allocations that are left to this thread, where they are counted.
+thread_local std::optional<int> allocations;
+
+} // namespace
+
+// Not inlined: GCC 12 would take free() for one of another allocation.
+[[gnu::noinline]] void *operator new(std::size_t size) {
+    if (allocations && --*allocations < 0) {
+        throw std::bad_alloc();
+    }
+    if (void *memory = std::malloc(size)) {
+        return memory;
+    }
+    throw std::bad_alloc();
+}
+
+[[gnu::noinline]] void operator delete(void *memory) noexcept {
+    std::free(memory);
+}
+
+[[gnu::noinline]] void operator delete(void *memory, std::size_t) noexcept {
+    std::free(memory);
+}
 
 namespace gateway::tests {
 
@@ -151,6 +180,10 @@ void a_held_log(Database &database) {
     {
         const Log::Hold hold(log);
         writer = std::jthread([&log] { log.append_message("F0", messages + 1, "x"); });
+        // Until it waits, or has a place, where it is not held.
+        while (log.waiting() == 0 && log.last_place() == last) {
+            std::this_thread::yield();
+        }
         same(last + 1, log.append_clock_behind(last).value_or(0), "a sweep in a held log");
     }
     writer.join();
@@ -172,6 +205,35 @@ void a_message_alone(Database &database) {
     log.append_message("F0", messages + 3, "x", Log::Committer::caller);
     log.flush();
     same(last + 2, day.committed.last_place(), "the place that was left to the log");
+}
+
+// Whether a message is taken with so many allocations.
+bool is_taken(Log &log, std::uint32_t number, int most) {
+    const std::string firm = "F0";
+    const std::string frame(100, 'x');
+    allocations = most;
+    bool taken = true;
+    try {
+        log.append_message(firm, number, frame);
+    } catch (const std::bad_alloc &) {
+        taken = false;
+    }
+    allocations.reset();
+    return taken;
+}
+
+// Wherever memory ends: a message that is not taken leaves no gap, and another is taken after it.
+void no_memory(Database &database) {
+    DayThatGoesOn day(database);
+    int refused = 0;
+    while (!is_taken(day.log, messages + 4, refused)) {
+        ++refused;
+    }
+    check(refused > 1, "a message takes no memory");
+    day.log.flush();
+    const auto entries = database.reader()->entries(day.last + 1, 9);
+    same<std::size_t>(1, entries.size(), "entries after those that were not taken");
+    check_link(entries[0], day.last + 1, day.start.last.hash);
 }
 
 void a_commit_that_fails() {
@@ -249,6 +311,44 @@ void changed_entries() {
     }
 }
 
+// In front of entry 0 there is none.
+void no_first_entry() {
+    Entry entry;
+    entry.place = 1;
+    std::string told;
+    try {
+        check_link(entry, 0, Digest{});
+    } catch (const std::runtime_error &fault) {
+        told = fault.what();
+    }
+    same<std::string>("the log has no entry 0: behind the begin comes entry 1", told, "the cause");
+}
+
+std::string fresh(const std::filesystem::path &file) {
+    for (const char *suffix : {"", "-wal", "-shm", ".lock"}) {
+        std::filesystem::remove(file.string() + suffix);
+    }
+    return file.string();
+}
+
+// What a gateway that was killed left beside its file stands in the file itself once the log is
+// opened.
+void after_a_crash(const std::filesystem::path &folder) {
+    const std::string file = fresh(folder / "log_crash.db");
+    const std::string left = fresh(folder / "log_left.db");
+    const std::string alone = fresh(folder / "log_alone.db");
+    const auto killed = open_sqlite(file);
+    begin_day(*killed);
+    for (const char *suffix : {"", "-wal"}) {
+        std::filesystem::copy_file(file + suffix, left + suffix);
+    }
+    const auto opened = open_sqlite(left);
+    std::filesystem::copy_file(left, alone);
+    const auto connection = sqlite::connect(alone, SQLITE_OPEN_READWRITE);
+    sqlite::Statement rows(connection.get(), "SELECT count(*) FROM entry");
+    same(1U, rows.step() ? rows.number(0) : 0, "entries in the file");
+}
+
 void run(const std::vector<std::string> &arguments) {
     const std::filesystem::path folder = arguments.at(0);
     if (arguments.size() > 1) {
@@ -257,19 +357,19 @@ void run(const std::vector<std::string> &arguments) {
         many_threads(*database);
         a_held_log(*database);
         a_message_alone(*database);
+        no_memory(*database);
     } else {
-        const std::filesystem::path file = folder / "log_test.db";
-        for (const char *suffix : {"", "-wal", "-shm", ".lock"}) {
-            std::filesystem::remove(file.string() + suffix);
-        }
-        const auto database = open_sqlite(file.string());
+        const auto database = open_sqlite(fresh(folder / "log_test.db"));
         many_threads(*database);
         a_held_log(*database);
         a_message_alone(*database);
+        no_memory(*database);
+        after_a_crash(folder);
     }
     a_commit_that_fails();
     a_commit_that_fails_at_its_caller();
     changed_entries();
+    no_first_entry();
 }
 
 } // namespace

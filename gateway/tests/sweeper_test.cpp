@@ -6,9 +6,10 @@
 #include "sweeper.h"
 
 #include <atomic>
-#include <future>
 #include <iostream>
 #include <mutex>
+#include <optional>
+#include <thread>
 
 namespace gateway::tests {
 
@@ -74,15 +75,24 @@ std::size_t sweeps_of(MemoryDatabase &database) {
     return sweeps;
 }
 
+// Whether it holds before long.
+template <typename Condition> bool comes(const Condition &condition) {
+    const auto latest = std::chrono::steady_clock::now() + longest;
+    while (!condition()) {
+        if (std::chrono::steady_clock::now() > latest) {
+            return false;
+        }
+        std::this_thread::yield();
+    }
+    return true;
+}
+
 // After the entry whose mark told the deadline, and once.
 void a_deadline_that_has_come() {
     DayWithADeadline day;
     {
         const Sweeper sweeper(day.answers, day.log, day.clock);
-        const auto latest = std::chrono::steady_clock::now() + longest;
-        while (day.committed.last_place() < 2 && std::chrono::steady_clock::now() < latest) {
-            std::this_thread::yield();
-        }
+        check(comes([&] { return day.committed.last_place() == 2; }), "no sweep");
         day.answers.put(2, std::nullopt);
     }
     const std::vector<Entry> entries = day.database.entries();
@@ -90,66 +100,73 @@ void a_deadline_that_has_come() {
     check(entries[0].firm && !entries[1].firm, "no sweep after the message");
 }
 
+// A firm that has always another message, from the third on. The one of each number has that place,
+// as long as there is no sweep.
+class BusyFirm {
+  public:
+    explicit BusyFirm(DayWithADeadline &day) : day_(day), thread_([this] { run(); }) {}
+    ~BusyFirm() {
+        is_over_ = true;
+        // What is held for an answer goes on.
+        day_.answers.put(day_.log.last_place(), std::nullopt);
+    }
+    BusyFirm(const BusyFirm &) = delete;
+    BusyFirm &operator=(const BusyFirm &) = delete;
+
+    std::uint32_t last() const { return last_; }
+    // The last place of the log, if the message behind it waits and no sweep is in front of it.
+    std::optional<std::uint32_t> held_behind() {
+        const std::uint32_t place = day_.log.last_place();
+        const bool is_held = day_.log.waiting() == 1 && last_ == place + 1;
+        return is_held ? std::optional(place) : std::nullopt;
+    }
+
+  private:
+    void run() {
+        while (!is_over_) {
+            day_.log.append_message("F", ++last_, "x");
+            day_.log.flush();
+        }
+    }
+
+    DayWithADeadline &day_;
+    std::atomic<std::uint32_t> last_{2};
+    std::atomic<bool> is_over_{false};
+    std::jthread thread_; // the last one, as it uses the others
+};
+
 // Messages are held for the sweep, but for no longer than a while: the venue may not answer before
 // one of them is in the log.
 void a_venue_that_does_not_answer() {
     DayWithADeadline day;
     day.log.append_message("F", 2, "x");
-    std::atomic<bool> is_over{false};
-    std::future<void> firm;
-    {
-        const Sweeper sweeper(day.answers, day.log, day.clock);
-        // Past the first hold, which begins after a tenth of a second.
-        firm = std::async(std::launch::async, [&] {
-            const auto earliest = std::chrono::steady_clock::now() + 1s;
-            for (std::uint32_t number = 3; !is_over && std::chrono::steady_clock::now() < earliest;
-                 ++number) {
-                day.log.append_message("F", number, "x");
-                day.log.flush();
-            }
-        });
-        const bool went_on = firm.wait_for(longest) == std::future_status::ready;
-        is_over = true;
-        check(went_on, "a firm waits for a venue that does not answer");
-        same<std::size_t>(0, sweeps_of(day.database), "sweeps after other messages");
-    }
-}
-
-// The number that has not changed for a tenth of a second.
-std::uint32_t once_it_waits(const std::atomic<std::uint32_t> &number) {
-    std::uint32_t seen = number;
-    do {
-        seen = number;
-        std::this_thread::sleep_for(100ms);
-    } while (seen != number);
-    return seen;
+    const Sweeper sweeper(day.answers, day.log, day.clock);
+    BusyFirm firm(day);
+    check(comes([&] { return firm.held_behind().has_value(); }), "no message is held");
+    const std::uint32_t held = firm.last();
+    check(comes([&] { return firm.last() > held; }),
+          "a firm waits for a venue that does not answer");
+    same<std::size_t>(0, sweeps_of(day.database), "sweeps after other messages");
 }
 
 // Messages go on after a sweep: the venue may not answer it before one of them is in the log.
 void a_sweep_that_is_not_answered() {
     DayWithADeadline day;
     day.log.append_message("F", 2, "x");
-    std::atomic<std::uint32_t> last{2};
-    std::atomic<bool> is_over{false};
     const Sweeper sweeper(day.answers, day.log, day.clock);
-    const auto firm = std::async(std::launch::async, [&] {
-        while (!is_over) {
-            day.log.append_message("F", ++last, "x");
-            day.log.flush();
+    BusyFirm firm(day);
+    // The venue answers what it has while a message is held, so the sweep comes before that one.
+    // Where the hold has ended meanwhile it is no longer the last place, and the next hold is
+    // waited for.
+    const bool is_swept = comes([&] {
+        if (const auto place = firm.held_behind()) {
+            day.answers.put(*place, Moment{0});
         }
+        return sweeps_of(day.database) == 1;
     });
-    const std::uint32_t held = once_it_waits(last);
-    // The venue answers what it has, and so the sweep comes.
-    day.answers.put(day.log.last_place(), Moment{0});
-    const auto latest = std::chrono::steady_clock::now() + longest;
-    while (last == held && std::chrono::steady_clock::now() < latest) {
-        std::this_thread::yield();
-    }
-    const bool goes_on = last != held;
-    is_over = true;
-    day.answers.put(day.log.last_place(), std::nullopt);
-    firm.wait();
-    check(goes_on, "a firm waits for a sweep that is not answered");
+    check(is_swept, "no sweep while a message is held");
+    check(comes([&] { return day.database.entries().back().firm.has_value(); }),
+          "a firm waits for a sweep that is not answered");
 }
 
 } // namespace

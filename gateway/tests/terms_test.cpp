@@ -1,6 +1,8 @@
-// Two gateways on one log in PostgreSQL: which may write, and that the other can't.
+// Two gateways on one log in PostgreSQL: which may write, and that the other can't; and a commit
+// that the server did not make safe.
 //
-// usage: terms_test CONNECTION    a PostgreSQL database, in which it makes a schema and drops it
+// usage: terms_test CONNECTION [own]    a PostgreSQL database, in which it makes a schema and drops
+//                                       it; own: the server is the test's, which sets its standbys
 #include "check.h"
 #include "database.h"
 
@@ -178,18 +180,70 @@ void hangs_behind_its_work(Schema &schema) {
     next->writer()->commit(batch_of(4, 7));
 }
 
+// A server whose commits wait for a standby that there is none of.
+class NoStandby {
+  public:
+    explicit NoStandby(const Schema &schema) : connection_(schema.text()) {
+        set("SET synchronous_standby_names TO 'nobody'");
+    }
+    ~NoStandby() { set("RESET synchronous_standby_names"); }
+    NoStandby(const NoStandby &) = delete;
+    NoStandby &operator=(const NoStandby &) = delete;
+
+    // As an operator does who would have it go on.
+    void cancel_waits() {
+        pqxx::nontransaction work(connection_);
+        work.exec(
+            "SELECT pg_cancel_backend(pid) FROM pg_stat_activity WHERE wait_event = 'SyncRep'");
+    }
+
+  private:
+    void set(const std::string &what) {
+        pqxx::nontransaction work(connection_);
+        work.exec("ALTER SYSTEM " + what);
+        work.exec("SELECT pg_reload_conf()");
+    }
+
+    pqxx::connection connection_;
+};
+
+// The commit succeeds, with a warning alone.
+void waits_for_nobody(Schema &schema) {
+    const auto next = schema.open("waits");
+    const std::uint32_t term = term_of(*next);
+    const auto writer = next->writer();
+    NoStandby server(schema);
+    const auto latest = std::chrono::steady_clock::now() + 60s;
+    std::string told;
+    // The server may need some commits to hear of its standby.
+    for (std::uint32_t place = 10; told.empty(); ++place) {
+        check(std::chrono::steady_clock::now() < latest, "no commit that is not safe is told");
+        auto done = std::async(std::launch::async, [&] {
+            return thrown_by([&] { writer->commit(batch_of(place, term)); });
+        });
+        while (done.wait_for(10ms) != std::future_status::ready) {
+            server.cancel_waits();
+        }
+        told = done.get();
+    }
+    check(told.find("one machine alone") != std::string::npos, "told of it: " + told);
+}
+
 } // namespace
 
 } // namespace gateway::tests
 
 int main(int count, char **words) {
     using namespace gateway::tests;
-    return run_with(count, words, 1, 1, "terms_test CONNECTION", [](std::span<char *> given) {
+    return run_with(count, words, 1, 2, "terms_test CONNECTION [own]", [](std::span<char *> given) {
         Schema schema(given[0]);
         one_speaks(schema);
         terms_rise(schema);
         tables_refuse(schema);
         hangs_in_a_transaction(schema);
         hangs_behind_its_work(schema);
+        if (given.size() == 2) {
+            waits_for_nobody(schema);
+        }
     });
 }

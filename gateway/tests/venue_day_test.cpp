@@ -1,7 +1,9 @@
-// A venue's day whose process ends between the start of the gateway and the first session.
+// A venue's day whose process ends between the start of the gateway and the first session, and one
+// whose program does not say what it is.
 //
 // usage: venue_day_test FOLDER
 #include "check.h"
+#include "day.h"
 #include "no_events.h"
 #include "password.h"
 #include "sqlite_statement.h"
@@ -11,6 +13,7 @@
 #include <csignal>
 #include <filesystem>
 #include <fstream>
+#include <future>
 #include <iostream>
 #include <thread>
 
@@ -118,6 +121,22 @@ void given_again_before_sessions(const std::filesystem::path &folder) {
     check(!status.failure(), status.failure().value_or(""));
 }
 
+// A program that does anything but end where it is asked for its version: the day begins all the
+// same.
+void begun_without_a_version(const std::filesystem::path &folder) {
+    Config config = config_of(folder);
+    config.program = folder / "program";
+    std::ofstream(config.program) << "#!/bin/sh\nexec sleep 200\n";
+    std::filesystem::permissions(config.program, std::filesystem::perms::owner_all);
+    const auto database = open_sqlite(config.sqlite.string());
+    DayClock clock(today());
+    auto opened = std::async(std::launch::async, [&] {
+        return open_day(config, *database, 0, clock, std::make_shared<spdlog::logger>("none"));
+    });
+    check(opened.wait_for(60s) == std::future_status::ready, "the program is waited for");
+    same<std::string>("unknown", day_of(opened.get().first.line).version, "its version");
+}
+
 } // namespace
 
 } // namespace gateway::tests
@@ -128,5 +147,6 @@ int main(int count, char **words) {
         // As the gateway does: the venue may end while it is fed.
         std::signal(SIGPIPE, SIG_IGN);
         given_again_before_sessions(std::filesystem::path(given[0]) / "venue_day");
+        begun_without_a_version(std::filesystem::path(given[0]) / "venue_day");
     });
 }

@@ -4,6 +4,7 @@ import base64
 import hashlib
 import os
 import re
+import resource
 import sqlite3
 import subprocess
 import unittest
@@ -197,6 +198,22 @@ class Commands(LogCase):
         self.assertEqual((ran.status, ran.out), (2, ""))
         ran = audit("check", self.log, "--seal", other, "--key", public)
         self.assertEqual(ran.status, 0, ran.text)
+
+    def test_a_seal_for_which_there_is_no_room(self) -> None:
+        """Nothing is left of it, so that the log can be sealed once there is room."""
+        private, _ = keys(self.place)
+        whole, seal = self.place / "whole.seal", self.log.with_name("day.db.seal")
+        self.assertEqual(audit("seal", self.log, "--key", private, "--out", whole).status, 0)
+        soft, hard = resource.getrlimit(resource.RLIMIT_FSIZE)
+        resource.setrlimit(resource.RLIMIT_FSIZE, (whole.stat().st_size - 1, hard))
+        try:
+            ran = audit("seal", self.log, "--key", private)
+        finally:
+            resource.setrlimit(resource.RLIMIT_FSIZE, (soft, hard))
+        self.assertEqual((ran.status, ran.out, seal.exists()), (2, "", False))
+        self.assertIn("the seal can't be written", ran.err)
+        self.assertEqual(audit("seal", self.log, "--key", private).status, 0)
+        self.assertEqual(seal.read_bytes(), whole.read_bytes())
 
     def test_a_log_that_goes_on_behind_its_seal(self) -> None:
         """Whether what was sealed is still there is told, and what is behind it."""

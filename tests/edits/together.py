@@ -180,13 +180,19 @@ def told_of(lines: list[str], function: str) -> str:
     return next((found[1] for line in lines if (found := said.fullmatch(line))), "nothing")
 
 
+def is_proved(said: str) -> bool:
+    """Whether a function is proved by what a check said of it: of one that takes a lock it says
+    'proved, may wait'."""
+    return said.split(",")[0] == "proved"
+
+
 def verdict_of(lines: list[str], twin: Twin) -> str:
     """What a check says of a twin."""
     real = told_of(lines, twin.real.asked(twin.real.name))
-    if real != "proved":
+    if not is_proved(real):
         return f"not tried: of the real function it says {real}"
     said = told_of(lines, twin.real.asked(twin.name))
-    if said == "proved":
+    if is_proved(said):
         return "PROVED"
     if not said.startswith(("not proved", "no proof")):
         return f"not tried: {said}"

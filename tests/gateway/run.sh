@@ -51,13 +51,19 @@ part() {
     "$@" >"$work/$name.part" 2>&1 || true
     cat "$work/$name.part"
 }
+# Two gateways on one log, and a server that does not wait for its standby: where the tests are built, too.
+in_terms() {
+    [ -x "$1" ] || { echo "0 passed, 0 failed"; return; }
+    if "$here/postgres.sh" "$1" '{}' own; then echo "1 passed, 0 failed"; else echo "0 passed, 1 failed"; fi
+}
 # shellcheck disable=SC2086 # the words of $days, $keep, $quick, $seed and $venue
 {
     part tried python3 "$here/tried.py" "$gateway" "$work/player" "$work/shim.so" $keep $quick --jobs 3 -- $venue
     part sqlite python3 "$here/play.py" "$gateway" "$work/player" $days $seed $keep -- $venue
     part postgres "$here/postgres.sh" python3 "$here/play.py" "$gateway" "$work/player" $in_postgres $seed $keep \
         --postgres '{}' -- $venue
+    part terms in_terms "$(dirname "$gateway")/terms_test"
 }
 tail -qn 1 "$work"/*.part |
     awk '$2 == "passed," { passed += $1; failed += $3; ++parts }
-         END { if (parts < 3) ++failed; print passed + 0 " passed, " failed + 0 " failed"; exit failed > 0 }'
+         END { if (parts < 4) ++failed; print passed + 0 " passed, " failed + 0 " failed"; exit failed > 0 }'

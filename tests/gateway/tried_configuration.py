@@ -68,6 +68,14 @@ def checked_beforehand(stage: Stage) -> None:
         check(found.returncode == 1 and wrong in found.stderr, "%s: %r" % (wrong, found))
 
 
+def begun_with_a_wrong_key(stage: Stage) -> None:
+    """So does a start: before there is a log, and not where sessions would begin."""
+    with_tls(stage)
+    stage.door.tls["key"] = '"none.key"'
+    stage.door.write()
+    stage.refused("none.key")
+
+
 def password_of_a_shell(stage: Stage) -> None:
     """A password of an installation that is another where a shell, SQL or YAML has read it: it is refused, and not told."""
     site = (ROOT / "deploy" / "site.toml").read_text()
@@ -88,4 +96,5 @@ def configured(site: Path, folder: Path) -> subprocess.CompletedProcess[str]:
     return subprocess.run(words, capture_output=True, text=True, timeout=60, check=False)
 
 
-TRIED = [configuration_at_fault, beyond_the_loopback, password_in_the_clear, part_without_a_command, checked_beforehand, password_of_a_shell]
+TRIED = [configuration_at_fault, beyond_the_loopback, password_in_the_clear, part_without_a_command, checked_beforehand,
+         begun_with_a_wrong_key, password_of_a_shell]

@@ -89,4 +89,29 @@ def without_descriptors(stage: Stage, spare: int, is_told: Callable[[], bool]) -
     until("its connections have ended", LONG, lambda: stage.counters()["mireseason_connections"] == 1)
 
 
-TRIED = [half_a_logon, endless_logon, many_connections, many_passwords, no_descriptor_left]
+def held(stage: Stage) -> tuple[int, int, int]:
+    """How many descriptors, threads and processes the gateway has."""
+    process = Path("/proc/%d" % stage.door.process.pid)
+    return len(list((process / "fd").iterdir())), len(list((process / "task").iterdir())), len(stage.door.children())
+
+
+def nothing_left(stage: Stage) -> None:
+    """Connections that end in each way, sessions, and a venue that is ended leave no descriptor, no thread and no process."""
+    stage.open(stage.other)
+    before, number = held(stage), 1
+    for _ in range(40):
+        wires = [Wire(stage.door.port) for _ in range(4)]
+        wires[1].raw(b"8=FIXT.1.1\x019=100\x0135=A\x0149=DLR1\x01")
+        wires[2].logon(b"NOBODY", b"secret")
+        wires[3].number = number
+        wires[3].logon(DEALER.name.encode(), DEALER.password.encode())
+        check(wires[3].read_kind(b"A") is not None, "it is not logged on")
+        number = wires[3].number
+        for wire in wires:
+            wire.socket.close()
+    stage.door.kill_venue()
+    stage.ping(stage.other)
+    until("what they had is given back: %r" % (before,), LONG, lambda: all(now <= was for now, was in zip(held(stage), before)))
+
+
+TRIED = [half_a_logon, endless_logon, many_connections, many_passwords, no_descriptor_left, nothing_left]

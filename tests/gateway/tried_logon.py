@@ -130,6 +130,22 @@ def stranger_in_a_firms_name(stage: Stage) -> None:
     stage.ping(stage.dealer)
 
 
+def broken_without_end(stage: Stage) -> None:
+    """Logons in a firm's name that are no messages, one after the other: so many are told, and then the connection is closed, long
+    before its time for a Logon is over."""
+    stage.door.limits["logon_seconds"] = int(3 * LONG)
+    stage.open(stage.other)
+    before = stage.counters().get(NO_MESSAGE, 0)
+    with Wire(stage.door.port) as wire:
+        frame = wire.message(b"A", DEALER.name.encode(), [(98, b"0"), (108, b"30"), (1137, b"9")])
+        wire.raw((frame[:-4] + b"999\x01") * 1000)
+        check(wire.closed_within(SLACK), "the connection stays")
+    told = stage.counters().get(NO_MESSAGE, 0) - before
+    check(told == 10, "%d are told" % told)
+    stage.log_on(stage.dealer)
+    stage.ping(stage.dealer)
+
+
 def second_connection(stage: Stage) -> None:
     stage.open(stage.dealer)
     times = stage.dealer.times_on
@@ -377,6 +393,6 @@ def plain_to_tls(stage: Stage) -> None:
 
 
 TRIED = [wrong_password, wrong_password_of_one_away, refused_without_end, wrong_words, unknown_firm, words_of_a_stranger,
-         stranger_in_a_firms_name, second_connection, numbers_are_not_reset, reset_as_the_first, reset_behind_messages,
+         stranger_in_a_firms_name, broken_without_end, second_connection, numbers_are_not_reset, reset_as_the_first, reset_behind_messages,
          reset_behind_a_refusal, heartbeats, late_logon, logon_at_fault, by_tls, tls_begun_anew, certificate_of_another_firm,
          certificate_of_another_authority, plain_to_tls]

@@ -4,8 +4,9 @@
 `spoilt` takes lawful inputs of every command and flips bytes, cuts, doubles, swaps and mixes lines.
 `large` fills 16 MiB with each kind of line. Each run has 400 MB of memory and ten seconds of a processor, and has to
 end with status 0 and nothing on standard error (`live` tells of lines at fault there and goes on),
-or with status 1 and one line of the table of faults (docs/PROGRAM.md). Lawful inputs of a usual
-size are never refused for memory.
+or with status 1 and one line of the table of faults (docs/PROGRAM.md) that an input can give: none
+of `day` and of `weave`, which are faults of the venue. Inputs of a usual size are never refused for
+memory.
 
 usage: inputs.py PROGRAM spoilt COUNT [FIRST_SEED [PROCESSES]]
        inputs.py PROGRAM large
@@ -24,7 +25,7 @@ import time
 
 ROOT = os.path.dirname(os.path.dirname(os.path.dirname(os.path.abspath(__file__))))
 sys.path.insert(0, os.path.join(ROOT, "tests", "isolation"))
-from pairs import Day, Story  # noqa: E402
+from dealer_days import Day, Story  # noqa: E402
 
 MEMORY = 400_000_000
 SECONDS = 10  # of a processor
@@ -32,7 +33,7 @@ PATIENCE = 600  # seconds of the clock, on a machine that has much else to do
 MOST_INPUT = 16_777_216
 LINE = rb"line [1-9][0-9]*: (form|unknown firm|unknown room|stream)"
 FAULT = re.compile(
-    rb"(config: (Toml|Missing|Name|Twice|Limit)|firm: .*|parts|input|memory|day: \w+|weave: \w+|" + LINE + rb")\n"
+    rb"(config: (Toml|Missing|Name|Twice|Limit)|firm: .*|parts|input|memory|" + LINE + rb")\n"
 )
 LIVE = re.compile(rb"(" + LINE + rb"\n)*")
 
@@ -82,7 +83,8 @@ def lawful(program, draw):
     if what == "compare":
         return ["compare", "DLR1"], (text + "%%\n" + "\n%%\n".join(days(draw)) + "\n").encode()
     if what in ("day", "live"):
-        return [what] + frames, (configuration + "\n%%\n" + without_turns(steps) + "\n").encode()
+        flags = frames + (["--woven"] if what == "day" else [])
+        return [what] + flags, (configuration + "\n%%\n" + without_turns(steps) + "\n").encode()
     if what == "replay":
         return ["replay"] + draw.choice([[], ["DLR1"], ["INV1"]]) + frames, text.encode()
     if what == "dues":

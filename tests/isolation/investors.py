@@ -8,18 +8,17 @@ that list. `PROGRAM compare --investor INV1` has to say where the lists and the 
 usage: investors.py PROGRAM PAIRS [FIRST_SEED [PROCESSES]]
 """
 
-import itertools
 import multiprocessing
 import random
 import subprocess
 import sys
-from collections.abc import Sequence
 from typing import NamedTuple
 
 sys.dont_write_bytecode = True
 
 from investor_days import Day, Story
 from lines import message_line  # of tests/model, as investor_days has it
+from pairs import difference
 from replay import investor_alone, seen_by
 
 
@@ -47,14 +46,6 @@ def told(program: str, one: Day, other: Day) -> bytes:
     words = [program, "compare", "--investor", "INV1"]
     both = one.text() + "%%\n" + other.text()
     return subprocess.run(words, input=both.encode(), capture_output=True, timeout=120).stdout
-
-
-def difference(same: bytes, differ: bytes, one: Sequence[object], other: Sequence[object]) -> bytes:
-    """The line on two lists: they are one, or differ first at a position, from 1."""
-    for place, (mine, theirs) in enumerate(itertools.zip_longest(one, other), 1):
-        if mine != theirs:
-            return b"%s at %d\n" % (differ, place)
-    return same + b"\n"
 
 
 def viewed(day: Day) -> bytes:

@@ -2,15 +2,16 @@
 use crate::in_step::ran_in_step;
 use crate::inputs::Inputs;
 use crate::process::ended_process;
-use crate::running::{Running, Step};
 use crate::runs::{Ended, Program, first_lines, words_of};
-use case_lines::{Call, CaseFault, Report, Words};
+use case_lines::{Call, CaseFault, Report, Running, Step, Words};
 use std::alloc::Global;
 use std::marker::Sync;
 use std::sync::Wait;
 use std::thread::Threads;
 
-/// The commands of the program, as far as a case has come.
+/// The commands of the program, as far as a case has come. They hold a handle of the process, so they
+/// are no [`Place`](case_lines::Place): no call of a trait may ask that the handle can be shared between
+/// threads.
 #[derive(Drop)]
 pub(crate) struct Commands<'h, H: Threads + Wait + Sync> {
     rt: &'h H,

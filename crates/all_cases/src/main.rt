@@ -3,21 +3,18 @@
 #![tactic(auto)]
 
 mod commands;
-mod expanded;
 mod in_row;
 mod in_step;
 mod inputs;
 mod laws;
 mod places;
 mod process;
-mod running;
 mod runs;
 mod streams;
 
 use case_lines::{CaseFault, CaseFile, Report};
 use commands::Commands;
 use places::run_place;
-use running::text_of_cases;
 use std::marker::Sync;
 use std::process::ExitCode;
 use std::rt::{Env, Files};
@@ -68,7 +65,7 @@ fn run_text<H: Threads + Wait + Sync + AllocGlobal + Drop>(
     if file.place() != "commands" {
         return run_place(&file, report);
     }
-    let Some(lines) = text_of_cases(alloc, text, report)? else {
+    let Some(lines) = file.lines(report)? else {
         return Ok(());
     };
     let mut commands = Commands::new(rt, alloc);

@@ -4,7 +4,7 @@ use crate::expanded::expanded;
 use crate::faults::CaseFault;
 use crate::place::Place;
 use crate::report::Report;
-use crate::run::{Running, Step};
+use crate::running::{Running, Step};
 use crate::words::Words;
 use std::alloc::Global;
 
@@ -53,7 +53,7 @@ impl<'a> CaseFile<'a> {
     }
 
     /// Its lines, without comments, names and blocks. A file at fault is told, and has none.
-    fn lines(&self, report: &mut Report) -> Result<Option<String>, CaseFault> {
+    pub fn lines(&self, report: &mut Report) -> Result<Option<String>, CaseFault> {
         let mut at = String::new(self.alloc);
         match expanded(self.alloc, self.text, &mut at) {
             Ok(text) => Ok(Some(text)),

@@ -1,8 +1,9 @@
 //! The table of the commands, as clap is told of them.
 use crate::help::{
-    ALONE, BLOTTER, COMPARE, DAY, DAYS, DEALER, DUE, DUE_TEXT, DUES, FIRM, FRAMES, INVESTOR,
-    LINE_BY_LINE, LIVE, LIVE_DAY, MARKS, REPLAY, THREADED, THREADS, WOVEN,
+    ALONE, BLOTTER, COMPARE, DEALER, DUE, DUES, FIRM, FRAMES, INVESTOR, LINE_BY_LINE, LIVE, MARKS,
+    REPLAY, THREADED, WOVEN,
 };
+use crate::inputs::{BLOTTER_DAY, DAY, DAYS, DUE_DAY, DUE_TEXT, DUES_DAY, LIVE_DAY, THREADS};
 
 /// A command: its arguments, and the texts of its help.
 pub(crate) struct CommandLine {
@@ -10,7 +11,7 @@ pub(crate) struct CommandLine {
     pub(crate) name: &'static str,
     /// What it does, in one line.
     pub(crate) about: &'static str,
-    /// What it reads.
+    /// What it reads and prints, with an example.
     pub(crate) input: &'static str,
     /// Its flags.
     pub(crate) flags: &'static [FlagLine],
@@ -62,7 +63,7 @@ const OF_INVESTOR: FlagLine = FlagLine {
 };
 
 const OF_DEALER: ArgumentLine = ArgumentLine {
-    shown: "DEALER",
+    shown: "FIRM",
     required: true,
     help: DEALER,
 };
@@ -105,14 +106,14 @@ pub(crate) const COMMANDS: [CommandLine; 8] = [
     CommandLine {
         name: "due",
         about: DUE,
-        input: DAY,
+        input: DUE_DAY,
         flags: &[WITH_LIVE, OF_INVESTOR],
         argument: Some(OF_DEALER),
     },
     CommandLine {
         name: "dues",
         about: DUES,
-        input: DAY,
+        input: DUES_DAY,
         flags: &[WITH_LIVE],
         argument: None,
     },
@@ -126,7 +127,7 @@ pub(crate) const COMMANDS: [CommandLine; 8] = [
     CommandLine {
         name: "blotter",
         about: BLOTTER,
-        input: DAY,
+        input: BLOTTER_DAY,
         flags: &[WITH_LIVE],
         argument: Some(OF_FIRM),
     },

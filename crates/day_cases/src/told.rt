@@ -57,6 +57,7 @@ fn unkept_day(name: &str) -> Result<UnkeptDay, CaseFault> {
         "Inbox" => Ok(UnkeptDay::Inbox),
         "Told" => Ok(UnkeptDay::Told),
         "Sweep" => Ok(UnkeptDay::Sweep),
+        "Shown" => Ok(UnkeptDay::Shown),
         _ => Err(CaseFault::Form),
     }
 }

@@ -8,10 +8,9 @@
 //!
 //! [`weave`] makes a list of steps of a record, which sends every firm what the record says: so
 //! what is promised of days that are replayed holds of that day. The order of these steps keeps
-//! what came before what ([`orders_keep_what_is_before`]), and a record that is of no day is
-//! refused as malformed, exactly then ([`well_formed_days_are_not_malformed`]). A day that has
-//! such an order is never called a cycle ([`days_with_an_order_are_no_cycle`]), and memory is
-//! the fault where it was refused and nowhere else.
+//! what came before what ([`orders_keep_what_is_before`]). Memory aside, a record is refused as
+//! malformed exactly where it is of no day ([`well_formed_days_are_not_malformed`]). A day that has
+//! such an order is never called a cycle ([`days_with_an_order_are_no_cycle`]).
 #![tactic(auto)]
 
 mod day_form;

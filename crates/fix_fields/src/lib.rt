@@ -1,4 +1,5 @@
-//! Frames of FIXT.1.1, UTCTimestamps and dates: read from bytes and written to bytes, exactly.
+//! Frames of FIXT.1.1, UTCTimestamps and dates: read from bytes and written to bytes, exactly; and
+//! streams of bytes, which are cut into messages.
 //!
 //! A frame is `8=FIXT.1.1`, SOH, `9=`, the length of the body, SOH, the body, `10=`, the sum of all
 //! bytes before it modulo 256 in three digits, and SOH. The body is one or more fields `tag=value`
@@ -12,6 +13,9 @@
 //! writer.text(117, b"a1")?;
 //! writer.number(34, 7)?;
 //! let bytes = writer.finish()?;
+//!
+//! let mut stream = Splitter::new(alloc);
+//! let messages = stream.feed(piece)?; // those that this piece ends
 //!
 //! let date = Date::new(b"20250314")?;
 //! let moment = read_moment(&date, b"20250314-09:05:00")?;
@@ -32,6 +36,13 @@
 //!   length in decimal without leading zeros, so it is read back as these fields. [`is_tag`],
 //!   [`is_value`] and [`fits`] are the tests of what a writer asks for, and [`FrameWriter::left`]
 //!   tells how much still fits. A call whose memory is refused leaves the writer as it was.
+//! - [`Splitter::feed`] cuts a stream into [`Messages`] by their lengths alone: a message is what
+//!   has the form of a frame, whatever its body and its sum are. Bytes are cut in one way
+//!   ([`envelopes_of_is_the_cutting`]), whatever the pieces in which they come
+//!   ([`pieces_make_no_difference`]), and frames come out whole ([`frames_are_cut`]). Bytes that
+//!   can't begin a message have one [`StreamFault`], and no more messages come behind it
+//!   ([`stream_faults_are_for_ever`]). A piece for which memory is refused leaves the splitter as
+//!   it was, so that it may be fed again.
 //! - [`read_moment`] reads exactly the two spellings of a moment of its date, and tells what is no
 //!   spelling at all from what is one of another date. What [`moment_text`] returns is read back;
 //!   [`moment_bytes`] are its bytes, and [`time_text`] is its part behind the date.
@@ -40,8 +51,10 @@
 //! to 12 with any day from 01 to 31.
 //!
 //! A contract sees a [`Frame`] and a [`FrameWriter`] as the list of their fields, a tag and the
-//! bytes of a value each, a [`Date`] as the list of its digits, and a [`Moment`] as a number. The
-//! definitions are in `specs/`: `Frame`, `Garbled`, `UtcTimestamp` and `TimeOfDay`.
+//! bytes of a value each, [`Messages`] as the list of their bytes, a [`Splitter`] as the bytes
+//! behind the last message or their fault, a [`Date`] as the list of its digits, and a [`Moment`]
+//! as a number. The definitions are in `specs/`: `Frame`, `Garbled`, `Envelope`, `UtcTimestamp` and
+//! `TimeOfDay`.
 #![tactic(auto)]
 
 mod dates;

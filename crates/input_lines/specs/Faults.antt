@@ -16,6 +16,7 @@ abbrev pub unkept_name : UnkeptDay → List ℕ
 unkept_name unkept.Inbox = codes "Inbox"
 unkept_name unkept.Told = codes "Told"
 unkept_name unkept.Sweep = codes "Sweep"
+unkept_name unkept.Shown = codes "Shown"
 
 -- why a day on threads is not woven into steps, by its name
 abbrev pub unwoven_name : UnwovenDay → List ℕ

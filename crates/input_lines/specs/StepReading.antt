@@ -1,5 +1,5 @@
 -- What the code keeps of a line of steps until its steps are put behind the others.
-use Rattle.std.specs.Prelude.{ℕ, ◌+◌, ◌≤◌, true, List, [], ◌∷◌, replicate, nat_lt, Bool}
+use Rattle.std.specs.Prelude.{ℕ, ◌+◌, ◌≤◌, true, List, [], ◌∷◌, replicate, nat_lt, Bool, IsTrue}
 use Rattle.std.specs.Prelude.{Option, Some, None, Result, Ok, Err, if◌then◌else◌}
 use Rattle.fix_fields.specs.Envelope.{Cutting}
 use Rattle.fix_fields.specs.declared.fault.StreamFault.{StreamFault}
@@ -33,10 +33,11 @@ counted other heard = heard
 abbrev pub read_as : ConfigValues → Spelled → Heard → Read
 read_as config spelled heard = Ok (steps_in config spelled, counted spelled heard)
 
--- the next `say` line of the firm that says this one would have the number 10^15, which none has
+-- a line is to be counted, and the next `say` line of its firm would have the number 10^15, which
+-- none has
 abbrev pub IsFull : Spelled → Heard → Type 0
 IsFull (spelled.Said firm moment message is_counted) heard =
-    1000000000000000 ≤ number_for heard (Some firm)
+    IsTrue is_counted × (1000000000000000 ≤ number_for heard (Some firm))
 IsFull other heard = ⊥
 
 -- whether an actor is one of the venue's

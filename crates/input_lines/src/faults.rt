@@ -19,6 +19,8 @@ pub enum UnkeptDay {
     Told,
     /// A room was not swept as the clock was told.
     Sweep,
+    /// A dealer was not shown the requests that name it.
+    Shown,
 }
 
 impl UnkeptDay {
@@ -31,6 +33,7 @@ impl UnkeptDay {
             UnkeptDay::Inbox => "Inbox",
             UnkeptDay::Told => "Told",
             UnkeptDay::Sweep => "Sweep",
+            UnkeptDay::Shown => "Shown",
         }
     }
 }

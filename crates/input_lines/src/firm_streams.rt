@@ -1,6 +1,6 @@
 //! What was heard of the firms, line by line.
 ghost use Rattle.std.specs.Prelude.{◌≡◌, ◌≢◌, ◌≤◌, ◌+◌, ◌++◌, List, ℕ, Some, Ok, Err, map};
-ghost use Rattle.std.specs.Prelude.{IfOk, IfErr, OnOk, OnErr};
+ghost use Rattle.std.specs.Prelude.{◌↔◌, IfOk, IfErr, IsErr, OnOk, OnErr};
 ghost use Rattle.std.specs.List.{concat};
 ghost use Rattle.fix_fields.specs.Envelope.{cut_behind, envelopes_of};
 ghost use Rattle.input_lines.specs.StepLines as spec;
@@ -90,13 +90,13 @@ impl Heard {
         *number
     }
 
-    /// Counts a `say` line of a firm. It takes no memory. Where the line's number is 10^15 it is
-    /// refused, and then nothing was counted.
+    /// Counts a `say` line of a firm. It takes no memory. Where the line's number is 10^15, and
+    /// nowhere else, it is refused, and then nothing was counted.
     pub(crate) fn count(&mut self, firm: u16) -> Result<(), Memory>
         ensures counts { OnOk result (self.new
             ≡ spec.with_number self.old firm (spec.number_for self.old (Some firm) + 1)) }
-        ensures full { OnErr result
-            (1000000000000000 ≤ spec.number_for self.old (Some firm)) }
+        ensures refused { IsErr result
+            ↔ (1000000000000000 ≤ spec.number_for self.old (Some firm)) }
         ensures uncounted { OnErr result (self.new ≡ self.old) }
     {
         let Some(number) = self.numbers.get_mut(usize::from(firm)) else {

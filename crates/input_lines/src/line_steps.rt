@@ -1,5 +1,5 @@
 //! What a line of steps spells, before its steps are put behind the others.
-ghost use Rattle.std.specs.Prelude.{◌≡◌, ◌+◌, ◌<◌, ◌++◌, length, replicate, OnErr, OnOk};
+ghost use Rattle.std.specs.Prelude.{◌≡◌, ◌↔◌, ◌+◌, ◌<◌, ◌++◌, length, replicate, IsErr, OnErr, OnOk};
 ghost use Rattle.step_replay.specs.declared.steps.Step.TheVariants as step;
 ghost use Rattle.venue_rows.specs.Rows.{values_of};
 ghost use Rattle.step_replay.specs.VenueRooms as rooms;
@@ -46,11 +46,12 @@ pub fn push_spelled(
     Ok(())
 }
 
-/// Counts a line whose number was written for it. It takes no memory. Where that number is 10^15 it
-/// is refused, as more memory than any machine has would be, and then nothing was counted.
+/// Counts a line whose number was written for it. It takes no memory. Where that number is 10^15,
+/// and nowhere else, it is refused, as more memory than any machine has would be, and then nothing
+/// was counted.
 pub fn count_line(heard: &mut Heard, spelled: &Spelled) -> Result<(), Memory>
     ensures counts { OnOk result (heard.new ≡ spec.counted spelled.now heard.old) }
-    ensures full { OnErr result (spec.IsFull spelled.now heard.old) }
+    ensures refused { IsErr result ↔ spec.IsFull spelled.now heard.old }
     ensures uncounted { OnErr result (heard.new ≡ heard.old) }
 {
     let Spelled::Said(firm, _, _, true) = spelled else {

@@ -42,5 +42,6 @@ mod verdicts;
 
 pub use desks::InvestorDesk;
 pub use events::{InvestorEvent, KeptResponse};
+pub use laws::{facts_after_one_event_more, limits_are_kept, what_is_left_is_of_the_day};
 pub use standing::{AcceptedRequest, RequestClose, ShownOffer};
 pub use verdicts::InvestorVerdict;

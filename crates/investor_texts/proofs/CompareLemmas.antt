@@ -33,12 +33,6 @@ first_of xs ys one other place is there first =
     subst (λ l. IsFirstDifference l other place) is
     (subst (λ l. IsFirstDifference xs l place) there first)
 
--- whether two texts are one, by texts that are they
-pub same_texts : (xs ys one other : List ℕ) (test : Bool) → xs ≡ one → ys ≡ other
-    → IsTrue test ↔ (xs ≡ ys) → IsTrue test ↔ (one ≡ other)
-same_texts xs ys one other test is there same =
-    (λ t. sym is ∙ same.0 t ∙ there, λ e. same.1 (is ∙ e ∙ sym there))
-
 -- the messages that the investor of a run was sent, by the world behind its day
 pub sent_is : (world : List FirmDay) (number : ℕ) (run : Run) → run.investor ≡ number
     → world ≡ firm_days run.config (audit_trail run.config run.steps).facts

@@ -15,7 +15,7 @@ use Rattle.investor_texts.specs.CompareCommand.{AreCompared, IsFollowedRun, IsRu
 use Rattle.investor_texts.specs.CompareCommand.{Run, seen_in}
 use Rattle.investor_texts.specs.DueCommand.{IsTextOf, IsTextOfList}
 use Rattle.investor_texts.specs.LineDays.{AreDaysCompared, IsDayText, KeepsDay}
-use Rattle.investor_texts.specs.WrittenText.{investor_text, seen_text}
+use Rattle.investor_texts.specs.WrittenText.{investor_text}
 use Rattle.investor_texts.specs.declared.line_days.InvestorDay.{InvestorDay}
 
 -- the text of a list that is what was due
@@ -78,16 +78,16 @@ pub runs_seen : (config other_config : Configuration) (number other_number : ℕ
     (steps other_steps : List Step) (is_same : Bool) (first second : Run)
     → IsRunOf config number steps first → IsRunOf other_config other_number other_steps second
     → IsSameSeen config number other_config other_number is_same
-    → IsTrue is_same ↔ (seen_text (seen_in first) ≡ seen_text (seen_in second))
+    → IsTrue is_same ↔ (seen_in first ≡ seen_in second)
 runs_seen config other_config number other_number steps other_steps is_same first second one two
     seen =
     let same = seen first.row second.row (run_row config number steps first one)
     (run_row other_config other_number other_steps second two) in
     subst (λ (c : Configuration).
-    IsTrue is_same ↔ (seen_text (seen_by c first.row) ≡ seen_text (seen_in second)))
+    IsTrue is_same ↔ (seen_by c first.row ≡ seen_in second))
     (sym one.config_is)
     (subst (λ (c : Configuration).
-    IsTrue is_same ↔ (seen_text (seen_by config first.row) ≡ seen_text (seen_by c second.row)))
+    IsTrue is_same ↔ (seen_by config first.row ≡ seen_by c second.row))
     (sym two.config_is) same)
 
 -- the run of a day that comes line by line
@@ -119,7 +119,7 @@ pub days_compared : (name : List ℕ) (config other_config : Configuration)
     → IsSameSeen one.config one.investor other.config other.investor is_same
     → ((first second : Run) → IsFollowedRun one.investor one.followed first
     → IsFollowedRun other.investor other.followed second
-    → IsTrue is_same ↔ (seen_text (seen_in first) ≡ seen_text (seen_in second))
+    → IsTrue is_same ↔ (seen_in first ≡ seen_in second)
     → AreCompared first second text)
     → AreDaysCompared name config taken.steps other_config other_taken.steps text
 days_compared name config other_config taken other_taken one other is_same text keeps other_keeps

@@ -4,6 +4,7 @@ mod CompareLemmas
 mod DayLemmas
 mod FaultLemmas
 mod LineLemmas
+mod MarketLemmas
 mod ReadBackLists
 mod ReadBackMessages
 mod ReadBackParts

@@ -11,7 +11,6 @@ use Rattle.investor_views.specs.declared.dues.InvestorDue.{InvestorDue}
 use Rattle.venue_text.specs.AskedDays.{two_days}
 use Rattle.venue_text.specs.CompareText.{IsFirstDifference, compare_text, sent_in}
 use Rattle.investor_texts.specs.DueCommand.{investor_by}
-use Rattle.investor_texts.specs.WrittenText.{seen_text}
 
 -- a venue, an investor of it, by its number and its row, and the steps of a day
 pub record Run : Type 0 where
@@ -50,15 +49,15 @@ abbrev pub IsSameSeen : Configuration → ℕ → Configuration → ℕ → Bool
 IsSameSeen one investor other other_investor is_same = (row there : InvestorRow)
     → investor_numbered one investor ≡ Some row
     → investor_numbered other other_investor ≡ Some there
-    → IsTrue is_same ↔ (seen_text (seen_by one row) ≡ seen_text (seen_by other there))
+    → IsTrue is_same ↔ (seen_by one row ≡ seen_by other there)
 
--- The three lines of two runs: whether the investor sees the same, so that its due texts begin with
--- the same lines; where what was due to it differs first; and where the messages do.
+-- The three lines of two runs: whether the investor sees the same market; where what was due to it
+-- differs first; and where the messages do.
 pub record AreCompared (one other : Run) (text : List ℕ) : Type 0 where
   pub is_same_seen : Bool
   pub due : Option ℕ
   pub messages : Option ℕ
-  pub seen_is : IsTrue is_same_seen ↔ (seen_text (seen_in one) ≡ seen_text (seen_in other))
+  pub seen_is : IsTrue is_same_seen ↔ (seen_in one ≡ seen_in other)
   pub due_is : IsFirstDifference (due_in one) (due_in other) due
   pub messages_is : IsFirstDifference (sent_of one) (sent_of other) messages
   pub printed : text ≡ compare_text is_same_seen due messages

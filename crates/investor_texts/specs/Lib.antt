@@ -1,5 +1,6 @@
 pub mod AloneCommand
 pub mod CompareCommand
+pub mod DealerNames
 pub mod DueCommand
 pub mod InvestorLines
 pub mod InvestorText

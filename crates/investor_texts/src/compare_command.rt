@@ -1,23 +1,19 @@
 //! What `compare --investor` prints.
-ghost use Rattle.std.specs.Prelude.{◌≡◌, ◌≢◌, ◌↔◌, slice_get, Some, Err, IfOk, IfErr, IsTrue};
+ghost use Rattle.std.specs.Prelude.{◌≡◌, ◌≢◌, ◌↔◌, slice_get, Err, IfOk, IfErr, IsTrue};
 ghost use Rattle.std.specs.Prelude.{is_some, true};
-ghost use Rattle.investor_views.specs.InvestorView.{seen_by};
 ghost use Rattle.investor_texts.specs.CompareCommand as spec;
 ghost use Rattle.investor_texts.specs.DueCommand.{investor_by};
-ghost use Rattle.investor_texts.specs.WrittenText.{seen_text};
 ghost use Rattle.venue_rows.specs.Rows.{investor_numbered};
-ghost use Rattle.venue_rows.specs.declared.investor_rows.InvestorRow.{InvestorRow};
 ghost use Rattle.venue_text.specs.AskedDays.{two_days};
 ghost use Rattle.venue_text.specs.CompareText.{IsFirstDifference, sent_on};
 
 use crate::asked_days::read_investors_day;
-use crate::text_writing::seen_text;
+use crate::same_market::is_same_seen;
 use fix_fields::Memory;
 use input_lines::{MOST_INPUT, ProgramFault, two_days_parts};
-use investor_dues::{FollowedInvestor, InvestorDue, InvestorSeen, followed_day, is_same_due};
+use investor_dues::{FollowedInvestor, InvestorDue, followed_day, is_same_due};
 use std::alloc::Global;
 use step_replay::World;
-use venue_rows::VenueConfig;
 use venue_text::{AskedDay, message_difference, sent_in, three_lines};
 
 /// Whether two days agree on an investor, in three lines: what it sees (`row equal` or `row
@@ -57,7 +53,7 @@ fn days_compared(alloc: Global, one: &AskedDay, other: &AskedDay) -> Result<Vec<
 {
     let first = followed_day(alloc, &one.venue, one.steps.as_slice(), one.firm)?;
     let second = followed_day(alloc, &other.venue, other.steps.as_slice(), other.firm)?;
-    let seen = is_same_seen(alloc, &one.venue, one.firm, &other.venue, other.firm)?;
+    let seen = is_same_seen(&one.venue, one.firm, &other.venue, other.firm);
     let text = lines_of(alloc, seen, first, one.firm, second, other.firm)?;
     Ok(text)
 }
@@ -73,7 +69,7 @@ pub(crate) fn lines_of(
 ) -> Result<Vec<u8>, Memory>
     ensures { IfOk result (λ text. (first second : spec.Run)
         → spec.IsFollowedRun investor one first → spec.IsFollowedRun other_investor other second
-        → IsTrue is_same_seen ↔ (seen_text (spec.seen_in first) ≡ seen_text (spec.seen_in second))
+        → IsTrue is_same_seen ↔ (spec.seen_in first ≡ spec.seen_in second)
         → spec.AreCompared first second text.items) }
 {
     let (dues, world) = one.into_parts();
@@ -90,44 +86,6 @@ fn messages_differ(one: &World, investor: u16, other: &World, other_investor: u1
         (sent_on (slice_get other.now other_investor)) result }
 {
     message_difference(sent_in(one, investor), sent_in(other, other_investor))
-}
-
-/// Whether an investor sees the same in two venues: its due texts begin with the same lines.
-pub(crate) fn is_same_seen(
-    alloc: Global,
-    one: &VenueConfig,
-    investor: u16,
-    other: &VenueConfig,
-    other_investor: u16,
-) -> Result<bool, Memory>
-    ensures { IfOk result (λ is_same. spec.IsSameSeen one.now investor other.now other_investor
-        is_same) }
-{
-    let text = seen_lines(alloc, one, investor)?;
-    let other_text = seen_lines(alloc, other, other_investor)?;
-    let is_same = is_one_text(text.as_slice(), other_text.as_slice());
-    Ok(is_same)
-}
-
-/// The lines of what the investor with this number sees of a venue.
-fn seen_lines(alloc: Global, venue: &VenueConfig, investor: u16) -> Result<Vec<u8>, Memory>
-    ensures { IfOk result (λ text. (row : InvestorRow)
-        → investor_numbered venue.now investor ≡ Some row
-        → text.items ≡ seen_text (seen_by venue.now row)) }
-{
-    let Some(row) = venue.investor(investor) else {
-        return Err(Memory);
-    };
-    let seen = InvestorSeen::of(alloc, venue, row)?;
-    let text = seen_text(alloc, &seen)?;
-    Ok(text)
-}
-
-/// Whether two texts are one.
-fn is_one_text(one: &[u8], other: &[u8]) -> bool
-    ensures { IsTrue result ↔ (one.now ≡ other.now) }
-{
-    one == other
 }
 
 /// The first position, from 1, at which two lists of what is due differ.

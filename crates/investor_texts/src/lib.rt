@@ -32,6 +32,7 @@ mod investor_lines;
 mod item_lines;
 mod line_days;
 mod read_back;
+mod same_market;
 mod sought_days;
 mod text_reading;
 mod text_writing;

@@ -10,8 +10,9 @@ ghost use Rattle.venue_rows.specs.declared.investor_rows.InvestorRow.{InvestorRo
 ghost use Rattle.venue_text.specs.LiveLines.{Taken};
 
 use crate::asked_days::asked_investor;
-use crate::compare_command::{is_same_seen, lines_of};
+use crate::compare_command::lines_of;
 use crate::due_command::text_of;
+use crate::same_market::is_same_seen;
 use fix_fields::Memory;
 use input_lines::{Heard, ProgramFault, Spelled, is_skipped, push_steps, read_venue};
 use investor_dues::FollowedInvestor;
@@ -168,13 +169,7 @@ pub fn investors_compared_text(
         → spec.AreDaysCompared name config taken.steps other_config other_taken.steps
         text.items) }
 {
-    let seen = is_same_seen(
-        alloc,
-        &one.config,
-        one.investor,
-        &other.config,
-        other.investor,
-    )?;
+    let seen = is_same_seen(&one.config, one.investor, &other.config, other.investor);
     let investor = one.investor;
     let other_investor = other.investor;
     let text = lines_of(

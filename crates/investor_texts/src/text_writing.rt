@@ -28,7 +28,7 @@ pub fn investor_text(
 }
 
 /// The lines of what an investor sees.
-pub(crate) fn seen_text(alloc: Global, seen: &InvestorSeen) -> Result<Vec<u8>, Memory>
+fn seen_text(alloc: Global, seen: &InvestorSeen) -> Result<Vec<u8>, Memory>
     ensures { IfOk result (λ text. text.items ≡ spec.seen_text seen.now) }
 {
     let mut text = Vec::new(alloc);

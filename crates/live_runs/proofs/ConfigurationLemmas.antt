@@ -15,8 +15,8 @@ use Rattle.live_runs.specs.LiveRuns.{GainsFaults}
 use Rattle.live_runs.specs.LiveCalls.{OpensStage}
 use Rattle.live_runs.specs.LiveStages.{AwaitsDay, DayGoes, KeptGoes, StageIs}
 use Rattle.live_runs.specs.Written.{Gains, Written}
-use Rattle.live_runs.specs.declared.live.Stage.{Stage}
-use Rattle.live_runs.specs.declared.live.Stage.TheVariants as stage
+use Rattle.live_runs.specs.declared.stages.Stage.{Stage}
+use Rattle.live_runs.specs.declared.stages.Stage.TheVariants as stage
 use Rattle.live_runs.proofs.LineLemmas.{configuration_is, none_behind, nothing_behind}
 use Rattle.live_runs.proofs.LineLemmas.{nothing_printed, now_divided}
 use Rattle.live_runs.proofs.GainLemmas.{gains_nothing}

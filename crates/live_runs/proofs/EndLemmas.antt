@@ -24,8 +24,8 @@ use Rattle.live_runs.specs.LiveCalls.{LineFails, LineTakes}
 use Rattle.live_runs.specs.LiveStages.{BothGo, IsCut, StageIs, taken_at}
 use Rattle.live_runs.specs.Written.{GainsPart, Written}
 use Rattle.live_runs.specs.declared.live.LiveRun.{LiveRun}
-use Rattle.live_runs.specs.declared.live.Stage.{Stage}
-use Rattle.live_runs.specs.declared.live.Stage.TheVariants as stage
+use Rattle.live_runs.specs.declared.stages.Stage.{Stage}
+use Rattle.live_runs.specs.declared.stages.Stage.TheVariants as stage
 use Rattle.live_runs.proofs.FeedLemmas.{line_last}
 use Rattle.live_runs.proofs.StreamLemmas.{appends_both, more_part}
 use Rattle.live_runs.proofs.TwoDayLemmas.{awaiting_taken, both_taken, first_brought, no_day}

@@ -36,8 +36,8 @@ use Rattle.live_runs.specs.LiveCalls.{IsBad, TurnFails, OfConfig, OfFirm, OfLeng
 use Rattle.live_runs.specs.LiveCalls.{OpensNone}
 use Rattle.live_runs.specs.LiveStages.{AwaitsDay}
 use Rattle.live_runs.specs.Written.{Written}
-use Rattle.live_runs.specs.declared.live.Stage.{Stage}
-use Rattle.live_runs.specs.declared.live.Stage.TheVariants as stage
+use Rattle.live_runs.specs.declared.stages.Stage.{Stage}
+use Rattle.live_runs.specs.declared.stages.Stage.TheVariants as stage
 use Rattle.live_runs.proofs.LineLemmas.{configuration_grows, configuration_is, configuration_stays}
 use Rattle.live_runs.proofs.LineLemmas.{now_divided, still_undivided, text_grows}
 use Rattle.live_runs.proofs.TwoDayLemmas.{answers_nothing, first_text, no_day}

@@ -14,8 +14,8 @@ use Rattle.live_runs.specs.LiveCalls.{IsBad, KeepsAnywhere, KeepsStep, is_turn, 
 use Rattle.live_runs.specs.LiveCalls.{out_new, out_old, IsNext, KeptTakes, StageFails, StageTakes}
 use Rattle.live_runs.specs.LiveStages.{StageIs}
 use Rattle.live_runs.specs.Written.{Written}
-use Rattle.live_runs.specs.declared.live.Stage.{Stage}
-use Rattle.live_runs.specs.declared.live.Stage.TheVariants as stage
+use Rattle.live_runs.specs.declared.stages.Stage.{Stage}
+use Rattle.live_runs.specs.declared.stages.Stage.TheVariants as stage
 use Rattle.live_runs.proofs.DayLineLemmas.{kept_taken}
 use Rattle.live_runs.proofs.TwoDayLemmas.{answers_nothing, awaiting_more, awaiting_taken}
 use Rattle.live_runs.proofs.TwoDayLemmas.{both_answered, both_more, first_more, one_taken}

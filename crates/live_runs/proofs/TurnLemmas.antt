@@ -21,8 +21,8 @@ use Rattle.live_runs.specs.LiveCalls.{TurnFails, Turns, is_turn, err_new, out_ne
 use Rattle.live_runs.specs.LiveCalls.{StageTakes}
 use Rattle.live_runs.specs.LiveStages.{AreTwo, AwaitsSecond, BothGo}
 use Rattle.live_runs.specs.Written.{Written}
-use Rattle.live_runs.specs.declared.live.Stage.{Stage}
-use Rattle.live_runs.specs.declared.live.Stage.TheVariants as stage
+use Rattle.live_runs.specs.declared.stages.Stage.{Stage}
+use Rattle.live_runs.specs.declared.stages.Stage.TheVariants as stage
 use Rattle.live_runs.proofs.LineLemmas.{configuration_grows, configuration_is, configuration_stays}
 use Rattle.live_runs.proofs.LineLemmas.{now_divided, still_undivided, text_grows}
 use Rattle.live_runs.proofs.TwoDayLemmas.{awaiting_taken, first_ends, second_opens, second_text}

@@ -19,8 +19,8 @@ use Rattle.live_runs.specs.LineForms.{LineForm, answered, compared_for, kept_for
 use Rattle.live_runs.specs.LiveRuns.{EndsWith, EndsDay, EndsInAnswers, GainsFaults, name_fault}
 use Rattle.live_runs.specs.Written.{Written}
 use Rattle.live_runs.specs.declared.live.LiveRun.{LiveRun}
-use Rattle.live_runs.specs.declared.live.Stage.{Stage}
-use Rattle.live_runs.specs.declared.live.Stage.TheVariants as stage
+use Rattle.live_runs.specs.declared.stages.Stage.{Stage}
+use Rattle.live_runs.specs.declared.stages.Stage.TheVariants as stage
 use Rattle.live_runs.specs.LiveStages.{DayGoes, KeptGoes, StageIs, HasCome, StandsAt}
 
 -- what the streams held at the start of a run

@@ -17,8 +17,8 @@ use Rattle.live_runs.specs.LineForms.{LineForm, answered, compared_for, kept_for
 use Rattle.live_runs.specs.LiveRuns.{AnswersNothing, GainsFaults, TakesDay, behind_one}
 use Rattle.live_runs.specs.Written.{Written}
 use Rattle.live_runs.specs.declared.live.LiveRun.{LiveRun}
-use Rattle.live_runs.specs.declared.live.Stage.{Stage}
-use Rattle.live_runs.specs.declared.live.Stage.TheVariants as stage
+use Rattle.live_runs.specs.declared.stages.Stage.{Stage}
+use Rattle.live_runs.specs.declared.stages.Stage.TheVariants as stage
 
 -- the lines so far are of a configuration, which is read on
 pub record AwaitsDay (lines : List (List ℕ)) (text : List ℕ) (out err : Written) : Type 0 where

@@ -19,6 +19,7 @@ mod input;
 mod line_forms;
 mod live;
 mod output;
+mod stages;
 
 pub use input::read_input;
 pub use line_forms::LineForm;

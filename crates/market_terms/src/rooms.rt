@@ -83,7 +83,7 @@ impl AskedDealers {
     }
 }
 
-/// A quote as its investor is shown it.
+/// What of a quote is posted in the room of its request, and its investor is shown.
 #[derive(Drop)]
 pub struct Offer {
     /// The dealer that quotes.

@@ -123,6 +123,7 @@ one_among first count firm low high (fault.Inbox named) e =
     (own_low, own_high)
 one_among first count firm low high (fault.Told dealer) e = e
 one_among first count firm low high (fault.Sweep room) e = e
+one_among first count firm low high (fault.Shown dealer) e = e
 one_among first count firm low high fault.Memory e = tt
 
 -- A fault of the whole day.
@@ -135,6 +136,7 @@ dealer_is_of config inboxes sweeps count all (fault.Inbox firm) e =
     let below : firm < 0 + count = e.1 in omega (arith, all, below)
 dealer_is_of config inboxes sweeps count all (fault.Told dealer) e = absurd e
 dealer_is_of config inboxes sweeps count all (fault.Sweep room) e = absurd e
+dealer_is_of config inboxes sweeps count all (fault.Shown dealer) e = absurd e
 dealer_is_of config inboxes sweeps count all fault.Memory e = tt
 
 -- a firm of the investors
@@ -145,6 +147,7 @@ investor_is_of config inboxes sweeps first count from all (fault.Inbox firm) e =
     let below : firm < first + count = e.1 in omega (arith, from, all, below)
 investor_is_of config inboxes sweeps first count from all (fault.Told dealer) e = absurd e
 investor_is_of config inboxes sweeps first count from all (fault.Sweep room) e = absurd e
+investor_is_of config inboxes sweeps first count from all (fault.Shown dealer) e = absurd e
 investor_is_of config inboxes sweeps first count from all fault.Memory e = tt
 
 -- the first place of a list that passes a test is one of it
@@ -218,8 +221,10 @@ first_is_of config inboxes sweeps joined of_day (fault.Told dealer) e =
     record { joined = joined; joined_of = of_day; first = e }
 first_is_of config inboxes sweeps joined of_day (fault.Sweep room) e =
     record { joined = joined; joined_of = of_day; first = e }
+first_is_of config inboxes sweeps joined of_day (fault.Shown dealer) e =
+    record { joined = joined; joined_of = of_day; first = e }
 first_is_of config inboxes sweeps joined of_day (fault.Inbox firm) e =
-    unleft_is_of config inboxes joined firm of_day e.2
+    unleft_is_of config inboxes joined firm of_day e.3
 first_is_of config inboxes sweeps joined of_day fault.Memory e = tt
 
 -- What was joined.

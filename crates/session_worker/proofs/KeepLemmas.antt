@@ -33,6 +33,7 @@ use Rattle.session_worker.specs.KeptDays.{InvestorKeeps, InvestorsKeep, KeepsDay
 use Rattle.session_worker.specs.KeptDays.{RoomsStand, answers_to, names_of, rooms_in, rooms_of}
 use Rattle.session_worker.specs.KeptDays.{rooms_of_venue, without_rooms}
 use Rattle.session_worker.specs.Locks.{KeepsDealer, StandsIn, answers_at, answers_in}
+use Rattle.session_worker.specs.ShownRequests.{first_unshown}
 use Rattle.session_worker.proofs.AwardLemmas.{awards_stand}
 use Rattle.session_worker.proofs.DealerAnswers.{SentTheirView}
 use Rattle.session_worker.proofs.DealerLockLemmas.{view_is_seen}
@@ -148,8 +149,6 @@ keeps_alike config firm x y same keeps =
       own_is = ap came_from_investor events ∙ keeps.own_is ∙ sym inbox;
     }
 
--- Answers.
-
 -- the desk of a dealer
 abbrev desk_of : List ℕ → DealerRow → List DealerEvent → DeskEvents
 desk_of date row events = record { date = date; row = row; events = events }
@@ -244,6 +243,7 @@ pub record Joined (config : Configuration) (inboxes : List (List Inbound)) (swee
   pub investors_keep : InvestorsKeep config bare
   pub told : first_untold rooms dealers ≡ None
   pub swept : first_unswept sweeps rooms ≡ None
+  pub shown : first_unshown rooms dealers ≡ None
   pub dealers_stand : DealersStand config log dealers
   pub rooms_stand : RoomsStand later rooms
   pub goes_on : IsPrefix log later
@@ -286,6 +286,7 @@ module _ (config : Configuration) (inboxes : List (List Inbound)) (sweeps : List
         joined.investors_keep;
     told = subst (λ own. first_untold own dealers ≡ None) same_rooms joined.told;
     swept = subst (λ own. first_unswept sweeps own ≡ None) same_rooms joined.swept;
+    shown = subst (λ own. first_unshown own dealers ≡ None) same_rooms joined.shown;
     answers_agree = record {
       log = later;
       legal = joined.legal;

@@ -12,6 +12,7 @@ pub mod MovedLists
 pub mod RoomLemmas
 pub mod RoomNames
 pub mod ShiftLemmas
+pub mod ShownLemmas
 pub mod SweptLemmas
 pub mod ToldLemmas
 pub mod ViewLemmas

@@ -21,7 +21,8 @@ counted : (room : RoomRef) (notice : Notice) (later : List Notice)
     ≡ cond (is_of room notice) 1 0 + count_by (is_of room) later
 counted room notice later = sum_by-cons (λ (n : Notice). cond (is_of room n) 1 0) notice later
 
-none_behind : (c : ℕ) (code any of : Bool) → cond of 1 0 + c ≡ 0 → (c ≡ 0 → any ≡ false)
+-- where something is counted 0 times, no first one is it and says it
+pub none_behind : (c : ℕ) (code any of : Bool) → cond of 1 0 + c ≡ 0 → (c ≡ 0 → any ≡ false)
     → ((of && code) || any) ≡ false
 none_behind c code any true none rest =
     let no : ⊥ = omega (arith, none) in absurd no
@@ -36,8 +37,8 @@ none_says room close (notice ∷ later) none =
     (list_any (says room close) later) (is_of room notice) (sym (counted room notice later) ∙ none)
     (none_says room close later)
 
--- the first notice of a room
-first_told : (c : ℕ) (code any : Bool) → (c ≡ 0 → any ≡ false) → (b : Bool) → (c == 0) ≡ b
+-- the first one of a room
+pub first_told : (c : ℕ) (code any : Bool) → (c ≡ 0 → any ≡ false) → (b : Bool) → (c == 0) ≡ b
     → ((c == 0) && code) ≡ ((1 + c == 1) && (code || any))
 first_told c code any none true is =
     let zero : c ≡ 0 = grind (arith, nat_tests, is) in

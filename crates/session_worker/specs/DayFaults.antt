@@ -10,6 +10,7 @@ use Rattle.session_worker.specs.DayActions.{EventsAreOfActions, first_unleft, nu
 use Rattle.session_worker.specs.DayChecks.{DayRoom, first_unswept, first_untold}
 use Rattle.session_worker.specs.KeptDays.{DealersKeep, InvestorsKeep, names_of, rooms_of}
 use Rattle.session_worker.specs.KeptDays.{rooms_of_venue, without_rooms}
+use Rattle.session_worker.specs.ShownRequests.{first_unshown}
 use Rattle.session_worker.specs.declared.faults.DayFault.{DayFault}
 use Rattle.session_worker.specs.declared.faults.DayFault.TheVariants as fault
 
@@ -33,7 +34,8 @@ record_of joined whole =
     record { dealers = joined.dealers; investors = whole; clock = joined.clock }
 
 -- A record is that of a joined day on which all agrees: each dealer was told how the rooms that
--- name it ended, each room was swept as the clock was told, and each event is that of an action.
+-- name it ended, each room was swept as the clock was told, each dealer was shown the requests that
+-- name it, and each event is that of an action.
 pub record Agrees (config : Configuration) (sweeps : List Sweep) (joined : JoinedDay)
     (day : RecordedDay) : Type 0 where
   pub whole : List InvestorLists
@@ -41,6 +43,7 @@ pub record Agrees (config : Configuration) (sweeps : List Sweep) (joined : Joine
   pub day_is : day ≡ record_of joined whole
   pub told : first_untold joined.rooms joined.dealers ≡ None
   pub swept : first_unswept sweeps joined.rooms ≡ None
+  pub shown : first_unshown joined.rooms joined.dealers ≡ None
   pub of_actions : EventsAreOfActions day
 
 -- the first firm of a joined day with an event, at its desk or in a room of its requests, that is
@@ -50,19 +53,25 @@ pub record IsFirstUnleft (config : Configuration) (joined : JoinedDay) (firm : �
   pub have_rooms : HaveRooms config joined whole
   pub firm_is : option_map number_at (first_unleft (record_of joined whole)) ≡ Some firm
 
--- A fault is the first of a joined day. The dealers' notices come before the sweeps, and the sweeps
--- before the actions: it is the first dealer that was not told what it is to be told; else the
--- first room that was not swept as the clock was told; else the first firm with an event that is
--- not that of an action. Memory may be refused at any point.
+-- A fault is the first of a joined day. The dealers' notices come before the sweeps, the sweeps
+-- before the requests that were shown, and these before the actions: it is the first dealer that
+-- was not told what it is to be told; else the first room that was not swept as the clock was told;
+-- else the first dealer that was not shown what it is to be shown; else the first firm with an event
+-- that is not that of an action. Memory may be refused at any point.
 abbrev pub IsFirstOf : Configuration → List Sweep → JoinedDay → DayFault → Type 0
 IsFirstOf config sweeps joined (fault.Told dealer) =
     first_untold joined.rooms joined.dealers ≡ Some dealer
 IsFirstOf config sweeps joined (fault.Sweep room) =
     (first_untold joined.rooms joined.dealers ≡ None)
     × (first_unswept sweeps joined.rooms ≡ Some room)
+IsFirstOf config sweeps joined (fault.Shown dealer) =
+    (first_untold joined.rooms joined.dealers ≡ None)
+    × (first_unswept sweeps joined.rooms ≡ None)
+    × (first_unshown joined.rooms joined.dealers ≡ Some dealer)
 IsFirstOf config sweeps joined (fault.Inbox firm) =
     (first_untold joined.rooms joined.dealers ≡ None)
     × (first_unswept sweeps joined.rooms ≡ None)
+    × (first_unshown joined.rooms joined.dealers ≡ None)
     × IsFirstUnleft config joined firm
 IsFirstOf config sweeps joined fault.Memory = Unit {0}
 
@@ -74,6 +83,7 @@ abbrev pub IsInboxAmong : ℕ → ℕ → DayFault → Type 0
 IsInboxAmong first count (fault.Inbox firm) = (first ≤ firm) × (firm < first + count)
 IsInboxAmong first count (fault.Told dealer) = ⊥
 IsInboxAmong first count (fault.Sweep room) = ⊥
+IsInboxAmong first count (fault.Shown dealer) = ⊥
 IsInboxAmong first count fault.Memory = Unit {0}
 
 -- What was joined is a day of the venue to which these messages came, an inbox for each firm: it
@@ -97,13 +107,15 @@ pub record IsOfJoined (config : Configuration) (inboxes : List (List Inbound))
   pub first : IsFirstOf config sweeps joined why
 
 -- Why there is no record of the day of a venue to which these messages came, and whose clock had
--- these sweeps to make: a dealer's notices, or a room's sweeps, are the first fault of a joined
--- day; a firm that is named is one of the venue.
+-- these sweeps to make: a dealer's notices, a room's sweeps, or the requests that a dealer was
+-- shown, are the first fault of a joined day; a firm that is named is one of the venue.
 abbrev pub IsFaultOf : Configuration → List (List Inbound) → List Sweep → DayFault → Type 0
 IsFaultOf config inboxes sweeps (fault.Told dealer) =
     IsOfJoined config inboxes sweeps (fault.Told dealer)
 IsFaultOf config inboxes sweeps (fault.Sweep room) =
     IsOfJoined config inboxes sweeps (fault.Sweep room)
+IsFaultOf config inboxes sweeps (fault.Shown dealer) =
+    IsOfJoined config inboxes sweeps (fault.Shown dealer)
 IsFaultOf config inboxes sweeps (fault.Inbox firm) =
     firm < length config.dealers + length config.investors
 IsFaultOf config inboxes sweeps fault.Memory = Unit {0}

@@ -14,3 +14,5 @@ fault_text (fault.Told dealer) =
 fault_text (fault.Sweep room) =
     codes "request " ++ decimal room.n ++ codes " of firm " ++ decimal room.investor
     ++ codes " was not swept as the clock was told"
+fault_text (fault.Shown dealer) =
+    codes "dealer " ++ decimal dealer ++ codes " was not shown the requests that name it"

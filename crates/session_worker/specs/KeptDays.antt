@@ -31,6 +31,7 @@ use Rattle.session_worker.specs.DayActions.{EventsAreOfActions}
 use Rattle.session_worker.specs.DayChecks.{DayRoom, came_from_dealer, came_from_investor}
 use Rattle.session_worker.specs.DayChecks.{first_unswept, first_untold}
 use Rattle.session_worker.specs.Locks.{Answer, StandsIn, answers_at, answers_in}
+use Rattle.session_worker.specs.ShownRequests.{first_unshown}
 
 -- Rooms.
 
@@ -166,7 +167,8 @@ pub record AnswersAgree (config : Configuration) (day : RecordedDay) : Type 0 wh
 -- and whose clock had these sweeps to make. It has the firms and rooms of the venue, and their
 -- inboxes are those that came; what is recorded of each firm follows from the events at its desk;
 -- each dealer was told once how each room that names it ended, and nothing else; each room was
--- swept as the clock was told; all settlements of one word agree; and each event is that of an
+-- swept as the clock was told; each dealer was shown once the request of each room that names it, as
+-- it was asked, and nothing else; all settlements of one word agree; and each event is that of an
 -- action at its desk or in its room.
 pub record KeepsDay (config : Configuration) (inboxes : List (List Inbound)) (sweeps : List Sweep)
     (day : RecordedDay) : Type 0 where
@@ -178,6 +180,7 @@ pub record KeepsDay (config : Configuration) (inboxes : List (List Inbound)) (sw
   pub investors_keep : InvestorsKeep config day.investors
   pub told : first_untold (rooms_in day) day.dealers ≡ None
   pub swept : first_unswept sweeps (rooms_in day) ≡ None
+  pub shown : first_unshown (rooms_in day) day.dealers ≡ None
   pub answers_agree : AnswersAgree config day
   pub of_actions : EventsAreOfActions day
 

@@ -6,6 +6,8 @@ pub mod Inbox
 pub mod KeptDays
 pub mod Locks
 pub mod Shifts
+pub mod ShownRequests
+pub mod ShownRooms
 pub mod SweptRooms
 pub mod ToldRooms
 pub mod Watched

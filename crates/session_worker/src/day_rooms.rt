@@ -1,11 +1,11 @@
 //! The rooms of a day.
-ghost use Rattle.std.specs.Prelude.{◌≡◌};
+ghost use Rattle.std.specs.Prelude.{◌≡◌, option_map};
 ghost use Rattle.request_room.specs.Book.{room_after};
-ghost use Rattle.request_room.specs.RoomFacts.{end_of, is_named};
+ghost use Rattle.request_room.specs.RoomFacts.{end_of, is_named, request_of};
 
 use market_terms::RoomRef;
 use recorded_days::RoomDay;
-use request_room::{End, Room, RoomEvent};
+use request_room::{End, Room, RoomEvent, RoomRequest};
 use std::marker::Model;
 use step_replay::Actor;
 
@@ -49,6 +49,14 @@ impl DayRoom {
         ensures { result ≡ is_named (room_after self.now.day.events) dealer }
     {
         self.room.named(dealer)
+    }
+
+    /// What it was opened for, if it was.
+    pub(crate) fn request(&self) -> Option<&RoomRequest>
+        ensures { option_map (λ request. request.now) result
+            ≡ request_of (room_after self.now.day.events) }
+    {
+        self.room.request()
     }
 
     /// How it ended, if it has.

@@ -13,6 +13,7 @@ use crate::faults::DayFault;
 use crate::gates::Gate;
 use crate::joined::{Session, dealer_days, investor_days, with_rooms};
 use crate::naming::Naming;
+use crate::shown_checks::shown_fault;
 use crate::swept_rooms::sweep_fault;
 use crate::threads::work;
 use crate::venue::SharedVenue;
@@ -47,8 +48,9 @@ pub fn run_day<R: Threads + Wait + Sync, G: Gate>(
         → result ≡ Err (fault.Inbox
         (min (length inboxes.items) (length config.dealers + length config.investors))) }
 
-    // Else a dealer's notices, or a room's sweeps, are the first fault of a joined day of the venue
-    // with these inboxes, and a firm that is named is one of the venue.
+    // Else a dealer's notices, a room's sweeps, or the requests that a dealer was shown, are the
+    // first fault of a joined day of the venue with these inboxes, and a firm that is named is one
+    // of the venue.
     ensures true_of { length inboxes.items ≡ length config.dealers + length config.investors
         → IfErr result
         (IsFaultOf config (map (λ inbox. inbox.items) inboxes.items) sweeps.items) }
@@ -154,7 +156,7 @@ fn recorded<J: Naming>(
 
 /// The record of a day that was joined, where all agrees: the investors are still without their
 /// rooms, which stand in a list of all rooms. Else the first fault, in the order of [`DayFault`]:
-/// the notices of the dealers, then the sweeps, then the actions.
+/// the notices of the dealers, the sweeps, the requests that the dealers were shown, the actions.
 fn agreed(
     alloc: Global,
     config: &VenueConfig,
@@ -185,6 +187,9 @@ fn agreed(
     }
     if let Some(room) = sweep_fault(alloc, rooms.as_slice(), sweeps)? {
         return Err(DayFault::Sweep(room));
+    }
+    if let Some(dealer) = shown_fault(alloc, dealers.as_slice(), rooms.as_slice())? {
+        return Err(DayFault::Shown(dealer));
     }
     let investors = with_rooms(alloc, config, investors, rooms)?;
     if let Some(firm) = action_fault(&dealers, &investors, &clock) {

@@ -24,6 +24,9 @@ pub enum DayFault {
     Told(u16),
     /// The expire events of this room are not its sweeps in their order.
     Sweep(RoomRef),
+    /// The requests that the dealer with this number was shown are not those that name it, each
+    /// once and as it was asked.
+    Shown(u16),
 }
 
 impl fmt::Display for DayFault {
@@ -46,6 +49,9 @@ impl fmt::Display for DayFault {
                 "request {} of firm {} was not swept as the clock was told",
                 room.n, room.investor
             ),
+            DayFault::Shown(dealer) => {
+                write!(f, "dealer {dealer} was not shown the requests that name it")
+            }
         }
     }
 }

@@ -1,5 +1,28 @@
 //! A day of the venue on threads: one session a firm, one clock, and one lock for each desk and
 //! each room.
+//!
+//! ```text
+//! let record = run_day(rt, alloc, config, inboxes, sweeps, &gate)?; // all threads have ended
+//! ```
+//!
+//! # What is promised
+//!
+//! - [`run_day`]: the record keeps what `KeepsDay` of `specs/KeptDays` says, however the threads
+//!   ran: it has the venue's firms and rooms, and the inboxes that came; what each firm was sent
+//!   follows from the events at its desk, and each of these is that of an action; each dealer was
+//!   told how its rooms ended, each room was swept as the clock was told, and all settlements of
+//!   one word agree. With more or fewer inboxes than firms there is no day. Else an `Inbox` names a
+//!   firm of the venue, and a `Told` or a `Sweep` is the first fault of a day of the venue to which
+//!   these messages came (`IsFaultOf` of `specs/DayFaults`).
+//! - [`dealers_of_a_day_are_sent_their_view`] and [`dealers_are_isolated_on_threads`]: so a dealer
+//!   is sent what follows from its own row and what was due to it, whatever else the other firms
+//!   did.
+//! - [`inbox_of`]: the messages of a firm's stream, in whatever pieces they came, and the fault of
+//!   the stream (`arrivals_of` of `specs/Inbox`).
+//!
+//! Not promised: that a session ends; that memory is there; what a [`session`] or the [`clock`] did
+//! by itself, since no caller of a lock can say what it did under it. What lies under each lock
+//! while it is free is said in `specs/Locks`.
 #![tactic(auto)]
 
 mod actors;
@@ -20,6 +43,8 @@ mod naming;
 mod notices;
 mod place_events;
 mod rooms;
+mod shown_checks;
+mod shown_rooms;
 mod swept_rooms;
 mod threads;
 mod told_rooms;

@@ -1,7 +1,7 @@
 -- What stands by some facts stands whatever comes behind them.
 use Rattle.std.proofs.Common.{◌≡◌, ℕ, zero, suc, ◌+◌, ◌==◌, Bool, true, false, ◌||◌, ◌&&◌, List, []}
 use Rattle.std.proofs.Common.{◌∷◌, ◌++◌, length, ◌⊎◌, inl, inr, Option, Some, None, refl, sym, ap}
-use Rattle.std.proofs.Common.{◌∙◌, arith}
+use Rattle.std.proofs.Common.{◌∙◌, arith, subst}
 use Rattle.std.specs.Prelude.{slice_get}
 use Rattle.std.specs.List.{list_any}
 use Rattle.std.proofs.lemmas.Bool.Decides.{nat_tests}
@@ -12,6 +12,7 @@ use Rattle.dealer_desk.specs.DealerOutput.{is_same_room, number_from, number_in}
 use Rattle.request_room.specs.RoomFacts.{RoomFact, first_said, request_of, is_named, names}
 use Rattle.request_room.specs.RoomFacts.{opened_for}
 use Rattle.request_room.specs.declared.requests.RoomRequest.{RoomRequest}
+use Rattle.step_replay.specs.EachLemmas.{Every}
 
 -- Lists.
 
@@ -29,6 +30,11 @@ in_left x (y ∷ xs) ys (inr is) = inr (in_left x xs ys is)
 pub in_right : {A : Type 0} (x : A) (xs ys : List A) → In x ys → In x (xs ++ ys)
 in_right x [] ys is = is
 in_right x (y ∷ xs) ys is = inr (in_right x xs ys is)
+
+pub all_in : {A : Type 0} (P : A → Type 0) (x : A) (xs : List A) → Every P xs → In x xs → P x
+all_in P x [] all is = absurd is
+all_in P x (y ∷ xs) all (inl is) = subst P is all.0
+all_in P x (y ∷ xs) all (inr is) = all_in P x xs all.1 is
 
 pub any_left : {A : Type 0} (test : A → Bool) (xs ys : List A) → list_any test xs ≡ true
     → list_any test (xs ++ ys) ≡ true

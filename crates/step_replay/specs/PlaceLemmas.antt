@@ -1,13 +1,9 @@
 -- The facts of each place after an action, and the places of a replay.
 use Rattle.std.proofs.Common.{◌≡◌, ◌≢◌, ◌<◌, ◌≤◌, ℕ, zero, suc, ◌==◌, true, false, List, [], ◌∷◌}
 use Rattle.std.proofs.Common.{◌++◌, map, filter_map, length, slice_set, get_or, Option, Some, None}
-use Rattle.std.proofs.Common.{refl, sym, ap, ◌∙◌, arith, eq-eqb, ◌≡◌, ◌<◌, ℕ, zero, suc, true, List}
-use Rattle.std.proofs.Common.{[], ◌∷◌, length, refl, arith, ◌≡◌, ◌<◌, ℕ, zero, suc, List, [], ◌∷◌}
-use Rattle.std.proofs.Common.{◌++◌, length, refl, arith, ◌≡◌, ◌≤◌, ℕ, ◌-◌, Bool, true, false}
-use Rattle.std.proofs.Common.{length, nat_le, Some, None, if◌then◌else◌, refl, arith, ◌≡◌, ◌≤◌, ℕ}
-use Rattle.std.proofs.Common.{◌-◌, Bool, true, length, nat_le, None, if◌then◌else◌, ap, arith, ◌≡◌}
-use Rattle.std.proofs.Common.{◌<◌, ℕ, ◌-◌, true, nat_lt, length, Some, sym, ◌∙◌, arith}
-use Rattle.std.specs.Prelude.{slice_get, slice_get, is_some, slice_get, slice_get, slice_get}
+use Rattle.std.proofs.Common.{refl, sym, ap, ◌∙◌, arith, eq-eqb, ◌-◌, Bool, nat_le, if◌then◌else◌}
+use Rattle.std.proofs.Common.{nat_lt}
+use Rattle.std.specs.Prelude.{slice_get, is_some}
 use Rattle.std.proofs.lemmas.List.{append-nil}
 use Rattle.std.proofs.lemmas.List.Elements.{filter_map-append}
 use Rattle.market_terms.specs.declared.rooms.RoomRef.{RoomRef}
@@ -18,10 +14,9 @@ use Rattle.step_replay.specs.InvestorTrail.{InvestorEntry}
 use Rattle.step_replay.specs.VenueFacts.{Fact, AtDealer, InRoom, AtInvestor, of_dealer, of_room}
 use Rattle.step_replay.specs.VenueFacts.{of_investor, entry_at_dealer, fact_in_room}
 use Rattle.step_replay.specs.VenueFacts.{entry_at_investor}
-use Rattle.std.proofs.lemmas.Bool.Decides.{nat_tests, nat_tests, nat_tests}
-use Rattle.venue_rows.specs.Rows.{Configuration, investor_numbered, Configuration}
-use Rattle.venue_rows.specs.Rows.{investor_numbered, Configuration, investor_numbered}
-use Rattle.venue_rows.specs.declared.investor_rows.InvestorRow.{InvestorRow, InvestorRow}
+use Rattle.std.proofs.lemmas.Bool.Decides.{nat_tests}
+use Rattle.venue_rows.specs.Rows.{Configuration, investor_numbered}
+use Rattle.venue_rows.specs.declared.investor_rows.InvestorRow.{InvestorRow}
 use Rattle.std.proofs.lemmas.Option.{slice_get_within}
 use Rattle.step_replay.specs.StepFaults.{firms_of}
 

@@ -1,20 +1,16 @@
 -- The duties that an actor has still to do, after a step of its own and of another.
 use Rattle.std.proofs.Common.{◌≡◌, ◌≤◌, ℕ, zero, suc, ◌+◌, Bool, true, false, List, [], ◌∷◌, ◌++◌}
 use Rattle.std.proofs.Common.{map, filter_map, drop, length, count_by, if◌then◌else◌, cond, refl}
-use Rattle.std.proofs.Common.{ap, ◌∙◌, arith, eq-eqb, ◌≡◌, ◌≢◌, false, refl, arith, ◌≡◌, ℕ, true}
-use Rattle.std.proofs.Common.{refl, ap, arith}
+use Rattle.std.proofs.Common.{ap, ◌∙◌, arith, eq-eqb, ◌≢◌}
 use Rattle.std.proofs.lemmas.List.{append-nil, length-append, drop-append-le}
 use Rattle.std.proofs.lemmas.List.Sums.{sum_by-append}
 use Rattle.std.proofs.lemmas.List.Elements.{filter_map-append}
 use Rattle.market_terms.specs.declared.duties.Duty.{Duty}
 use Rattle.step_replay.specs.Actions.{Effect}
 use Rattle.step_replay.specs.AuditTrail.{AuditTrail, is_same_actor, duty_of, pending, with_effect}
-use Rattle.step_replay.specs.AuditTrail.{is_same_actor, is_same_actor}
-use Rattle.venue_places.specs.declared.actors.Actor.{Actor, Actor, Actor}
+use Rattle.venue_places.specs.declared.actors.Actor.{Actor}
 use Rattle.venue_places.specs.declared.actors.Actor.TheVariants as actor
-use Rattle.std.proofs.lemmas.Bool.Decides.{nat_tests, nat_tests}
-use Rattle.venue_places.specs.declared.actors.Actor.TheVariants as actor
-use Rattle.venue_places.specs.declared.actors.Actor.TheVariants as actor
+use Rattle.std.proofs.lemmas.Bool.Decides.{nat_tests}
 
 -- Lists.
 

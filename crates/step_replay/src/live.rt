@@ -101,11 +101,14 @@ impl LiveVenue {
         World { floor }
     }
 
-    /// What was due so far to the dealer with this number, one of the venue's.
+    /// What was due so far to the dealer with this number, and nothing where no dealer has it.
     pub fn due(&self, alloc: Global, dealer: u16) -> Result<Vec<Due>, Memory>
-        ensures { IfOk result (λ dues. (config : Configuration) (steps : List Step)
+        ensures dues { IfOk result (λ dues. (config : Configuration) (steps : List Step)
             → IsAt config steps self.now → IsSome (dealer_numbered config dealer)
             → dues.items ≡ venue.due_to dealer (live.live_trail config steps)) }
+        ensures no_dealer { IfOk result (λ dues. (config : Configuration) (steps : List Step)
+            → IsAt config steps self.now → dealer_numbered config dealer ≡ None
+            → dues.items ≡ []) }
     {
         let Some(place) = self.replay.floor.dealers.get(usize::from(dealer)) else {
             return Ok(Vec::new(alloc));

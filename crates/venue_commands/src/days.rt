@@ -88,5 +88,6 @@ fn unkept(fault: DayFault) -> ProgramFault
         DayFault::Inbox(_) => ProgramFault::Day(UnkeptDay::Inbox),
         DayFault::Told(_) => ProgramFault::Day(UnkeptDay::Told),
         DayFault::Sweep(_) => ProgramFault::Day(UnkeptDay::Sweep),
+        DayFault::Shown(_) => ProgramFault::Day(UnkeptDay::Shown),
     }
 }

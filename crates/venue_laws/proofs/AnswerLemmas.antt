@@ -95,16 +95,13 @@ module _ (date : List ℕ) (row : DealerRow) where
       record {
         asked = λ quote asks. next quote asks
             ∙ ap (λ (s : Settled). Some (quote, s)) (answer_is_view quote);
-        answered = λ quote settlement says. never (quote, settlement) (sym none ∙ says);
+        answered = λ quote settlement says. cc (sym none ∙ says);
       },
       each_quiet date row seen.lifted (trail ++ AtDesk first ∷ [])
           (map AtDesk rest ++ [] ++ map Sent messages)
           (due_keeps date row trail (AtDesk first) item is other ∙ lifted_is)
           (facts_quiet date row seen.lifted rest [] messages quiet),
     )
-      where
-        never : {A : Type 0} (word : ℕ × Settled) → None ≡ Some word → A
-        never word is = cc
 
     own_each : (moment : ℕ) (bytes : List ℕ)
         → Each (IsAnswered date row) trail (entries_of date row trail (event.Received moment bytes

@@ -17,7 +17,9 @@ use Rattle.step_replay.specs.declared.steps.Step.{Step}
 use Rattle.venue_laws.proofs.Erasing.{erase, erase_close, erase_entry, erase_due}
 use Rattle.venue_laws.proofs.ErasedLists.{filter_map_erased}
 use Rattle.venue_laws.proofs.ErasedActions.{dealer_same}
+use Rattle.venue_laws.proofs.LiveQuotes.{LoneQuotes}
 use Rattle.venue_laws.proofs.PriceLemmas.{all_days}
+use Rattle.venue_laws.proofs.VenueDesk.{WordsOfDay}
 
 -- Due lists.
 
@@ -46,27 +48,17 @@ abbrev pub AreItems : Due → Due → Type 0
 AreItems one other =
     (one ≡ other) ⊎ IsCoverAgainstDoneAway one other ⊎ IsCoverAgainstDoneAway other one
 
-same_notice : (request again moment later : ℕ) (one other : Close) → request ≡ again
-    → moment ≡ later → one ≡ other
-    → due.Closed request one moment ≡ due.Closed again other later
-same_notice request again moment later one other requests moments closes =
-    ap (λ (r : ℕ). due.Closed r one moment) requests
-    ∙ ap (λ (c : Close). due.Closed again c moment) closes
-    ∙ ap (λ (m : ℕ). due.Closed again other m) moments
-
 notices : (request again moment later : ℕ) (one other : Close) → request ≡ again
     → moment ≡ later → erase_close one ≡ erase_close other
     → AreItems (due.Closed request one moment) (due.Closed again other later)
-notices request again moment later closes.Cover closes.Cover requests moments same =
-    inl (same_notice request again moment later closes.Cover closes.Cover requests moments refl)
+notices request again moment later closes.Cover closes.Cover requests moments same = inl (cc)
 notices request again moment later closes.Cover closes.DoneAway requests moments same =
     inr (inl (requests, moments))
 notices request again moment later closes.DoneAway closes.Cover requests moments same =
     inr (inr (sym requests, sym moments))
 notices request again moment later closes.Cover other requests moments same = cc
 notices request again moment later one closes.Cover requests moments same = cc
-notices request again moment later one other requests moments same =
-    inl (same_notice request again moment later one other requests moments same)
+notices request again moment later one other requests moments same = inl (cc)
 
 items : (one other : Due) → erase_due one ≡ erase_due other → AreItems one other
 items (due.Closed request one moment) (due.Closed again other later) same =
@@ -89,16 +81,17 @@ lists (one ∷ dues) (other ∷ others) same =
     (items one other first, lists dues others later)
 
 -- what is due is one but for the cover
-pub is_blind : ((bytes : List ℕ) (fields : List Field) → IsFrame bytes fields
+pub is_blind : LoneQuotes → WordsOfDay
+    → ((bytes : List ℕ) (fields : List Field) → IsFrame bytes fields
     → frame_of bytes ≡ Some fields) → (config : Configuration) (steps others : List Step) (own : ℕ)
     → IsPriceAlike config own steps others
     → IsOneButForCover (due_to own (audit_trail config steps))
     (due_to own (audit_trail config others))
-is_blind reads config steps others own alike =
+is_blind lone words reads config steps others own alike =
     let day = audit_trail config steps in
     let other = audit_trail config others in
     lists (due_to own day) (due_to own other)
     (due_list_is config own day.facts
     ∙ ap (λ (l : List Fact). due_list (of_dealer own l))
-    (all_days config own reads steps others alike).facts_are
+    (all_days config own lone words reads steps others alike).facts_are
     ∙ sym (due_list_is config own other.facts))

@@ -1,8 +1,7 @@
 -- A dealer was shown as many requests as rooms.
-use Rattle.std.proofs.Common.{◌≡◌, ◌≤◌, ℕ, suc, ◌+◌, ◌==◌, Bool, true, false}
-use Rattle.std.proofs.Common.{List, [], ◌∷◌, ◌++◌, length, filter_map, find, option_to_list}
-use Rattle.std.proofs.Common.{Option, Some, None, is_some, if◌then◌else◌, cond}
-use Rattle.std.proofs.Common.{refl, sym, ap, ◌∙◌, subst, arith}
+use Rattle.std.proofs.Common.{◌≡◌, ◌≤◌, ℕ, suc, ◌+◌, ◌==◌, Bool, true, false, List, [], ◌∷◌, ◌++◌}
+use Rattle.std.proofs.Common.{length, filter_map, find, option_to_list, Option, Some, None, is_some}
+use Rattle.std.proofs.Common.{if◌then◌else◌, cond, refl, sym, ap, ◌∙◌, subst, arith}
 use Rattle.std.proofs.lemmas.Bool.Decides.{nat_tests}
 use Rattle.std.proofs.lemmas.List.{append-nil, length-append}
 use Rattle.std.proofs.lemmas.List.Elements.{filter_map-append}
@@ -23,9 +22,10 @@ use Rattle.step_replay.specs.DealerTrail.{DealerEntry, Lifted, book_by, entries_
 use Rattle.step_replay.specs.DealerTrail.{fact_in, room_in, rooms_by}
 use Rattle.venue_laws.specs.Notices.{was_shown}
 use Rattle.step_replay.specs.EachLemmas.{Every}
-use Rattle.venue_laws.proofs.SilentEntries.{settled_each, verdict_each}
+use Rattle.venue_laws.proofs.NoticedLemmas.{settled_each, verdict_each}
 use Rattle.step_replay.specs.DealerGrowth.{facts_grown, rooms_grown}
 use Rattle.step_replay.specs.TrailKept.{IsKept}
+use Rattle.std.proofs.lemmas.Option.{same_Some}
 
 -- what a fact shows
 abbrev shown_in : DealerFact → Option Ask
@@ -100,17 +100,13 @@ number_within first (shown ∷ rooms) room number is =
     by_test (is_same_room shown room) refl
     (λ found. number_within (first + 1) rooms room number found)
   where
-    value : Option ℕ → ℕ
-    value None = first
-    value (Some n) = n
-
     by_test : (b : Bool) → is_same_room shown room ≡ b
         → (number_from (first + 1) rooms room ≡ Some number
         → (first + 1 ≤ number) × (suc number ≤ first + 1 + length rooms))
         → (first ≤ number) × (suc number ≤ first + length (shown ∷ rooms))
     by_test true test later =
         let found : Some first ≡ Some number = rw test at is in
-        let same : first ≡ number = ap value found in
+        let same : first ≡ number = same_Some first number found in
         let low : first ≤ number = omega arith in
         let high : suc number ≤ first + length (shown ∷ rooms) = omega arith in
         (low, high)

@@ -1,8 +1,8 @@
 -- What each action adds and leaves, without prices, is what it adds and leaves in the day without
 -- prices.
-use Rattle.std.proofs.Common.{◌≡◌, ℕ, ◌==◌, Bool, true, false, ◌&&◌, List, [], map}
-use Rattle.std.proofs.Common.{Option, Some, None, option_map, is_some, cond, refl, sym}
-use Rattle.std.proofs.Common.{ap, ◌∙◌, arith, if◌then◌else◌}
+use Rattle.std.proofs.Common.{◌≡◌, ℕ, ◌==◌, Bool, true, false, ◌&&◌, List, [], map, Option, Some}
+use Rattle.std.proofs.Common.{None, option_map, is_some, cond, refl, sym, ap, ◌∙◌, arith}
+use Rattle.std.proofs.Common.{if◌then◌else◌}
 use Rattle.std.proofs.lemmas.Bool.Decides.{nat_tests}
 use Rattle.market_terms.specs.declared.asks.Ask.{Ask}
 use Rattle.market_terms.specs.declared.closes.Close.{Close}
@@ -16,7 +16,6 @@ use Rattle.dealer_desk.specs.declared.events.DealerEvent.TheVariants as at_desk
 use Rattle.investor_desk.specs.InvestorFacts.{InvestorBook, knows}
 use Rattle.investor_desk.specs.InvestorRules.{InvestorMarket}
 use Rattle.investor_desk.specs.declared.events.InvestorEvent.{InvestorEvent}
-use Rattle.request_room.specs.RoomFacts.{RoomFact}
 use Rattle.request_room.specs.Book.{event_facts}
 use Rattle.request_room.specs.declared.events.RoomEvent.{RoomEvent}
 use Rattle.step_replay.specs.DealerTrail.{DealerEntry, book_by, rooms_by, entries_of}
@@ -29,20 +28,47 @@ use Rattle.step_replay.specs.Actions.{Effect, Dealer, nothing, done_by, done_for
 use Rattle.step_replay.specs.Actions.{in_room, at_market, where_known, shown_to, told_of, told_to}
 use Rattle.venue_laws.proofs.Erasing.{erase, erase_close, erase_entry, erase_book, erase_duty}
 use Rattle.venue_laws.proofs.Erasing.{erase_room_fact, erase_investor_entry}
-use Rattle.venue_laws.proofs.ErasedLists.{filter_map_erased, map_swap}
+use Rattle.venue_laws.proofs.ErasedLists.{filter_map_erased, map_along, map_cond}
 use Rattle.venue_laws.proofs.ErasedRules.{closable_same}
 use Rattle.venue_laws.proofs.ErasedEntries as entries
 use Rattle.venue_laws.proofs.ErasedInvestor.{knows_same}
-use Rattle.venue_laws.proofs.ErasedEvents.{erase_event}
-use Rattle.venue_laws.proofs.ErasedShown.{event_same, book_by_same as investor_book_same}
+use Rattle.venue_laws.proofs.ErasedEvents.{erase_event, event_same}
+use Rattle.venue_laws.proofs.ErasedEvents.{book_by_same as investor_book_same}
 
 -- two actions add and leave the same, but for what is erased
+
 pub record AreAlike (own : ℕ) (one other : Effect) : Type 0 where
   pub facts_are : map (erase own) one.facts ≡ map (erase own) other.facts
   pub duties_are : map erase_duty one.duties ≡ map erase_duty other.duties
 
 pub same_alike : (own : ℕ) (effect : Effect) → AreAlike own effect effect
 same_alike own effect = record { facts_are = refl; duties_are = refl }
+
+-- Forms of actions.
+
+pub either_alike : {own : ℕ} {one other one' other' : Effect} (b c : Bool) → b ≡ c
+    → AreAlike own one one' → AreAlike own other other'
+    → AreAlike own (if b then one else other) (if c then one' else other')
+either_alike true true same first second = first
+either_alike true false same first second = cc
+either_alike false true same first second = cc
+either_alike false false same first second = second
+
+pub if_alike : {own : ℕ} {one other : Effect} (b c : Bool) → b ≡ c → AreAlike own one other
+    → AreAlike own (if b then one else nothing) (if c then other else nothing)
+if_alike {own} b c same alike = either_alike b c same alike (same_alike own nothing)
+
+pub done_alike : {own : ℕ} (found : Option Dealer) {one other : Dealer → Effect}
+    → ((dealer : Dealer) → AreAlike own (one dealer) (other dealer))
+    → AreAlike own (done_by found one) (done_by found other)
+done_alike {own} None alike = same_alike own nothing
+done_alike (Some dealer) alike = alike dealer
+
+pub market_alike : {own : ℕ} (found : Option InvestorMarket) {one other : InvestorMarket → Effect}
+    → ((market : InvestorMarket) → AreAlike own (one market) (other market))
+    → AreAlike own (done_for found one) (done_for found other)
+market_alike {own} None alike = same_alike own nothing
+market_alike (Some market) alike = alike market
 
 module _ (config : Configuration) (own : ℕ) (facts : List Fact) where
   -- the facts without prices
@@ -82,11 +108,6 @@ module _ (config : Configuration) (own : ℕ) (facts : List Fact) where
       each (InRoom room fact) = refl
       each (AtInvestor investor entry) = refl
 
-  some_if : {X Y : Type 0} (e : X → Y) (b : Bool) (x : X)
-      → cond b (Some (e x)) None ≡ option_map e (cond b (Some x) None)
-  some_if e true x = refl
-  some_if e false x = refl
-
   pub room_same : (place : RoomRef)
       → of_room place erased ≡ map erase_room_fact (of_room place facts)
   unfolding of_room
@@ -98,7 +119,7 @@ module _ (config : Configuration) (own : ℕ) (facts : List Fact) where
           → fact_in_room place (erase own fact)
           ≡ option_map erase_room_fact (fact_in_room place fact)
       each (AtDealer dealer entry) = refl
-      each (InRoom room fact) = some_if erase_room_fact (is_same_room room place) fact
+      each (InRoom room fact) = map_cond erase_room_fact (is_same_room room place) fact None
       each (AtInvestor investor entry) = refl
 
   pub investor_same : (number : ℕ)
@@ -113,28 +134,8 @@ module _ (config : Configuration) (own : ℕ) (facts : List Fact) where
           ≡ option_map erase_investor_entry (entry_at_investor number fact)
       each (AtDealer dealer entry) = refl
       each (InRoom room fact) = refl
-      each (AtInvestor investor entry) = some_if erase_investor_entry (investor == number) entry
-
-  -- Forms of actions.
-
-  pub if_alike : (b c : Bool) (one other : Effect) → b ≡ c → AreAlike own one other
-      → AreAlike own (if b then one else nothing) (if c then other else nothing)
-  if_alike true true one other same alike = alike
-  if_alike true false one other same alike = cc
-  if_alike false true one other same alike = cc
-  if_alike false false one other same alike = same_alike own nothing
-
-  pub done_alike : (found : Option Dealer) (one other : Dealer → Effect)
-      → ((dealer : Dealer) → AreAlike own (one dealer) (other dealer))
-      → AreAlike own (done_by found one) (done_by found other)
-  done_alike None one other alike = same_alike own nothing
-  done_alike (Some dealer) one other alike = alike dealer
-
-  pub market_alike : (found : Option InvestorMarket) (one other : InvestorMarket → Effect)
-      → ((market : InvestorMarket) → AreAlike own (one market) (other market))
-      → AreAlike own (done_for found one) (done_for found other)
-  market_alike None one other alike = same_alike own nothing
-  market_alike (Some market) one other alike = alike market
+      each (AtInvestor investor entry) =
+          map_cond erase_investor_entry (investor == number) entry None
 
   -- at a dealer's desk
   pub desk_alike : (dealer : Dealer) (one other : DealerEvent) (left left_too : List Duty)
@@ -146,27 +147,10 @@ module _ (config : Configuration) (own : ℕ) (facts : List Fact) where
       → AreAlike own (at_dealer config facts dealer one left)
       (at_dealer config erased dealer other left_too)
   desk_alike dealer one other left left_too same duties = record {
-    facts_are =
-        at_place (entries_of config.date dealer.row (of_dealer dealer.number facts) one)
-        ∙ ap (map (AtDealer dealer.number)) same
-        ∙ ap (λ (l : List DealerEntry). map (AtDealer dealer.number)
-        (map (erase_entry (is_own dealer.number)) (entries_of config.date dealer.row l other)))
-        (sym (dealer_same dealer.number))
-        ∙ sym (at_place (entries_of config.date dealer.row (of_dealer dealer.number erased) other));
+    facts_are = rw (dealer_same dealer.number) (map_along (erase own) (AtDealer dealer.number)
+        (erase_entry (is_own dealer.number)) (λ entry. refl) _ _ same);
     duties_are = duties;
   }
-    where
-      at_place : (more : List DealerEntry)
-          → map (erase own) (map (AtDealer dealer.number) more)
-          ≡ map (AtDealer dealer.number) (map (erase_entry (is_own dealer.number)) more)
-      at_place more =
-          map_swap (AtDealer dealer.number) (erase own) (erase_entry (is_own dealer.number))
-          (AtDealer dealer.number) (λ entry. refl) more
-
-  pub at_room_same : (room : RoomRef) (more : List RoomFact)
-      → map (erase own) (map (InRoom room) more) ≡ map (InRoom room) (map erase_room_fact more)
-  at_room_same room more =
-      map_swap (InRoom room) (erase own) erase_room_fact (InRoom room) (λ fact. refl) more
 
   -- in a room
   pub room_alike : (room : RoomRef) (may may_too : Bool) (one other : RoomEvent)
@@ -177,17 +161,11 @@ module _ (config : Configuration) (own : ℕ) (facts : List Fact) where
       → AreAlike own (in_room config facts room may one left)
       (in_room config erased room may_too other left_too)
   room_alike room may may_too one other left left_too tests same duties =
-      if_alike (has_room config room.investor room.n && may)
-      (has_room config room.investor room.n && may_too) _ _
+      if_alike _ _
       (ap (λ (b : Bool). has_room config room.investor room.n && b) tests)
       (record {
-        facts_are =
-            at_room_same room (event_facts (of_room room facts) one)
-            ∙ ap (map (InRoom room)) same
-            ∙ ap (λ (l : List RoomFact).
-            map (InRoom room) (map erase_room_fact (event_facts l other)))
-            (sym (room_same room))
-            ∙ sym (at_room_same room (event_facts (of_room room erased) other));
+        facts_are = rw (room_same room) (map_along (erase own) (InRoom room) erase_room_fact
+            (λ fact. refl) _ _ same);
         duties_are = duties;
       })
 
@@ -197,24 +175,11 @@ module _ (config : Configuration) (own : ℕ) (facts : List Fact) where
       → AreAlike own (at_market facts market more left)
       (at_market erased market (erase_event more) left_too)
   investor_alike market more left left_too duties = record {
-    facts_are =
-        at_place (investor_trail.entries_of market (of_investor market.firm facts) more)
-        ∙ ap (map (AtInvestor market.firm))
-        (event_same market (of_investor market.firm facts) more)
-        ∙ ap (λ (l : List InvestorEntry). map (AtInvestor market.firm)
-        (map erase_investor_entry (investor_trail.entries_of market l (erase_event more))))
-        (sym (investor_same market.firm))
-        ∙ sym (at_place (investor_trail.entries_of market (of_investor market.firm erased)
-        (erase_event more)));
+    facts_are = rw (investor_same market.firm) (map_along (erase own) (AtInvestor market.firm)
+        erase_investor_entry (λ entry. refl) _ _
+        (event_same market (of_investor market.firm facts) more));
     duties_are = duties;
   }
-    where
-      at_place : (more : List InvestorEntry)
-          → map (erase own) (map (AtInvestor market.firm) more)
-          ≡ map (AtInvestor market.firm) (map erase_investor_entry more)
-      at_place more =
-          map_swap (AtInvestor market.firm) (erase own) erase_investor_entry
-          (AtInvestor market.firm) (λ entry. refl) more
 
   -- where an investor knows a request
   pub known_alike : (request : ℕ) (quote : Option ℕ) (more : InvestorEvent)
@@ -222,7 +187,7 @@ module _ (config : Configuration) (own : ℕ) (facts : List Fact) where
       → AreAlike own (where_known facts request quote more market)
       (where_known erased request quote (erase_event more) market)
   known_alike request quote more market =
-      if_alike _ _ (at_market facts market more []) (at_market erased market (erase_event more) [])
+      if_alike _ _
       (sym (ap (λ (l : List InvestorEntry). knows (investor_trail.book_by l) request quote)
       (investor_same market.firm)
       ∙ ap (λ (b : InvestorBook). knows b request quote)
@@ -244,20 +209,13 @@ module _ (config : Configuration) (own : ℕ) (facts : List Fact) where
       ap (λ (l : List DealerEntry). book_by l) (dealer_same dealer)
       ∙ entries.book_by_same (is_own dealer) (of_dealer dealer facts)
 
-  unless_alike : (b c : Bool) (one other : Effect) → b ≡ c → AreAlike own one other
-      → AreAlike own (if b then nothing else one) (if c then nothing else other)
-  unless_alike true true one other same alike = same_alike own nothing
-  unless_alike true false one other same alike = cc
-  unless_alike false true one other same alike = cc
-  unless_alike false false one other same alike = alike
-
   pub shown_alike : (room : RoomRef) (ask : Ask) (moment : ℕ) (dealer : Dealer)
       → AreAlike own (shown_to config facts room ask moment dealer)
       (shown_to config erased room ask moment dealer)
   shown_alike room ask moment dealer =
-      unless_alike _ _ _ _
+      either_alike _ _
       (ap (λ (rooms : List RoomRef). is_some (number_in rooms room))
-      (sym (rooms_known dealer.number)))
+      (sym (rooms_known dealer.number))) (same_alike own nothing)
       (desk_alike dealer (at_desk.Shown room ask moment) (at_desk.Shown room ask moment) [] []
       (entries.shown_same (is_own dealer.number) config.date dealer.row
       (of_dealer dealer.number facts) room ask moment) refl)
@@ -267,8 +225,7 @@ module _ (config : Configuration) (own : ℕ) (facts : List Fact) where
       (told_of config erased dealer (erase_close close) moment request)
   told_alike_of dealer close moment None = same_alike own nothing
   told_alike_of dealer close moment (Some request) =
-      if_alike _ _ (at_dealer config facts dealer (at_desk.Told request close moment) [])
-      (at_dealer config erased dealer (at_desk.Told request (erase_close close) moment) [])
+      if_alike _ _
       (ap (λ o. is_some o) (sym (closable_same (book_by (of_dealer dealer.number facts)) request))
       ∙ ap (λ (b : DealerBook). is_some (closable b request)) (sym (book_known dealer.number)))
       (desk_alike dealer (at_desk.Told request close moment)

@@ -1,9 +1,7 @@
 -- The duties that a room leaves, without prices and covers.
-use Rattle.std.proofs.Common.{◌≡◌, ℕ, Bool, true, false, ◌&&◌, List, [], ◌∷◌, map}
-use Rattle.std.proofs.Common.{Option, None, refl, sym, ap, ◌∙◌, Result, Ok, Err}
-use Rattle.std.proofs.Common.{if◌then◌else◌}
+use Rattle.std.proofs.Common.{◌≡◌, ℕ, Bool, true, false, ◌&&◌, List, [], ◌∷◌, map, Option, None}
+use Rattle.std.proofs.Common.{refl, sym, ap, ◌∙◌, Result, Ok, Err, if◌then◌else◌}
 use Rattle.market_terms.specs.declared.asks.Ask.{Ask}
-use Rattle.market_terms.specs.declared.closes.Close.{Close}
 use Rattle.market_terms.specs.declared.closes.Close.TheVariants as closes
 use Rattle.market_terms.specs.declared.closes.HitRefusal.{HitRefusal}
 use Rattle.market_terms.specs.declared.duties.Duty.{Duty}
@@ -12,19 +10,17 @@ use Rattle.market_terms.specs.declared.rooms.Offer.{Offer}
 use Rattle.market_terms.specs.declared.rooms.ResponseRef.{ResponseRef}
 use Rattle.market_terms.specs.declared.rooms.RoomRef.{RoomRef}
 use Rattle.quote_word.specs.declared.settled.Settled.{Settled}
-use Rattle.request_room.specs.RoomFacts.{RoomFact, request_of, is_open, takes_quotes, hears}
-use Rattle.request_room.specs.Book.{hit_outcome, reply_of, passed, expired, may_expire, may_unpost}
+use Rattle.request_room.specs.RoomFacts.{RoomFact, request_of, takes_quotes, hears}
+use Rattle.request_room.specs.Book.{hit_outcome, reply_of}
 use Rattle.request_room.specs.declared.ends.End.{End}
 use Rattle.request_room.specs.declared.ends.EndKind.{EndKind}
 use Rattle.request_room.specs.declared.ends.EndKind.TheVariants as ends
-use Rattle.request_room.specs.declared.requests.RoomRequest.{RoomRequest}
 use Rattle.venue_steps.specs.RoomSteps.{where_follows, duties_of_open, duties_of_post, told_in}
 use Rattle.venue_steps.specs.RoomSteps.{duties_of_unpost, duties_of_decline, is_winner, is_cover}
-use Rattle.venue_steps.specs.RoomSteps.{close_for, dealers_of, told_to_each}
-use Rattle.venue_steps.specs.RoomSteps.{hit_duties, duties_of_hit, duties_of_pass}
-use Rattle.venue_steps.specs.RoomSteps.{duties_of_expire, shown_then_ready, reply_to_pass}
-use Rattle.venue_laws.proofs.Erasing.{erase_close, erase_cover, erase_room_fact}
-use Rattle.venue_laws.proofs.Erasing.{erase_duty, erase_offer}
+use Rattle.venue_steps.specs.RoomSteps.{close_for, dealers_of, told_to_each, hit_duties}
+use Rattle.venue_steps.specs.RoomSteps.{duties_of_hit, duties_of_pass, duties_of_expire}
+use Rattle.venue_laws.proofs.Erasing.{erase_close, erase_cover, erase_room_fact, erase_duty}
+use Rattle.venue_laws.proofs.Erasing.{erase_offer}
 use Rattle.venue_laws.proofs.ErasedRoom.{request_same, vacant_same, open_same, takes_same}
 use Rattle.venue_laws.proofs.ErasedRoom.{hears_same, may_unpost_same, may_expire_same}
 use Rattle.venue_laws.proofs.ErasedRoom.{erase_outcome, outcome_same}
@@ -51,12 +47,10 @@ told_each : (at : RoomRef) (end : End) (moment : ℕ) (dealers : List ℕ)
     ≡ map erase_duty (told_to_each at (erase_cover end) dealers moment)
 told_each at end moment [] = refl
 told_each at end moment (dealer ∷ dealers) =
-    ap (λ (close : Close). duty.Tell dealer at close moment
-    ∷ map erase_duty (told_to_each at end dealers moment))
-    (close_of_kind end.kind end.winner end.cover dealer)
-    ∙ ap (λ (l : List Duty).
-    duty.Tell dealer at (erase_close (close_for (erase_cover end) dealer)) moment ∷ l)
-    (told_each at end moment dealers)
+    rw (
+      close_of_kind end.kind end.winner end.cover dealer,
+      told_each at end moment dealers,
+    ) refl
 
 hit_left : (facts : List RoomFact) (at : RoomRef) (response : ResponseRef) (moment : ℕ)
     (outcome : Result End HitRefusal)
@@ -69,10 +63,10 @@ hit_left facts at response moment (Err refused) = refl
 
 -- What each step in a room leaves.
 
-follows_same : (b c : Bool) (one other : Duty) → b ≡ c → erase_duty one ≡ erase_duty other
-    → map erase_duty (where_follows b one) ≡ map erase_duty (where_follows c other)
-follows_same b true one other tests same = rw tests (ap (λ (d : Duty). d ∷ []) same)
-follows_same b false one other tests same = rw tests refl
+follows_same : (b : Bool) (one other : Duty) → erase_duty one ≡ erase_duty other
+    → map erase_duty (where_follows b one) ≡ map erase_duty (where_follows b other)
+follows_same true one other same = ap (λ (d : Duty). d ∷ []) same
+follows_same false one other same = refl
 
 module _ (facts : List RoomFact) (at : RoomRef) where
   -- the room without prices and covers
@@ -81,62 +75,38 @@ module _ (facts : List RoomFact) (at : RoomRef) where
 
   pub open_left : (ask : Ask) (dealers : List ℕ) (moment : ℕ)
       → duties_of_open facts at ask dealers moment ≡ duties_of_open erased at ask dealers moment
-  open_left ask dealers moment =
-      ap (λ (b : Bool). if b then shown_then_ready at ask dealers moment else [])
-      (sym (vacant_same facts))
+  open_left ask dealers moment = rw (vacant_same facts) refl
 
   pub post_left : (dealer : ℕ) (one other : Offer) (moment : ℕ)
       → erase_offer one ≡ erase_offer other
       → map erase_duty (duties_of_post facts at dealer one moment)
       ≡ map erase_duty (duties_of_post erased at dealer other moment)
   post_left dealer one other moment same =
-      follows_same (hears facts dealer && takes_quotes facts)
-      (hears erased dealer && takes_quotes erased)
-      (duty.Relay at one moment) (duty.Relay at other moment)
-      (sym (ap (λ (b : Bool). b && takes_quotes erased) (hears_same facts dealer)
-      ∙ ap (λ (b : Bool). hears facts dealer && b) (takes_same facts)))
-      (ap (λ (offer : Offer). duty.Relay at offer moment) same)
+      rw (hears_same facts dealer, takes_same facts)
+      (follows_same (hears facts dealer && takes_quotes facts) (duty.Relay at one moment)
+      (duty.Relay at other moment) (ap (λ (offer : Offer). duty.Relay at offer moment) same))
 
   pub unpost_left : (dealer word moment : ℕ)
       → map erase_duty (duties_of_unpost facts at dealer word moment)
       ≡ map erase_duty (duties_of_unpost erased at dealer word moment)
   unpost_left dealer word moment =
-      follows_same (hears facts dealer && may_unpost facts dealer word)
-      (hears erased dealer && may_unpost erased dealer word)
-      (duty.Gone at word moment) (duty.Gone at word moment)
-      (sym (ap (λ (b : Bool). b && may_unpost erased dealer word) (hears_same facts dealer)
-      ∙ ap (λ (b : Bool). hears facts dealer && b) (may_unpost_same facts dealer word))) refl
+      rw (hears_same facts dealer, may_unpost_same facts dealer word) refl
 
   pub decline_left : (dealer moment : ℕ)
       → map erase_duty (duties_of_decline facts at dealer moment)
       ≡ map erase_duty (duties_of_decline erased at dealer moment)
-  decline_left dealer moment =
-      follows_same (hears facts dealer && takes_quotes facts)
-      (hears erased dealer && takes_quotes erased)
-      (duty.Declined at moment) (duty.Declined at moment)
-      (sym (ap (λ (b : Bool). b && takes_quotes erased) (hears_same facts dealer)
-      ∙ ap (λ (b : Bool). hears facts dealer && b) (takes_same facts))) refl
+  decline_left dealer moment = rw (hears_same facts dealer, takes_same facts) refl
 
   told_same : (end : End) (moment : ℕ) → told_in facts at end moment ≡ told_in erased at end moment
-  told_same end moment =
-      ap (λ (r : Option RoomRequest). told_to_each at end (dealers_of r) moment)
-      (sym (request_same facts))
+  told_same end moment = rw (request_same facts) refl
 
   pub pass_left : (response : ResponseRef) (moment : ℕ)
       → duties_of_pass facts at response moment ≡ duties_of_pass erased at response moment
-  pass_left response moment =
-      ap (λ (l : List Duty). duty.Answer at response (reply_to_pass (is_open facts)) moment
-      ∷ (if is_open facts then l else [])) (told_same passed moment)
-      ∙ ap (λ (b : Bool). duty.Answer at response (reply_to_pass b) moment
-      ∷ (if b then told_in erased at passed moment else [])) (sym (open_same facts))
+  pass_left response moment = rw (open_same facts, request_same facts) refl
 
   pub expire_left : (moment : ℕ)
       → duties_of_expire facts at moment ≡ duties_of_expire erased at moment
-  expire_left moment =
-      ap (λ (l : List Duty). if may_expire facts moment then duty.Close at moment ∷ l else [])
-      (told_same expired moment)
-      ∙ ap (λ (b : Bool). if b then duty.Close at moment ∷ told_in erased at expired moment else [])
-      (sym (may_expire_same facts moment))
+  expire_left moment = rw (may_expire_same facts moment, request_same facts) refl
 
   outcome_left : (response : ResponseRef) (moment : ℕ) (outcome : Result End HitRefusal)
       → hit_duties facts at response moment outcome ≡ hit_duties erased at response moment outcome

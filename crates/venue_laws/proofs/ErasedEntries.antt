@@ -32,8 +32,8 @@ use Rattle.venue_laws.proofs.Erasing.{erase_close, erase_fact, erase_entry, eras
 use Rattle.venue_laws.proofs.Erasing.{erase_verdict}
 use Rattle.venue_laws.proofs.ErasedLists.{any_erased, filter_map_erased, filter_map_same, map_map}
 use Rattle.venue_laws.proofs.ErasedLists.{map_swap, some_map}
-use Rattle.venue_laws.proofs.ErasedBook.{book_same}
-use Rattle.venue_laws.proofs.ErasedRules.{verdict_same, to_drop, number_to_drop_same, closable_same}
+use Rattle.venue_laws.proofs.ErasedRules.{book_same, verdict_same, to_drop, number_to_drop_same}
+use Rattle.venue_laws.proofs.ErasedRules.{closable_same}
 use Rattle.venue_laws.proofs.ErasedVerdicts.{message_alike, came_alike}
 
 -- What the trail says.
@@ -102,11 +102,6 @@ module _ (own : Bool) (trail : List DealerEntry) where
 
 -- What an event adds.
 
-map_as : {A : Type 0} (own : Bool) (f g : A → DealerEntry)
-    → ((x : A) → erase_entry own (f x) ≡ g x) → (xs : List A)
-    → map (erase_entry own) (map f xs) ≡ map g xs
-map_as own f g same xs = map_map f (erase_entry own) g same xs
-
 -- whatever the message is
 sent_as : (own : Bool) (write : OutMessage → List ℕ) (message : Option OutMessage)
     → map (erase_entry own) (map Sent (option_to_list (option_map write message)))
@@ -125,16 +120,14 @@ module _ (own : Bool) (date : List ℕ) (row : DealerRow) (trail : List DealerEn
       let facts = event_facts date row (book_by known) more in
       let shown = map ShownIn (option_to_list (shown_room more)) in
       let sent = map Sent (option_to_list (message_by date row known more)) in
-      map-append (erase_entry own) (map AtDesk facts ++ shown) sent
-      ∙ ap (λ l. l ++ map (erase_entry own) sent)
-      (map-append (erase_entry own) (map AtDesk facts) shown)
-      ∙ ap (λ l. (l ++ map (erase_entry own) shown) ++ map (erase_entry own) sent)
-      (map_swap AtDesk (erase_entry own) (erase_fact own) AtDesk (λ fact. refl) facts)
-      ∙ ap (λ l. (map AtDesk (map (erase_fact own) facts) ++ l) ++ map (erase_entry own) sent)
-      (map_as own ShownIn ShownIn (λ room. refl) (option_to_list (shown_room more)))
-      ∙ ap (λ l. (map AtDesk (map (erase_fact own) facts) ++ shown) ++ l)
-      (sent_as own (next_message date row (sent_by known) (moment_of more))
-      (event_message date row (book_by known) more))
+      rw (
+        map-append (erase_entry own) (map AtDesk facts ++ shown) sent,
+        map-append (erase_entry own) (map AtDesk facts) shown,
+        map_swap AtDesk (erase_entry own) (erase_fact own) AtDesk (λ fact. refl) facts,
+        map_map ShownIn (erase_entry own) ShownIn (λ room. refl) (option_to_list (shown_room more)),
+        sent_as own (next_message date row (sent_by known) (moment_of more))
+            (event_message date row (book_by known) more),
+      ) refl
 
   -- an event adds the same without prices where its facts are the same, and it sends a message
   -- where the other does
@@ -150,21 +143,14 @@ module _ (own : Bool) (date : List ℕ) (row : DealerRow) (trail : List DealerEn
       → map (erase_entry own) (entries_of date row trail more)
       ≡ map (erase_entry own) (entries_of date row (map (erase_entry own) trail) other)
   added_same more other facts rooms sends =
-      let known = erase_book book in
-      let facts_too = map (erase_fact own) (event_facts date row known other) in
-      let shown = map ShownIn (option_to_list (shown_room other)) in
-      added_is trail more
-      ∙ ap (λ (l : List DealerFact).
-      map AtDesk l ++ map ShownIn (option_to_list (shown_room more))
-      ++ (if is_some (event_message date row book more) then Sent [] ∷ [] else [])) facts
-      ∙ ap (λ (r : Option RoomRef). map AtDesk facts_too ++ map ShownIn (option_to_list r)
-      ++ (if is_some (event_message date row book more) then Sent [] ∷ [] else [])) rooms
-      ∙ ap (λ (b : Bool). map AtDesk facts_too ++ shown ++ (if b then Sent [] ∷ [] else [])) sends
-      ∙ ap (λ (b : DealerBook).
-      map AtDesk (map (erase_fact own) (event_facts date row b other)) ++ shown
-      ++ (if is_some (event_message date row b other) then Sent [] ∷ [] else []))
-      (sym (book_by_same own trail))
-      ∙ sym (added_is (map (erase_entry own) trail) other)
+      rw (
+        added_is trail more,
+        added_is (map (erase_entry own) trail) other,
+        book_by_same own trail,
+        facts,
+        rooms,
+        sends,
+      ) refl
 
   pub own_same : (moment : ℕ) (bytes others : List ℕ) (settlement : Option Settled)
       → erase_verdict (dealer_verdict date row book moment bytes)

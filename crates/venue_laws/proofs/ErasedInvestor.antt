@@ -32,7 +32,7 @@ use Rattle.investor_desk.specs.declared.standing.ShownOffer.{ShownOffer}
 use Rattle.venue_laws.proofs.Erasing.{erase_shown, erase_request_close, erase_investor_fact}
 use Rattle.venue_laws.proofs.Erasing.{erase_request, erase_investor_book}
 use Rattle.venue_laws.proofs.ErasedLists.{find_erased, any_erased, count_erased, some_map, map_cond}
-use Rattle.venue_laws.proofs.ErasedBook.{or_map}
+use Rattle.venue_laws.proofs.ErasedLists.{or_map}
 
 -- What one fact says.
 
@@ -206,26 +206,18 @@ module _ (book : InvestorBook) where
   is_numbered : (number : ℕ)
       → is_some (request_numbered (erase_investor_book book) number)
       ≡ is_some (request_numbered book number)
-  is_numbered number =
-      ap (λ (o : Option StandingRequest). is_some o) (numbered number)
-      ∙ some_map erase_request (request_numbered book number)
+  is_numbered number = rw (numbered number) (some_map erase_request (request_numbered book number))
 
   pub knows_same : (number : ℕ) (quote : Option ℕ)
       → knows (erase_investor_book book) number quote ≡ knows book number quote
-  knows_same number quote =
-      ap (λ (b : Bool). b && knows_quote (erase_investor_book book) number quote)
-      (is_numbered number)
-      ∙ ap (λ (b : Bool). is_some (request_numbered book number) && b)
-      (knows_quote_same number quote)
+  knows_same number quote = rw (is_numbered number, knows_quote_same number quote) refl
 
   -- Verdicts.
 
   unused_same : (id : List ℕ)
       → is_some (request_with_id (erase_investor_book book) id)
       ≡ is_some (request_with_id book id)
-  unused_same id =
-      ap (λ (o : Option StandingRequest). is_some o) (with_id id)
-      ∙ some_map erase_request (request_with_id book id)
+  unused_same id = rw (with_id id) (some_map erase_request (request_with_id book id))
 
   refusal_same : (market : InvestorMarket) (moment : ℕ) (request : QuoteRequest)
       → request_refusal market (erase_investor_book book) moment request
@@ -257,11 +249,8 @@ module _ (book : InvestorBook) where
       ≡ request_verdict market book moment request
   unfolding request_verdict
   request_verdict_same market moment request =
-      let bond = bond_with_id market request.bond in
-      ap (request_answer market (erase_investor_book book) moment request bond)
-      (refusal_same market moment request)
-      ∙ request_answer_same market moment request bond
-      (request_refusal market book moment request)
+      rw (refusal_same market moment request) (request_answer_same market moment request
+      (bond_with_id market request.bond) (request_refusal market book moment request))
 
   taken_same : (market : InvestorMarket) (moment : ℕ) (came : Arrival InvestorMessage)
       → arrival_verdict market (erase_investor_book book) moment came

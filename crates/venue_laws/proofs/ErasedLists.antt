@@ -1,9 +1,10 @@
 -- Lists from whose items something is erased: whoever does not ask for it finds the same.
-use Rattle.std.proofs.Common.{◌≡◌, ℕ, ◌+◌, Bool, true, false, cond, List, [], ◌∷◌, map}
-use Rattle.std.proofs.Common.{fold, filter_map, sum_by, count_by, Option, Some, None, option_map}
-use Rattle.std.proofs.Common.{is_some, find, refl, ap, ◌∙◌}
+use Rattle.std.proofs.Common.{◌≡◌, ℕ, ◌+◌, Bool, true, false, cond, List, [], ◌∷◌, map, fold}
+use Rattle.std.proofs.Common.{filter_map, sum_by, count_by, Option, Some, None, option_map, is_some}
+use Rattle.std.proofs.Common.{find, refl, ap, ◌∙◌, sym, ◌++◌}
 use Rattle.std.specs.List.{list_any, cons_option}
-use Rattle.std.specs.Option.{option_to_list}
+use Rattle.std.specs.Option.{option_to_list, option_or}
+use Rattle.std.proofs.lemmas.List.{map-append}
 
 -- Options.
 
@@ -11,6 +12,11 @@ pub map_cond : {X Y : Type 0} (e : X → Y) (b : Bool) (x : X) (rest : Option X)
     → cond b (Some (e x)) (option_map e rest) ≡ option_map e (cond b (Some x) rest)
 map_cond e true x rest = refl
 map_cond e false x rest = refl
+
+pub or_map : {X Y : Type 0} (e : X → Y) (one other : Option X)
+    → option_or (option_map e one) (option_map e other) ≡ option_map e (option_or one other)
+or_map e None other = refl
+or_map e (Some x) other = refl
 
 pub map_cons : {X Y : Type 0} (e : X → Y) (o : Option X) (rest : List X)
     → cons_option (option_map e o) (map e rest) ≡ map e (cons_option o rest)
@@ -68,6 +74,18 @@ pub map_swap : {X Y Z W : Type 0} (e : X → Y) (f : Y → Z) (g : X → W) (h :
 map_swap e f g h same [] = refl
 map_swap e f g h same (x ∷ xs) =
     ap (λ z. z ∷ map f (map e xs)) (same x) ∙ ap (λ l. h (g x) ∷ l) (map_swap e f g h same xs)
+
+-- on two lists that are one without what is erased
+pub map_along : {X Y : Type 0} (e : Y → Y) (f : X → Y) (g : X → X) → ((x : X) → e (f x) ≡ f (g x))
+    → (xs ys : List X) → map g xs ≡ map g ys → map e (map f xs) ≡ map e (map f ys)
+map_along e f g same xs ys alike =
+    map_swap f e g f same xs ∙ ap (map f) alike ∙ sym (map_swap f e g f same ys)
+
+pub append_along : {X Y : Type 0} (e : X → Y) (xs ys xs' ys' : List X) → map e xs ≡ map e xs'
+    → map e ys ≡ map e ys' → map e (xs ++ ys) ≡ map e (xs' ++ ys')
+append_along e xs ys xs' ys' first second =
+    map-append e xs ys ∙ ap (λ l. l ++ map e ys) first ∙ ap (λ l. map e xs' ++ l) second
+    ∙ sym (map-append e xs' ys')
 
 fold_erased : {X Y : Type 0} (e : X → Y) (f : X → ℕ) (g : Y → ℕ) → ((x : X) → g (e x) ≡ f x)
     → (a : ℕ) (xs : List X)

@@ -1,8 +1,8 @@
 -- A room without prices and covers: its phase, its book, its hits and its duties ask for neither,
 -- but for who is the cover.
-use Rattle.std.proofs.Common.{◌≡◌, ℕ, ◌==◌, Bool, true, false, ◌||◌, ◌&&◌, not, List, [], ◌∷◌, map}
-use Rattle.std.proofs.Common.{Option, Some, None, option_map, is_some, refl, sym, ap, ◌∙◌, Result}
-use Rattle.std.proofs.Common.{Ok, Err, if◌then◌else◌}
+use Rattle.std.proofs.Common.{◌≡◌, ℕ, ◌==◌, Bool, true, false, List, [], ◌∷◌, map, Option, Some}
+use Rattle.std.proofs.Common.{None, option_map, is_some, refl, sym, ap, ◌∙◌, Result, Ok, Err}
+use Rattle.std.proofs.Common.{if◌then◌else◌}
 use Rattle.std.specs.List.{list_any}
 use Rattle.market_terms.specs.declared.closes.HitRefusal.{HitRefusal}
 use Rattle.market_terms.specs.declared.closes.HitRefusal.TheVariants as refusal
@@ -10,22 +10,19 @@ use Rattle.quote_word.specs.declared.settled.Settled.{Settled}
 use Rattle.request_room.specs.RoomFacts.{RoomFact, Opened, Readied, Posted, Unposted, Noted, Ended}
 use Rattle.request_room.specs.RoomFacts.{opened_for, ended_as, is_readied, request_of, end_of}
 use Rattle.request_room.specs.RoomFacts.{is_ready, is_ended, is_vacant, is_opening, is_open}
-use Rattle.request_room.specs.RoomFacts.{takes_quotes, hears, names}
+use Rattle.request_room.specs.RoomFacts.{takes_quotes, hears}
 use Rattle.request_room.specs.Book.{takes_out, book_of, is_quote_of, stands, quote_meant}
 use Rattle.request_room.specs.Book.{is_expired, is_past_deadline, hit_refusal, hit_settled}
-use Rattle.request_room.specs.Book.{hit_outcome, award_of, is_lift, passed, expired, may_expire}
-use Rattle.request_room.specs.Book.{may_unpost, quote_posted, where_so, end_by, event_facts}
-use Rattle.request_room.specs.Book.{word_or}
+use Rattle.request_room.specs.Book.{hit_outcome, award_of, is_lift, may_expire, may_unpost}
+use Rattle.request_room.specs.Book.{quote_posted, where_so, end_by, event_facts, word_or}
 use Rattle.request_room.specs.declared.ends.End.{End}
 use Rattle.request_room.specs.declared.ends.EndKind.TheVariants as ends
 use Rattle.request_room.specs.declared.events.RoomEvent.{RoomEvent}
 use Rattle.request_room.specs.declared.events.RoomEvent.TheVariants as event
 use Rattle.request_room.specs.declared.quotes.PostedQuote.{PostedQuote}
-use Rattle.request_room.specs.declared.requests.RoomRequest.{RoomRequest}
 use Rattle.venue_steps.specs.RoomSteps.{word_asked_by, hit_word}
 use Rattle.venue_laws.proofs.Erasing.{erase_posted, erase_cover, erase_room_fact}
-use Rattle.venue_laws.proofs.ErasedLists.{find_erased, any_erased, some_map, map_twice}
-use Rattle.venue_laws.proofs.ErasedBook.{or_map}
+use Rattle.venue_laws.proofs.ErasedLists.{find_erased, any_erased, some_map, map_twice, or_map}
 
 -- What one fact says.
 
@@ -111,16 +108,13 @@ module _ (facts : List RoomFact) where
   takes_same = rw (request_same facts, ended_is) refl
 
   pub hears_same : (dealer : ℕ) → hears erased dealer ≡ hears facts dealer
-  hears_same dealer =
-      ap (λ (b : Bool). b || names (request_of erased) dealer) vacant_same
-      ∙ ap (λ (r : Option RoomRequest). is_vacant facts || names r dealer) (request_same facts)
+  hears_same dealer = rw (request_same facts, ended_is) refl
 
   stands_same : (dealer word : ℕ)
       → stands (book_of erased) dealer word ≡ stands (book_of facts) dealer word
   stands_same dealer word =
-      ap (λ (book : List PostedQuote). stands book dealer word) (book_same facts)
-      ∙ any_erased erase_posted (is_quote_of dealer word) (is_quote_of dealer word) (λ quote. refl)
-      (book_of facts)
+      rw (book_same facts) (any_erased erase_posted (is_quote_of dealer word)
+      (is_quote_of dealer word) (λ quote. refl) (book_of facts))
 
   meant_same : (word : ℕ)
       → quote_meant (book_of erased) word
@@ -137,57 +131,32 @@ module _ (facts : List RoomFact) where
 
   past_same : (moment : ℕ)
       → is_past_deadline (request_of erased) moment ≡ is_past_deadline (request_of facts) moment
-  past_same moment =
-      ap (λ (r : Option RoomRequest). is_past_deadline r moment) (request_same facts)
+  past_same moment = rw (request_same facts) refl
 
   pub may_unpost_same : (dealer word : ℕ)
       → may_unpost erased dealer word ≡ may_unpost facts dealer word
-  may_unpost_same dealer word =
-      ap (λ (b : Bool). b && stands (book_of erased) dealer word) takes_same
-      ∙ ap (λ (b : Bool). takes_quotes facts && b) (stands_same dealer word)
+  may_unpost_same dealer word = rw (takes_same, stands_same dealer word) refl
 
   pub may_expire_same : (moment : ℕ) → may_expire erased moment ≡ may_expire facts moment
-  may_expire_same moment =
-      ap (λ (b : Bool). b && is_past_deadline (request_of erased) moment) open_same
-      ∙ ap (λ (b : Bool). is_open facts && b) (past_same moment)
+  may_expire_same moment = rw (open_same, past_same moment) refl
 
   -- Hits.
 
   gone_same : (word : ℕ)
       → is_some (quote_meant (book_of erased) word) ≡ is_some (quote_meant (book_of facts) word)
-  gone_same word =
-      ap (λ (o : Option PostedQuote). is_some o) (meant_same word)
-      ∙ some_map erase_posted (quote_meant (book_of facts) word)
+  gone_same word = rw (meant_same word) (some_map erase_posted (quote_meant (book_of facts) word))
 
   validity_same : (word moment : ℕ)
       → is_expired (quote_meant (book_of erased) word) moment
       ≡ is_expired (quote_meant (book_of facts) word) moment
   validity_same word moment =
-      ap (λ (o : Option PostedQuote). is_expired o moment) (meant_same word)
-      ∙ expired_same (quote_meant (book_of facts) word) moment
+      rw (meant_same word) (expired_same (quote_meant (book_of facts) word) moment)
 
   pub hit_refusal_same : (word moment : ℕ)
       → hit_refusal erased word moment ≡ hit_refusal facts word moment
   unfolding hit_refusal
   hit_refusal_same word moment =
-      checks _ _ _ _ _ _ _ _ open_same (past_same moment) (gone_same word)
-      (validity_same word moment)
-    where
-      -- the checks in their order
-      refused : Bool → Bool → Bool → Bool → Option HitRefusal
-      refused is_up past stands ended =
-          if not is_up then Some refusal.NotOpen
-          else if past then Some refusal.Deadline
-          else if not stands then Some refusal.Gone
-          else if ended then Some refusal.Expired else None
-
-      checks : (a b c d a' b' c' d' : Bool) → a ≡ a' → b ≡ b' → c ≡ c' → d ≡ d'
-          → refused a b c d ≡ refused a' b' c' d'
-      checks a b c d a' b' c' d' first second third fourth =
-          ap (λ (x : Bool). refused x b c d) first
-          ∙ ap (λ (x : Bool). refused a' x c d) second
-          ∙ ap (λ (x : Bool). refused a' b' x d) third
-          ∙ ap (λ (x : Bool). refused a' b' c' x) fourth
+      rw (open_same, past_same moment, gone_same word, validity_same word moment) refl
 
   pub hit_word_same : (word moment : ℕ) → hit_word erased word moment ≡ hit_word facts word moment
   hit_word_same word moment =
@@ -195,12 +164,12 @@ module _ (facts : List RoomFact) where
 
   award_same : (word : ℕ) → erase_cover (award_of erased word) ≡ erase_cover (award_of facts word)
   award_same word =
-      ap (λ (winner : Option (ℕ × ℕ)).
-      record { kind = ends.Awarded; winner = winner; cover = None })
-      (ap (option_map (λ (quote : PostedQuote). (quote.dealer, quote.word))) (meant_same word)
-      ∙ map_twice erase_posted (λ (quote : PostedQuote). (quote.dealer, quote.word))
-      (λ (quote : PostedQuote). (quote.dealer, quote.word)) (λ quote. refl)
-      (quote_meant (book_of facts) word))
+      rw (
+        meant_same word,
+        map_twice {Z = ℕ × ℕ} erase_posted (λ (quote : PostedQuote). (quote.dealer, quote.word))
+            (λ (quote : PostedQuote). (quote.dealer, quote.word)) (λ quote. refl)
+            (quote_meant (book_of facts) word),
+      ) refl
 
 -- Outcomes.
 
@@ -228,11 +197,8 @@ pub outcome_same : (facts : List RoomFact) (word moment : ℕ) (settlement : Opt
     → erase_outcome (hit_outcome (map erase_room_fact facts) word moment settlement)
     ≡ erase_outcome (hit_outcome facts word moment settlement)
 outcome_same facts word moment settlement =
-    ap (λ (r : Option HitRefusal).
-    erase_outcome (hit_settled r settlement (award_of (map erase_room_fact facts) word)))
-    (hit_refusal_same facts word moment)
-    ∙ settled_same (hit_refusal facts word moment) settlement
-    (award_of (map erase_room_fact facts) word) (award_of facts word) (award_same facts word)
+    rw (hit_refusal_same facts word moment) (settled_same (hit_refusal facts word moment) settlement
+    (award_of (map erase_room_fact facts) word) (award_of facts word) (award_same facts word))
 
 -- What an event adds.
 
@@ -254,10 +220,7 @@ pub post_happens : (facts : List RoomFact) (dealer word price other : ℕ) (unti
     (event.Post dealer word other until))
 unfolding event_facts
 post_happens facts dealer word price other until =
-    posting_same (takes_quotes facts) dealer word price other until
-    ∙ ap (λ (b : Bool).
-    map erase_room_fact (where_so b (Posted (quote_posted dealer word other until))))
-    (sym (takes_same facts))
+    rw (takes_same facts) (posting_same (takes_quotes facts) dealer word price other until)
 
 -- what any event adds
 pub happens_same : (facts : List RoomFact) (more : RoomEvent)
@@ -265,24 +228,17 @@ pub happens_same : (facts : List RoomFact) (more : RoomEvent)
     ≡ map erase_room_fact (event_facts (map erase_room_fact facts) more)
 unfolding event_facts
 happens_same facts (event.Open request) =
-    ap (λ (b : Bool). map erase_room_fact (where_so b (Opened request))) (sym (vacant_same facts))
-happens_same facts event.Ready =
-    ap (λ (b : Bool). map erase_room_fact (where_so b Readied)) (sym (opening_same facts))
+    rw (vacant_same facts) refl
+happens_same facts event.Ready = rw (opening_same facts) refl
 happens_same facts (event.Post dealer word price until) =
     post_happens facts dealer word price price until
 happens_same facts (event.Unpost dealer word) =
-    ap (λ (b : Bool). map erase_room_fact (where_so b (Unposted dealer word)))
-    (sym (may_unpost_same facts dealer word))
-happens_same facts (event.Decline dealer) =
-    ap (λ (b : Bool). map erase_room_fact (where_so b (Noted dealer))) (sym (takes_same facts))
+    rw (may_unpost_same facts dealer word) refl
+happens_same facts (event.Decline dealer) = rw (takes_same facts) refl
 happens_same facts (event.Hit word moment settlement) =
     sym (end_by_same (hit_outcome facts word moment settlement) moment)
     ∙ ap (λ (r : Result End HitRefusal). map erase_room_fact (end_by r moment))
     (sym (outcome_same facts word moment settlement))
     ∙ end_by_same (hit_outcome (map erase_room_fact facts) word moment settlement) moment
-happens_same facts (event.Pass moment) =
-    ap (λ (b : Bool). map erase_room_fact (where_so b (Ended passed moment)))
-    (sym (open_same facts))
-happens_same facts (event.Expire moment) =
-    ap (λ (b : Bool). map erase_room_fact (where_so b (Ended expired moment)))
-    (sym (may_expire_same facts moment))
+happens_same facts (event.Pass moment) = rw (open_same facts) refl
+happens_same facts (event.Expire moment) = rw (may_expire_same facts moment) refl

@@ -1,7 +1,23 @@
--- What the rules ask of the book of a dealer's desk without prices, and the verdicts by it: no
--- price of a quote that stands goes into a verdict.
-use Rattle.std.proofs.Common.{◌≡◌, ℕ, ◌==◌, Bool, ◌&&◌, not, nat_le, cond, List, Option, Some, None}
-use Rattle.std.proofs.Common.{option_map, is_some, refl, ap, ◌∙◌}
+-- The book of a dealer's desk without prices, and what the rules ask of it: no price of a quote
+-- that stands goes into a verdict.
+use Rattle.std.proofs.Common.{◌≡◌, ℕ, ◌+◌, ◌==◌, Bool, List, [], ◌∷◌, map, None, option_map, refl}
+use Rattle.std.proofs.Common.{◌&&◌, not, nat_le, cond, Option, Some, is_some, ap, ◌∙◌}
+use Rattle.dealer_desk.specs.DealerFacts.{DealerFact, Came, Shown, Quoted, Withdrawn, Late}
+use Rattle.dealer_desk.specs.DealerFacts.{Declined, Told, used_number, is_notice, tells, declines}
+use Rattle.dealer_desk.specs.DealerFacts.{finds_lifted, ends, requests_from, first_said, standings}
+use Rattle.dealer_desk.specs.DealerFacts.{book_of, DealerBook, expected_number, quotes_accepted}
+use Rattle.dealer_desk.specs.DealerFacts.{request_named, request_numbered, quote_with_id}
+use Rattle.dealer_desk.specs.DealerFacts.{is_withdrawal, is_closing, is_live, is_live_on}
+use Rattle.dealer_desk.specs.DealerFacts.{live_quote_on, live_number_on, is_lifted_on}
+use Rattle.dealer_desk.specs.DealerFacts.{has_lifted_quote, is_droppable, quote_to_drop}
+use Rattle.dealer_desk.specs.DealerFacts.{number_to_drop, is_number, quantity_beside}
+use Rattle.dealer_desk.specs.DealerFacts.{exposure_beside}
+use Rattle.dealer_desk.specs.declared.accepted.AcceptedQuote.{AcceptedQuote}
+use Rattle.dealer_desk.specs.declared.standing.QuoteEnd.TheVariants as end
+use Rattle.venue_laws.proofs.Erasing.{erase_fact, erase_quote, erase_end, erase_standing}
+use Rattle.venue_laws.proofs.Erasing.{erase_book}
+use Rattle.venue_laws.proofs.ErasedLists.{any_erased, count_erased, map_cond, or_map, find_erased}
+use Rattle.venue_laws.proofs.ErasedLists.{sum_erased, some_map, map_twice}
 use Rattle.std.proofs.lemmas.List.{length-map}
 use Rattle.quote_messages.specs.declared.arrivals.Arrival.{Arrival}
 use Rattle.quote_messages.specs.declared.arrivals.Arrival.TheVariants as arrival
@@ -14,23 +30,91 @@ use Rattle.quote_messages.specs.declared.quotes.DealerMessage.TheVariants as mes
 use Rattle.quote_messages.specs.declared.reject_reasons.QuoteRejectReason.{QuoteRejectReason}
 use Rattle.venue_rows.specs.Texts.{same_text}
 use Rattle.venue_rows.specs.declared.dealer_rows.DealerRow.{DealerRow}
-use Rattle.dealer_desk.specs.DealerFacts.{DealerBook, expected_number, quotes_accepted}
-use Rattle.dealer_desk.specs.DealerFacts.{request_named, request_numbered, quote_with_id}
-use Rattle.dealer_desk.specs.DealerFacts.{is_withdrawal, is_closing, is_live, is_live_on}
-use Rattle.dealer_desk.specs.DealerFacts.{live_quote_on, live_number_on, is_lifted_on}
-use Rattle.dealer_desk.specs.DealerFacts.{has_lifted_quote, is_droppable, quote_to_drop}
-use Rattle.dealer_desk.specs.DealerFacts.{number_to_drop, is_number, quantity_beside}
-use Rattle.dealer_desk.specs.DealerFacts.{exposure_beside}
 use Rattle.dealer_desk.specs.DealerRules.{quote_refusal, quote_answer, quote_verdict, quote_on}
 use Rattle.dealer_desk.specs.DealerRules.{cancel_of, cancel_all, cancel_verdict, decline_verdict}
 use Rattle.dealer_desk.specs.DealerRules.{decline_on, arrival_verdict, dealer_verdict}
 use Rattle.dealer_desk.specs.DealerOutput.{closable}
 use Rattle.dealer_desk.specs.declared.standing.QuoteEnd.{QuoteEnd}
-use Rattle.dealer_desk.specs.declared.standing.QuoteEnd.TheVariants as end
 use Rattle.dealer_desk.specs.declared.standing.StandingRequest.{StandingRequest}
 use Rattle.dealer_desk.specs.declared.standing.StandingQuote.{StandingQuote}
-use Rattle.venue_laws.proofs.Erasing.{erase_end, erase_standing, erase_book}
-use Rattle.venue_laws.proofs.ErasedLists.{find_erased, any_erased, sum_erased, some_map, map_twice}
+
+-- What one fact says.
+
+used_same : (own : Bool) (fact : DealerFact) → used_number (erase_fact own fact) ≡ used_number fact
+used_same own (Came moment bytes used) = refl
+used_same own fact = refl
+
+notice_same : (own : Bool) (fact : DealerFact) → is_notice (erase_fact own fact) ≡ is_notice fact
+notice_same own (Told request close moment) = refl
+notice_same own fact = refl
+
+tells_same : (own : Bool) (number : ℕ) (fact : DealerFact)
+    → tells number (erase_fact own fact) ≡ tells number fact
+tells_same own number (Told request close moment) = refl
+tells_same own number fact = refl
+
+declines_same : (own : Bool) (number : ℕ) (fact : DealerFact)
+    → declines number (erase_fact own fact) ≡ declines number fact
+declines_same own number (Declined request) = refl
+declines_same own number fact = refl
+
+lifted_same : (own : Bool) (number : ℕ) (fact : DealerFact)
+    → finds_lifted number (erase_fact own fact) ≡ finds_lifted number fact
+lifted_same own number (Late quote) = refl
+lifted_same own number fact = refl
+
+ends_same : (own : Bool) (quote : AcceptedQuote) (fact : DealerFact)
+    → ends (erase_quote quote) (erase_fact own fact) ≡ option_map erase_end (ends quote fact)
+ends_same own quote (Withdrawn number how) =
+    map_cond erase_end (number == quote.number) (end.Withdrawn how) None
+ends_same own quote (Told request close moment) =
+    map_cond erase_end (request == quote.request) (end.Closed close) None
+ends_same own quote fact = refl
+
+-- The book.
+
+end_same : (own : Bool) (quote : AcceptedQuote) (later : List DealerFact)
+    → first_said (ends (erase_quote quote)) (map (erase_fact own) later)
+    ≡ option_map erase_end (first_said (ends quote) later)
+end_same own quote [] = refl
+end_same own quote (fact ∷ later) =
+    rw (ends_same own quote fact, end_same own quote later)
+    (or_map erase_end (ends quote fact) (first_said (ends quote) later))
+
+requests_same : (own : Bool) (number : ℕ) (facts : List DealerFact)
+    → requests_from number (map (erase_fact own) facts) ≡ requests_from number facts
+requests_same own number [] = refl
+requests_same own number (Shown ask moment ∷ later) =
+    rw (
+      any_erased (erase_fact own) (declines number) (declines number)
+          (declines_same own number) later,
+      any_erased (erase_fact own) (tells number) (tells number) (tells_same own number) later,
+      requests_same own (number + 1) later,
+    ) refl
+requests_same own number (fact ∷ later) = requests_same own number later
+
+standings_same : (own : Bool) (facts : List DealerFact)
+    → standings (map (erase_fact own) facts) ≡ map erase_standing (standings facts)
+standings_same own [] = refl
+standings_same own (Quoted quote ∷ later) =
+    rw (
+      any_erased (erase_fact own) (finds_lifted quote.number) (finds_lifted quote.number)
+          (lifted_same own quote.number) later,
+      end_same own quote later,
+      standings_same own later,
+    ) refl
+standings_same own (fact ∷ later) = standings_same own later
+
+-- the book by the facts without prices is the book without prices
+pub book_same : (own : Bool) (facts : List DealerFact)
+    → book_of (map (erase_fact own) facts) ≡ erase_book (book_of facts)
+book_same own facts =
+    rw (
+      count_erased (erase_fact own) used_number used_number (used_same own) facts,
+      count_erased (erase_fact own) is_notice is_notice (notice_same own) facts,
+      requests_same own 1 facts,
+      standings_same own facts,
+    ) refl
 
 -- What the rules ask of the book.
 
@@ -117,22 +201,16 @@ module _ (book : DealerBook) where
 
   unused_same : (id : List ℕ)
       → is_some (quote_with_id (erase_book book) id) ≡ is_some (quote_with_id book id)
-  unused_same id =
-      ap (λ (o : Option StandingQuote). is_some o) (with_id id)
-      ∙ some_map erase_standing (quote_with_id book id)
+  unused_same id = rw (with_id id) (some_map erase_standing (quote_with_id book id))
 
   pub none_to_drop : (last : ℕ)
       → is_some (quote_to_drop (erase_book book) last) ≡ is_some (quote_to_drop book last)
-  none_to_drop last =
-      ap (λ (o : Option StandingQuote). is_some o) (to_drop last)
-      ∙ some_map erase_standing (quote_to_drop book last)
+  none_to_drop last = rw (to_drop last) (some_map erase_standing (quote_to_drop book last))
 
   exposed_same : (request : ℕ)
       → exposure_beside (erase_book book) (live_number_on (erase_book book) request)
       ≡ exposure_beside book (live_number_on book request)
-  exposed_same request =
-      ap (exposure_beside (erase_book book)) (live_number_same request)
-      ∙ exposure_same (live_number_on book request)
+  exposed_same request = rw (live_number_same request) (exposure_same (live_number_on book request))
 
   refusal_same : (row : DealerRow) (moment : ℕ) (quote : Quote) (request : Option StandingRequest)
       → quote_refusal row (erase_book book) moment quote request

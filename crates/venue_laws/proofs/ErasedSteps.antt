@@ -1,13 +1,10 @@
 -- Every duty, message and sweep, without prices, is that of the day without prices: one line a
 -- duty.
-use Rattle.std.proofs.Common.{◌≡◌, ℕ, Bool, true, false, ◌&&◌, List, [], map, Option}
-use Rattle.std.proofs.Common.{None, option_map, is_some, refl, sym, ap, ◌∙◌, subst}
-use Rattle.std.proofs.Common.{if◌then◌else◌}
+use Rattle.std.proofs.Common.{◌≡◌, ℕ, Bool, true, ◌&&◌, List, [], map, Option, None, option_map}
+use Rattle.std.proofs.Common.{is_some, refl, sym, ap, ◌∙◌, subst, if◌then◌else◌}
 use Rattle.std.specs.Option.{option_to_list}
-use Rattle.market_terms.specs.declared.closes.Reply.{Reply}
 use Rattle.market_terms.specs.declared.duties.Duty.{Duty}
 use Rattle.market_terms.specs.declared.duties.Duty.TheVariants as duty
-use Rattle.market_terms.specs.declared.rooms.ResponseRef.{ResponseRef}
 use Rattle.market_terms.specs.declared.rooms.RoomRef.{RoomRef}
 use Rattle.quote_word.specs.declared.settled.Settled.{Settled}
 use Rattle.venue_rows.specs.Rows.{Configuration, dealer_numbered}
@@ -19,8 +16,8 @@ use Rattle.dealer_desk.specs.declared.events.DealerEvent.TheVariants as at_desk
 use Rattle.dealer_desk.specs.declared.verdicts.DealerVerdict.{DealerVerdict}
 use Rattle.investor_desk.specs.InvestorFacts.{InvestorBook}
 use Rattle.investor_desk.specs.InvestorRules.{InvestorMarket, investor_verdict}
-use Rattle.investor_desk.specs.InvestorDesk as investor_desk
 use Rattle.investor_desk.specs.InvestorOutput as investor_output
+use Rattle.investor_desk.specs.InvestorDesk as investor_desk
 use Rattle.investor_desk.specs.declared.events.InvestorEvent.TheVariants as at_investor
 use Rattle.investor_desk.specs.declared.verdicts.InvestorVerdict.{InvestorVerdict}
 use Rattle.request_room.specs.RoomFacts.{RoomFact, hears}
@@ -35,32 +32,31 @@ use Rattle.step_replay.specs.DealerTrail.{entries_of}
 use Rattle.step_replay.specs.InvestorTrail as investor_trail
 use Rattle.step_replay.specs.InvestorTrail.{InvestorEntry}
 use Rattle.step_replay.specs.VenueFacts.{Fact, of_dealer, of_room, of_investor}
-use Rattle.step_replay.specs.Actions.{Effect, Dealer, dealer_at, acting_dealer, in_room, words_of}
-use Rattle.step_replay.specs.Actions.{word_for, has_word_for, offer_of, settlement_of, left_by}
-use Rattle.step_replay.specs.Actions.{dealer_receives, verdict_on, received_by_dealer, posted_by}
-use Rattle.step_replay.specs.Actions.{unposted_by, declined_by, received_by_investor}
-use Rattle.step_replay.specs.Actions.{left_by_investor, answered_by}
+use Rattle.step_replay.specs.Actions.{at_investor_of, Dealer, dealer_at, acting_dealer, in_room}
+use Rattle.step_replay.specs.Actions.{words_of, word_for, has_word_for, offer_of, settlement_of}
+use Rattle.step_replay.specs.Actions.{left_by, dealer_receives, verdict_on, received_by_dealer}
+use Rattle.step_replay.specs.Actions.{posted_by, unposted_by, declined_by, received_by_investor}
+use Rattle.step_replay.specs.Actions.{left_by_investor, where_known}
 use Rattle.step_replay.specs.DutyEffects.{duty_effect, sweep_effect, message_effect}
 use Rattle.venue_places.specs.declared.actors.Actor.{Actor}
-use Rattle.venue_laws.proofs.Erasing.{erase_entry, erase_verdict, erase_duty}
-use Rattle.venue_laws.proofs.Erasing.{erase_room_fact}
+use Rattle.venue_laws.proofs.Erasing.{erase_entry, erase_verdict, erase_duty, erase_room_fact}
 use Rattle.venue_laws.proofs.ErasedLists.{list_of}
 use Rattle.venue_laws.proofs.ErasedRules as book
 use Rattle.venue_laws.proofs.ErasedEntries as entries
 use Rattle.venue_laws.proofs.ErasedVerdicts as verdicts
 use Rattle.venue_laws.proofs.ErasedRoom.{hears_same, happens_same, post_happens}
 use Rattle.venue_laws.proofs.ErasedDuties.{open_left, post_left, unpost_left, decline_left}
-use Rattle.venue_laws.proofs.ErasedDuties.{pass_left}
-use Rattle.venue_laws.proofs.ErasedDuties.{expire_left}
+use Rattle.venue_laws.proofs.ErasedDuties.{pass_left, expire_left}
 use Rattle.venue_laws.proofs.ErasedInvestor as investor
-use Rattle.venue_laws.proofs.ErasedShown as shown
+use Rattle.venue_laws.proofs.ErasedEvents as shown
 use Rattle.venue_laws.proofs.ErasedActions.{AreAlike, erased, is_own, dealer_same, room_same}
-use Rattle.venue_laws.proofs.ErasedActions.{investor_same, if_alike, done_alike}
-use Rattle.venue_laws.proofs.ErasedActions.{market_alike, desk_alike, room_alike, investor_alike}
-use Rattle.venue_laws.proofs.ErasedActions.{known_alike, rooms_known, book_known, shown_alike}
-use Rattle.venue_laws.proofs.ErasedActions.{told_alike}
-use Rattle.venue_laws.proofs.ErasedDrops.{dropped_alike}
-use Rattle.venue_laws.proofs.ErasedHits.{hit_alike}
+use Rattle.venue_laws.proofs.ErasedActions.{investor_same, if_alike, done_alike, market_alike}
+use Rattle.venue_laws.proofs.ErasedActions.{desk_alike, room_alike, investor_alike, known_alike}
+use Rattle.venue_laws.proofs.ErasedActions.{rooms_known, book_known, shown_alike, told_alike}
+use Rattle.venue_laws.proofs.ErasedActions.{either_alike}
+use Rattle.venue_laws.proofs.ErasedHits.{dropped_alike, hit_alike}
+use Rattle.investor_desk.specs.declared.events.InvestorEvent.{InvestorEvent}
+use Rattle.venue_laws.proofs.ErasedEvents.{erase_event}
 
 module _ (config : Configuration) (own : ℕ) (facts : List Fact) where
   -- the facts without prices
@@ -131,14 +127,12 @@ module _ (config : Configuration) (own : ℕ) (facts : List Fact) where
 
   -- At an investor.
 
-  answered_alike : (room : RoomRef) (response : ResponseRef) (reply : Reply) (moment : ℕ)
-      (market : InvestorMarket)
-      → AreAlike own (answered_by facts room response reply moment market)
-      (answered_by known room response reply moment market)
-  answered_alike room response reply moment market =
-      if_alike config own facts (replies_to response.k reply) (replies_to response.k reply) _ _ refl
-      (known_alike config own facts room.n response.k
-      (at_investor.Answered room.n response reply moment) market)
+  to_investor : (room : RoomRef) (quote : Option ℕ) (more : InvestorEvent)
+      → AreAlike own (at_investor_of config room (where_known facts room.n quote more))
+      (at_investor_of config room (where_known known room.n quote (erase_event more)))
+  to_investor room quote more =
+      market_alike (investor_desk.market_for config room.investor)
+      (known_alike config own facts room.n quote more)
 
   said_to_investor : (moment : ℕ) (bytes : List ℕ) (market : InvestorMarket)
       → AreAlike own (received_by_investor facts moment bytes market)
@@ -166,44 +160,38 @@ module _ (config : Configuration) (own : ℕ) (facts : List Fact) where
       event_alike room true true _ (λ l. duties_of_open l room ask dealers moment) refl
       (ap (map erase_duty) (open_left (of_room room facts) room ask dealers moment))
   duty_alike by (duty.Show dealer room ask moment) =
-      done_alike config own facts (dealer_at config dealer) _ _
-      (shown_alike config own facts room ask moment)
+      done_alike (dealer_at config dealer) (shown_alike config own facts room ask moment)
   duty_alike by (duty.Ready room moment) =
       event_alike room true true at_room.Ready (λ l. []) refl refl
   duty_alike by (duty.Post room quote price valid_until moment) =
-      done_alike config own facts (acting_dealer config by) _ _
-      (posted_alike room quote price valid_until moment)
+      done_alike (acting_dealer config by) (posted_alike room quote price valid_until moment)
   duty_alike by (duty.Relay room offer moment) =
-      market_alike config own facts (investor_desk.market_for config room.investor) _ _
-      (known_alike config own facts room.n None (at_investor.QuoteCame room.n offer moment))
+      to_investor room None (at_investor.QuoteCame room.n offer moment)
   duty_alike by (duty.Unpost room quote moment) =
-      done_alike config own facts (acting_dealer config by) _ _ (unposted_alike room quote moment)
+      done_alike (acting_dealer config by) (unposted_alike room quote moment)
   duty_alike by (duty.Gone room word moment) =
-      market_alike config own facts (investor_desk.market_for config room.investor) _ _
-      (known_alike config own facts room.n None (at_investor.QuoteGone room.n word moment))
+      to_investor room None (at_investor.QuoteGone room.n word moment)
   duty_alike by (duty.Decline room moment) =
-      done_alike config own facts (acting_dealer config by) _ _ (declined_alike room moment)
+      done_alike (acting_dealer config by) (declined_alike room moment)
   duty_alike by (duty.Declined room moment) =
-      done_alike config own facts (acting_dealer config by) _ _
-      (λ dealer. market_alike config own facts (investor_desk.market_for config room.investor) _ _
-      (known_alike config own facts room.n None
-      (at_investor.DealerDeclined room.n dealer.row.name moment)))
+      done_alike (acting_dealer config by)
+      (λ dealer. to_investor room None (at_investor.DealerDeclined room.n dealer.row.name moment))
   duty_alike by (duty.Hit room response word moment) =
       hit_alike config own facts room response word moment
   duty_alike by (duty.Pass room response moment) =
       event_alike room true true (at_room.Pass moment) (λ l. duties_of_pass l room response moment)
       refl (ap (map erase_duty) (pass_left (of_room room facts) room response moment))
   duty_alike by (duty.Answer room response reply moment) =
-      market_alike config own facts (investor_desk.market_for config room.investor) _ _
-      (answered_alike room response reply moment)
+      market_alike (investor_desk.market_for config room.investor) (λ market.
+      if_alike (replies_to response.k reply) (replies_to response.k reply) refl
+      (known_alike config own facts room.n response.k
+      (at_investor.Answered room.n response reply moment) market))
   duty_alike by (duty.Close room moment) =
-      market_alike config own facts (investor_desk.market_for config room.investor) _ _
-      (known_alike config own facts room.n None (at_investor.Closed room.n moment))
+      to_investor room None (at_investor.Closed room.n moment)
   duty_alike by (duty.Tell dealer room close moment) =
-      done_alike config own facts (dealer_at config dealer) _ _
-      (told_alike config own facts room close moment)
+      done_alike (dealer_at config dealer) (told_alike config own facts room close moment)
   duty_alike by (duty.Drop last moment) =
-      done_alike config own facts (acting_dealer config by) _ _
+      done_alike (acting_dealer config by)
       (λ dealer. dropped_alike config own facts dealer last moment)
 
   pub sweep_alike : (room : RoomRef) (moment : ℕ)
@@ -263,7 +251,7 @@ module _ (config : Configuration) (own : ℕ) (facts : List Fact) where
     said_alike =
         subst (λ (u : DealerVerdict). AreAlike own (dealer_receives config facts dealer moment bytes v)
         (dealer_receives config known dealer moment others u)) (sym verdict_is)
-        (if_alike config own facts _ _ _ _
+        (if_alike _ _
         (ap (λ (q : Option ℕ). has_word (words_of config) (option_map (word_for config dealer) q))
         (verdicts.asked_alike v w alike))
         (desk_alike config own facts dealer
@@ -278,20 +266,13 @@ module _ (config : Configuration) (own : ℕ) (facts : List Fact) where
         (at_desk.Received moment others settlement))) answer_is)
         left_is))
 
-  either_alike : (b : Bool) (one other one_too other_too : Effect) → AreAlike own one one_too
-      → AreAlike own other other_too
-      → AreAlike own (if b then one else other) (if b then one_too else other_too)
-  either_alike true one other one_too other_too first second = first
-  either_alike false one other one_too other_too first second = second
-
   -- the same message
   pub message_alike : (firm moment : ℕ) (bytes : List ℕ)
       → AreAlike own (message_effect config facts firm moment bytes)
       (message_effect config known firm moment bytes)
   unfolding message_effect
   message_alike firm moment bytes =
-      either_alike (is_some (dealer_numbered config firm)) _ _ _ _
-      (done_alike config own facts (dealer_at config firm) _ _
+      either_alike (is_some (dealer_numbered config firm)) _ refl
+      (done_alike (dealer_at config firm)
       (λ dealer. said_alike moment bytes bytes dealer refl refl))
-      (market_alike config own facts (investor_desk.market_for config firm) _ _
-      (said_to_investor moment bytes))
+      (market_alike (investor_desk.market_for config firm) (said_to_investor moment bytes))

@@ -1,10 +1,8 @@
 -- What a verdict says, whatever its price.
-use Rattle.std.proofs.Common.{◌≡◌, ℕ, Bool, true, false, List, [], ◌∷◌, ◌++◌, map, Option, Some}
-use Rattle.std.proofs.Common.{None, option_map, refl, sym, ap, ◌∙◌, if◌then◌else◌}
-use Rattle.std.proofs.lemmas.List.{map-append}
+use Rattle.std.proofs.Common.{◌≡◌, ℕ, Bool, true, false, List, [], ◌∷◌, map, Option, Some, None}
+use Rattle.std.proofs.Common.{option_map, refl, sym, ap, ◌∙◌, if◌then◌else◌}
 use Rattle.market_terms.specs.declared.rooms.RoomRef.{RoomRef}
 use Rattle.quote_word.specs.declared.settled.Settled.{Settled}
-use Rattle.quote_word.specs.declared.settled.Settled.TheVariants as settled
 use Rattle.dealer_desk.specs.DealerFacts.{Came, Quoted}
 use Rattle.dealer_desk.specs.DealerOutput.{word_asked, uses_number, verdict_facts, settled_facts}
 use Rattle.dealer_desk.specs.DealerOutput.{goes_through, came, verdict_message, verdict_duty}
@@ -14,6 +12,7 @@ use Rattle.dealer_desk.specs.declared.standing.Withdrawal.TheVariants as by
 use Rattle.dealer_desk.specs.declared.verdicts.DealerVerdict.{DealerVerdict}
 use Rattle.dealer_desk.specs.declared.verdicts.DealerVerdict.TheVariants as verdict
 use Rattle.venue_laws.proofs.Erasing.{erase_quote, erase_fact, erase_verdict, erase_duty}
+use Rattle.venue_laws.proofs.ErasedLists.{append_along}
 
 pub asked_same : (v : DealerVerdict) → word_asked (erase_verdict v) ≡ word_asked v
 asked_same (verdict.QuoteAccepted request id quote replaced) = refl
@@ -33,13 +32,8 @@ verdict_facts_same : (own : Bool) (v : DealerVerdict) (settlement : Option Settl
     → map (erase_fact own) (verdict_facts (erase_verdict v) settlement)
     ≡ map (erase_fact own) (verdict_facts v settlement)
 verdict_facts_same own (verdict.QuoteAccepted request id quote replaced) settlement =
-    let settled = settled_facts replaced by.Replacement settlement in
-    map-append (erase_fact own) settled
-    (if goes_through replaced settlement then Quoted (erase_quote quote) ∷ [] else [])
-    ∙ ap (λ l. map (erase_fact own) settled ++ l)
+    append_along (erase_fact own) (settled_facts replaced by.Replacement settlement) _ _ _ refl
     (quoted_same own (goes_through replaced settlement) quote)
-    ∙ sym (map-append (erase_fact own) settled
-    (if goes_through replaced settlement then Quoted quote ∷ [] else []))
 verdict_facts_same own other settlement = refl
 
 message_same : (v : DealerVerdict) (settlement : Option Settled)

@@ -1,21 +1,118 @@
--- What stands at an investor's desk: which requests it knows, and that its quotes are numbered.
-use Rattle.std.proofs.Common.{◌≡◌, ◌≤◌, ℕ, ◌+◌, ◌==◌, Bool, true, false, ◌||◌, List, [], ◌∷◌, ◌++◌}
-use Rattle.std.proofs.Common.{find, length, cond, Some, is_some, refl, sym, ap, ◌∙◌, subst, arith}
-use Rattle.std.proofs.Common.{eq-eqb}
+-- What stands at an investor's desk, and goes on to stand: which requests and quotes it knows, and
+-- that its quotes are numbered.
+use Rattle.std.proofs.Common.{◌≡◌, ℕ, ◌+◌, ◌==◌, Bool, true, false, ◌||◌, List, [], ◌∷◌, ◌++◌, find}
+use Rattle.std.proofs.Common.{length, cond, Option, Some, None, is_some, refl, sym, ap, ◌∙◌, subst}
+use Rattle.std.proofs.Common.{arith, ◌≤◌, eq-eqb}
 use Rattle.std.specs.List.{list_any}
+use Rattle.investor_desk.specs.InvestorFacts.{InvestorFact, Asked, Offered, StandingRequest}
+use Rattle.investor_desk.specs.InvestorFacts.{standing_request, requests_of, offers_of, book_of}
+use Rattle.investor_desk.specs.InvestorFacts.{request_numbered, offer_numbered, knows, knows_quote}
+use Rattle.investor_desk.specs.InvestorFacts.{was_shown_on, Came}
+use Rattle.investor_desk.specs.declared.standing.ShownOffer.{ShownOffer}
+use Rattle.step_replay.specs.EachLemmas.{Every, every_both, every_weaker}
+use Rattle.step_replay.specs.GrowthLemmas.{any_left}
+use Rattle.std.proofs.lemmas.Option.{same_Some}
+use Rattle.venue_laws.proofs.ListLemmas.{not_both, find_grown, found_holds}
 use Rattle.std.proofs.lemmas.Bool.Decides.{nat_tests}
 use Rattle.std.proofs.lemmas.List.{append-nil}
 use Rattle.std.proofs.lemmas.List.Folds.{list_any-append}
-use Rattle.std.proofs.lemmas.Option.{same_Some}
-use Rattle.std.proofs.lemmas.Bool.{and_from}
-use Rattle.investor_desk.specs.InvestorFacts.{InvestorFact, Came, Asked, Offered, requests_of}
-use Rattle.investor_desk.specs.InvestorFacts.{offers_of, book_of, request_numbered, offer_numbered}
-use Rattle.investor_desk.specs.InvestorFacts.{knows, knows_quote, was_shown_on}
+use Rattle.std.proofs.lemmas.Bool.{and_parts, and_from}
 use Rattle.investor_desk.specs.declared.standing.AcceptedRequest.{AcceptedRequest}
-use Rattle.investor_desk.specs.declared.standing.ShownOffer.{ShownOffer}
-use Rattle.step_replay.specs.EachLemmas.{Every, every_both, every_weaker}
-use Rattle.venue_laws.proofs.KnownLemmas.{found_holds, asks, asked, asked_is, requests_both}
-use Rattle.venue_laws.proofs.KnownLemmas.{offers_both, asked_grown}
+
+-- Requests.
+
+-- whether a fact accepts the request with this number
+abbrev pub asks : ℕ → InvestorFact → Bool
+asks number (Asked request) = request.number == number
+asks number fact = false
+
+-- whether the investor knows the request with this number
+abbrev pub asked : List InvestorFact → ℕ → Bool
+asked facts number = list_any (asks number) facts
+
+pub asked_is : (number : ℕ) (facts : List InvestorFact)
+    → is_some (request_numbered (book_of facts) number) ≡ asked facts number
+unfolding request_numbered
+asked_is number [] = refl
+asked_is number (Asked request ∷ facts) =
+    by_test (request.number == number) (asked_is number facts)
+  where
+    same : StandingRequest → Bool
+    same own = own.request.number == number
+
+    by_test : (b : Bool) → is_some (find same (requests_of facts)) ≡ asked facts number
+        → is_some (cond b (Some (standing_request request facts)) (find same (requests_of facts)))
+        ≡ (b || asked facts number)
+    by_test true later = refl
+    by_test false later = later
+asked_is number (fact ∷ facts) = asked_is number facts
+
+pub requests_both : (facts more : List InvestorFact)
+    → length (requests_of (facts ++ more))
+    ≡ length (requests_of facts) + length (requests_of more)
+requests_both [] more =
+    let sum : length (requests_of more) ≡ 0 + length (requests_of more) = omega arith in
+    sum
+requests_both (Asked request ∷ facts) more =
+    let later : length (requests_of (facts ++ more))
+    ≡ length (requests_of facts) + length (requests_of more) = requests_both facts more in
+    omega arith
+requests_both (fact ∷ facts) more = requests_both facts more
+
+-- Quotes.
+
+pub offers_both : (facts more : List InvestorFact)
+    → offers_of (facts ++ more) ≡ offers_of facts ++ offers_of more
+offers_both [] more = refl
+offers_both (Offered shown ∷ facts) more = ap (λ l. shown ∷ l) (offers_both facts more)
+offers_both (fact ∷ facts) more = offers_both facts more
+
+module _ (facts more : List InvestorFact) (number : ℕ) where
+  quote_grown : (quote : Option ℕ) → knows_quote (book_of facts) number quote ≡ true
+      → knows_quote (book_of (facts ++ more)) number quote ≡ true
+  unfolding offer_numbered
+  quote_grown None is = refl
+  quote_grown (Some quote) is = by_found (find same (offers_of facts)) refl is
+    where
+      same : ShownOffer → Bool
+      same shown = shown.number == quote
+
+      by_found : (found : Option ShownOffer) → find same (offers_of facts) ≡ found
+          → was_shown_on number found ≡ true
+          → was_shown_on number (find same (offers_of (facts ++ more))) ≡ true
+      by_found None found shown_on = cc
+      by_found (Some shown) found shown_on =
+          ap (was_shown_on number) (ap (find same) (offers_both facts more)
+          ∙ find_grown same (offers_of facts) (offers_of more) shown found)
+          ∙ shown_on
+
+  pub asked_grown : asked facts number ≡ true → asked (facts ++ more) number ≡ true
+  asked_grown is = any_left (asks number) facts more is
+
+  pub knows_grown : (quote : Option ℕ) → knows (book_of facts) number quote ≡ true
+      → knows (book_of (facts ++ more)) number quote ≡ true
+  knows_grown quote is =
+      let parts = and_parts (is_some (request_numbered (book_of facts) number))
+      (knows_quote (book_of facts) number quote) is in
+      and_from (is_some (request_numbered (book_of (facts ++ more)) number))
+      (knows_quote (book_of (facts ++ more)) number quote)
+      (asked_is number (facts ++ more)
+      ∙ asked_grown (sym (asked_is number facts) ∙ parts.0))
+      (quote_grown quote parts.1)
+
+-- a request that is known, with no quote
+pub asked_known : (facts : List InvestorFact) (number : ℕ) → asked facts number ≡ true
+    → knows (book_of facts) number None ≡ true
+asked_known facts number is =
+    and_from (is_some (request_numbered (book_of facts) number)) true
+    (asked_is number facts ∙ is) refl
+
+pub known_asked : (facts : List InvestorFact) (number : ℕ) (quote : Option ℕ)
+    → knows (book_of facts) number quote ≡ true → asked facts number ≡ true
+known_asked facts number quote is =
+    sym (asked_is number facts)
+    ∙ (and_parts (is_some (request_numbered (book_of facts) number))
+    (knows_quote (book_of facts) number quote) is).0
 
 -- Numbers.
 
@@ -97,133 +194,83 @@ shown_known may facts fit test shown is =
     (counted_found 1 (offers_of facts) test shown fit.counted is).found
     ∙ eq-eqb shown.request shown.request refl)
 
-module _ (may : ℕ → Bool) (facts : List InvestorFact) (fit : DeskFit may facts)
-    (more : List InvestorFact) where
-  old_known : Every (λ (shown : ShownOffer). asked (facts ++ more) shown.request ≡ true)
-      (offers_of facts)
-  old_known =
-      every_weaker (λ (shown : ShownOffer). asked facts shown.request ≡ true)
-      (λ (shown : ShownOffer). asked (facts ++ more) shown.request ≡ true)
-      (λ shown is. asked_grown facts more shown.request is) (offers_of facts) fit.known
-
-  -- facts that neither accept a request nor show a quote
-  pub plain_fit : offers_of more ≡ [] → ((number : ℕ) → asked more number ≡ false)
+module _ (may : ℕ → Bool) (facts : List InvestorFact) (fit : DeskFit may facts) where
+  -- more facts, that show these quotes
+  more_fit : (more : List InvestorFact) (shown : List ShownOffer) → offers_of more ≡ shown
+      → Counted 1 (offers_of facts ++ shown)
+      → Every (λ (s : ShownOffer). asked (facts ++ more) s.request ≡ true) shown
+      → ((number : ℕ) → asked more number ≡ true
+      → (number ≤ length (requests_of facts) + length (requests_of more)) × (may number ≡ true))
       → DeskFit may (facts ++ more)
-  plain_fit no_offers no_requests =
-      let same : offers_of (facts ++ more) ≡ offers_of facts =
-      offers_both facts more ∙ ap (λ l. offers_of facts ++ l) no_offers
-      ∙ append-nil (offers_of facts) in
+  more_fit more shown is counted known added =
+      let same : offers_of (facts ++ more) ≡ offers_of facts ++ shown =
+      offers_both facts more ∙ ap (λ l. offers_of facts ++ l) is in
       record {
-        counted = subst (Counted 1) (sym same) fit.counted;
-        known = subst (Every (λ (shown : ShownOffer). asked (facts ++ more) shown.request ≡ true))
-            (sym same) old_known;
-        few = λ number is.
-            let before = fit.few number (asked_before number is) in
-            let sum : length (requests_of (facts ++ more))
-            ≡ length (requests_of facts) + length (requests_of more) =
-            requests_both facts more in
-            omega arith;
-        day = λ number is. fit.day number (asked_before number is);
+        counted = subst (Counted 1) (sym same) counted;
+        known = subst (Every (λ (s : ShownOffer). asked (facts ++ more) s.request ≡ true))
+            (sym same)
+            (every_both (λ (s : ShownOffer). asked (facts ++ more) s.request ≡ true)
+            (offers_of facts) shown
+            (every_weaker (λ (s : ShownOffer). asked facts s.request ≡ true)
+            (λ (s : ShownOffer). asked (facts ++ more) s.request ≡ true)
+            (λ s asks_it. asked_grown facts more s.request asks_it) (offers_of facts) fit.known)
+            known);
+        few = λ number asks_it. subst (λ (n : ℕ). number ≤ n) (sym (requests_both facts more))
+            (either number asks_it).0;
+        day = λ number asks_it. (either number asks_it).1;
       }
     where
-      or_no : (b c : Bool) → c ≡ false → (b || c) ≡ true → b ≡ true
-      or_no true c never is = refl
-      or_no false true never is = cc
-      or_no false false never is = is
+      by_test : (number : ℕ) (b : Bool) → asked facts number ≡ b → (b || asked more number) ≡ true
+          → (number ≤ length (requests_of facts) + length (requests_of more)) × (may number ≡ true)
+      by_test number true before is =
+          let least : number ≤ length (requests_of facts) = fit.few number before in
+          let most : number ≤ length (requests_of facts) + length (requests_of more) =
+          omega arith in
+          (most, fit.day number before)
+      by_test number false before is = added number is
 
-      asked_before : (number : ℕ) → asked (facts ++ more) number ≡ true
-          → asked facts number ≡ true
-      asked_before number is =
-          or_no (asked facts number) (asked more number) (no_requests number)
+      either : (number : ℕ) → asked (facts ++ more) number ≡ true
+          → (number ≤ length (requests_of facts) + length (requests_of more)) × (may number ≡ true)
+      either number is =
+          by_test number (asked facts number) refl
           (sym (list_any-append (asks number) facts more) ∙ is)
 
--- a request that is accepted
-pub asked_fit : (may : ℕ → Bool) (facts : List InvestorFact) → DeskFit may facts → (moment : ℕ)
-    (bytes : List ℕ) (used : Bool) (request : AcceptedRequest)
-    → request.number ≡ length (requests_of facts) + 1 → may request.number ≡ true
-    → DeskFit may (facts ++ Came moment bytes used ∷ Asked request ∷ [])
-asked_fit may facts fit moment bytes used request is within =
-    let more = Came moment bytes used ∷ Asked request ∷ [] in
-    let same : offers_of (facts ++ more) ≡ offers_of facts =
-    offers_both facts more ∙ append-nil (offers_of facts) in
-    record {
-      counted = subst (Counted 1) (sym same) fit.counted;
-      known = subst (Every (λ (shown : ShownOffer). asked (facts ++ more) shown.request ≡ true))
-          (sym same) (old_known may facts fit more);
-      few = λ number asked_now.
-          by_test number (asked facts number) refl (request.number == number) refl
-          (sym (list_any-append (asks number) facts more) ∙ asked_now);
-      day = λ number asked_now.
-          day_by number (asked facts number) refl (request.number == number) refl
-          (sym (list_any-append (asks number) facts more) ∙ asked_now);
-    }
-  where
-    day_by : (number : ℕ) (b : Bool) → asked facts number ≡ b → (c : Bool)
-        → (request.number == number) ≡ c → (b || (c || false)) ≡ true → may number ≡ true
-    day_by number true before c test either = fit.day number before
-    day_by number false before true test either =
-        let same : request.number ≡ number = grind (arith, nat_tests) in
-        ap may (sym same) ∙ within
-    day_by number false before false test either = cc
+  -- facts that neither accept a request nor show a quote
+  pub plain_fit : (more : List InvestorFact) → offers_of more ≡ []
+      → ((number : ℕ) → asked more number ≡ false) → DeskFit may (facts ++ more)
+  plain_fit more no_offers no_requests =
+      more_fit more [] no_offers
+      (subst (Counted 1) (sym (append-nil (offers_of facts))) fit.counted) tt (λ number is. not_both (asked more number) is (no_requests number))
 
-    by_test : (number : ℕ) (b : Bool) → asked facts number ≡ b → (c : Bool)
-        → (request.number == number) ≡ c → (b || (c || false)) ≡ true
-        → number ≤ length (requests_of (facts ++ Came moment bytes used ∷ Asked request ∷ []))
-    by_test number true before c test either =
-        let least : number ≤ length (requests_of facts) = fit.few number before in
-        let sum : length (requests_of (facts ++ Came moment bytes used ∷ Asked request ∷ []))
-        ≡ length (requests_of facts) + 1 =
-        requests_both facts (Came moment bytes used ∷ Asked request ∷ []) in
-        omega arith
-    by_test number false before true test either =
-        let same : request.number ≡ number = grind (arith, nat_tests) in
-        let sum : length (requests_of (facts ++ Came moment bytes used ∷ Asked request ∷ []))
-        ≡ length (requests_of facts) + 1 =
-        requests_both facts (Came moment bytes used ∷ Asked request ∷ []) in
-        omega arith
-    by_test number false before false test either = cc
+  -- a request that is accepted
+  pub asked_fit : (moment : ℕ) (bytes : List ℕ) (used : Bool) (request : AcceptedRequest)
+      → request.number ≡ length (requests_of facts) + 1 → may request.number ≡ true
+      → DeskFit may (facts ++ Came moment bytes used ∷ Asked request ∷ [])
+  asked_fit moment bytes used request is within =
+      more_fit (Came moment bytes used ∷ Asked request ∷ []) [] refl
+      (subst (Counted 1) (sym (append-nil (offers_of facts))) fit.counted) tt
+      (λ number asks_it. by_test number (request.number == number) refl asks_it)
+    where
+      by_test : (number : ℕ) (b : Bool) → (request.number == number) ≡ b → (b || false) ≡ true
+          → (number ≤ length (requests_of facts) + 1) × (may number ≡ true)
+      by_test number true test asks_it =
+          let same : request.number ≡ number = grind (arith, nat_tests) in
+          let most : number ≤ length (requests_of facts) + 1 = omega arith in
+          (most, ap may (sym same) ∙ within)
+      by_test number false test asks_it = cc
 
--- a quote that is shown
-pub offered_fit : (may : ℕ → Bool) (facts : List InvestorFact) → DeskFit may facts
-    → (gone : List InvestorFact) → offers_of gone ≡ []
-    → ((number : ℕ) → asked gone number ≡ false) → (shown : ShownOffer)
-    → asked facts shown.request ≡ true → shown.number ≡ length (offers_of facts) + 1
-    → DeskFit may (facts ++ (gone ++ Offered shown ∷ []))
-offered_fit may facts fit gone no_offers no_requests shown is number_is =
-    let more = gone ++ Offered shown ∷ [] in
-    let added : offers_of more ≡ shown ∷ [] =
-    offers_both gone (Offered shown ∷ []) ∙ ap (λ l. l ++ shown ∷ []) no_offers in
-    let same : offers_of (facts ++ more) ≡ offers_of facts ++ shown ∷ [] =
-    offers_both facts more ∙ ap (λ l. offers_of facts ++ l) added in
-    let next : shown.number ≡ 1 + length (offers_of facts) = omega arith in
-    record {
-      counted = subst (Counted 1) (sym same)
-          (counted_push 1 (offers_of facts) shown fit.counted next);
-      known = subst (Every (λ (s : ShownOffer). asked (facts ++ more) s.request ≡ true)) (sym same)
-          (every_both (λ (s : ShownOffer). asked (facts ++ more) s.request ≡ true)
-          (offers_of facts) (shown ∷ []) (old_known may facts fit more)
-          (asked_grown facts more shown.request is, tt));
-      few = λ number asked_now.
-          let before = fit.few number (asked_before number asked_now) in
-          let sum : length (requests_of (facts ++ (gone ++ Offered shown ∷ [])))
-          ≡ length (requests_of facts) + length (requests_of (gone ++ Offered shown ∷ [])) =
-          requests_both facts (gone ++ Offered shown ∷ []) in
-          omega arith;
-      day = λ number asked_now. fit.day number (asked_before number asked_now);
-    }
-  where
-    or_no : (b c : Bool) → c ≡ false → (b || (c || false)) ≡ true → b ≡ true
-    or_no true c never is = refl
-    or_no false true never is = cc
-    or_no false false never is = is
-
-    asked_before : (number : ℕ) → asked (facts ++ (gone ++ Offered shown ∷ [])) number ≡ true
-        → asked facts number ≡ true
-    asked_before number is =
-        or_no (asked facts number) (asked gone number) (no_requests number)
-        (sym (list_any-append (asks number) facts (gone ++ Offered shown ∷ [])
-        ∙ ap (λ b. asked facts number || b)
-        (list_any-append (asks number) gone (Offered shown ∷ []))) ∙ asked_now)
-      where
-        asked_now : list_any (asks number) (facts ++ (gone ++ Offered shown ∷ [])) ≡ true
-        asked_now = is
+  -- a quote that is shown
+  pub offered_fit : (gone : List InvestorFact) → offers_of gone ≡ []
+      → ((number : ℕ) → asked gone number ≡ false) → (shown : ShownOffer)
+      → asked facts shown.request ≡ true → shown.number ≡ length (offers_of facts) + 1
+      → DeskFit may (facts ++ (gone ++ Offered shown ∷ []))
+  offered_fit gone no_offers no_requests shown is number_is =
+      let more = gone ++ Offered shown ∷ [] in
+      let next : shown.number ≡ 1 + length (offers_of facts) = omega arith in
+      more_fit more (shown ∷ [])
+      (offers_both gone (Offered shown ∷ []) ∙ ap (λ l. l ++ shown ∷ []) no_offers)
+      (counted_push 1 (offers_of facts) shown fit.counted next)
+      (asked_grown facts more shown.request is, tt)
+      (λ number asks_it. not_both (asked gone number || false)
+      (sym (list_any-append (asks number) gone (Offered shown ∷ [])) ∙ asks_it)
+      (ap (λ b. b || false) (no_requests number)))

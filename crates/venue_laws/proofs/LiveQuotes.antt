@@ -1,11 +1,10 @@
 -- The live quote of a dealer on a request, and what the notice of a hit names.
-use Rattle.std.proofs.Common.{◌≡◌, ◌≤◌, ℕ, ◌==◌, Bool, true, false, ◌&&◌, ◌||◌, List, [], ◌∷◌, map}
+use Rattle.std.proofs.Common.{◌≡◌, ◌≤◌, ℕ, ◌==◌, Bool, true, false, ◌&&◌, List, [], ◌∷◌, map}
 use Rattle.std.proofs.Common.{filter, find, length, option_to_list, Option, Some, None, option_map}
 use Rattle.std.proofs.Common.{is_none, is_some, if◌then◌else◌, cond, inl, inr, refl, sym, ap, ◌∙◌}
 use Rattle.std.proofs.Common.{subst, arith, eq-eqb}
 use Rattle.std.specs.List.{list_any}
 use Rattle.std.proofs.lemmas.Bool.Decides.{nat_tests}
-use Rattle.std.proofs.lemmas.Option.{same_Some}
 use Rattle.market_terms.specs.declared.closes.Close.TheVariants as closes
 use Rattle.market_terms.specs.declared.rooms.RoomRef.{RoomRef}
 use Rattle.venue_rows.specs.Rows.{Configuration}
@@ -27,7 +26,10 @@ use Rattle.step_replay.specs.DealerTrail.{was_lifted, was_withdrawn}
 use Rattle.venue_laws.specs.Notices.{NamesLiftedQuote, next_sent}
 use Rattle.step_replay.specs.VenueFacts.{Fact, of_dealer}
 use Rattle.step_replay.specs.GrowthLemmas.{In}
-use Rattle.venue_laws.proofs.VenueInvariant.{DeskOk, LiftedIn, number_for}
+use Rattle.std.proofs.lemmas.Option.{same_Some}
+use Rattle.std.proofs.lemmas.Bool.{or_parts}
+use Rattle.venue_laws.proofs.VenueInvariant.{DeskOk}
+use Rattle.venue_laws.proofs.VenueParts.{LiftedIn, number_for}
 
 -- The quotes of a dealer on one request: at most one is live.
 abbrev pub LoneQuotes : Type 0
@@ -41,14 +43,6 @@ record StandsIn (own : AcceptedQuote) (facts : List DealerFact) : Type 0 where
   later : List DealerFact
   stands : In (standing_quote own later) (standings facts)
   within : (test : DealerFact → Bool) → list_any test facts ≡ false → list_any test later ≡ false
-
-none_left : (b c : Bool) → (b || c) ≡ false → c ≡ false
-none_left true c is = cc
-none_left false c is = is
-
-none_here : (b c : Bool) → (b || c) ≡ false → b ≡ false
-none_here true c is = cc
-none_here false c is = refl
 
 -- what stands in the quotes of a list stands with one fact before it
 standings_more : (fact : DealerFact) (facts : List DealerFact) (own : StandingQuote)
@@ -64,7 +58,7 @@ stands_in own (fact ∷ facts) (inl is) =
     record {
       later = facts;
       stands = inl refl;
-      within = λ test none. none_left (test (Quoted own)) (list_any test facts) none;
+      within = λ test none. (or_parts (test (Quoted own)) (list_any test facts) none).1;
     }
 stands_in own (fact ∷ facts) (inr is) =
     let further = stands_in own facts is in
@@ -72,7 +66,7 @@ stands_in own (fact ∷ facts) (inr is) =
       later = further.later;
       stands = standings_more fact facts (standing_quote own further.later) further.stands;
       within = λ test none. further.within test
-          (none_left (test fact) (list_any test facts) none);
+          (or_parts (test fact) (list_any test facts) none).1;
     }
 
 -- a quote that is neither withdrawn nor closed has not ended
@@ -81,13 +75,11 @@ not_ended : (own : AcceptedQuote) (facts : List DealerFact)
     → first_said (ends own) facts ≡ None
 not_ended own [] still untold = refl
 not_ended own (Withdrawn quote how ∷ facts) still untold =
-    rw (none_here (quote == own.number) (list_any (withdraws own.number) facts) still)
-    (not_ended own facts
-    (none_left (quote == own.number) (list_any (withdraws own.number) facts) still) untold)
+    let parts = or_parts (quote == own.number) (list_any (withdraws own.number) facts) still in
+    rw (parts.0) (not_ended own facts parts.1 untold)
 not_ended own (Told request close moment ∷ facts) still untold =
-    rw (none_here (request == own.request) (list_any (tells own.request) facts) untold)
-    (not_ended own facts still
-    (none_left (request == own.request) (list_any (tells own.request) facts) untold))
+    let parts = or_parts (request == own.request) (list_any (tells own.request) facts) untold in
+    rw (parts.0) (not_ended own facts still parts.1)
 not_ended own (fact ∷ facts) still untold = not_ended own facts still untold
 
 -- the one that passes a test is found

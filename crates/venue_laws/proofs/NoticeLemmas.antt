@@ -1,7 +1,7 @@
 -- A closing notice comes after its request was shown, and at most once.
 use Rattle.std.proofs.Common.{◌≡◌, ◌≤◌, ℕ, ◌==◌, Bool, true, false, ◌||◌, List, [], ◌∷◌, ◌++◌, map}
-use Rattle.std.proofs.Common.{option_to_list, filter, length, Option, Some, None, is_some}
-use Rattle.std.proofs.Common.{if◌then◌else◌, refl, sym, ap, ◌∙◌, subst, arith}
+use Rattle.std.proofs.Common.{option_to_list, filter, length, Some, None, is_some, if◌then◌else◌}
+use Rattle.std.proofs.Common.{refl, sym, ap, ◌∙◌, subst, arith}
 use Rattle.std.proofs.lemmas.Bool.Decides.{nat_tests}
 use Rattle.std.proofs.lemmas.List.{append_assoc}
 use Rattle.std.proofs.lemmas.List.Elements.{filter_map-append}
@@ -27,9 +27,10 @@ use Rattle.step_replay.specs.StepLemmas.{kept_by_all}
 use Rattle.step_replay.specs.TrailKept.{IsKept}
 use Rattle.venue_laws.proofs.ShownRequests.{closable_shown}
 use Rattle.venue_laws.proofs.NoticedLemmas.{told_in, told_by, IsAfterShown, Noticed, none_filtered}
-use Rattle.venue_laws.proofs.NoticedLemmas.{noticed_more}
-use Rattle.venue_laws.proofs.SilentEntries.{each_silent, all_map, rest_silent, facts_tell_none}
-use Rattle.venue_laws.proofs.SilentEntries.{settled_silent, verdict_silent}
+use Rattle.venue_laws.proofs.NoticedLemmas.{noticed_more, each_silent, rest_silent, facts_tell_none}
+use Rattle.venue_laws.proofs.NoticedLemmas.{settled_silent, verdict_silent}
+use Rattle.venue_laws.proofs.ListLemmas.{every_mapped}
+use Rattle.std.proofs.lemmas.Option.{same_Some}
 
 -- Events.
 
@@ -41,7 +42,7 @@ module _ (date : List ℕ) (row : DealerRow) where
   event_noticed trail more before silent =
       noticed_more trail (entries_of date row trail more) facts (facts_grown date row trail more)
       before
-      (λ request is. never request (sym (facts_tell_none request facts silent) ∙ is))
+      (λ request is. cc (sym (facts_tell_none request facts silent) ∙ is))
       (λ request. subst (λ (l : List DealerFact). length l ≤ 1)
       (sym (none_filtered request facts (facts_tell_none request facts silent))) few)
       (each_silent trail (entries_of date row trail more)
@@ -50,15 +51,12 @@ module _ (date : List ℕ) (row : DealerRow) where
       (map ShownIn (option_to_list (shown_room more)))
       (map Sent (option_to_list (message_by date row trail more)))))
       (every_both (λ entry. told_by entry ≡ None) (map AtDesk facts) _
-      (all_map AtDesk told_in (λ fact. refl) facts silent)
+      (every_mapped (λ entry. told_by entry ≡ None) AtDesk facts silent)
       (rest_silent (option_to_list (shown_room more))
       (option_to_list (message_by date row trail more))))))
     where
       facts : List DealerFact
       facts = event_facts date row (book_by trail) more
-
-      never : {A : Type 0} (request : ℕ) → false ≡ true → A
-      never request is = cc
 
       few : 0 ≤ 1
       few = omega arith
@@ -74,7 +72,7 @@ module _ (date : List ℕ) (row : DealerRow) where
       (λ other is. by_number other (request == other) refl is)
       (λ other. few other (request == other) refl)
       (subst (Each IsAfterShown trail) (sym entries_are) (
-        λ other is. ap (was_shown trail) (sym (number_is request other is))
+        λ other is. ap (was_shown trail) (sym (same_Some request other is))
             ∙ closable_shown trail request may,
         each_silent (trail ++ AtDesk (Told request close moment) ∷ []) (map Sent messages)
             (rest_silent [] messages),
@@ -95,13 +93,6 @@ module _ (date : List ℕ) (row : DealerRow) where
       entries_are : entries_of date row trail more
           ≡ AtDesk (Told request close moment) ∷ map Sent messages
       entries_are = ap (λ b. map AtDesk (facts_if b) ++ [] ++ map Sent messages) may
-
-      number_is : (one other : ℕ) → Some one ≡ Some other → one ≡ other
-      number_is one other is = ap value is
-        where
-          value : Option ℕ → ℕ
-          value None = one
-          value (Some n) = n
 
       by_number : (other : ℕ) (b : Bool) → (request == other) ≡ b
           → ((request == other) || false) ≡ true
@@ -128,13 +119,10 @@ module _ (date : List ℕ) (row : DealerRow) where
       noticed_more trail (Lifted quote ∷ []) []
       (filter_map-append fact_in trail (Lifted quote ∷ []))
       before
-      (λ request is. never request is)
+      (λ request is. cc)
       (λ request. few)
       (each_silent trail (Lifted quote ∷ []) (refl, tt))
     where
-      never : {A : Type 0} (request : ℕ) → false ≡ true → A
-      never request is = cc
-
       few : 0 ≤ 1
       few = omega arith
 

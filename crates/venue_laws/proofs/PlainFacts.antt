@@ -1,29 +1,92 @@
--- Facts, entries and duties that no room, no queue and no other desk looks at.
-use Rattle.std.proofs.Common.{◌≡◌, ℕ, ◌==◌, Bool, true, false, List, [], ◌∷◌, ◌++◌, map, filter_map}
-use Rattle.std.proofs.Common.{None, refl, sym, ap, ◌∙◌, subst}
+-- The facts of one place among those of a venue; entries and duties that no room, no queue and no
+-- other desk looks at.
+use Rattle.std.proofs.Common.{Bool, List, None, Option, Some, [], ap, arith, false, if◌then◌else◌}
+use Rattle.std.proofs.Common.{map, refl, subst, sym, true, ℕ, ◌++◌, ◌==◌, ◌∙◌, ◌∷◌, ◌≡◌}
+use Rattle.std.proofs.lemmas.Bool.Decides.{nat_tests}
 use Rattle.std.proofs.lemmas.List.{append-nil}
 use Rattle.market_terms.specs.declared.duties.Duty.{Duty}
 use Rattle.market_terms.specs.declared.duties.Duty.TheVariants as duty
 use Rattle.market_terms.specs.declared.rooms.RoomRef.{RoomRef}
+use Rattle.quote_word.specs.declared.settled.Settled.{Settled}
 use Rattle.venue_rows.specs.Rows.{Configuration}
 use Rattle.venue_rows.specs.declared.dealer_rows.DealerRow.{DealerRow}
-use Rattle.dealer_desk.specs.DealerFacts.{DealerFact, Told}
-use Rattle.request_room.specs.RoomFacts.{Opened, Readied, Posted, Unposted, Noted, Ended}
-use Rattle.step_replay.specs.AuditTrail.{Caused}
-use Rattle.step_replay.specs.DealerTrail.{DealerEntry, AtDesk, ShownIn, Sent, rooms_by}
-use Rattle.step_replay.specs.VenueFacts.{Fact, AtDealer, InRoom, AtInvestor, of_dealer}
-use Rattle.step_replay.specs.VenueFacts.{entry_at_dealer}
+use Rattle.dealer_desk.specs.DealerFacts.{DealerFact, Shown, Told}
+use Rattle.dealer_desk.specs.DealerOutput.{is_same_room, settled_facts, verdict_facts}
+use Rattle.dealer_desk.specs.declared.standing.Withdrawal.{Withdrawal}
+use Rattle.dealer_desk.specs.declared.verdicts.DealerVerdict.{DealerVerdict}
+use Rattle.request_room.specs.RoomFacts.{RoomFact}
 use Rattle.venue_places.specs.declared.actors.Actor.{Actor}
-use Rattle.step_replay.specs.EachLemmas.{Each, Every, every_both}
-use Rattle.step_replay.specs.GrowthLemmas.{AreNumbered}
-use Rattle.venue_laws.proofs.NoticedLemmas.{told_in}
-use Rattle.venue_laws.proofs.VenueInvariant.{DutyOk, FactOk, InOrder, NamesLifted}
+use Rattle.step_replay.specs.DealerTrail.{AtDesk, DealerEntry, Lifted, Sent, ShownIn, room_in}
+use Rattle.step_replay.specs.DealerTrail.{rooms_by}
+use Rattle.step_replay.specs.EachLemmas.{Each, Every, every_both, every_weaker}
+use Rattle.step_replay.specs.GrowthLemmas.{AreNumbered, same_room}
+use Rattle.std.proofs.lemmas.Option.{same_Some}
+use Rattle.step_replay.specs.VenueFacts.{AtDealer, AtInvestor, Fact, InRoom, entry_at_dealer}
+use Rattle.step_replay.specs.VenueFacts.{fact_in_room, of_dealer, of_room}
+use Rattle.venue_laws.proofs.ListLemmas.{every_found, every_map, every_mapped}
+use Rattle.venue_laws.proofs.NoticedLemmas.{settled_each, verdict_each}
+use Rattle.venue_laws.proofs.VenueInvariant.{DutyOk}
+use Rattle.venue_laws.proofs.VenueParts.{InOrder, NamesLifted}
 
--- Facts.
+-- What stands at each fact stands at each of a place.
 
--- whether an entry is neither a notice nor a room that was shown
+pub in_room_all : (P : Fact → Type 0) (room : RoomRef) (some : List Fact) → Every P some
+    → Every (λ (fact : RoomFact). P (InRoom room fact)) (of_room room some)
+unfolding of_room
+in_room_all P room some every =
+    every_found P (λ (fact : RoomFact). P (InRoom room fact)) (fact_in_room room) each some every
+  where
+    each : (one : Fact) (found : RoomFact) → fact_in_room room one ≡ Some found → P one
+        → P (InRoom room found)
+    each (InRoom other fact) found is stands = by_test (is_same_room other room) refl is
+      where
+        by_test : (b : Bool) → is_same_room other room ≡ b
+            → (if b then Some fact else None) ≡ Some found → P (InRoom room found)
+        by_test true same here =
+            subst (λ (r : RoomRef). P (InRoom r found)) (same_room other room same)
+            (subst (λ (f : RoomFact). P (InRoom other f)) (same_Some fact found here) stands)
+        by_test false same here = cc
+    each (AtDealer dealer entry) found is stands = cc
+    each (AtInvestor investor entry) found is stands = cc
+
+pub at_dealer_all : (P : Fact → Type 0) (dealer : ℕ) (some : List Fact) → Every P some
+    → Every (λ (entry : DealerEntry). P (AtDealer dealer entry)) (of_dealer dealer some)
+unfolding of_dealer
+at_dealer_all P dealer some every =
+    every_found P (λ (entry : DealerEntry). P (AtDealer dealer entry)) (entry_at_dealer dealer) each
+    some every
+  where
+    each : (one : Fact) (found : DealerEntry) → entry_at_dealer dealer one ≡ Some found → P one
+        → P (AtDealer dealer found)
+    each (AtDealer other entry) found is stands = by_test (other == dealer) refl is
+      where
+        by_test : (b : Bool) → (other == dealer) ≡ b
+            → (if b then Some entry else None) ≡ Some found → P (AtDealer dealer found)
+        by_test true test here =
+            let same : other ≡ dealer = grind (arith, nat_tests) in
+            subst (λ (d : ℕ). P (AtDealer d found)) same
+            (subst (λ (e : DealerEntry). P (AtDealer other e)) (same_Some entry found here) stands)
+        by_test false test here = cc
+    each (InRoom room fact) found is stands = cc
+    each (AtInvestor investor entry) found is stands = cc
+
+pub rooms_all : (P : DealerEntry → Type 0) (Q : RoomRef → Type 0)
+    → ((room : RoomRef) → P (ShownIn room) → Q room) → (trail : List DealerEntry)
+    → Every P trail → Every Q (rooms_by trail)
+rooms_all P Q weaker trail every = every_found P Q room_in each trail every
+  where
+    each : (entry : DealerEntry) (room : RoomRef) → room_in entry ≡ Some room → P entry → Q room
+    each (ShownIn other) room is stands = subst Q (same_Some other room is) (weaker other stands)
+    each (AtDesk fact) room is stands = cc
+    each (Lifted quote) room is stands = cc
+    each (Sent message) room is stands = cc
+
+-- Entries.
+
+-- whether an entry is neither a notice nor a request that was shown
 abbrev pub is_plain_entry : DealerEntry → Bool
 is_plain_entry (AtDesk (Told request close moment)) = false
+is_plain_entry (AtDesk (Shown ask moment)) = false
 is_plain_entry (ShownIn room) = false
 is_plain_entry entry = true
 
@@ -40,26 +103,8 @@ is_quiet fact = true
 abbrev pub AreQuiet : List Fact → Type 0
 AreQuiet facts = Every (λ fact. is_quiet fact ≡ true) facts
 
--- whether it is of a room and of note
-abbrev pub is_plain_fact : Fact → Bool
-is_plain_fact (AtDealer dealer entry) = is_plain_entry entry
-is_plain_fact (InRoom room (Unposted dealer word)) = true
-is_plain_fact (InRoom room (Noted dealer)) = true
-is_plain_fact (InRoom room other) = false
-is_plain_fact (AtInvestor investor entry) = true
-
 pub quiet_trail : (dealer : ℕ) (facts : List Fact) → AreQuiet facts → ArePlain (of_dealer dealer facts)
-unfolding of_dealer
-quiet_trail dealer [] quiet = tt
-quiet_trail dealer (AtDealer other entry ∷ facts) quiet =
-    by_test (other == dealer) refl (quiet_trail dealer facts quiet.1)
-  where
-    by_test : (b : Bool) → (other == dealer) ≡ b
-        → ArePlain (filter_map (entry_at_dealer dealer) facts)
-        → ArePlain (filter_map (entry_at_dealer dealer) (AtDealer other entry ∷ facts))
-    by_test true test later = rw test (quiet.0, later)
-    by_test false test later = rw test later
-quiet_trail dealer (fact ∷ facts) quiet = quiet_trail dealer facts quiet.1
+quiet_trail dealer facts quiet = at_dealer_all (λ fact. is_quiet fact ≡ true) dealer facts quiet
 
 pub plain_rooms : (entries : List DealerEntry) → ArePlain entries → rooms_by entries ≡ []
 plain_rooms [] plain = refl
@@ -83,82 +128,65 @@ pub numbered_still : (rooms more : List RoomRef) → more ≡ [] → AreNumbered
 numbered_still rooms more none before =
     subst AreNumbered (sym (ap (λ l. rooms ++ l) none ∙ append-nil rooms)) before
 
--- Entries of a desk.
-
 pub sent_plain : (messages : List (List ℕ)) → ArePlain (map Sent messages)
-sent_plain [] = tt
-sent_plain (message ∷ messages) = (refl, sent_plain messages)
+sent_plain messages =
+    every_map (λ entry. is_plain_entry entry ≡ true) Sent messages (λ message is. refl)
 
-untold_plain : (fact : DealerFact) → told_in fact ≡ None → is_plain_entry (AtDesk fact) ≡ true
-untold_plain (Told request close moment) is = cc
-untold_plain fact is = refl
+-- what a verdict and a settlement add is plain
+abbrev pub IsPlain : DealerFact → Type 0
+IsPlain fact = is_plain_entry (AtDesk fact) ≡ true
 
-facts_plain : (facts : List DealerFact) → Every (λ fact. told_in fact ≡ None) facts
-    → ArePlain (map AtDesk facts)
-facts_plain [] silent = tt
-facts_plain (fact ∷ facts) silent =
-    (untold_plain fact silent.0, facts_plain facts silent.1)
+pub settled_plain : (asked : Option ℕ) (how : Withdrawal) (settlement : Option Settled)
+    → Every IsPlain (settled_facts asked how settlement)
+settled_plain asked how settlement =
+    settled_each IsPlain (λ quote how. refl) (λ quote. refl) (λ quote. refl) (λ request. refl) asked
+    how settlement
 
--- what an event adds that shows no room and tells nothing
-pub event_plain : (facts : List DealerFact) (messages : List (List ℕ))
-    → Every (λ fact. told_in fact ≡ None) facts
+pub verdict_plain : (v : DealerVerdict) (settlement : Option Settled)
+    → Every IsPlain (verdict_facts v settlement)
+verdict_plain v settlement =
+    verdict_each IsPlain (λ quote how. refl) (λ quote. refl) (λ quote. refl) (λ request. refl) v
+    settlement
+
+-- what an event adds that shows no request and tells nothing
+pub event_plain : (facts : List DealerFact) (messages : List (List ℕ)) → Every IsPlain facts
     → ArePlain (map AtDesk facts ++ [] ++ map Sent messages)
-event_plain facts messages silent =
-    every_both (λ entry. is_plain_entry entry ≡ true) (map AtDesk facts ++ []) (map Sent messages)
-    (every_both (λ entry. is_plain_entry entry ≡ true) (map AtDesk facts) []
-    (facts_plain facts silent) tt) (sent_plain messages)
+event_plain facts messages plain =
+    let Plain = λ (entry : DealerEntry). is_plain_entry entry ≡ true in
+    every_both Plain (map AtDesk facts ++ []) (map Sent messages)
+    (every_both Plain (map AtDesk facts) [] (every_mapped Plain AtDesk facts plain) tt)
+    (sent_plain messages)
 
 -- Duties.
 
--- whether a duty makes a room ready
-abbrev pub is_ready_duty : Duty → Bool
-is_ready_duty (duty.Ready room moment) = true
-is_ready_duty other = false
+-- whether a duty may come more than once
+abbrev pub is_free : Duty → Bool
+is_free (duty.Open room ask dealers moment) = false
+is_free (duty.Show dealer room ask moment) = false
+is_free (duty.Ready room moment) = false
+is_free (duty.Tell dealer room close moment) = false
+is_free other = true
 
--- whether nothing has to stand for a duty
-abbrev pub is_plain_duty : Duty → Bool
-is_plain_duty (duty.Open room ask dealers moment) = false
-is_plain_duty (duty.Ready room moment) = false
-is_plain_duty (duty.Post room quote price valid_until moment) = false
-is_plain_duty (duty.Tell dealer room close moment) = false
-is_plain_duty other = true
+pub free_order : (facts : List Fact) (front : List Duty) (left : Duty) (rest : List Duty)
+    → is_free left ≡ true → InOrder facts front left rest
+free_order facts front (duty.Open room ask dealers moment) rest free = cc
+free_order facts front (duty.Show dealer room ask moment) rest free = cc
+free_order facts front (duty.Ready room moment) rest free = cc
+free_order facts front (duty.Tell dealer room close moment) rest free = cc
+free_order facts front other rest free = tt
 
-module _ (config : Configuration) where
-  -- a duty that may stand anywhere in a queue
-  pub record Fine (facts : List Fact) (by : Actor) (left : Duty) : Type 0 where
-    pub ok : DutyOk config facts by left
-    pub unready : is_ready_duty left ≡ false
+-- a duty that may come more than once, and may be left
+abbrev pub Fine : Configuration → List Fact → Actor → Duty → Type 0
+Fine config facts by left = DutyOk config facts by left × (is_free left ≡ true)
 
-  pub plain_fine : (facts : List Fact) (by : Actor) (left : Duty) → is_plain_duty left ≡ true
-      → Fine facts by left
-  plain_fine facts by (duty.Open room ask dealers moment) is = cc
-  plain_fine facts by (duty.Ready room moment) is = cc
-  plain_fine facts by (duty.Post room quote price valid_until moment) is = cc
-  plain_fine facts by (duty.Tell dealer room close moment) is = cc
-  plain_fine facts by other is = record { ok = tt; unready = refl }
+module _ (config : Configuration) (facts : List Fact) (by : Actor) where
+  pub fine_ok : (duties : List Duty) → Every (Fine config facts by) duties
+      → Every (DutyOk config facts by) duties
+  fine_ok duties fine =
+      every_weaker (Fine config facts by) (DutyOk config facts by) (λ left one. one.0) duties fine
 
-  pub fine_order : (facts : List Fact) (by : Actor) (front duties : List Duty)
-      → Every (Fine facts by) duties → Each (InOrder config facts) front duties
-  fine_order facts by front [] fine = tt
-  fine_order facts by front (left ∷ duties) fine =
-      (in_order left fine.0.unready, fine_order facts by (front ++ left ∷ []) duties fine.1)
-    where
-      in_order : (one : Duty) → is_ready_duty one ≡ false → InOrder config facts front one duties
-      in_order (duty.Ready room moment) is = cc
-      in_order other is = tt
-
-  pub plain_fact : (facts : List Fact) (caused : List Caused) (fact : Fact)
-      → is_plain_fact fact ≡ true
-      → FactOk config facts caused fact
-  plain_fact facts caused (AtDealer dealer (AtDesk (Told request close moment))) is = cc
-  plain_fact facts caused (AtDealer dealer entry) is = tt
-  plain_fact facts caused (InRoom room (Opened request)) is = cc
-  plain_fact facts caused (InRoom room Readied) is = cc
-  plain_fact facts caused (InRoom room (Posted posted)) is = cc
-  plain_fact facts caused (InRoom room (Ended end moment)) is = cc
-  plain_fact facts caused (InRoom room fact) is = tt
-  plain_fact facts caused (AtInvestor investor entry) is = tt
-
-  pub plain_quiet : (fact : Fact) → is_plain_fact fact ≡ true → is_quiet fact ≡ true
-  plain_quiet (AtDealer dealer entry) is = is
-  plain_quiet fact is = refl
+  pub fine_order : (front duties : List Duty) → Every (Fine config facts by) duties
+      → Each (InOrder facts) front duties
+  fine_order front [] fine = tt
+  fine_order front (left ∷ duties) fine =
+      (free_order facts front left duties fine.0.1, fine_order (front ++ left ∷ []) duties fine.1)

@@ -1,18 +1,16 @@
 -- Blindness to prices: two days that are one but for the prices of other dealers stay one without
 -- prices, step by step.
 use Rattle.std.proofs.Common.{◌≡◌, ℕ, ◌==◌, false, List, [], ◌∷◌, ◌++◌, map, filter_map, drop}
-use Rattle.std.proofs.Common.{count_by, fold, Option, Some, None, option_map, is_some, refl, sym}
-use Rattle.std.proofs.Common.{ap, ◌∙◌, subst, if◌then◌else◌, ◌⊎◌, inl, inr}
-use Rattle.std.proofs.lemmas.List.{map-append, drop-map}
+use Rattle.std.proofs.Common.{count_by, fold, Some, None, option_map, refl, sym, ap, ◌∙◌, subst}
+use Rattle.std.proofs.Common.{◌⊎◌, inl, inr}
+use Rattle.std.proofs.lemmas.List.{drop-map}
 use Rattle.market_terms.specs.declared.duties.Duty.{Duty}
 use Rattle.fix_fields.specs.Frame.{Field, IsFrame, frame_of}
 use Rattle.venue_rows.specs.Rows.{Configuration, dealer_numbered}
 use Rattle.venue_rows.specs.declared.dealer_rows.DealerRow.{DealerRow}
-use Rattle.investor_desk.specs.InvestorDesk.{market_for}
 use Rattle.step_replay.specs.DealerTrail.{book_by}
 use Rattle.step_replay.specs.VenueFacts.{Fact, of_dealer}
-use Rattle.step_replay.specs.Actions.{Effect, dealer_of, done_by, done_for, received_by_dealer}
-use Rattle.step_replay.specs.Actions.{received_by_investor}
+use Rattle.step_replay.specs.Actions.{Effect, dealer_of, received_by_dealer}
 use Rattle.step_replay.specs.DutyEffects.{duty_effect, message_effect, sweep_effect}
 use Rattle.step_replay.specs.AuditTrail.{AuditTrail, Caused, no_steps, duty_of, is_same_actor}
 use Rattle.step_replay.specs.AuditTrail.{pending, with_effect, after_turn, after_step, audit_trail}
@@ -22,11 +20,14 @@ use Rattle.venue_places.specs.declared.actors.Actor.TheVariants as actor
 use Rattle.step_replay.specs.declared.steps.Step.{Step}
 use Rattle.step_replay.specs.declared.steps.Step.TheVariants as step
 use Rattle.venue_laws.proofs.Erasing.{erase, erase_duty, erase_caused}
-use Rattle.venue_laws.proofs.ErasedLists.{filter_map_erased, map_swap, map_cond}
+use Rattle.venue_laws.proofs.ErasedLists.{filter_map_erased, map_cond, append_along, map_along}
 use Rattle.venue_laws.proofs.ErasedActions.{AreAlike}
 use Rattle.venue_laws.proofs.ErasedSteps.{duty_alike, message_alike, sweep_alike, said_alike}
-use Rattle.venue_laws.proofs.AskedGrids.{book_bears}
-use Rattle.venue_laws.proofs.AskedDays.{DayBears, step_bears}
+use Rattle.venue_laws.proofs.LiveQuotes.{LoneQuotes}
+use Rattle.venue_laws.proofs.VenueDay.{step_stands, venue_ok}
+use Rattle.venue_laws.proofs.VenueDesk.{WordsOfDay}
+use Rattle.venue_laws.proofs.VenueInvariant.{VenueOk}
+use Rattle.venue_laws.proofs.VenueKnown.{book_bears}
 use Rattle.venue_laws.proofs.PricedMessages.{verdicts_alike}
 
 -- two days so far are one without prices
@@ -39,42 +40,24 @@ module _ (config : Configuration) (own : ℕ) where
   -- Effects.
 
   -- what is alike to the same, is alike
-  through : (one two other two_too : Effect) → AreAlike own one two → AreAlike own other two_too
+  through : {one two other two_too : Effect} → AreAlike own one two → AreAlike own other two_too
       → two ≡ two_too → AreAlike own one other
-  through one two other two_too first second same = record {
+  through first second same = record {
     facts_are = first.facts_are ∙ ap (λ (e : Effect). map (erase own) e.facts) same
         ∙ sym second.facts_are;
     duties_are = first.duties_are ∙ ap (λ (e : Effect). map erase_duty e.duties) same
         ∙ sym second.duties_are;
   }
 
-  by_actor : (by : Actor) (duties : List Duty)
-      → map erase_caused (map (λ duty. record { by = by; duty = duty }) duties)
-      ≡ map (λ duty. record { by = by; duty = duty }) (map erase_duty duties)
-  by_actor by duties =
-      map_swap (λ (duty : Duty). record { by = by; duty = duty }) erase_caused erase_duty
-      (λ (duty : Duty). record { by = by; duty = duty }) (λ duty. refl) duties
-
   after_effects : (by : Actor) (one other : AuditTrail) (effect effect_too : Effect)
       → AreDays own one other → AreAlike own effect effect_too
       → AreDays own (with_effect by one effect) (with_effect by other effect_too)
   after_effects by one other effect effect_too before alike = record {
-    facts_are =
-        map-append (erase own) one.facts effect.facts
-        ∙ ap (λ (l : List Fact). l ++ map (erase own) effect.facts) before.facts_are
-        ∙ ap (λ (l : List Fact). map (erase own) other.facts ++ l) alike.facts_are
-        ∙ sym (map-append (erase own) other.facts effect_too.facts);
-    caused_are =
-        map-append erase_caused one.caused
-        (map (λ duty. record { by = by; duty = duty }) effect.duties)
-        ∙ ap (λ (l : List Caused). l ++ map erase_caused
-        (map (λ duty. record { by = by; duty = duty }) effect.duties)) before.caused_are
-        ∙ ap (λ (l : List Caused). map erase_caused other.caused ++ l)
-        (by_actor by effect.duties
-        ∙ ap (map (λ (duty : Duty). record { by = by; duty = duty })) alike.duties_are
-        ∙ sym (by_actor by effect_too.duties))
-        ∙ sym (map-append erase_caused other.caused
-        (map (λ duty. record { by = by; duty = duty }) effect_too.duties));
+    facts_are = append_along (erase own) one.facts effect.facts other.facts effect_too.facts
+        before.facts_are alike.facts_are;
+    caused_are = append_along erase_caused one.caused _ other.caused _ before.caused_are
+        (map_along erase_caused (λ (duty : Duty). record { by = by; duty = duty }) erase_duty
+        (λ duty. refl) effect.duties effect_too.duties alike.duties_are);
     done_are = before.done_are;
   }
 
@@ -98,23 +81,13 @@ module _ (config : Configuration) (own : ℕ) where
   pending_same : (by : Actor) (one other : AuditTrail) → AreDays own one other
       → map erase_duty (pending by one) ≡ map erase_duty (pending by other)
   pending_same by one other before =
-      pending_is by one
-      ∙ ap (λ (done : List Actor). drop (count_by (is_same_actor by) done)
-      (filter_map (duty_of by) (map erase_caused one.caused))) before.done_are
-      ∙ ap (λ (caused : List Caused).
-      drop (count_by (is_same_actor by) other.done) (filter_map (duty_of by) caused))
-      before.caused_are
-      ∙ sym (pending_is by other)
+      rw (pending_is by one, pending_is by other, before.done_are, before.caused_are) refl
 
   duties_same : (by : Actor) (one other : List Fact) (more more_too : Duty)
       → map (erase own) one ≡ map (erase own) other → erase_duty more ≡ erase_duty more_too
       → AreAlike own (duty_effect config one by more) (duty_effect config other by more_too)
   duties_same by one other more more_too facts same =
-      through (duty_effect config one by more)
-      (duty_effect config (map (erase own) one) by (erase_duty more))
-      (duty_effect config other by more_too)
-      (duty_effect config (map (erase own) other) by (erase_duty more_too))
-      (duty_alike config own one by more) (duty_alike config own other by more_too)
+      through (duty_alike config own one by more) (duty_alike config own other by more_too)
       (ap (λ (l : List Fact). duty_effect config l by (erase_duty more)) facts
       ∙ ap (duty_effect config (map (erase own) other) by) same)
 
@@ -143,11 +116,7 @@ module _ (config : Configuration) (own : ℕ) where
       → AreAlike own (message_effect config one firm moment bytes)
       (message_effect config other firm moment bytes)
   messages_same firm moment bytes one other facts =
-      through (message_effect config one firm moment bytes)
-      (message_effect config (map (erase own) one) firm moment bytes)
-      (message_effect config other firm moment bytes)
-      (message_effect config (map (erase own) other) firm moment bytes)
-      (message_alike config own one firm moment bytes)
+      through (message_alike config own one firm moment bytes)
       (message_alike config own other firm moment bytes)
       (ap (λ (l : List Fact). message_effect config l firm moment bytes) facts)
 
@@ -157,26 +126,22 @@ module _ (config : Configuration) (own : ℕ) where
       ≡ received_by_dealer config facts moment bytes (dealer_of firm row)
   unfolding message_effect
   message_is facts firm moment bytes row is =
-      ap (λ (o : Option DealerRow). if is_some o
-      then done_by (option_map (dealer_of firm) o) (received_by_dealer config facts moment bytes)
-      else done_for (market_for config firm) (received_by_investor facts moment bytes)) is
+      rw is refl
 
   -- that frames are read
-  module _ (reads : (bytes : List ℕ) (fields : List Field) → IsFrame bytes fields
+  module _ (lone : LoneQuotes) (words : WordsOfDay)
+      (reads : (bytes : List ℕ) (fields : List Field) → IsFrame bytes fields
       → frame_of bytes ≡ Some fields) where
     priced_same : (one : AuditTrail) (other : List Fact) (firm moment : ℕ) (row : DealerRow)
-        (bytes others : List ℕ) → DayBears config one
+        (bytes others : List ℕ) → VenueOk config one
         → map (erase own) one.facts ≡ map (erase own) other
         → dealer_numbered config firm ≡ Some row → (firm == own) ≡ false
         → DiffersInPrices config bytes others
         → AreAlike own (message_effect config one.facts firm moment bytes)
         (message_effect config other firm moment others)
-    priced_same one other firm moment row bytes others bears facts is another prices =
+    priced_same one other firm moment row bytes others stood facts is another prices =
         let known = map (erase own) one.facts in
-        through (message_effect config one.facts firm moment bytes)
-        (message_effect config known firm moment others)
-        (message_effect config other firm moment others)
-        (message_effect config (map (erase own) other) firm moment others)
+        through
         (subst (λ (e : Effect). AreAlike own e (message_effect config known firm moment others))
         (sym (message_is one.facts firm moment bytes row is))
         (subst (λ (e : Effect). AreAlike own
@@ -184,7 +149,7 @@ module _ (config : Configuration) (own : ℕ) where
         (sym (message_is known firm moment others row is))
         (said_alike config own one.facts moment bytes others (dealer_of firm row)
         (verdicts_alike config config.date row (book_by (of_dealer firm one.facts)) moment
-        (book_bears config firm one.facts bears.facts_bear) prices.fields prices.others
+        (book_bears config one stood firm) prices.fields prices.others
         prices.fields_are bytes others (reads bytes prices.fields prices.one_is)
         (reads others prices.others prices.other_is))
         (rw another refl))))
@@ -204,19 +169,15 @@ module _ (config : Configuration) (own : ℕ) where
         (pending_same by one other before)
     step_same one other (step.Expire room moment) before =
         after_effects actor.Clock one other _ _ before
-        (through (sweep_effect config one.facts room moment)
-        (sweep_effect config (map (erase own) one.facts) room moment)
-        (sweep_effect config other.facts room moment)
-        (sweep_effect config (map (erase own) other.facts) room moment)
-        (sweep_alike config own one.facts room moment)
+        (through (sweep_alike config own one.facts room moment)
         (sweep_alike config own other.facts room moment)
         (ap (λ (l : List Fact). sweep_effect config l room moment) before.facts_are))
 
-    priced_step : (one other : AuditTrail) (more more_too : Step) → DayBears config one
+    priced_step : (one other : AuditTrail) (more more_too : Step) → VenueOk config one
         → AreDays own one other → IsPricedByAnother config own more more_too
         → AreDays own (after_step config one more) (after_step config other more_too)
     unfolding after_step
-    priced_step one other more more_too bears before priced =
+    priced_step one other more more_too stood before priced =
         subst (λ (s : Step).
         AreDays own (after_step config one s) (after_step config other more_too))
         (sym priced.one_is)
@@ -225,32 +186,32 @@ module _ (config : Configuration) (own : ℕ) where
         (after_step config other s)) (sym priced.other_is)
         (after_effects (actor.Firm priced.firm) one other _ _ before
         (priced_same one other.facts priced.firm priced.moment priced.row priced.message
-        priced.priced bears before.facts_are priced.is_dealer priced.is_another priced.prices)))
+        priced.priced stood before.facts_are priced.is_dealer priced.is_another priced.prices)))
 
-    either_step : (one other : AuditTrail) (more more_too : Step) → DayBears config one
+    either_step : (one other : AuditTrail) (more more_too : Step) → VenueOk config one
         → AreDays own one other → (more ≡ more_too) ⊎ IsPricedByAnother config own more more_too
         → AreDays own (after_step config one more) (after_step config other more_too)
-    either_step one other more more_too bears before (inl same) =
+    either_step one other more more_too stood before (inl same) =
         subst (λ (s : Step). AreDays own (after_step config one more) (after_step config other s))
         same (step_same one other more before)
-    either_step one other more more_too bears before (inr priced) =
-        priced_step one other more more_too bears before priced
+    either_step one other more more_too stood before (inr priced) =
+        priced_step one other more more_too stood before priced
 
-    days_same : (one other : AuditTrail) (steps others : List Step) → DayBears config one
+    days_same : (one other : AuditTrail) (steps others : List Step) → VenueOk config one
         → AreDays own one other → IsPriceAlike config own steps others
         → AreDays own (fold (after_step config) one steps) (fold (after_step config) other others)
-    days_same one other [] [] bears before alike = before
-    days_same one other [] (more_too ∷ others) bears before alike = elim alike [ ]
-    days_same one other (more ∷ steps) [] bears before alike = elim alike [ ]
-    days_same one other (more ∷ steps) (more_too ∷ others) bears before alike =
+    days_same one other [] [] stood before alike = before
+    days_same one other [] (more_too ∷ others) stood before alike = elim alike [ ]
+    days_same one other (more ∷ steps) [] stood before alike = elim alike [ ]
+    days_same one other (more ∷ steps) (more_too ∷ others) stood before alike =
         days_same (after_step config one more) (after_step config other more_too) steps others
-        (step_bears config one more bears)
-        (either_step one other more more_too bears before alike.0) alike.1
+        (step_stands lone words config one stood more)
+        (either_step one other more more_too stood before alike.0) alike.1
 
     pub all_days : (steps others : List Step) → IsPriceAlike config own steps others
         → AreDays own (audit_trail config steps) (audit_trail config others)
     unfolding audit_trail
     all_days steps others alike =
         days_same no_steps no_steps steps others
-        (record { facts_bear = tt; caused_bear = tt })
+        (venue_ok lone words config [])
         (record { facts_are = refl; caused_are = refl; done_are = refl }) alike

@@ -1,27 +1,23 @@
 -- Two messages that differ in their prices alone: every tag but those of prices reads the same, and
 -- no line of the session checks tells them apart.
-use Rattle.std.proofs.Common.{◌≡◌, ℕ, ◌==◌, Bool, true, false, nat_lt, List, [], ◌∷◌, map}
-use Rattle.std.proofs.Common.{length, Option, Some, None, count_by, refl, sym, ap, ◌∙◌, arith}
-use Rattle.std.proofs.Common.{if◌then◌else◌, Ok, ◌⊎◌, inl, inr, subst, option_and_then}
-use Rattle.std.specs.List.{AllZip, AllByRecursion}
+use Rattle.std.proofs.Common.{◌≡◌, ℕ, ◌==◌, Bool, true, false, nat_lt, List, [], ◌∷◌, map, length}
+use Rattle.std.proofs.Common.{Option, Some, None, count_by, refl, sym, ap, ◌∙◌, arith}
+use Rattle.std.proofs.Common.{if◌then◌else◌, Ok, ◌⊎◌, inl, inr, subst}
+use Rattle.std.specs.List.{AllZip}
 use Rattle.std.proofs.lemmas.Bool.Decides.{nat_tests}
 use Rattle.bond_prices.specs.Price.{price_of}
 use Rattle.fix_fields.specs.Frame.{Field, value_of, times_of}
 use Rattle.venue_rows.specs.declared.bond_rows.BondRow.{BondRow}
-use Rattle.quote_messages.specs.ValueForms.{ValueRule, APrice}
-use Rattle.quote_messages.specs.ValueForms.{value_fault}
-use Rattle.quote_messages.specs.SessionLines.{Line, occurrence_fault, at_tag}
-use Rattle.quote_messages.specs.SessionLines.{tag_fault, required_where, required, optional}
-use Rattle.quote_messages.specs.SessionLines.{or_next}
-use Rattle.quote_messages.specs.SessionLines.{first_fault, has_number, is_number}
-use Rattle.quote_messages.specs.Texts.{number_of}
+use Rattle.quote_messages.specs.ValueForms.{ValueRule, APrice, value_fault}
+use Rattle.quote_messages.specs.SessionLines.{Line, occurrence_fault, at_tag, tag_fault}
+use Rattle.quote_messages.specs.SessionLines.{required_where, required, optional, first_fault}
+use Rattle.quote_messages.specs.SessionLines.{has_number}
 use Rattle.quote_messages.specs.SessionChecks.{header_lines, quote_lines, cancel_lines}
 use Rattle.quote_messages.specs.SessionChecks.{decline_lines}
 use Rattle.quote_messages.specs.declared.session_faults.SessionRejectReason.{SessionRejectReason}
 use Rattle.quote_messages.specs.declared.session_faults.SessionRejectReason.TheVariants as reason
-use Rattle.quote_messages.specs.declared.session_faults.SessionFault.{SessionFault}
-use Rattle.venue_laws.specs.PriceAlike.{is_price_tag, IsPriceOf, ArePricesOf}
-use Rattle.venue_laws.specs.PriceAlike.{IsOneOrPriced}
+use Rattle.step_replay.specs.EachLemmas.{Every}
+use Rattle.venue_laws.specs.PriceAlike.{is_price_tag, IsPriceOf, ArePricesOf, IsOneOrPriced}
 use Rattle.venue_laws.proofs.ErasedLists.{count_erased}
 
 -- two values of a tag are lawful prices
@@ -152,22 +148,11 @@ module _ (bond : Option BondRow) (one other : List Field)
   abbrev pub IsSame : Line → Type 0
   IsSame line = line date one ≡ line date other
 
-  -- the fault of a tag with this value
-  abbrev fault_of : ℕ → ValueRule → Bool → Option (List ℕ) → ℕ → Option SessionFault
-  fault_of tag rule is_required value times =
-      tag_fault date (record { tag = tag; is_required = is_required; value = rule })
-      (record { first = value; is_repeated = nat_lt 1 times })
-
   line_where : (is_required : List Field → Bool) (tag : ℕ) (rule : ValueRule)
       → is_price_tag tag ≡ false → is_required one ≡ is_required other
       → IsSame (required_where is_required tag rule)
   line_where is_required tag rule is_none same =
-      ap (λ (b : Bool). fault_of tag rule b (value_of tag one) (times_of tag one)) same
-      ∙ ap (λ (value : Option (List ℕ)).
-      fault_of tag rule (is_required other) value (times_of tag one))
-      (value_same bond one other alike tag is_none)
-      ∙ ap (fault_of tag rule (is_required other) (value_of tag other))
-      (times_same bond one other alike tag)
+      rw (same, value_same bond one other alike tag is_none, times_same bond one other alike tag) refl
 
   line : (tag : ℕ) (rule : ValueRule) → is_price_tag tag ≡ false → IsSame (required tag rule)
   line tag rule is_none = line_where (λ fields. true) tag rule is_none refl
@@ -177,10 +162,7 @@ module _ (bond : Option BondRow) (one other : List Field)
 
   number_same : (tag n : ℕ) → is_price_tag tag ≡ false
       → has_number tag n one ≡ has_number tag n other
-  number_same tag n is_none =
-      ap (λ (value : Option (List ℕ)). is_number n
-      (option_and_then number_of value))
-      (value_same bond one other alike tag is_none)
+  number_same tag n is_none = rw (value_same bond one other alike tag is_none) refl
 
   -- the fault of a price that stands so
   price_fault_same : (tag : ℕ) (repeated : Bool) (value value_too : Option (List ℕ))
@@ -206,21 +188,17 @@ module _ (bond : Option BondRow) (one other : List Field)
   price_line : (tag : ℕ) → IsSame (optional tag APrice)
   unfolding tag_fault
   price_line tag =
-      price_fault_same tag (nat_lt 1 (times_of tag one)) (value_of tag one) (value_of tag other)
-      (price_value bond one other alike tag)
-      ∙ ap (λ (times : ℕ). at_tag tag (occurrence_fault date
-      (record { tag = tag; is_required = false; value = APrice }) (value_of tag other)
-      (nat_lt 1 times)))
-      (times_same bond one other alike tag)
+      rw (times_same bond one other alike tag)
+      (price_fault_same tag (nat_lt 1 (times_of tag other)) (value_of tag one) (value_of tag other)
+      (price_value bond one other alike tag))
 
   -- Tables.
 
-  pub faults_same : (lines : List Line) → AllByRecursion IsSame lines
+  pub faults_same : (lines : List Line) → Every IsSame lines
       → first_fault lines date one ≡ first_fault lines date other
   faults_same [] same = refl
   faults_same (line ∷ lines) same =
-      ap (λ (f : Option SessionFault). or_next f (first_fault lines date one)) same.0
-      ∙ ap (or_next (line date other)) (faults_same lines same.1)
+      rw (same.0, faults_same lines same.1) refl
 
   pub header_same : (name : List ℕ) (traders types : List (List ℕ))
       → first_fault (header_lines name traders types) date one

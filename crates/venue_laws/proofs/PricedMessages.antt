@@ -3,13 +3,12 @@
 use Rattle.std.proofs.Common.{◌≡◌, ℕ, ◌==◌, Bool, true, false, List, [], Option, Some, None}
 use Rattle.std.proofs.Common.{option_map, option_and_then, unwrap_or, codes, refl, sym, ap, ◌∙◌}
 use Rattle.std.proofs.Common.{subst, if◌then◌else◌, Result, Ok, Err, inl, inr, nat_lt}
-use Rattle.std.specs.List.{AllZip, AllByRecursion}
+use Rattle.std.specs.List.{AllZip}
 use Rattle.std.specs.Str.Parse.{digits_value}
 use Rattle.bond_prices.specs.Price.{price_of}
 use Rattle.fix_fields.specs.Frame.{Field, frame_of, value_of, times_of}
 use Rattle.quote_messages.specs.Arrivals.{sequence_number, reject_of, out_of_sequence, in_sequence}
-use Rattle.quote_messages.specs.Arrivals.{numbered, framed, dealer_arrival}
-use Rattle.quote_messages.specs.Texts.{is_msg_type, is_sequence_number}
+use Rattle.quote_messages.specs.Arrivals.{numbered, dealer_arrival}
 use Rattle.quote_messages.specs.ValueForms.{AnId}
 use Rattle.quote_messages.specs.SessionLines.{text_at, required, first_fault, unless_fault, at_tag}
 use Rattle.quote_messages.specs.SessionLines.{occurrence_fault, tag_fault}
@@ -25,7 +24,7 @@ use Rattle.quote_messages.specs.declared.quotes.DealerMessage.{DealerMessage}
 use Rattle.quote_messages.specs.declared.quotes.DealerMessage.TheVariants as message
 use Rattle.quote_messages.specs.declared.session_faults.SessionFault.{SessionFault}
 use Rattle.venue_rows.specs.Rows.{Configuration, bond_with_id}
-use Rattle.venue_rows.specs.Texts.{same_text, text_if}
+use Rattle.venue_rows.specs.Texts.{same_text}
 use Rattle.venue_rows.specs.declared.bond_rows.BondRow.{BondRow}
 use Rattle.venue_rows.specs.declared.dealer_rows.DealerRow.{DealerRow}
 use Rattle.dealer_desk.specs.DealerFacts.{DealerBook, expected_number}
@@ -34,7 +33,8 @@ use Rattle.dealer_desk.specs.declared.standing.StandingRequest.{StandingRequest}
 use Rattle.dealer_desk.specs.declared.verdicts.DealerVerdict.{DealerVerdict}
 use Rattle.venue_laws.specs.PriceAlike.{is_price_tag, is_on_grid_of, IsOneOrPriced, bond_meant}
 use Rattle.venue_laws.proofs.Erasing.{erase_verdict}
-use Rattle.venue_laws.proofs.AskedGrids.{BearsGrid}
+use Rattle.step_replay.specs.EachLemmas.{Every}
+use Rattle.venue_laws.proofs.VenueParts.{BearsGrid}
 use Rattle.venue_laws.proofs.PricedFields.{AreValues, value_same, times_same, price_value}
 use Rattle.venue_laws.proofs.PricedFields.{header_same, quote_same, cancel_same, decline_same}
 use Rattle.venue_laws.proofs.PricedQuotes.{Reading, AreReadings, verdict_alike}
@@ -62,7 +62,7 @@ names_bond date fields fine =
 
 module _ (config : Configuration) (date : List ℕ) (row : DealerRow) (book : DealerBook)
     (moment : ℕ)
-    (bear : AllByRecursion (λ (own : StandingRequest). BearsGrid config own.ask) book.requests)
+    (bear : Every (λ (own : StandingRequest). BearsGrid config own.ask) book.requests)
     (one other : List Field)
     (alike : AllZip (IsOneOrPriced (bond_meant config one)) one other) where
   -- the verdict on what came, whatever its price
@@ -79,12 +79,7 @@ module _ (config : Configuration) (date : List ℕ) (row : DealerRow) (book : De
 
   reject_same : (number : List ℕ) (fault : SessionFault)
       → reject_of one number fault ≡ reject_of other number fault
-  reject_same number fault =
-      ap (λ (value : Option (List ℕ)). record {
-        number = number;
-        fault = fault;
-        msg_type = option_and_then (text_if is_msg_type) value;
-      }) (same_value 35 refl)
+  reject_same number fault = rw (same_value 35 refl) refl
 
   -- in sequence, two verdicts of the session come to one of the market but for the price
   abbrev AreOne : Result DealerMessage SessionFault → Result DealerMessage SessionFault → Type 0
@@ -219,13 +214,7 @@ module _ (config : Configuration) (date : List ℕ) (row : DealerRow) (book : De
       (λ fine. table_one)
 
   sequence_same : sequence_number one ≡ sequence_number other
-  sequence_same =
-      ap (λ (times : ℕ).
-      if times == 1 then text_if is_sequence_number (text_at 34 one) else None)
-      (times_same (bond_meant config one) one other alike 34)
-      ∙ ap (λ (text : List ℕ).
-      if times_of 34 other == 1 then text_if is_sequence_number text else None)
-      (text_same 34 refl)
+  sequence_same = rw (times_same (bond_meant config one) one other alike 34, text_same 34 refl) refl
 
   numbered_one : (expected : ℕ) (number : Option (List ℕ)) (v w : Result DealerMessage SessionFault)
       → AreOne v w
@@ -251,8 +240,7 @@ module _ (config : Configuration) (date : List ℕ) (row : DealerRow) (book : De
   verdicts_alike bytes others one_is other_is =
       let session = dealer_session_verdict date row in
       let expected = expected_number book in
-      ap (λ (f : Option (List Field)). judged (framed session expected f)) one_is
-      ∙ numbered_one expected (sequence_number one) (session one) (session other) session_one
+      rw (one_is, other_is)
+      (numbered_one expected (sequence_number one) (session one) (session other) session_one
       ∙ ap (λ (number : Option (List ℕ)). judged (numbered expected other number (session other)))
-      sequence_same
-      ∙ sym (ap (λ (f : Option (List Field)). judged (framed session expected f)) other_is)
+      sequence_same)

@@ -1,9 +1,7 @@
 -- Two quotes that differ in lawful prices alone: the market's verdicts on them are one but for the
 -- price.
-use Rattle.std.proofs.Common.{◌≡◌, ℕ, Bool, true, false, Option, Some, None}
-use Rattle.std.proofs.Common.{option_map, is_some, refl, sym, ap, ◌∙◌, subst}
-use Rattle.std.proofs.Common.{Result, Ok, Err, ◌⊎◌, inl, inr, IfSome}
-use Rattle.std.specs.List.{AllByRecursion}
+use Rattle.std.proofs.Common.{◌≡◌, ℕ, Bool, true, false, Option, Some, None, option_map, is_some}
+use Rattle.std.proofs.Common.{refl, sym, ap, ◌∙◌, subst, Result, Ok, Err, ◌⊎◌, inl, inr, IfSome}
 use Rattle.std.proofs.lemmas.Slice.Eq.{bytes_eq-Decides}
 use Rattle.bond_prices.specs.Grid.{on_grid}
 use Rattle.bond_prices.specs.declared.fault.PriceFault.{PriceFault}
@@ -19,11 +17,13 @@ use Rattle.venue_rows.specs.declared.bond_rows.BondRow.{BondRow}
 use Rattle.venue_rows.specs.declared.dealer_rows.DealerRow.{DealerRow}
 use Rattle.dealer_desk.specs.DealerFacts.{DealerBook, request_named}
 use Rattle.dealer_desk.specs.DealerRules.{asked_price, other_price, lone_price, if_on_grid}
-use Rattle.dealer_desk.specs.DealerRules.{price_for}
-use Rattle.dealer_desk.specs.DealerRules.{quote_refusal, quote_answer, quote_on, quote_verdict}
+use Rattle.dealer_desk.specs.DealerRules.{price_for, quote_refusal, quote_answer, quote_on}
+use Rattle.dealer_desk.specs.DealerRules.{quote_verdict}
 use Rattle.dealer_desk.specs.declared.standing.StandingRequest.{StandingRequest}
 use Rattle.venue_laws.proofs.Erasing.{erase_verdict}
-use Rattle.venue_laws.proofs.AskedGrids.{BearsGrid, first_of_every}
+use Rattle.step_replay.specs.EachLemmas.{Every}
+use Rattle.venue_laws.proofs.ListLemmas.{first_of_every}
+use Rattle.venue_laws.proofs.VenueParts.{BearsGrid}
 
 -- a price as a quote has it: none, a number, or a text that is none
 abbrev pub Reading : Type 0
@@ -69,9 +69,8 @@ asked_same : (grid : ℕ) (asked priced other : Reading) → AreReadings grid as
     → is_lawful grid asked other ≡ is_lawful grid priced other
 asked_same grid asked priced other (inl same) = ap (λ (r : Reading). is_lawful grid r other) same
 asked_same grid asked priced other (inr prices) =
-    ap (λ (r : Reading). is_lawful grid r other) prices.one_is
-    ∙ two_lawful grid prices.price prices.priced other prices.one_on prices.other_on
-    ∙ sym (ap (λ (r : Reading). is_lawful grid r other) prices.other_is)
+    rw (prices.one_is, prices.other_is)
+    (two_lawful grid prices.price prices.priced other prices.one_on prices.other_on)
 
 other_same : (grid : ℕ) (asked other priced : Reading) → AreReadings grid other priced
     → is_lawful grid asked other ≡ is_lawful grid asked priced
@@ -136,7 +135,7 @@ module _ (quote : Quote) (bid offer : Reading) where
     -- where each request bears the grid of its bond, and the prices are on the grid of the bond
     -- that the quote names
     module _ (config : Configuration)
-        (bear : AllByRecursion (λ (own : StandingRequest). BearsGrid config own.ask) book.requests)
+        (bear : Every (λ (own : StandingRequest). BearsGrid config own.ask) book.requests)
         (readings : (bond : BondRow) → bond_with_id config quote.bond ≡ Some bond
         → AreReadings bond.grid quote.bid bid × AreReadings bond.grid quote.offer offer) where
       on_shown : (request : Option StandingRequest)

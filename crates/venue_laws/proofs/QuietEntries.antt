@@ -3,7 +3,7 @@
 use Rattle.std.proofs.Common.{◌≡◌, ℕ, ◌==◌, Bool, true, false, filter_map, List, [], ◌∷◌, ◌++◌, map}
 use Rattle.std.proofs.Common.{Option, Some, None, option_map, if◌then◌else◌, refl, sym, ap, ◌∙◌}
 use Rattle.std.specs.List.{list_any}
-use Rattle.std.proofs.lemmas.List.{append-nil}
+use Rattle.std.proofs.lemmas.List.{append-nil, map-append}
 use Rattle.std.proofs.lemmas.List.Elements.{filter_map-append}
 use Rattle.std.proofs.lemmas.List.Sums.{fold-append}
 use Rattle.market_terms.specs.declared.rooms.RoomRef.{RoomRef}
@@ -25,6 +25,8 @@ use Rattle.step_replay.specs.DueList.{due_by, due_list}
 use Rattle.step_replay.specs.declared.dues.Due.{Due}
 use Rattle.step_replay.specs.declared.dues.Due.TheVariants as due
 use Rattle.step_replay.specs.EachLemmas.{Each, Every, every_both}
+use Rattle.venue_laws.proofs.ListLemmas.{every_map}
+use Rattle.std.proofs.lemmas.Option.{same_Some}
 
 module _ (date : List ℕ) (row : DealerRow) where
   -- the words that an entry asks are answered behind it as the view says, and so is the word that
@@ -93,16 +95,13 @@ module _ (date : List ℕ) (row : DealerRow) where
   each_quiet lifted before [] is quiet = tt
   each_quiet lifted before (entry ∷ entries) is quiet = (
     record {
-      asked = λ quote asks. never quote (sym (quiet.0.asks before) ∙ asks);
+      asked = λ quote asks. cc (sym (quiet.0.asks before) ∙ asks);
       answered = λ quote settlement says. quiet.0.answers quote settlement says
           ∙ ap (λ (l : List ℕ). if list_any (λ (one : ℕ). one == quote) l
           then settled.Lifted else settled.Withdrawn) (sym is);
     },
     each_quiet lifted (before ++ entry ∷ []) entries (quiet.0.view before ∙ is) quiet.1,
   )
-    where
-      never : {A : Type 0} (quote : ℕ) → None ≡ Some quote → A
-      never quote is = cc
 
   -- an entry that neither asks nor answers, and whose item lifts no quote, if it has one
   pub silent : (lifted : List ℕ) (entry : DealerEntry)
@@ -113,29 +112,22 @@ module _ (date : List ℕ) (row : DealerRow) where
   silent lifted entry asks view none = record {
     asks = asks;
     view = view;
-    answers = λ quote settlement says. never (quote, settlement) (sym none ∙ says);
+    answers = λ quote settlement says. cc (sym none ∙ says);
   }
-    where
-      never : {A : Type 0} (word : ℕ × Settled) → None ≡ Some word → A
-      never word is = cc
 
   sent_quiet : (lifted : List ℕ) (messages : List (List ℕ))
       → Every (IsQuiet lifted) (map Sent messages)
-  sent_quiet lifted [] = tt
-  sent_quiet lifted (message ∷ messages) = (
-    silent lifted (Sent message) (λ before. refl)
-        (λ before. undue_keeps before (Sent message) refl) refl,
-    sent_quiet lifted messages,
-  )
+  sent_quiet lifted messages =
+      every_map (IsQuiet lifted) Sent messages (λ message is.
+      silent lifted (Sent message) (λ before. refl)
+      (λ before. undue_keeps before (Sent message) refl) refl)
 
   rooms_quiet : (lifted : List ℕ) (rooms : List RoomRef)
       → Every (IsQuiet lifted) (map ShownIn rooms)
-  rooms_quiet lifted [] = tt
-  rooms_quiet lifted (room ∷ rooms) = (
-    silent lifted (ShownIn room) (λ before. refl)
-        (λ before. undue_keeps before (ShownIn room) refl) refl,
-    rooms_quiet lifted rooms,
-  )
+  rooms_quiet lifted rooms =
+      every_map (IsQuiet lifted) ShownIn rooms (λ room is.
+      silent lifted (ShownIn room) (λ before. refl)
+      (λ before. undue_keeps before (ShownIn room) refl) refl)
 
   -- what is sent and shown behind some facts is quiet
   pub facts_quiet : (lifted : List ℕ) (facts : List DealerFact) (rooms : List RoomRef)
@@ -163,16 +155,13 @@ module _ (date : List ℕ) (row : DealerRow) where
         view = λ before. undue_keeps before entry undue;
         answers = λ other said told.
             let pairs : Some (quote, given) ≡ Some (other, said) = sym says ∙ told in
-            let same : quote ≡ other = ap (λ (o : Option (ℕ × Settled)). (pair_of o).0) pairs in
-            let given_is : given ≡ said = ap (λ (o : Option (ℕ × Settled)). (pair_of o).1) pairs in
+            let pair = same_Some (quote, given) (other, said) pairs in
+            let same : quote ≡ other = ap (λ (p : ℕ × Settled). p.0) pair in
+            let given_is : given ≡ said = ap (λ (p : ℕ × Settled). p.1) pair in
             sym given_is ∙ is ∙ answer_is quote
             ∙ ap (λ (q : ℕ). if list_any (λ (one : ℕ). one == q) lifted
             then settled.Lifted else settled.Withdrawn) same;
       }
-        where
-          pair_of : Option (ℕ × Settled) → ℕ × Settled
-          pair_of None = (quote, given)
-          pair_of (Some pair) = pair
 
       answer_quiet : (quote : ℕ) (how : Withdrawal) (given : Settled) → given ≡ settlement quote
           → Every (IsQuiet lifted) (map AtDesk (answer_facts quote how (Some given)))
@@ -198,20 +187,14 @@ module _ (date : List ℕ) (row : DealerRow) where
       )
       kept_quiet false own = tt
 
-      desk_append : (facts more : List DealerFact)
-          → Every (IsQuiet lifted) (map AtDesk facts) → Every (IsQuiet lifted) (map AtDesk more)
-          → Every (IsQuiet lifted) (map AtDesk (facts ++ more))
-      desk_append [] more one other = other
-      desk_append (fact ∷ facts) more one other = (one.0, desk_append facts more one.1 other)
-
       pub verdict_quiet : (v : DealerVerdict)
           → Every (IsQuiet lifted)
           (map AtDesk (verdict_facts v (option_map settlement (word_asked v))))
       verdict_quiet (verdict.QuoteAccepted request id quote replaced) =
-          desk_append (settled_facts replaced by.Replacement (option_map settlement replaced))
-          (if goes_through replaced (option_map settlement replaced) then Quoted quote ∷ [] else [])
-          (settled_quiet replaced by.Replacement)
-          (kept_quiet (goes_through replaced (option_map settlement replaced)) quote)
+          rw (map-append AtDesk
+          (settled_facts replaced by.Replacement (option_map settlement replaced)))
+          (every_both (IsQuiet lifted) _ _ (settled_quiet replaced by.Replacement)
+          (kept_quiet (goes_through replaced (option_map settlement replaced)) quote))
       verdict_quiet (verdict.CancelAccepted id quote request) =
           answer_quiet quote by.Cancel (settlement quote) refl
       verdict_quiet (verdict.DeclineAccepted request number) = (
@@ -236,11 +219,7 @@ module _ (date : List ℕ) (row : DealerRow) where
       next_settled None how more rooms messages quote is = cc
       next_settled (Some asked) how more rooms messages quote is =
           next_is asked how (settlement asked) more rooms messages
-          ∙ ap (λ (q : ℕ). Some (q, settlement q)) (ap value is)
-        where
-          value : Option ℕ → ℕ
-          value None = 0
-          value (Some q) = q
+          ∙ ap (λ (q : ℕ). Some (q, settlement q)) (same_Some asked quote is)
 
       pub next_verdict : (v : DealerVerdict) (rooms : List RoomRef) (messages : List (List ℕ))
           (quote : ℕ) → word_asked v ≡ Some quote

@@ -1,11 +1,11 @@
 -- The requests that some facts show, and which of them may still be told to be closed.
-use Rattle.std.proofs.Common.{◌≡◌, ℕ, ◌+◌, ◌==◌, Bool, true, false, ◌||◌, List, [], ◌∷◌, ◌++◌, find}
+use Rattle.std.proofs.Common.{◌≡◌, ℕ, ◌+◌, ◌==◌, Bool, true, false, List, [], ◌∷◌, ◌++◌, find}
 use Rattle.std.proofs.Common.{Option, Some, None, is_some, if◌then◌else◌, cond, refl, sym, ap, ◌∙◌}
 use Rattle.std.proofs.Common.{arith}
 use Rattle.std.specs.List.{list_any}
 use Rattle.std.proofs.lemmas.Bool.Decides.{nat_tests}
 use Rattle.std.proofs.lemmas.List.Folds.{list_any-append}
-use Rattle.std.proofs.lemmas.Bool.{or_parts}
+use Rattle.std.proofs.lemmas.Bool.{or_right, or_parts}
 use Rattle.dealer_desk.specs.DealerFacts.{DealerFact, Shown, tells, request_numbered, requests_from}
 use Rattle.dealer_desk.specs.DealerFacts.{standing_request}
 use Rattle.dealer_desk.specs.DealerOutput.{closable, untold}
@@ -130,19 +130,13 @@ told_already number first (Shown ask moment ∷ later) is closed =
         let same : first ≡ number = grind (arith, nat_tests) in
         ap (λ (n : ℕ). list_any (tells n) later) (sym same) ∙ told
     by_test true test again false told =
-        let clash : true ≡ false =
-        ap (λ (b : Bool). is_some (if b then None else Some request)) (sym told)
+        cc (ap (λ (b : Bool). is_some (if b then None else Some request)) (sym told)
         ∙ ap (λ (b : Bool). is_some (untold (cond b (Some request)
-        (found number (first + 1) later)))) (sym test) ∙ closed in
-        cc
+        (found number (first + 1) later)))) (sym test) ∙ closed)
     by_test false test again told is_told =
         again (rw test at is) (rw test at closed)
 told_already number first (fact ∷ later) is closed =
-    rw (told_already number first later is closed) (or_true (tells number fact))
-  where
-    or_true : (b : Bool) → (b || true) ≡ true
-    or_true true = refl
-    or_true false = refl
+    or_right (tells number fact) _ (told_already number first later is closed)
 
 pub told_or_closable : (trail : List DealerEntry) (request : ℕ) → was_shown trail request ≡ true
     → is_some (closable (book_by trail) request) ≡ false

@@ -1,21 +1,23 @@
--- What happens at a dealer's desk brings what stands in a venue.
-use Rattle.std.proofs.Common.{◌≡◌, ◌≤◌, ℕ, ◌+◌, ◌-◌, Bool, true, false, ◌&&◌, nat_le, List, [], ◌∷◌}
-use Rattle.std.proofs.Common.{◌++◌, map, option_to_list, Option, Some, None, option_map}
-use Rattle.std.proofs.Common.{if◌then◌else◌, inl, inr, refl, sym, ap, ◌∙◌, subst, arith}
-use Rattle.std.proofs.lemmas.List.Elements.{filter_map-append}
-use Rattle.std.proofs.lemmas.Option.{same_Some}
+-- What a dealer says and drops brings what stands in a venue.
+use Rattle.std.proofs.Common.{Bool, IfSome, List, None, Option, Some, [], ap, arith, false}
+use Rattle.std.proofs.Common.{if◌then◌else◌, inl, inr, map, nat_le, option_map, option_to_list}
+use Rattle.std.proofs.Common.{refl, subst, suc, sym, true, zero, ℕ, ◌&&◌, ◌++◌, ◌+◌, ◌-◌, ◌∙◌, ◌∷◌}
+use Rattle.std.proofs.Common.{◌≡◌, ◌≤◌}
+use Rattle.std.proofs.lemmas.Bool.Decides.{nat_tests}
+use Rattle.std.specs.Prelude.{slice_get}
 use Rattle.market_terms.specs.declared.duties.Duty.{Duty}
 use Rattle.market_terms.specs.declared.duties.Duty.TheVariants as duty
 use Rattle.market_terms.specs.declared.rooms.RoomRef.{RoomRef}
 use Rattle.quote_word.specs.declared.settled.Settled.{Settled}
-use Rattle.venue_rows.specs.Rows.{Configuration, dealer_numbered}
+use Rattle.venue_rows.specs.Rows.{dealer_numbered}
 use Rattle.venue_rows.specs.declared.dealer_rows.DealerRow.{DealerRow}
-use Rattle.dealer_desk.specs.DealerFacts.{Came, DealerFact, Dropped, Quoted, number_to_drop}
-use Rattle.dealer_desk.specs.DealerFacts.{quote_to_drop}
+use Rattle.dealer_desk.specs.DealerFacts.{Came, DealerFact, Dropped, Quoted, book_of}
+use Rattle.dealer_desk.specs.DealerFacts.{number_to_drop, quote_to_drop}
+use Rattle.dealer_desk.specs.DealerOutput.{DeskState, event_facts, goes_through, is_withdrawn}
+use Rattle.dealer_desk.specs.DealerOutput.{post_of, room_of, settled_facts, unpost_dropped}
+use Rattle.dealer_desk.specs.DealerOutput.{uses_number, verdict_duty, verdict_facts, word_asked}
+use Rattle.dealer_desk.specs.DealerDesk.{DeskEvents, verdict_at, book_at}
 use Rattle.dealer_desk.specs.DealerRules.{dealer_verdict}
-use Rattle.dealer_desk.specs.DealerOutput.{event_facts, verdict_facts, settled_facts, goes_through}
-use Rattle.dealer_desk.specs.DealerOutput.{verdict_duty, unpost_dropped, post_of, is_withdrawn}
-use Rattle.dealer_desk.specs.DealerOutput.{room_of, uses_number}
 use Rattle.dealer_desk.specs.declared.accepted.AcceptedQuote.{AcceptedQuote}
 use Rattle.dealer_desk.specs.declared.events.DealerEvent.{DealerEvent}
 use Rattle.dealer_desk.specs.declared.events.DealerEvent.TheVariants as event
@@ -23,224 +25,234 @@ use Rattle.dealer_desk.specs.declared.standing.StandingQuote.{StandingQuote}
 use Rattle.dealer_desk.specs.declared.standing.Withdrawal.TheVariants as by_way
 use Rattle.dealer_desk.specs.declared.verdicts.DealerVerdict.{DealerVerdict}
 use Rattle.dealer_desk.specs.declared.verdicts.DealerVerdict.TheVariants as verdict
-use Rattle.step_replay.specs.Actions.{Effect, settlement_of, answer_to_drop, dealer_of, drop_at}
-use Rattle.step_replay.specs.Actions.{dropped_by, left_by, left_by_drop, nothing}
-use Rattle.step_replay.specs.Actions.{received_by_dealer}
-use Rattle.step_replay.specs.AuditTrail.{AuditTrail}
-use Rattle.step_replay.specs.DealerTrail.{AtDesk, DealerEntry, Sent, ShownIn, book_by, entries_of}
-use Rattle.step_replay.specs.DealerTrail.{fact_in, facts_of, message_by, rooms_by}
-use Rattle.step_replay.specs.VenueFacts.{AtDealer, Fact, of_dealer}
+use Rattle.request_room.specs.RoomFacts.{is_named}
 use Rattle.venue_places.specs.declared.actors.Actor.TheVariants as actor
+use Rattle.step_replay.specs.Actions.{answer_to_drop, dealer_of, drop_at, dropped_by, left_by}
+use Rattle.step_replay.specs.Actions.{left_by_drop, received_by_dealer, settlement_of}
+use Rattle.step_replay.specs.DealerTrail.{AtDesk, DealerEntry, Sent, book_by, entries_of, facts_of}
+use Rattle.step_replay.specs.DealerTrail.{message_by, rooms_by}
 use Rattle.step_replay.specs.EachLemmas.{Every, every_both}
-use Rattle.step_replay.specs.GrowthLemmas.{AreNumbered, In, in_right}
-use Rattle.venue_laws.proofs.SilentEntries.{settled_silent, verdict_silent}
-use Rattle.step_replay.specs.PlaceLemmas.{dealer_grown, own_trail}
+use Rattle.step_replay.specs.GrowthLemmas.{In, in_right}
+use Rattle.std.proofs.lemmas.Option.{same_Some}
+use Rattle.step_replay.specs.PlaceLemmas.{own_trail}
+use Rattle.step_replay.specs.SeenLemmas.{Seen}
 use Rattle.step_replay.specs.TrailLemmas.{facts_added}
-use Rattle.venue_laws.proofs.VenueGrowth.{number_for_grown}
-use Rattle.venue_laws.proofs.VenueInvariant.{VenueOk, number_for}
-use Rattle.venue_laws.proofs.PlainFacts.{Fine, event_plain, plain_fine}
-use Rattle.venue_laws.proofs.VenuePlain.{Brings, desk_plain, if_brings, nothing_brings}
+use Rattle.step_replay.specs.VenueFacts.{AtDealer, Fact, of_dealer}
 use Rattle.venue_laws.proofs.AcceptedQuotes.{AcceptOk, verdict_accepts}
+use Rattle.venue_laws.proofs.PlainFacts.{at_dealer_all, event_plain, rooms_all, settled_plain}
+use Rattle.venue_laws.proofs.PlainFacts.{verdict_plain}
+use Rattle.venue_laws.proofs.VenueGrowth.{facts_later, named_later, number_for_grown}
+use Rattle.venue_laws.proofs.VenueInvariant.{ByDealer, ByNamed, DeskOk, FactOk}
+use Rattle.venue_laws.proofs.VenueKinds.{Brings, FineThen, Here, Now, desk_plain, known, trail_of}
+use Rattle.venue_laws.proofs.VenueKinds.{when_brings}
+use Rattle.venue_laws.proofs.VenueParts.{did_in}
 
-module _ (config : Configuration) (venue : AuditTrail) where
-  -- the trail of a dealer
-  abbrev trail_of : ℕ → List DealerEntry
-  trail_of dealer = of_dealer dealer venue.facts
+-- The words of a dealer's day.
 
-  -- the facts with what is added at a desk
-  abbrev with_entries : ℕ → List DealerEntry → List Fact
-  with_entries dealer entries = venue.facts ++ map (AtDealer dealer) entries
+-- a quote of the day
+abbrev pub OfRow : DealerRow → ℕ → Type 0
+OfRow row quote = (1 ≤ quote) × (quote ≤ row.quotes)
 
-  facts_with : (dealer : ℕ) (facts : List DealerFact) (rooms : List RoomRef)
-      (messages : List (List ℕ))
-      → facts_of (of_dealer dealer (with_entries dealer
-      (map AtDesk facts ++ map ShownIn rooms ++ map Sent messages)))
-      ≡ facts_of (trail_of dealer) ++ facts
-  facts_with dealer facts rooms messages =
-      let entries = map AtDesk facts ++ map ShownIn rooms ++ map Sent messages in
-      ap facts_of (dealer_grown dealer venue.facts (map (AtDealer dealer) entries)
-      ∙ ap (λ l. trail_of dealer ++ l) (own_trail dealer entries))
-      ∙ filter_map-append fact_in (trail_of dealer) entries
-      ∙ ap (λ l. facts_of (trail_of dealer) ++ l) (facts_added facts rooms messages)
+pub within_row : (row : DealerRow) (quote : ℕ) → OfRow row quote
+    → (nat_le 1 quote && nat_le quote row.quotes) ≡ true
+within_row row quote of =
+    let least : 1 ≤ quote = of.0 in
+    let most : quote ≤ row.quotes = of.1 in
+    grind (arith, nat_tests)
 
-  -- A message of its own.
+-- the word that a message asks is that of a quote of the day, and so is the one that a drop asks
+pub record WordsOfDay : Type 0 where
+  pub asks : (desk : DeskEvents) (moment : ℕ) (bytes : List ℕ)
+      → IfSome (word_asked (verdict_at desk moment bytes)) (OfRow desk.row)
+  pub drops : (desk : DeskEvents) (last : ℕ)
+      → IfSome (number_to_drop (book_at desk) last) (OfRow desk.row)
 
-  module _ (dealer : ℕ) (row : DealerRow) (numbered : AreNumbered (rooms_by (trail_of dealer)))
-      (now : List Fact) (rooms_stay : (room : RoomRef) (number : ℕ)
-      → number_for venue.facts dealer room ≡ Some number
-      → number_for now dealer room ≡ Some number)
-      (is : dealer_numbered config dealer ≡ Some row) where
+module _ (words : WordsOfDay) (date : List ℕ) (row : DealerRow) (trail : List DealerEntry)
+    (seen : Seen date row trail) where
+  -- the desk of the trail
+  abbrev desk_seen : DeskEvents
+  desk_seen = record { date = date; row = row; events = seen.events }
+
+  pub asks_of_day : (moment : ℕ) (bytes : List ℕ)
+      → IfSome (word_asked (dealer_verdict date row (book_by trail) moment bytes)) (OfRow row)
+  asks_of_day moment bytes =
+      subst (λ (state : DeskState).
+      IfSome (word_asked (dealer_verdict date row (book_of state.facts) moment bytes)) (OfRow row))
+      seen.state_is (words.asks desk_seen moment bytes)
+
+  pub drops_of_day : (last : ℕ) → IfSome (number_to_drop (book_by trail) last) (OfRow row)
+  drops_of_day last =
+      subst (λ (state : DeskState). IfSome (number_to_drop (book_of state.facts) last) (OfRow row))
+      seen.state_is (words.drops desk_seen last)
+
+slice_holds : {A : Type 0} (P : A → Type 0) (xs : List A) (place : ℕ) (x : A)
+    → slice_get xs place ≡ Some x → Every P xs → P x
+slice_holds P [] place x is all = cc
+slice_holds P (y ∷ xs) zero x is all = subst P (same_Some y x is) all.0
+slice_holds P (y ∷ xs) (suc place) x is all = slice_holds P xs place x is all.1
+
+-- What the dealer's desk leaves.
+
+module _ (words : WordsOfDay) (h : Here) (dealer : ℕ) (row : DealerRow)
+    (is : dealer_numbered h.config dealer ≡ Some row) (by_is : h.by ≡ actor.Firm dealer) where
+  abbrev trail : List DealerEntry
+  trail = trail_of h dealer
+
+  abbrev rooms : List RoomRef
+  rooms = rooms_by trail
+
+  desk : DeskOk h.config h.venue.facts dealer row
+  desk = h.stood.desks dealer row is
+
+  abbrev who : ByDealer h.config h.by
+  who = record { dealer = dealer; row = row; by_is = by_is; row_is = is }
+
+  module _ (entries : List DealerEntry) where
+    abbrev more : List Fact
+    more = map (AtDealer dealer) entries
+
     abbrev FineNow : Duty → Type 0
-    FineNow left = Fine config now (actor.Firm dealer) left
+    FineNow left = FineThen h more left
 
-    if_fine : (b : Bool) (found : Option RoomRef) (left : RoomRef → Duty)
-        → ((room : RoomRef) → b ≡ true → found ≡ Some room → FineNow (left room))
-        → Every FineNow (option_to_list (if b then option_map left found else None))
-    if_fine true None left fine = tt
-    if_fine true (Some room) left fine = (fine room refl refl, tt)
-    if_fine false found left fine = tt
+    named_now : (number : ℕ) (room : RoomRef) → room_of rooms number ≡ Some room
+        → ByNamed h.config (Now h more) h.by room
+    named_now number room found = record {
+      who = who;
+      named = named_later h.venue.facts more room dealer
+          (slice_holds (λ (r : RoomRef). is_named (known h r) dealer ≡ true) rooms _ room found
+          (rooms_all (λ (entry : DealerEntry). FactOk h.config h.venue.facts h.venue.caused
+          (did_in h.venue) (AtDealer dealer entry))
+          (λ (r : RoomRef). is_named (known h r) dealer ≡ true)
+          (λ r stands. stands.named) trail
+          (at_dealer_all (FactOk h.config h.venue.facts h.venue.caused (did_in h.venue)) dealer
+          h.venue.facts h.stood.facts)));
+    }
 
     map_fine : (found : Option RoomRef) (left : RoomRef → Duty)
-        → ((room : RoomRef) → FineNow (left room))
+        → ((room : RoomRef) → found ≡ Some room → FineNow (left room))
         → Every FineNow (option_to_list (option_map left found))
     map_fine None left fine = tt
-    map_fine (Some room) left fine = (fine room, tt)
+    map_fine (Some room) left fine = (fine room refl, tt)
+
+    if_fine : (b : Bool) (left : Option Duty) → (b ≡ true → Every FineNow (option_to_list left))
+        → Every FineNow (option_to_list (if b then left else None))
+    if_fine true left fine = fine refl
+    if_fine false left fine = tt
 
     post_fine : (quote : AcceptedQuote) (room : RoomRef) → 1 ≤ quote.request
         → (nat_le 1 quote.number && nat_le quote.number row.quotes) ≡ true
-        → In (Quoted quote) (facts_of (of_dealer dealer now))
-        → room_of (rooms_by (trail_of dealer)) quote.request ≡ Some room
-        → FineNow (post_of quote room)
+        → In (Quoted quote) (facts_of (of_dealer dealer (Now h more)))
+        → room_of rooms quote.request ≡ Some room → FineNow (post_of quote room)
+    unfolding named_now
     post_fine quote room least within quoted found =
-        let place : quote.request - 1 + 1 ≡ quote.request = omega arith in
-        record {
-          ok = λ dealer_is. record {
+        let place : quote.request - 1 + 1 ≡ quote.request = omega arith in (
+          record {
+            named = named_now quote.request room found;
+            within = within;
             quoted = record {
               own = quote;
               quoted = quoted;
               number_is = refl;
-              request_is = rooms_stay room quote.request
-                  (numbered (quote.request - 1) room found ∙ ap (λ (n : ℕ). Some n) place);
+              request_is = number_for_grown h.venue.facts more dealer room quote.request
+                  (desk.numbered (quote.request - 1) room found
+                  ∙ ap (λ (n : ℕ). Some n) place);
             };
-            within = λ row_too is_too.
-                ap (λ (r : DealerRow). nat_le 1 quote.number && nat_le quote.number r.quotes)
-                (same_Some row_too row (sym is_too ∙ is)) ∙ within;
-          };
-          unready = refl;
-        }
+          },
+          refl,
+        )
+
+    unpost_fine : (number quote moment : ℕ) → OfRow row quote
+        → Every FineNow (option_to_list (option_map (λ room. duty.Unpost room quote moment)
+        (room_of rooms number)))
+    unfolding named_now
+    unpost_fine number quote moment of_day =
+        map_fine (room_of rooms number) (λ room. duty.Unpost room quote moment)
+        (λ room found.
+        (record { named = named_now number room found; within = within_row row quote of_day }, refl))
 
     said_fine : (moment : ℕ) (v : DealerVerdict) (settlement : Option Settled) → AcceptOk row v
+        → IfSome (word_asked v) (OfRow row)
         → ((quote : AcceptedQuote) → In (Quoted quote) (verdict_facts v settlement)
-        → In (Quoted quote) (facts_of (of_dealer dealer now)))
-        → Every FineNow (option_to_list (verdict_duty (rooms_by (trail_of dealer)) moment v settlement))
-    said_fine moment (verdict.QuoteAccepted name id quote replaced) settlement accepts quoted =
-        if_fine (goes_through replaced settlement)
-        (room_of (rooms_by (trail_of dealer)) quote.request) (post_of quote)
-        (λ room goes found. post_fine quote room accepts.0 accepts.1
-        (quoted quote (in_right (Quoted quote) (settled_facts replaced by_way.Replacement settlement) _
+        → In (Quoted quote) (facts_of (of_dealer dealer (Now h more))))
+        → Every FineNow (option_to_list (verdict_duty rooms moment v settlement))
+    said_fine moment (verdict.QuoteAccepted name id quote old) settlement accepts of_day quoted =
+        if_fine (goes_through old settlement)
+        (option_map (post_of quote) (room_of rooms quote.request))
+        (λ goes. map_fine (room_of rooms quote.request) (post_of quote)
+        (λ room found. post_fine quote room accepts.0 accepts.1
+        (quoted quote (in_right (Quoted quote) (settled_facts old by_way.Replacement settlement) _
         (subst (λ (b : Bool). In (Quoted quote) (if b then Quoted quote ∷ [] else [])) (sym goes)
-        (inl refl)))) found)
-    said_fine moment (verdict.CancelAccepted id quote request) settlement accepts quoted =
-        if_fine (is_withdrawn settlement) (room_of (rooms_by (trail_of dealer)) request)
-        (λ room. duty.Unpost room quote moment)
-        (λ room goes found.
-        plain_fine config now (actor.Firm dealer) (duty.Unpost room quote moment)
-        refl)
-    said_fine moment (verdict.DeclineAccepted name number) settlement accepts quoted =
-        map_fine (room_of (rooms_by (trail_of dealer)) number) (λ room. duty.Decline room moment)
-        (λ room. plain_fine config now (actor.Firm dealer) (duty.Decline room moment) refl)
-    said_fine moment (verdict.DropsFollow last) settlement accepts quoted =
-        (plain_fine config now (actor.Firm dealer) (duty.Drop last moment) refl, tt)
-    said_fine moment other settlement accepts quoted = tt
+        (inl refl)))) found))
+    said_fine moment (verdict.CancelAccepted id quote request) settlement accepts of_day quoted =
+        if_fine (is_withdrawn settlement)
+        (option_map (λ room. duty.Unpost room quote moment) (room_of rooms request))
+        (λ goes. unpost_fine request quote moment of_day)
+    said_fine moment (verdict.DeclineAccepted name number) settlement accepts of_day quoted =
+        map_fine (room_of rooms number) (λ room. duty.Decline room moment)
+        (λ room found. (named_now number room found, refl))
+    said_fine moment (verdict.DropsFollow last) settlement accepts of_day quoted =
+        ((who, refl), tt)
+    said_fine moment other settlement accepts of_day quoted = tt
 
     -- A drop.
 
     dropped_fine : (moment : ℕ) (settlement : Option Settled) (own : Option StandingQuote)
-        → Every FineNow (option_to_list
-        (unpost_dropped (rooms_by (trail_of dealer)) moment settlement own))
-    dropped_fine moment settlement None = tt
-    dropped_fine moment settlement (Some own) =
-        if_fine (is_withdrawn settlement) (room_of (rooms_by (trail_of dealer)) own.quote.request)
-        (λ room. duty.Unpost room own.quote.number moment)
-        (λ room goes found. plain_fine config now (actor.Firm dealer)
-        (duty.Unpost room own.quote.number moment) refl)
+        → IfSome (option_map (λ (o : StandingQuote). o.quote.number) own) (OfRow row)
+        → Every FineNow (option_to_list (unpost_dropped rooms moment settlement own))
+    dropped_fine moment settlement None of_day = tt
+    dropped_fine moment settlement (Some own) of_day =
+        if_fine (is_withdrawn settlement)
+        (option_map (λ room. duty.Unpost room own.quote.number moment)
+        (room_of rooms own.quote.request))
+        (λ goes. unpost_fine own.quote.request own.quote.number moment of_day)
 
     further_fine : (b : Bool) (last moment : ℕ)
         → Every FineNow (option_to_list (if b then Some (duty.Drop last moment) else None))
-    further_fine true last moment =
-        (plain_fine config now (actor.Firm dealer) (duty.Drop last moment) refl, tt)
+    further_fine true last moment = ((who, refl), tt)
     further_fine false last moment = tt
 
-  module _ (before : VenueOk config venue) (dealer : ℕ) (row : DealerRow)
-      (is : dealer_numbered config dealer ≡ Some row) where
-    -- what it brings, by this dealer
-    abbrev BringsOwn : Effect → Type 0
-    BringsOwn effect = Brings config venue (actor.Firm dealer) before effect
+  -- the entries of an event that shows no room
+  abbrev entries_with : List DealerFact → DealerEvent → List DealerEntry
+  entries_with facts more = map AtDesk facts ++ []
+      ++ map Sent (option_to_list (message_by h.config.date row trail more))
 
-    pub said_brings : (moment : ℕ) (bytes : List ℕ)
-        → BringsOwn (received_by_dealer config venue.facts moment bytes (dealer_of dealer row))
-    unfolding entries_of event_facts
-    said_brings moment bytes =
-        if_brings config venue (actor.Firm dealer) before _ _ nothing
-        (desk_plain config venue (actor.Firm dealer) before dealer row more
-        (left_by trail moment v) entries is refl
-        (event_plain facts messages (refl, verdict_silent v settlement))
-        (said_fine dealer row (before.desks dealer row is).numbered now
-        (λ room number found. number_for_grown venue.facts (map (AtDealer dealer) entries) dealer
-        room number found) is moment v settlement (verdict_accepts row (facts_of trail) moment
-        config.date bytes)
-        (λ quote quoted. subst (In (Quoted quote)) (sym (facts_with dealer facts [] messages))
-        (in_right (Quoted quote) (facts_of trail) facts
-        (inr quoted)))))
-        (nothing_brings config venue (actor.Firm dealer) before)
-      where
-        trail : List DealerEntry
-        trail = trail_of dealer
+  pub said_brings : (moment : ℕ) (bytes : List ℕ)
+      → Brings h (received_by_dealer h.config h.venue.facts moment bytes (dealer_of dealer row))
+  unfolding entries_of event_facts
+  said_brings moment bytes =
+      let v = dealer_verdict h.config.date row (book_by trail) moment bytes in
+      let settlement = settlement_of trail v in
+      let more = event.Received moment bytes settlement in
+      let facts = Came moment bytes (uses_number v) ∷ verdict_facts v settlement in
+      let messages = option_to_list (message_by h.config.date row trail more) in
+      let entries = entries_with facts more in
+      when_brings h _ _ (λ test.
+      desk_plain h dealer row (left_by trail moment v) entries is
+      (event_plain facts messages (refl, verdict_plain v settlement))
+      (said_fine entries moment v settlement
+      (verdict_accepts row (facts_of trail) moment h.config.date bytes)
+      (asks_of_day words h.config.date row trail desk.seen moment bytes)
+      (λ quote quoted. subst (In (Quoted quote))
+      (sym (facts_later h.venue.facts (map (AtDealer dealer) entries) dealer
+      ∙ ap (λ l. facts_of trail ++ facts_of l) (own_trail dealer entries)
+      ∙ ap (λ l. facts_of trail ++ l) (facts_added facts [] messages)))
+      (in_right (Quoted quote) (facts_of trail) facts (inr quoted)))))
 
-        v : DealerVerdict
-        v = dealer_verdict config.date row (book_by trail) moment bytes
-
-        settlement : Option Settled
-        settlement = settlement_of trail v
-
-        more : DealerEvent
-        more = event.Received moment bytes settlement
-
-        facts : List DealerFact
-        facts = Came moment bytes (uses_number v)
-            ∷ verdict_facts v settlement
-
-        messages : List (List ℕ)
-        messages = option_to_list (message_by config.date row trail more)
-
-        entries : List DealerEntry
-        entries = map AtDesk facts ++ [] ++ map Sent messages
-
-        now : List Fact
-        now = with_entries dealer entries
-
-    pub dropped_brings : (last moment : ℕ)
-        → BringsOwn (dropped_by config venue.facts last moment (dealer_of dealer row))
-    unfolding entries_of event_facts
-    dropped_brings last moment =
-        if_brings config venue (actor.Firm dealer) before _ _ nothing
-        (desk_plain config venue (actor.Firm dealer) before dealer row more
-        (left_by_drop config venue.facts last moment (dealer_of dealer row)) entries is refl
-        (event_plain facts messages (refl, settled_silent asked by_way.Cancel settlement))
-        (every_both (Fine config now (actor.Firm dealer)) _ _
-        (dropped_fine dealer row numbered now stay is moment settlement
-        (quote_to_drop (book_by trail) last))
-        (further_fine dealer row numbered now stay is _ last moment)))
-        (nothing_brings config venue (actor.Firm dealer) before)
-      where
-        trail : List DealerEntry
-        trail = trail_of dealer
-
-        numbered : AreNumbered (rooms_by trail)
-        numbered = (before.desks dealer row is).numbered
-
-        asked : Option ℕ
-        asked = number_to_drop (book_by trail) last
-
-        settlement : Option Settled
-        settlement = answer_to_drop trail last
-
-        more : DealerEvent
-        more = drop_at trail last moment
-
-        facts : List DealerFact
-        facts = Dropped last moment ∷ settled_facts asked by_way.Cancel settlement
-
-        messages : List (List ℕ)
-        messages = option_to_list (message_by config.date row trail more)
-
-        entries : List DealerEntry
-        entries = map AtDesk facts ++ [] ++ map Sent messages
-
-        now : List Fact
-        now = with_entries dealer entries
-
-        stay : (room : RoomRef) (number : ℕ) → number_for venue.facts dealer room ≡ Some number
-            → number_for now dealer room ≡ Some number
-        stay room number found =
-            number_for_grown venue.facts (map (AtDealer dealer) entries) dealer room number found
+  pub dropped_brings : (last moment : ℕ)
+      → Brings h (dropped_by h.config h.venue.facts last moment (dealer_of dealer row))
+  unfolding entries_of event_facts
+  dropped_brings last moment =
+      let asked = number_to_drop (book_by trail) last in
+      let settlement = answer_to_drop trail last in
+      let more = drop_at trail last moment in
+      let facts = Dropped last moment ∷ settled_facts asked by_way.Cancel settlement in
+      let entries = entries_with facts more in
+      when_brings h _ _ (λ test.
+      desk_plain h dealer row
+      (left_by_drop h.config h.venue.facts last moment (dealer_of dealer row)) entries is
+      (event_plain facts (option_to_list (message_by h.config.date row trail more))
+      (refl, settled_plain asked by_way.Cancel settlement))
+      (every_both (FineNow entries) _ _
+      (dropped_fine entries moment settlement (quote_to_drop (book_by trail) last)
+      (drops_of_day words h.config.date row trail desk.seen last))
+      (further_fine entries _ last moment)))

@@ -1,251 +1,274 @@
 -- The end of a room brings what stands in a venue: a pass, an expiry, a hit.
-use Rattle.std.proofs.Common.{◌≡◌, ℕ, ◌+◌, Bool, true, false, ◌||◌, not, List, [], ◌∷◌, ◌++◌}
-use Rattle.std.proofs.Common.{Option, Some, None, option_map, if◌then◌else◌, Result, Ok, Err, refl}
-use Rattle.std.proofs.Common.{sym, ap, ◌∙◌, subst, arith, eq-eqb}
-use Rattle.std.specs.List.{list_any}
-use Rattle.std.proofs.lemmas.Bool.Decides.{nat_tests}
-use Rattle.std.proofs.lemmas.Bool.{and_parts}
+use Rattle.std.proofs.Common.{Bool, Err, List, None, Ok, Option, Result, Some, [], ap, false}
+use Rattle.std.proofs.Common.{if◌then◌else◌, inr, is_some, map, not, refl, sym, true, ℕ, ◌&&◌, ◌++◌}
+use Rattle.std.proofs.Common.{◌==◌, ◌||◌, ◌∙◌, ◌∷◌, ◌≡◌}
+use Rattle.std.proofs.lemmas.List.Folds.{list_any-append}
+use Rattle.std.proofs.lemmas.Bool.{and_parts, not-true}
+use Rattle.market_terms.specs.Dealers.{are_distinct}
 use Rattle.market_terms.specs.declared.closes.Close.TheVariants as closes
 use Rattle.market_terms.specs.declared.closes.HitRefusal.{HitRefusal}
 use Rattle.market_terms.specs.declared.duties.Duty.{Duty}
 use Rattle.market_terms.specs.declared.duties.Duty.TheVariants as duty
 use Rattle.market_terms.specs.declared.rooms.ResponseRef.{ResponseRef}
 use Rattle.market_terms.specs.declared.rooms.RoomRef.{RoomRef}
-use Rattle.quote_word.specs.declared.settled.Settled.{Settled}
-use Rattle.venue_rows.specs.Rows.{Configuration}
-use Rattle.request_room.specs.RoomFacts.{RoomFact, Ended, is_open, request_of}
-use Rattle.request_room.specs.Book.{award_of, book_of, end_by, event_facts, expired, hit_checks}
-use Rattle.request_room.specs.Book.{hit_outcome, hit_refusal, is_past_deadline, may_expire, passed}
-use Rattle.request_room.specs.Book.{quote_meant, reply_of, where_so}
+use Rattle.dealer_desk.specs.DealerOutput.{is_same_room}
+use Rattle.request_room.specs.Book.{event_facts, expired, is_past_deadline, may_expire, passed}
+use Rattle.request_room.specs.Book.{where_so}
+use Rattle.request_room.specs.RoomFacts.{Ended, end_of, ended_as, is_ended, is_open, is_ready}
+use Rattle.request_room.specs.RoomFacts.{names, request_of}
 use Rattle.request_room.specs.declared.ends.End.{End}
 use Rattle.request_room.specs.declared.events.RoomEvent.TheVariants as at_room
-use Rattle.request_room.specs.declared.quotes.PostedQuote.{PostedQuote as BookQuote}
-use Rattle.venue_steps.specs.RoomSteps.{close_for, duties_of_expire, duties_of_pass, is_winner}
-use Rattle.venue_steps.specs.RoomSteps.{reply_to_pass, told_in, told_of_hit}
-use Rattle.step_replay.specs.Actions.{Effect, QuoteRef, hit_with, in_room, lifting, quote_with_word}
+use Rattle.request_room.specs.declared.requests.RoomRequest.{RoomRequest}
+use Rattle.venue_steps.specs.InvestorSteps.{replies_to}
+use Rattle.venue_steps.specs.RoomSteps.{close_for, dealers_of, duties_of_expire, duties_of_pass}
+use Rattle.venue_steps.specs.RoomSteps.{reply_to_pass, told_in}
+use Rattle.venue_places.specs.declared.actors.Actor.TheVariants as actor
+use Rattle.step_replay.specs.Actions.{QuoteRef, in_room, lifting}
 use Rattle.step_replay.specs.DutyEffects.{sweep_effect}
-use Rattle.step_replay.specs.AuditTrail.{AuditTrail}
-use Rattle.step_replay.specs.DealerTrail.{DealerEntry, Lifted, lifts, was_lifted}
-use Rattle.step_replay.specs.VenueFacts.{AtDealer, Fact, of_dealer, of_room}
-use Rattle.venue_places.specs.declared.actors.Actor.{Actor}
-use Rattle.step_replay.specs.EachLemmas.{Every}
-use Rattle.step_replay.specs.GrowthLemmas.{any_right}
-use Rattle.step_replay.specs.OwnerLemmas.{owner_among, quote_at}
-use Rattle.step_replay.specs.PlaceLemmas.{dealer_grown, own_trail}
-use Rattle.venue_laws.proofs.AcceptedQuotes.{none_holds}
-use Rattle.venue_laws.proofs.VenueGrowth.{quoted_grown}
-use Rattle.venue_laws.proofs.VenueInvariant.{LiftedIn, PostedIn, RoomOk, VenueOk}
-use Rattle.venue_laws.proofs.PlainFacts.{is_plain_fact, plain_fine}
-use Rattle.venue_laws.proofs.VenuePlain.{Brings}
-use Rattle.venue_laws.proofs.VenueRooms.{all_known, here, in_room_brings, known, room_brings}
-use Rattle.venue_laws.proofs.HitAwards.{awards, winner_is}
-use Rattle.venue_laws.proofs.EndedRooms.{ended_brings}
-use Rattle.venue_laws.proofs.ConditionWords.{posted_in}
+use Rattle.step_replay.specs.EachLemmas.{Each, Every, every_both}
+use Rattle.step_replay.specs.GrowthLemmas.{In, in_right, said_after, same_room}
+use Rattle.step_replay.specs.PlaceLemmas.{investor_grown, investor_in_room, own_room, room_grown}
+use Rattle.step_replay.specs.VenueFacts.{Fact, InRoom, of_investor, of_room}
+use Rattle.venue_laws.proofs.ListLemmas.{every_map, in_map, in_named, named_in, none_some}
+use Rattle.venue_laws.proofs.PlainFacts.{AreQuiet, free_order, is_free, is_quiet}
+use Rattle.venue_laws.proofs.VenueGrowth.{known_stays, named_already, named_later, opened_stays}
+use Rattle.venue_laws.proofs.VenueGrowth.{ready_grown, request_grown}
+use Rattle.venue_laws.proofs.VenueInvariant.{DutyOk, PassesIn, ReadyIn}
+use Rattle.venue_laws.proofs.VenueKinds.{Brings, DutyThen, FactThen, Here, Now, in_room_brings}
+use Rattle.venue_laws.proofs.VenueKinds.{known, none_queued, queue, quiet_brings, room_brings}
+use Rattle.venue_laws.proofs.VenueKinds.{same_markets}
+use Rattle.venue_laws.proofs.VenueKnown.{opened_in, ready_in}
+use Rattle.venue_laws.proofs.VenueOpenings.{each_once}
+use Rattle.venue_laws.proofs.VenueParts.{InOrder, LiftedIn, closer, did_in, tells_it}
+use Rattle.venue_laws.proofs.VenueTurns.{left_by}
 
--- nothing stands of a room in no facts
-none_here : (room : RoomRef) → of_room room [] ≡ []
+-- a duty that may come more than once tells nothing
+free_silent : (dealer : ℕ) (room : RoomRef) (left : Duty) → is_free left ≡ true
+    → tells_it dealer room left ≡ false
+free_silent dealer room (duty.Tell other at close moment) free = cc
+free_silent dealer room other free = refl
+
+-- whom a request names
+listed_named : (request : Option RoomRequest) (dealer : ℕ) → In dealer (dealers_of request)
+    → names request dealer ≡ true
+listed_named None dealer is = absurd is
+listed_named (Some request) dealer is = named_in dealer request.dealers is
+
+named_listed : (request : Option RoomRequest) (dealer : ℕ) → names request dealer ≡ true
+    → In dealer (dealers_of request)
+named_listed None dealer is = cc
+named_listed (Some request) dealer is = in_named dealer request.dealers is
+
+-- what is lifted stands at no other place
+
+lifting_quiet : (found : Option QuoteRef) (outcome : Result End HitRefusal)
+    → AreQuiet (lifting found outcome)
+lifting_quiet None outcome = tt
+lifting_quiet (Some hit) (Ok award) = (refl, tt)
+lifting_quiet (Some hit) (Err why) = tt
+
+lifting_elsewhere : (room : RoomRef) (found : Option QuoteRef) (outcome : Result End HitRefusal)
+    → of_room room (lifting found outcome) ≡ []
 unfolding of_room
-none_here room = refl
+lifting_elsewhere room None outcome = refl
+lifting_elsewhere room (Some hit) (Ok award) = refl
+lifting_elsewhere room (Some hit) (Err why) = refl
 
-module _ (config : Configuration) (venue : AuditTrail) (before : VenueOk config venue) (by : Actor)
-  where
-    abbrev BringsHere : Effect → Type 0
-    BringsHere effect = Brings config venue by before effect
+lifting_away : (investor : ℕ) (found : Option QuoteRef) (outcome : Result End HitRefusal)
+    → of_investor investor (lifting found outcome) ≡ []
+unfolding of_investor
+lifting_away investor None outcome = refl
+lifting_away investor (Some hit) (Ok award) = refl
+lifting_away investor (Some hit) (Err why) = refl
 
-    abbrev known_in : RoomRef → List RoomFact
-    known_in room = known config venue before room
+pub none_lifted : (found : Option QuoteRef) (why : HitRefusal) → lifting found (Err why) ≡ []
+none_lifted None why = refl
+none_lifted (Some hit) why = refl
 
-    -- facts of a room
-    abbrev in_place : RoomRef → List RoomFact → List Fact
-    in_place room added = here config venue before by room added
+module _ (h : Here) (room : RoomRef) where
+  untold : end_of (known h room) ≡ None → (dealer : ℕ) (left : Duty)
+      → DutyOk h.config h.venue.facts h.by left → tells_it dealer room left ≡ false
+  untold none dealer (duty.Tell other at close moment) fits =
+      by_test (other == dealer) (is_same_room at room) refl
+    where
+      by_test : (b c : Bool) → is_same_room at room ≡ c → (b && c) ≡ false
+      by_test false c same = refl
+      by_test true false same = refl
+      by_test true true same =
+          cc (sym none ∙ ap (λ (r : RoomRef). end_of (known h r)) (sym (same_room at room same))
+          ∙ fits.end_is)
+  untold none dealer other fits = refl
 
-    -- A pass, and an expiry.
+  lifting_ok : (more : List Fact) (duties : List Duty) (found : Option QuoteRef)
+      (outcome : Result End HitRefusal) → Every (FactThen h more duties) (lifting found outcome)
+  lifting_ok more duties None outcome = tt
+  lifting_ok more duties (Some hit) (Ok award) = (tt, tt)
+  lifting_ok more duties (Some hit) (Err why) = tt
 
-    pub passed_brings : (room : RoomRef) (response : ResponseRef) (moment : ℕ)
-        → BringsHere (in_room config venue.facts room true (at_room.Pass moment)
-        (duties_of_pass (known_in room) room response moment))
-    unfolding event_facts
-    passed_brings room response moment =
-        in_room_brings config venue before by room true (at_room.Pass moment)
-        (duties_of_pass (known_in room) room response moment)
-        (by_test (is_open (known_in room)) refl)
-      where
-        reply : Duty
-        reply = duty.Answer room response (reply_to_pass (is_open (known_in room))) moment
+  -- what an end adds, and what it leaves
+  abbrev ended_facts : End → ℕ → Option QuoteRef → List Fact
+  ended_facts end moment lifted =
+      lifting lifted (Ok end) ++ map (InRoom room) (Ended end moment ∷ [])
 
-        effect : Bool → Effect
-        effect b = record {
-          facts = in_place room (where_so b (Ended passed moment));
-          duties = reply ∷ (if b then told_in (known_in room) room passed moment else []);
-        }
+  abbrev told : End → ℕ → List Duty
+  told end moment = told_in (known h room) room end moment
 
-        never : (dealer : ℕ) → close_for passed dealer ≡ closes.Hit → {A : Type 0} → A
-        never dealer is = cc
+  -- An end, where the room was open.
 
-        by_test : (b : Bool) → is_open (known_in room) ≡ b → BringsHere (effect b)
-        by_test true is =
-            ended_brings config venue before by room passed moment reply refl [] tt (none_here room)
-            is
-            (λ dealer hit. never dealer hit)
-        by_test false is =
-            room_brings config venue before by room [] (reply ∷ []) tt
-            (plain_fine config _ by reply refl, tt)
+  module _ (end : End) (moment : ℕ) (left : Duty) (lifted : Option QuoteRef)
+      (is : is_open (known h room) ≡ true) (by_is : h.by ≡ closer end.kind room)
+      (free : is_free left ≡ true) (left_ok : DutyThen h (ended_facts end moment lifted) left)
+      (hits : (dealer : ℕ) → close_for end dealer ≡ closes.Hit
+      → LiftedIn (Now h (ended_facts end moment lifted)) dealer room) where
+    abbrev added : List Fact
+    added = ended_facts end moment lifted
 
-    pub expired_brings : (room : RoomRef) (moment : ℕ)
-        → BringsHere (sweep_effect config venue.facts room moment)
-    unfolding event_facts sweep_effect
-    expired_brings room moment =
-        in_room_brings config venue before by room true (at_room.Expire moment)
-        (duties_of_expire (known_in room) room moment)
-        (by_test (may_expire (known_in room) moment) refl)
-      where
-        effect : Bool → Effect
-        effect b = record {
-          facts = in_place room (where_so b (Ended expired moment));
-          duties = if b then duty.Close room moment ∷ told_in (known_in room) room expired moment
-              else [];
-        }
+    abbrev duties : List Duty
+    duties = left ∷ told end moment
 
-        never : (dealer : ℕ) → close_for expired dealer ≡ closes.Hit → {A : Type 0} → A
-        never dealer is = cc
+    abbrev tell : ℕ → Duty
+    tell dealer = duty.Tell dealer room (close_for end dealer) moment
 
-        by_test : (b : Bool) → may_expire (known_in room) moment ≡ b → BringsHere (effect b)
-        by_test true is =
-            ended_brings config venue before by room expired moment (duty.Close room moment) refl []
-            tt (none_here room)
-            (and_parts (is_open (known_in room))
-            (is_past_deadline (request_of (known_in room)) moment) is).0
-            (λ dealer hit. never dealer hit)
-        by_test false is = room_brings config venue before by room [] [] tt tt
+    abbrev listed : List ℕ
+    listed = dealers_of (request_of (known h room))
 
-    -- A hit.
+    parts : (is_ready (known h room) ≡ true) × (not (is_ended (known h room)) ≡ true)
+    parts = and_parts (is_ready (known h room)) (not (is_ended (known h room))) is
 
-    lifting_plain : (found : Option QuoteRef) (outcome : Result End HitRefusal)
-        → Every (λ fact. is_plain_fact fact ≡ true) (lifting found outcome)
-    lifting_plain None outcome = tt
-    lifting_plain (Some hit) (Ok award) = (refl, tt)
-    lifting_plain (Some hit) (Err why) = tt
+    no_end : end_of (known h room) ≡ None
+    no_end = none_some (end_of (known h room)) (not-true (is_ended (known h room)) parts.1)
 
-    lifting_elsewhere : (room : RoomRef) (found : Option QuoteRef) (outcome : Result End HitRefusal)
-        → of_room room (lifting found outcome) ≡ []
-    unfolding of_room
-    lifting_elsewhere room None outcome = refl
-    lifting_elsewhere room (Some hit) (Ok award) = refl
-    lifting_elsewhere room (Some hit) (Err why) = refl
+    ready : ReadyIn h.config h.venue.facts h.venue.caused (did_in h.venue) room
+    ready = ready_in h.config h.venue h.stood room parts.0
 
-    none_lifted : (found : Option QuoteRef) (why : HitRefusal) → lifting found (Err why) ≡ []
-    none_lifted None why = refl
-    none_lifted (Some hit) why = refl
+    end_now : end_of (of_room room (Now h added)) ≡ Some end
+    end_now =
+        rw (
+          room_grown room h.venue.facts added,
+          room_grown room (lifting lifted (Ok end)) (map (InRoom room) (Ended end moment ∷ [])),
+          lifting_elsewhere room lifted (Ok end),
+          own_room room (Ended end moment ∷ []),
+        ) (said_after ended_as (known h room) (Ended end moment ∷ []) no_end)
 
-    -- the quote of a posted word
-    found_word : (room : RoomRef) (quote : BookQuote)
-        (posted : PostedIn config venue.facts room quote)
-        → quote_with_word config quote.word ≡ Some (quote_at quote.dealer posted.quote)
-    found_word room quote posted =
-        let number : 0 + quote.dealer ≡ quote.dealer = omega arith in
-        ap (quote_with_word config) posted.word_is
-        ∙ owner_among 0 config.dealers quote.dealer posted.row posted.quote posted.row_is
-        posted.within
-        ∙ ap (λ (n : ℕ). Some (quote_at n posted.quote)) number
+    ended : FactThen h added duties (InRoom room (Ended end moment))
+    ended = record {
+      request = ready.request;
+      request_is = request_grown h.venue.facts added room ready.request ready.request_is;
+      ready = ready_grown h.venue.facts added room parts.0;
+      told = λ dealer named.
+          let before = named_already h.venue.facts added room ready.request dealer ready.request_is
+          named in
+          record {
+            by = h.by;
+            moment = moment;
+            left = in_right _ h.venue.caused (left_by h.by duties)
+                (inr (in_map (λ (d : Duty). record { by = h.by; duty = d }) (tell dealer)
+                (told end moment) (in_map tell dealer listed
+                (named_listed (request_of (known h room)) dealer before))));
+          };
+    }
 
-    -- the winner's quote is lifted
-    winner_lifted : (room : RoomRef) (word moment : ℕ) (award : End)
-        → award ≡ award_of (known_in room) word → (rest : List Fact) (dealer : ℕ)
-        → close_for award dealer ≡ closes.Hit
-        → LiftedIn (venue.facts ++ (lifting (quote_with_word config word) (Ok award) ++ rest))
-        dealer room
-    winner_lifted room word moment award award_is rest dealer hit =
-        by_quote (quote_meant (book_of (known_in room)) word) refl
-        (winner_is (winner (quote_meant (book_of (known_in room)) word)) cover dealer
-        (ap (λ (e : End). close_for e dealer) (sym award_is) ∙ hit))
-      where
-        winner : Option BookQuote → Option (ℕ × ℕ)
-        winner found = option_map (λ (q : BookQuote). (q.dealer, q.word)) found
+    told_order : Each (InOrder (Now h added)) (queue h ++ left ∷ []) (told end moment)
+    told_order =
+        each_once (Now h added) tell (λ dealer. tells_it dealer room)
+        (λ dealer other differs. ap (λ (b : Bool). b && is_same_room room room) differs)
+        (λ front dealer rest clear. clear) (queue h ++ left ∷ []) listed
+        (ap (λ (r : Option RoomRequest). are_distinct (dealers_of r)) ready.request_is
+        ∙ (opened_in h.config h.venue h.stood room ready.request ready.request_is).distinct)
+        (λ dealer named. list_any-append (tells_it dealer room) (queue h) (left ∷ [])
+        ∙ ap (λ (b : Bool). b || (tells_it dealer room left || false))
+        (none_queued h (tells_it dealer room) (untold no_end dealer))
+        ∙ ap (λ (b : Bool). b || false) (free_silent dealer room left free))
 
-        cover : Option ℕ
-        cover = (award_of (known_in room) word).cover
+    away : (investor : ℕ) → of_investor investor added ≡ []
+    away investor =
+        rw (
+          investor_grown investor (lifting lifted (Ok end)) (map (InRoom room) (Ended end moment ∷ [])),
+          lifting_away investor lifted (Ok end),
+        ) (investor_in_room investor room (Ended end moment ∷ []))
 
-        Lifts : Option QuoteRef → ℕ → Type 0
-        Lifts found number =
-            LiftedIn (venue.facts ++ (lifting found (Ok award) ++ rest)) number room
+    pub ended_brings : Brings h (record { facts = added; duties = duties })
+    ended_brings =
+        quiet_brings h (record { facts = added; duties = duties })
+        (every_both (λ fact. is_quiet fact ≡ true) (lifting lifted (Ok end))
+        (map (InRoom room) (Ended end moment ∷ [])) (lifting_quiet lifted (Ok end)) (refl, tt))
+        (every_both (FactThen h added duties) (lifting lifted (Ok end))
+        (map (InRoom room) (Ended end moment ∷ [])) (lifting_ok added duties lifted (Ok end))
+        (ended, tt)) (
+          left_ok,
+          every_map (DutyThen h added) tell listed (λ dealer named. record {
+            end = end;
+            end_is = end_now;
+            by_is = by_is;
+            close_is = refl;
+            named = named_later h.venue.facts added room dealer
+                (listed_named (request_of (known h room)) dealer named);
+            hit = hits dealer;
+          }),
+        )
+        (free_order (Now h added) (queue h) left (told end moment) free, told_order)
+        (λ investor. same_markets h added investor (away investor))
 
-        lift : (quote : BookQuote) (posted : PostedIn config venue.facts room quote)
-            → Lifts (Some (quote_at quote.dealer posted.quote)) quote.dealer
-        lift quote posted =
-            let entry = AtDealer quote.dealer (Lifted posted.quote) in
-            record {
-              quote = posted.quote;
-              quoted = quoted_grown venue.facts (entry ∷ rest) quote.dealer room posted.quote
-                  posted.quoted;
-              lifted = ap (λ (l : List DealerEntry). was_lifted l posted.quote)
-                  (dealer_grown quote.dealer venue.facts (entry ∷ rest)
-                  ∙ ap (λ l. of_dealer quote.dealer venue.facts ++ l)
-                  (dealer_grown quote.dealer (entry ∷ []) rest
-                  ∙ ap (λ l. l ++ of_dealer quote.dealer rest)
-                  (own_trail quote.dealer (Lifted posted.quote ∷ []))))
-                  ∙ any_right (lifts posted.quote) (of_dealer quote.dealer venue.facts)
-                  (Lifted posted.quote ∷ of_dealer quote.dealer rest)
-                  (ap (λ (b : Bool).
-                  b || list_any (lifts posted.quote) (of_dealer quote.dealer rest))
-                  (eq-eqb posted.quote posted.quote refl));
-            }
+  -- one duty that may come more than once, where nothing ends
+  pub left_brings : (left : Duty) → is_free left ≡ true → DutyThen h [] left
+      → Brings h (record { facts = []; duties = left ∷ [] })
+  left_brings left free ok =
+      room_brings h room [] (left ∷ []) tt (ok, tt)
+      (free_order (Now h []) (queue h) left [] free, tt)
 
-        by_quote : (found : Option BookQuote) → quote_meant (book_of (known_in room)) word ≡ found
-            → is_winner (winner found) dealer ≡ true
-            → Lifts (quote_with_word config word) dealer
-        by_quote None found wins = cc
-        by_quote (Some quote) found wins =
-            let stood = posted_in (RoomOk config venue.facts venue.caused room) word
-            (known_in room) quote found (all_known config venue before room) in
-            let dealer_is : quote.dealer ≡ dealer = grind (arith, nat_tests) in
-            subst (Lifts (quote_with_word config word)) dealer_is
-            (subst (λ (o : Option QuoteRef). Lifts o quote.dealer)
-            (sym (ap (quote_with_word config) (sym stood.0) ∙ found_word room quote stood.1))
-            (lift quote stood.1))
+  -- A pass, and an expiry.
 
-    pub hit_brings : (room : RoomRef) (response : ResponseRef) (word moment : ℕ)
-        (settlement : Option Settled)
-        → BringsHere (hit_with config venue.facts room response word moment settlement)
-    unfolding event_facts hit_refusal
-    hit_brings room response word moment settlement =
-        by_outcome (hit_outcome (known_in room) word moment settlement) refl
-      where
-        replied : Result End HitRefusal → Duty
-        replied outcome = duty.Answer room response (reply_of outcome) moment
+  pub passed_brings : (response : ResponseRef) (moment : ℕ)
+      → PassesIn h.config h.venue.facts h.by room response
+      → Brings h (in_room h.config h.venue.facts room true (at_room.Pass moment)
+      (duties_of_pass (known h room) room response moment))
+  unfolding event_facts
+  passed_brings response moment passes =
+      in_room_brings h room true (at_room.Pass moment)
+      (duties_of_pass (known h room) room response moment) (by_test (is_open (known h room)) refl)
+    where
+      reply : Bool → Duty
+      reply b = duty.Answer room response (reply_to_pass b) moment
 
-        effect : Result End HitRefusal → Effect
-        effect outcome = record {
-          facts = lifting (quote_with_word config word) outcome
-              ++ in_place room (end_by outcome moment);
-          duties = replied outcome ∷ told_of_hit (known_in room) room moment outcome;
-        }
+      answers_so : (b : Bool) → replies_to None (reply_to_pass b) ≡ true
+      answers_so true = refl
+      answers_so false = refl
 
-        opened_yet : hit_refusal (known_in room) word moment ≡ None
-            → is_open (known_in room) ≡ true
-        opened_yet none =
-            is_so (is_open (known_in room))
-            (none_holds (hit_checks (known_in room) word moment) none).0
-          where
-            is_so : (b : Bool) → not b ≡ false → b ≡ true
-            is_so true is = refl
-            is_so false is = cc
+      answered : (b : Bool) (more : List Fact) → DutyThen h more (reply b)
+      answered b more = record {
+        answers_it = ap (λ (k : Option ℕ). replies_to k (reply_to_pass b)) passes.none
+            ∙ answers_so b;
+        known = known_stays h.venue.facts more h.config room response.k passes.known;
+      }
 
-        by_outcome : (outcome : Result End HitRefusal)
-            → hit_outcome (known_in room) word moment settlement ≡ outcome
-            → BringsHere (effect outcome)
-        by_outcome (Ok award) is =
-            let so = awards (known_in room) word moment settlement award is in
-            ended_brings config venue before by room award moment (replied (Ok award)) refl
-            (lifting (quote_with_word config word) (Ok award))
-            (lifting_plain (quote_with_word config word) (Ok award))
-            (lifting_elsewhere room (quote_with_word config word) (Ok award))
-            (opened_yet so.unrefused)
-            (λ dealer hit. winner_lifted room word moment award so.award_is
-            (in_place room (Ended award moment ∷ [])) dealer hit)
-        by_outcome (Err why) is =
-            subst (λ (l : List Fact). BringsHere (record {
-              facts = l ++ [];
-              duties = replied (Err why) ∷ [];
-            })) (sym (none_lifted (quote_with_word config word) why))
-            (room_brings config venue before by room [] (replied (Err why) ∷ []) tt
-            (plain_fine config _ by (replied (Err why)) refl, tt))
+      by_test : (b : Bool) → is_open (known h room) ≡ b → Brings h (record {
+        facts = map (InRoom room) (where_so b (Ended passed moment));
+        duties = reply b ∷ (if b then told passed moment else []);
+      })
+      by_test true is =
+          ended_brings passed moment (reply true) None is passes.by_is refl (answered true _)
+          (λ dealer hit. cc)
+      by_test false is = left_brings (reply false) refl (answered false [])
+
+  pub expired_brings : (moment : ℕ) → h.by ≡ actor.Clock
+      → Brings h (sweep_effect h.config h.venue.facts room moment)
+  unfolding event_facts sweep_effect
+  expired_brings moment by_is =
+      in_room_brings h room true (at_room.Expire moment)
+      (duties_of_expire (known h room) room moment)
+      (by_test (may_expire (known h room) moment) refl)
+    where
+      by_test : (b : Bool) → may_expire (known h room) moment ≡ b → Brings h (record {
+        facts = map (InRoom room) (where_so b (Ended expired moment));
+        duties = if b then duty.Close room moment ∷ told expired moment else [];
+      })
+      by_test false is = room_brings h room [] [] tt tt tt
+      by_test true is =
+          let was_open = (and_parts (is_open (known h room))
+          (is_past_deadline (request_of (known h room)) moment) is).0 in
+          let stood = ready_in h.config h.venue h.stood room (and_parts (is_ready (known h room))
+          (not (is_ended (known h room))) was_open).0 in
+          ended_brings expired moment (duty.Close room moment) None was_open by_is refl
+          (opened_stays h.venue.facts (ended_facts expired moment None) room
+          (ap (λ (r : Option RoomRequest). is_some r) stood.request_is))
+          (λ dealer hit. cc)

@@ -1,55 +1,53 @@
 -- What stands in a venue goes on to stand as more facts and duties come.
-use Rattle.std.proofs.Common.{◌≡◌, ℕ, true, List, ◌++◌, Option, Some, None, is_some, refl, sym, ap}
-use Rattle.std.proofs.Common.{◌∙◌, subst}
-use Rattle.std.specs.List.{list_any}
+use Rattle.std.proofs.Common.{List, None, Option, Some, ap, is_some, subst, sym, true, ℕ, ◌++◌, ◌∙◌}
+use Rattle.std.proofs.Common.{◌≡◌}
 use Rattle.std.proofs.lemmas.List.Elements.{filter_map-append}
-use Rattle.market_terms.specs.declared.closes.Close.{Close}
+use Rattle.std.specs.List.{list_any}
 use Rattle.market_terms.specs.declared.duties.Duty.{Duty}
 use Rattle.market_terms.specs.declared.duties.Duty.TheVariants as duty
 use Rattle.market_terms.specs.declared.rooms.RoomRef.{RoomRef}
 use Rattle.venue_rows.specs.Rows.{Configuration}
-use Rattle.dealer_desk.specs.DealerFacts.{Told, Quoted, tells}
-use Rattle.dealer_desk.specs.DealerOutput.{number_in}
-use Rattle.request_room.specs.RoomFacts.{RoomFact, Opened, Readied, Posted, Ended, request_of}
-use Rattle.request_room.specs.RoomFacts.{end_of, is_ready, is_named, is_readied, ended_as}
-use Rattle.request_room.specs.RoomFacts.{opened_for}
+use Rattle.dealer_desk.specs.DealerFacts.{Quoted, Shown, Told, tells}
+use Rattle.investor_desk.specs.InvestorFacts.{InvestorFact, book_of, knows}
+use Rattle.request_room.specs.RoomFacts.{Ended, Opened, Posted, Readied, RoomFact, end_of, ended_as}
+use Rattle.request_room.specs.RoomFacts.{is_named, is_readied, is_ready, opened_for, request_of}
 use Rattle.request_room.specs.declared.ends.End.{End}
 use Rattle.request_room.specs.declared.requests.RoomRequest.{RoomRequest}
-use Rattle.step_replay.specs.AuditTrail.{Caused}
-use Rattle.step_replay.specs.DealerTrail.{DealerEntry, AtDesk, facts_of, rooms_by, fact_in}
-use Rattle.step_replay.specs.DealerTrail.{was_lifted, lifts, room_in}
-use Rattle.step_replay.specs.VenueFacts.{Fact, AtDealer, InRoom, AtInvestor, of_dealer, of_room}
 use Rattle.venue_places.specs.declared.actors.Actor.{Actor}
 use Rattle.venue_places.specs.declared.actors.Actor.TheVariants as actor
-use Rattle.step_replay.specs.GrowthLemmas.{In, in_left, any_left, number_grown, said_grown}
-use Rattle.step_replay.specs.GrowthLemmas.{named_grown, named_before}
-use Rattle.step_replay.specs.PlaceLemmas.{dealer_grown, room_grown}
-use Rattle.venue_laws.proofs.VenueInvariant.{number_for, QuotedIn, LiftedIn, ReadyIn, EntryOk}
-use Rattle.venue_laws.proofs.VenueInvariant.{RoomOk, FactOk, TellsIn, DutyOk, InOrder, DoneOk}
-
--- Growth.
+use Rattle.step_replay.specs.AuditTrail.{Caused}
+use Rattle.step_replay.specs.DealerTrail.{AtDesk, DealerEntry, ShownIn, fact_in, facts_of, lifts}
+use Rattle.step_replay.specs.DealerTrail.{room_in, rooms_by, was_lifted}
+use Rattle.step_replay.specs.GrowthLemmas.{In, any_left, in_left, named_before, named_grown}
+use Rattle.step_replay.specs.GrowthLemmas.{number_grown, said_grown}
+use Rattle.step_replay.specs.InvestorTrail as investor_trail
+use Rattle.step_replay.specs.PlaceLemmas.{dealer_grown, investor_grown, room_grown}
+use Rattle.step_replay.specs.VenueFacts.{AtDealer, AtInvestor, Fact, InRoom, of_dealer, of_investor}
+use Rattle.step_replay.specs.VenueFacts.{of_room}
+use Rattle.venue_laws.proofs.KnownDesks.{knows_grown}
+use Rattle.venue_laws.proofs.ListLemmas.{some_of}
+use Rattle.venue_laws.proofs.VenueInvariant.{ByNamed, DutyOk, EntryOk, FactOk, KnownIn, RoomOk}
+use Rattle.venue_laws.proofs.VenueParts.{DoneOk, Grows, InOrder, IsOpened, LiftedIn, QuotedIn}
+use Rattle.venue_laws.proofs.VenueParts.{begins, investor_facts, number_for, readies, shows}
+use Rattle.venue_laws.proofs.VenueParts.{tells_it}
 
 module _ (facts more : List Fact) where
   pub number_for_grown : (dealer : ℕ) (room : RoomRef) (number : ℕ)
       → number_for facts dealer room ≡ Some number
       → number_for (facts ++ more) dealer room ≡ Some number
   number_for_grown dealer room number is =
-      ap (λ (trail : List DealerEntry). number_in (rooms_by trail) room)
-      (dealer_grown dealer facts more)
-      ∙ ap (λ (rooms : List RoomRef). number_in rooms room)
-      (filter_map-append room_in (of_dealer dealer facts) (of_dealer dealer more))
-      ∙ number_grown 1 (rooms_by (of_dealer dealer facts)) (rooms_by (of_dealer dealer more)) room
-      number is
+      rw (
+        dealer_grown dealer facts more,
+        filter_map-append room_in (of_dealer dealer facts) (of_dealer dealer more),
+      )
+      (number_grown 1 (rooms_by (of_dealer dealer facts)) (rooms_by (of_dealer dealer more)) room
+      number is)
 
   pub shown_grown : (dealer : ℕ) (room : RoomRef) → is_some (number_for facts dealer room) ≡ true
       → is_some (number_for (facts ++ more) dealer room) ≡ true
-  shown_grown dealer room is = by_number (number_for facts dealer room) refl is
-    where
-      by_number : (number : Option ℕ) → number_for facts dealer room ≡ number
-          → is_some number ≡ true → is_some (number_for (facts ++ more) dealer room) ≡ true
-      by_number None found some = cc
-      by_number (Some number) found some =
-          ap (λ (n : Option ℕ). is_some n) (number_for_grown dealer room number found)
+  shown_grown dealer room is =
+      let number = some_of (number_for facts dealer room) is in
+      ap (λ (n : Option ℕ). is_some n) (number_for_grown dealer room number.0 number.1)
 
   pub request_grown : (room : RoomRef) (request : RoomRequest)
       → request_of (of_room room facts) ≡ Some request
@@ -69,6 +67,11 @@ module _ (facts more : List Fact) where
   ready_grown room is =
       ap is_ready (room_grown room facts more)
       ∙ any_left is_readied (of_room room facts) (of_room room more) is
+
+  pub opened_stays : (room : RoomRef) → IsOpened facts room → IsOpened (facts ++ more) room
+  opened_stays room is =
+      let request = some_of (request_of (of_room room facts)) is in
+      ap (λ (r : Option RoomRequest). is_some r) (request_grown room request.0 request.1)
 
   pub named_later : (room : RoomRef) (dealer : ℕ) → is_named (of_room room facts) dealer ≡ true
       → is_named (of_room room (facts ++ more)) dealer ≡ true
@@ -93,6 +96,14 @@ module _ (facts more : List Fact) where
       ap facts_of (dealer_grown dealer facts more)
       ∙ filter_map-append fact_in (of_dealer dealer facts) (of_dealer dealer more)
 
+  pub investor_facts_grown : (investor : ℕ)
+      → investor_facts (facts ++ more) investor
+      ≡ investor_facts facts investor ++ investor_facts more investor
+  investor_facts_grown investor =
+      ap investor_trail.facts_of (investor_grown investor facts more)
+      ∙ filter_map-append investor_trail.fact_in (of_investor investor facts)
+      (of_investor investor more)
+
   pub quoted_grown : (dealer : ℕ) (room : RoomRef) (quote : ℕ) → QuotedIn facts dealer room quote
       → QuotedIn (facts ++ more) dealer room quote
   quoted_grown dealer room quote before = record {
@@ -115,103 +126,157 @@ module _ (facts more : List Fact) where
         before.lifted;
   }
 
+  pub order_stays : (front : List Duty) (left : Duty) (rest : List Duty)
+      → InOrder facts front left rest → InOrder (facts ++ more) front left rest
+  order_stays front (duty.Open room ask dealers moment) rest before = before
+  order_stays front (duty.Show dealer room ask moment) rest before = before
+  order_stays front (duty.Ready room moment) rest before = record {
+    first = before.first;
+    request = before.request;
+    request_is = request_grown room before.request before.request_is;
+    shown = λ dealer named. before.shown dealer
+        (named_already room before.request dealer before.request_is named);
+  }
+  order_stays front (duty.Tell dealer room close moment) rest before = before
+  order_stays front other rest before = tt
+
+  pub done_stays : (left : Duty) → DoneOk facts left → DoneOk (facts ++ more) left
+  done_stays (duty.Show dealer room ask moment) before = shown_grown dealer room before
+  done_stays (duty.Tell dealer room close moment) before = record {
+    request = before.request;
+    request_is = number_for_grown dealer room before.request before.request_is;
+    told = ap (list_any (tells before.request)) (facts_later dealer)
+        ∙ any_left (tells before.request) (facts_of (of_dealer dealer facts))
+        (facts_of (of_dealer dealer more)) before.told;
+  }
+  done_stays other before = tt
+
   module _ (config : Configuration) where
-    pub ready_stays : (room : RoomRef) → ReadyIn config facts room
-        → ReadyIn config (facts ++ more) room
-    ready_stays room before = record {
-      request = before.request;
-      request_is = request_grown room before.request before.request_is;
-      shown = λ dealer named. shown_grown dealer room
-          (before.shown dealer (named_already room before.request dealer before.request_is named));
+    pub known_stays : (room : RoomRef) (quote : Option ℕ) → KnownIn config facts room quote
+        → KnownIn config (facts ++ more) room quote
+    known_stays room quote before = record {
+      row = before.row;
+      row_is = before.row_is;
+      has = before.has;
+      knows_is = ap (λ (l : List InvestorFact). knows (book_of l) room.n quote)
+          (investor_facts_grown room.investor)
+          ∙ knows_grown (investor_facts facts room.investor) (investor_facts more room.investor)
+          room.n quote before.knows_is;
     }
 
-    pub tells_stay : (dealer : ℕ) (room : RoomRef) (close : Close)
-        → TellsIn config facts dealer room close → TellsIn config (facts ++ more) dealer room close
-    tells_stay dealer room close before = record {
-      end = before.end;
-      end_is = end_grown room before.end before.end_is;
-      close_is = before.close_is;
-      named = named_later room dealer before.named;
-      hit = λ is. lifted_grown dealer room (before.hit is);
+    -- Duties.
+
+    pub named_stays : (by : Actor) (room : RoomRef) → ByNamed config facts by room
+        → ByNamed config (facts ++ more) by room
+    named_stays by room before = record {
+      who = before.who;
+      named = named_later room before.who.dealer before.named;
     }
 
     pub duty_stays : (by : Actor) (left : Duty) → DutyOk config facts by left
         → DutyOk config (facts ++ more) by left
-    duty_stays by (duty.Open room ask dealers moment) before = before
-    duty_stays (actor.Firm dealer) (duty.Post room quote price valid_until moment) before =
-        λ is. record {
-          quoted = quoted_grown dealer room quote (before is).quoted;
-          within = (before is).within;
-        }
-    duty_stays actor.Clock (duty.Post room quote price valid_until moment) before = tt
-    duty_stays by (duty.Tell dealer room close moment) before =
-        tells_stay dealer room close before
-    duty_stays by other before = tt
-
-    pub order_stays : (front : List Duty) (left : Duty) (rest : List Duty)
-        → InOrder config facts front left rest → InOrder config (facts ++ more) front left rest
-    order_stays front (duty.Ready room moment) rest before = record {
-      request = before.request;
-      request_is = request_grown room before.request before.request_is;
-      shown = λ dealer named. before.shown dealer
-          (named_already room before.request dealer before.request_is named);
+    unfolding named_stays
+    duty_stays by (duty.Open room ask dealers moment) before =
+        assumption (known_stays room None before.known)
+    duty_stays by (duty.Show dealer room ask moment) before =
+        assumption (named_later room dealer before.named)
+    duty_stays by (duty.Ready room moment) before = assumption (opened_stays room before.opened)
+    duty_stays by (duty.Post room quote price valid_until moment) before = record {
+      named = named_stays by room before.named;
+      within = before.within;
+      quoted = quoted_grown before.named.who.dealer room quote before.quoted;
     }
-    order_stays front other rest before = tt
+    duty_stays by (duty.Relay room offer moment) before = opened_stays room before
+    duty_stays by (duty.Unpost room quote moment) before =
+        record { named = named_stays by room before.named; within = before.within }
+    duty_stays by (duty.Gone room word moment) before = opened_stays room before
+    duty_stays by (duty.Decline room moment) before = named_stays by room before
+    duty_stays by (duty.Declined room moment) before = named_stays by room before
+    duty_stays by (duty.Hit room response word moment) before = record {
+      by_is = before.by_is;
+      quote = before.quote;
+      quote_is = before.quote_is;
+      known = known_stays room response.k before.known;
+    }
+    duty_stays by (duty.Pass room response moment) before =
+        assumption (known_stays room response.k before.known)
+    duty_stays by (duty.Answer room response reply moment) before =
+        assumption (known_stays room response.k before.known)
+    duty_stays by (duty.Close room moment) before = opened_stays room before
+    duty_stays by (duty.Tell dealer room close moment) before = record {
+      end = before.end;
+      end_is = end_grown room before.end before.end_is;
+      by_is = before.by_is;
+      close_is = before.close_is;
+      named = named_later room dealer before.named;
+      hit = λ is. lifted_grown dealer room (before.hit is);
+    }
+    duty_stays by (duty.Drop last moment) before = before
 
-    pub done_stays : (left : Duty) → DoneOk config facts left → DoneOk config (facts ++ more) left
-    done_stays (duty.Show dealer room ask moment) before =
-        λ is. shown_grown dealer room (before is)
-    done_stays (duty.Tell dealer room close moment) before =
-        λ is. record {
-          request = (before is).request;
-          request_is = number_for_grown dealer room (before is).request (before is).request_is;
-          told = ap (list_any (tells (before is).request)) (facts_later dealer)
-              ∙ any_left (tells (before is).request) (facts_of (of_dealer dealer facts))
-              (facts_of (of_dealer dealer more)) (before is).told;
-        }
-    done_stays other before = tt
+    -- Facts, where more duties were left and done too.
 
-    -- a fact, where more duties were left too
-    pub fact_stays : (caused later : List Caused) (fact : Fact) → FactOk config facts caused fact
-        → FactOk config (facts ++ more) (caused ++ later) fact
-    fact_stays caused later (AtDealer dealer entry) before = entry_stays entry before
-      where
-        entry_stays : (said : DealerEntry) → EntryOk config facts dealer said
-            → EntryOk config (facts ++ more) dealer said
-        entry_stays (AtDesk (Told request close moment)) stood = record {
-          room = stood.room;
-          end = stood.end;
-          request_is = number_for_grown dealer stood.room request stood.request_is;
-          end_is = end_grown stood.room stood.end stood.end_is;
-          close_is = stood.close_is;
-        }
-        entry_stays said stood = tt
-    fact_stays caused later (InRoom room fact) before = room_stays fact before
-      where
-        room_stays : (said : RoomFact) → RoomOk config facts caused room said
-            → RoomOk config (facts ++ more) (caused ++ later) room said
-        room_stays (Opened request) stood = stood
-        room_stays Readied stood = ready_stays room stood
-        room_stays (Posted posted) stood = record {
-          row = stood.row;
-          quote = stood.quote;
-          row_is = stood.row_is;
-          within = stood.within;
-          word_is = stood.word_is;
-          quoted = quoted_grown posted.dealer room stood.quote stood.quoted;
-        }
-        room_stays (Ended end moment) stood = record {
-          request = stood.request;
-          request_is = request_grown room stood.request stood.request_is;
-          ready = ready_grown room stood.ready;
-          told = λ dealer named.
-              let told = stood.told dealer
-              (named_already room stood.request dealer stood.request_is named) in
-              record {
-                by = told.by;
-                moment = told.moment;
-                left = in_left _ caused later told.left;
-              };
-        }
-        room_stays said stood = tt
-    fact_stays caused later (AtInvestor investor entry) before = tt
+    module _ (caused more_caused : List Caused) (did later : Actor → List Duty)
+        (grows : Grows did later) where
+      abbrev Then : Fact → Type 0
+      Then fact = FactOk config (facts ++ more) (caused ++ more_caused) later fact
+
+      entry_stays : (dealer : ℕ) (entry : DealerEntry)
+          → EntryOk config facts caused did dealer entry → Then (AtDealer dealer entry)
+      entry_stays dealer (AtDesk (Told request close moment)) before = record {
+        room = before.room;
+        end = before.end;
+        request_is = number_for_grown dealer before.room request before.request_is;
+        end_is = end_grown before.room before.end before.end_is;
+        close_is = before.close_is;
+        by = before.by;
+        done = grows before.by (tells_it dealer before.room) before.done;
+      }
+      entry_stays dealer (AtDesk (Shown ask moment)) before = before
+      entry_stays dealer (ShownIn room) before = record {
+        named = named_later room dealer before.named;
+        done = grows (actor.Firm room.investor) (shows dealer room) before.done;
+      }
+      entry_stays dealer entry before = tt
+
+      room_stays : (room : RoomRef) (fact : RoomFact) → RoomOk config facts caused did room fact
+          → Then (InRoom room fact)
+      room_stays room (Opened request) before =
+          assumption (
+            known_stays room None before.known,
+            grows (actor.Firm room.investor) (begins room) before.done,
+          )
+      room_stays room Readied before = record {
+        request = before.request;
+        request_is = request_grown room before.request before.request_is;
+        shown = λ dealer named. shown_grown dealer room
+            (before.shown dealer
+            (named_already room before.request dealer before.request_is named));
+        done = grows (actor.Firm room.investor) (readies room) before.done;
+      }
+      room_stays room (Posted posted) before = record {
+        row = before.row;
+        quote = before.quote;
+        row_is = before.row_is;
+        within = before.within;
+        word_is = before.word_is;
+        quoted = quoted_grown posted.dealer room before.quote before.quoted;
+      }
+      room_stays room (Ended end moment) before = record {
+        request = before.request;
+        request_is = request_grown room before.request before.request_is;
+        ready = ready_grown room before.ready;
+        told = λ dealer named.
+            let told = before.told dealer
+            (named_already room before.request dealer before.request_is named) in
+            record {
+              by = told.by;
+              moment = told.moment;
+              left = in_left _ caused more_caused told.left;
+            };
+      }
+      room_stays room fact before = tt
+
+      pub fact_stays : (fact : Fact) → FactOk config facts caused did fact → Then fact
+      fact_stays (AtDealer dealer entry) before = entry_stays dealer entry before
+      fact_stays (InRoom room fact) before = room_stays room fact before
+      fact_stays (AtInvestor investor entry) before = tt

@@ -20,7 +20,7 @@ ghost use Rattle.step_replay.specs.VenueFacts.{of_dealer, of_room};
 ghost use Rattle.venue_places.specs.declared.actors.Actor.{Actor};
 ghost use Rattle.step_replay.specs.declared.steps.Step.{Step};
 
-use dealer_desk::limits_are_kept;
+use dealer_desk::{limits_are_kept, what_is_asked_is_of_the_day};
 
 /// A law: every word that a dealer asks is settled as the dealer view says, in every venue, after
 /// every list of steps. Where a message of its own or a drop asked the word of a quote, the first
@@ -69,6 +69,7 @@ pub fn a_hit_notice_names_the_lifted_quote()
         → NamesLiftedQuote config.date row before request moment after }
 {
     limits_are_kept();
+    what_is_asked_is_of_the_day();
 }
 
 /// A law: where no actor has a duty left to be done, and a room has ended, each dealer that the
@@ -85,4 +86,5 @@ pub fn each_named_dealer_is_told_once()
         (close_for end dealer) }
 {
     limits_are_kept();
+    what_is_asked_is_of_the_day();
 }

@@ -5,6 +5,7 @@ ghost use Rattle.step_replay.specs.AuditTrail as venue;
 ghost use Rattle.venue_laws.specs.PriceAlike.{IsPriceAlike, IsOneButForCover};
 ghost use Rattle.step_replay.specs.declared.steps.Step.{Step};
 
+use dealer_desk::{limits_are_kept, what_is_asked_is_of_the_day};
 use fix_fields::frame_of_is_the_reading;
 
 /// A law, blindness to prices: in every venue, where two days are one but for the prices of other
@@ -18,4 +19,6 @@ pub fn price_law()
         (venue.due_to dealer (venue.audit_trail config others)) }
 {
     frame_of_is_the_reading();
+    limits_are_kept();
+    what_is_asked_is_of_the_day();
 }

@@ -12,9 +12,11 @@
 //! ```
 //!
 //! Whoever runs a day takes the place that is named, by its index or by its lock, and brings it what
-//! comes: no other code names a duty. [`bring_to_dealer`], [`bring_to_investor`] and
-//! [`bring_to_room`] do the step of `venue_steps` that has its name; a drop and a hit, which ask a
-//! word, are brought by `do_drop` and `do_hit` themselves.
+//! comes. No other code says what a duty does: some reads a part of one, as its kind, its moment or
+//! its place, and `investor_dues` reads what comes to one investor for it, which is proved to be
+//! what [`placed`] gives. [`bring_to_dealer`], [`bring_to_investor`] and [`bring_to_room`] do the
+//! step of `venue_steps` that has its name; a drop and a hit, which ask a word, are brought by
+//! `do_drop` and `do_hit` themselves.
 #![tactic(auto)]
 
 mod actors;

@@ -147,6 +147,7 @@ fn fault_name(fault: DayFault) -> &'static str {
         DayFault::Inbox(_) => "an inbox",
         DayFault::Told(_) => "a notice",
         DayFault::Sweep(_) => "a sweep",
+        DayFault::Shown(_) => "a request that is shown",
     }
 }
 

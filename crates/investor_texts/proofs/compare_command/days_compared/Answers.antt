@@ -11,4 +11,5 @@ returns c first second one_is other_is =
     (run_followed other.venue other.firm _ other.steps.items c.in_ok-second.second second
     other_is c.as_slice-2.ensures.value c.in_ok-second.ensures)
     (runs_seen one.venue other.venue one.firm other.firm one.steps.items
-    other.steps.items c.in_ok-seen.seen first second one_is other_is c.in_ok-seen.ensures)
+    other.steps.items c.is_same_seen-seen.result first second one_is other_is
+    c.is_same_seen-seen.ensures)

@@ -2,6 +2,7 @@ use Rattle.std.proofs.Common.{rules, ◌≡◌, ◌∙◌, sym, ap, subst, None}
 use Rattle.std.specs.Option.{option_map}
 use Rattle.session_worker.specs.DayActions.{EventsAreOfActions, first_unleft, number_at}
 use Rattle.session_worker.specs.DayChecks.{first_unswept, first_untold}
+use Rattle.session_worker.specs.ShownRequests.{first_unshown}
 use Rattle.session_worker.proofs.ActionLemmas.{events_are_left}
 use Rattle.session_worker.proofs.FaultLemmas.{day_read}
 use Rattle.session_worker.proofs.days.agreed.Goals as goal
@@ -14,6 +15,7 @@ returns-in-Some-action_fault-clause-first c =
     let clock = c.args.clock.items in
     let told : first_untold c.args.rooms.items dealers ≡ None = search rules in
     let swept : first_unswept c.args.sweeps.now c.args.rooms.items ≡ None = search rules in
+    let shown : first_unshown c.args.rooms.items dealers ≡ None = search rules in
     let dealers_read : c.deref.result.now ≡ dealers = search rules in
     let whole_read : c.deref-2.result.now ≡ whole = search rules in
     let clock_read : c.deref-3.result.now ≡ clock = search rules in
@@ -21,6 +23,7 @@ returns-in-Some-action_fault-clause-first c =
     c.deref-3.result.now dealers_read whole_read clock_read in (
       told,
       swept,
+      shown,
       record {
         whole = whole;
         have_rooms = record {
@@ -40,6 +43,7 @@ returns-clause-agrees c =
     let clock = c.args.clock.items in
     let told : first_untold c.args.rooms.items dealers ≡ None = search rules in
     let swept : first_unswept c.args.sweeps.now c.args.rooms.items ≡ None = search rules in
+    let shown : first_unshown c.args.rooms.items dealers ≡ None = search rules in
     let none : c.action_fault.result ≡ None = search rules in
     let dealers_read : c.deref.result.now ≡ dealers = search rules in
     let whole_read : c.deref-2.result.now ≡ whole = search rules in
@@ -55,6 +59,7 @@ returns-clause-agrees c =
       day_is = c.new.ensures;
       told = told;
       swept = swept;
+      shown = shown;
       of_actions = subst EventsAreOfActions (read ∙ sym c.new.ensures)
           (events_are_left (record {
             dealers = c.deref.result.now;

@@ -145,6 +145,7 @@ returns-clause-keeps g c =
       investors_keep = of_day.investors_keep;
       told = agrees.told;
       swept = agrees.swept;
+      shown = agrees.shown;
       dealers_stand = c.in_ok-dealers.ensures.stand;
       rooms_stand = c.in_ok-investors.ensures.stand;
       goes_on = c.in_ok-investors.ensures.later;

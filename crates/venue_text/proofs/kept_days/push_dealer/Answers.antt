@@ -20,5 +20,5 @@ returns c steps at =
     ∙ ap (λ (t : List ℕ). c.args.text.now.items ++ t)
     (ap (λ (date : List ℕ). due_text date row c.as_slice.result.now) c.date.ensures
     ∙ ap (λ (dues : List Due). due_text config.date row dues)
-    (c.as_slice.ensures.value ∙ c.in_ok-dues.ensures config steps at (ap is_some (sym is)))
+    (c.as_slice.ensures.value ∙ c.in_ok-dues.ensures.dues config steps at (ap is_some (sym is)))
     ∙ dealer_at config (live_trail config steps) c.args.dealer row is)

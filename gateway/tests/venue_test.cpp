@@ -1,0 +1,70 @@
+// A process of the venue that does not behave: a line without an end, an output that ends before
+// the process does, and what a process leaves behind.
+//
+// usage: venue_test FOLDER
+#include "check.h"
+#include "venue.h"
+
+#include <chrono>
+#include <csignal>
+#include <filesystem>
+#include <future>
+
+namespace gateway::tests {
+
+namespace {
+
+using namespace std::chrono_literals;
+
+class Listener final : public VenueListener {
+  public:
+    // Why the venue is no more.
+    std::string failure() {
+        auto told = failure_.get_future();
+        check(told.wait_for(60s) == std::future_status::ready, "it is waited for without end");
+        return told.get();
+    }
+
+    void venue_starts() override {}
+    void venue_gave(std::uint32_t, std::uint32_t, std::string, std::string) override {}
+    void venue_answered(std::uint32_t, std::optional<Moment>) override {}
+    void venue_pauses() override {}
+    void venue_failed(const std::string &cause) override { failure_.set_value(cause); }
+
+  private:
+    std::promise<std::string> failure_;
+};
+
+// Why a venue is no more that is this script of the shell, and is started once.
+std::string failure_of(const std::string &file, const std::string &script) {
+    const auto database = open_sqlite(file);
+    Committed committed(0);
+    Metrics metrics(0);
+    Listener listener;
+    Venue venue({{"sh", "-c", script}, "version = 1\n", 1}, *database, committed, Digest{},
+                listener, metrics, std::make_shared<spdlog::logger>("none"));
+    venue.start();
+    return listener.failure();
+}
+
+void tried(const std::string &file, const std::string &script, const std::string &cause) {
+    const std::string told = failure_of(file, script);
+    check(told.find(cause) != std::string::npos, fmt::format("of `{}` is told: {}", script, told));
+}
+
+} // namespace
+
+} // namespace gateway::tests
+
+int main(int count, char **words) {
+    using namespace gateway::tests;
+    return run_with(count, words, 1, 1, "venue_test FOLDER", [](std::span<char *> given) {
+        // As the gateway does: a venue may end while it is fed.
+        std::signal(SIGPIPE, SIG_IGN);
+        const std::string file = std::filesystem::path(given[0]) / "venue_test.db";
+        tried(file, "head -c 1000000 /dev/zero; exec sleep 200", "a line of more than 65536 bytes");
+        tried(file, "exec sleep 200 >&-", "was ended by signal 9");
+        tried(file, "sleep 200 >&- & echo last >&2; exit 3",
+              "ended with status 3 again and again; its last words: last");
+    });
+}
