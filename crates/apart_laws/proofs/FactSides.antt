@@ -14,7 +14,7 @@ use Rattle.request_room.specs.declared.events.RoomEvent.TheVariants as at_room
 use Rattle.step_replay.specs.ActionKinds.{IsAction, by_dealer, by_hit, by_investor, by_room, idle}
 use Rattle.step_replay.specs.ActionKinds.{duty_action, message_action, sweep_action}
 use Rattle.step_replay.specs.Actions.{Effect, QuoteRef, quote_with_word, lifting}
-use Rattle.step_replay.specs.Actions.{duty_effect, message_effect, sweep_effect}
+use Rattle.step_replay.specs.DutyEffects.{duty_effect, message_effect, sweep_effect}
 use Rattle.step_replay.specs.EachLemmas.{Every, every_both}
 use Rattle.step_replay.specs.LiveStanding.{desk_of_duty, room_of_duty}
 use Rattle.step_replay.specs.VenueFacts.{Fact, AtDealer, AtInvestor, InRoom, of_room}

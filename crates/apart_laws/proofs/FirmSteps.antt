@@ -6,7 +6,8 @@ use Rattle.std.proofs.lemmas.List.{append-nil}
 use Rattle.std.proofs.lemmas.List.Elements.{filter-append}
 use Rattle.market_terms.specs.declared.duties.Duty.{Duty}
 use Rattle.venue_rows.specs.Rows.{Configuration}
-use Rattle.step_replay.specs.Actions.{Effect, duty_effect, message_effect}
+use Rattle.step_replay.specs.Actions.{Effect}
+use Rattle.step_replay.specs.DutyEffects.{duty_effect, message_effect}
 use Rattle.step_replay.specs.AuditTrail.{AuditTrail, Caused, after_step, after_turn, duty_of}
 use Rattle.step_replay.specs.AuditTrail.{is_same_actor, pending, with_effect}
 use Rattle.step_replay.specs.EachLemmas.{Every, every_both}

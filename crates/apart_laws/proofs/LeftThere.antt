@@ -1,9 +1,10 @@
 -- What is left to be done behind the events of one side is on that side.
-use Rattle.std.proofs.Common.{◌≡◌, ℕ, ◌-◌, Bool, true, false, ◌||◌, List, [], ◌∷◌, map}
-use Rattle.std.proofs.Common.{Option, Some, None, option_map, is_some, refl, subst}
-use Rattle.std.proofs.Common.{if◌then◌else◌, Result, Ok, Err}
+use Rattle.std.proofs.Common.{◌≡◌, ℕ, ◌-◌, Bool, true, false, List, [], ◌∷◌, map, Option, Some}
+use Rattle.std.proofs.Common.{None, option_map, is_some, refl, subst, if◌then◌else◌, Result, Ok}
+use Rattle.std.proofs.Common.{Err}
 use Rattle.std.specs.List.{list_any}
 use Rattle.std.specs.Option.{option_to_list}
+use Rattle.std.proofs.lemmas.Bool.{or_parts}
 use Rattle.market_terms.specs.declared.asks.Ask.{Ask}
 use Rattle.market_terms.specs.declared.closes.HitRefusal.{HitRefusal}
 use Rattle.market_terms.specs.declared.duties.Duty.{Duty}
@@ -26,9 +27,8 @@ use Rattle.request_room.specs.RoomFacts.{RoomFact, is_open, is_vacant, request_o
 use Rattle.request_room.specs.Book.{expired, may_expire, passed}
 use Rattle.request_room.specs.declared.ends.End.{End}
 use Rattle.venue_steps.specs.RoomSteps.{close_for, dealers_of, duties_of_expire, duties_of_open}
-use Rattle.venue_steps.specs.RoomSteps.{duties_of_pass, hit_duties}
-use Rattle.venue_steps.specs.RoomSteps.{shown_then_ready, told_in, told_of_hit, told_to_each}
-use Rattle.venue_steps.specs.RoomSteps.{where_follows}
+use Rattle.venue_steps.specs.RoomSteps.{duties_of_pass, hit_duties, shown_then_ready, told_in}
+use Rattle.venue_steps.specs.RoomSteps.{told_of_hit, told_to_each, where_follows}
 use Rattle.step_replay.specs.EachLemmas.{Every, every_both}
 use Rattle.step_replay.specs.LiveStanding.{firm_of}
 use Rattle.venue_places.specs.declared.actors.Actor.{Actor}
@@ -40,10 +40,6 @@ use Rattle.apart_laws.proofs.ThereFacts.{asked_on}
 use Rattle.apart_laws.proofs.Verdicts.{AsksFew}
 
 -- Nobody asks across.
-
-or_parts : (a b : Bool) → (a || b) ≡ false → (a ≡ false) × (b ≡ false)
-or_parts true b is = cc
-or_parts false b is = (refl, is)
 
 one_side : (own other : Bool) → are_parted own other ≡ false → other ≡ own
 one_side true true is = refl

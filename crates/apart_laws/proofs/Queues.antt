@@ -1,13 +1,12 @@
 -- Queues of one side: they are the same without the other side, and what stands in them is on it.
 use Rattle.std.proofs.Common.{◌≡◌, ℕ, Bool, true, false, ◌||◌, List, [], ◌∷◌, ◌++◌, map, filter}
-use Rattle.std.proofs.Common.{filter_map, drop, count_by, fold, Some, None}
-use Rattle.std.proofs.Common.{refl, sym, ap, ◌∙◌, subst, arith, if◌then◌else◌}
+use Rattle.std.proofs.Common.{filter_map, drop, count_by, fold, Some, None, refl, sym, ap, ◌∙◌}
+use Rattle.std.proofs.Common.{subst, if◌then◌else◌}
 use Rattle.std.specs.List.{list_any}
-use Rattle.std.proofs.lemmas.Bool.Decides.{nat_tests}
 use Rattle.std.proofs.lemmas.List.Folds.{list_any-append}
 use Rattle.market_terms.specs.declared.duties.Duty.{Duty}
 use Rattle.venue_rows.specs.Rows.{Configuration}
-use Rattle.step_replay.specs.Actions.{duty_effect, message_effect, sweep_effect}
+use Rattle.step_replay.specs.DutyEffects.{duty_effect, message_effect, sweep_effect}
 use Rattle.step_replay.specs.AuditTrail.{AuditTrail, Caused, after_step, after_turn, duty_of}
 use Rattle.step_replay.specs.AuditTrail.{is_same_actor, pending}
 use Rattle.step_replay.specs.EachLemmas.{Every, every_both}
@@ -19,17 +18,9 @@ use Rattle.apart_laws.specs.Apart.{acts_there, asks_across, has_ask_across}
 use Rattle.apart_laws.proofs.KeptItems.{count_kept, every_drop, every_found, every_in, found_kept}
 use Rattle.apart_laws.proofs.KeptItems.{IfFound}
 use Rattle.apart_laws.proofs.There.{CausedOn, QueuedOn, caused_stays, there}
+use Rattle.step_replay.specs.QueueLemmas.{one_actor}
 
 -- Actors.
-
--- one actor by the test
-one_actor : (by other : Actor) → is_same_actor by other ≡ true → by ≡ other
-one_actor (actor.Firm one) (actor.Firm two) same =
-    let equal : one ≡ two = grind (arith, nat_tests) in
-    ap (λ (n : ℕ). actor.Firm n) equal
-one_actor (actor.Firm one) actor.Clock same = cc
-one_actor actor.Clock (actor.Firm two) same = cc
-one_actor actor.Clock actor.Clock same = refl
 
 -- a firm of one side: the clock is of none
 abbrev pub ActsOn : (ℕ → Bool) → Bool → Actor → Type 0

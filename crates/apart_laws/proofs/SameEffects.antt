@@ -7,7 +7,7 @@ use Rattle.market_terms.specs.declared.duties.Duty.{Duty}
 use Rattle.market_terms.specs.declared.duties.Duty.TheVariants as duty
 use Rattle.market_terms.specs.declared.rooms.RoomRef.{RoomRef}
 use Rattle.venue_rows.specs.Rows.{Configuration, dealer_numbered}
-use Rattle.investor_desk.specs.InvestorOutput.{market_for, market_of}
+use Rattle.investor_desk.specs.InvestorDesk.{market_for, market_of}
 use Rattle.investor_desk.specs.declared.events.InvestorEvent.TheVariants as at_investor
 use Rattle.request_room.specs.RoomFacts.{RoomFact}
 use Rattle.request_room.specs.declared.events.RoomEvent.TheVariants as at_room
@@ -15,11 +15,9 @@ use Rattle.venue_steps.specs.RoomSteps.{duties_of_open}
 use Rattle.venue_steps.specs.RoomSteps.{duties_of_pass}
 use Rattle.venue_steps.specs.RoomSteps.{duties_of_expire}
 use Rattle.step_replay.specs.VenueFacts.{Fact}
-use Rattle.step_replay.specs.Actions.{dealer_at, dealer_of}
-use Rattle.step_replay.specs.Actions.{acting_dealer, done_by, done_for}
-use Rattle.step_replay.specs.Actions.{received_by_dealer}
-use Rattle.step_replay.specs.Actions.{received_by_investor}
-use Rattle.step_replay.specs.Actions.{duty_effect, sweep_effect, message_effect}
+use Rattle.step_replay.specs.Actions.{dealer_at, dealer_of, acting_dealer, done_by, done_for}
+use Rattle.step_replay.specs.Actions.{received_by_dealer, received_by_investor}
+use Rattle.step_replay.specs.DutyEffects.{duty_effect, sweep_effect, message_effect}
 use Rattle.venue_places.specs.declared.actors.Actor.{Actor}
 use Rattle.venue_places.specs.declared.actors.Actor.TheVariants as actor
 use Rattle.apart_laws.proofs.There.{IsOn, FactsOn}

@@ -22,7 +22,7 @@ use Rattle.dealer_desk.specs.declared.events.DealerEvent.TheVariants as at_desk
 use Rattle.investor_desk.specs.InvestorFacts.{knows}
 use Rattle.investor_desk.specs.InvestorRules.{InvestorMarket, investor_verdict}
 use Rattle.investor_desk.specs.InvestorOutput as investor_output
-use Rattle.investor_desk.specs.InvestorOutput.{market_for, market_of}
+use Rattle.investor_desk.specs.InvestorDesk.{market_for, market_of}
 use Rattle.investor_desk.specs.declared.events.InvestorEvent.{InvestorEvent}
 use Rattle.investor_desk.specs.declared.events.InvestorEvent.TheVariants as at_investor
 use Rattle.request_room.specs.RoomFacts.{RoomFact, hears}
@@ -41,12 +41,12 @@ use Rattle.step_replay.specs.InvestorTrail as investor_trail
 use Rattle.step_replay.specs.InvestorTrail.{InvestorEntry}
 use Rattle.step_replay.specs.VenueFacts.{Fact, AtDealer, AtInvestor, InRoom, of_dealer, of_room}
 use Rattle.step_replay.specs.Actions.{Effect, Dealer, QuoteRef, nothing, dealer_at, dealer_of}
-use Rattle.step_replay.specs.Actions.{done_by, done_for, shown_to, told_of, told_to}
-use Rattle.step_replay.specs.Actions.{dropped_by, where_known, words_of, word_for, has_word_for}
-use Rattle.step_replay.specs.Actions.{offer_of, settlement_of, left_by, received_by_dealer, answer_to_drop}
+use Rattle.step_replay.specs.Actions.{done_by, done_for, shown_to, told_of, told_to, dropped_by}
+use Rattle.step_replay.specs.Actions.{where_known, words_of, word_for, has_word_for, offer_of}
+use Rattle.step_replay.specs.Actions.{settlement_of, left_by, received_by_dealer, answer_to_drop}
 use Rattle.step_replay.specs.Actions.{drop_at, posted_by, unposted_by, declined_by, answered_by}
-use Rattle.step_replay.specs.Actions.{received_by_investor, answer_to_hit, quote_asked, quote_with_word}
-use Rattle.step_replay.specs.Actions.{lifting, hit_in}
+use Rattle.step_replay.specs.Actions.{received_by_investor, answer_to_hit, quote_asked}
+use Rattle.step_replay.specs.Actions.{quote_with_word, lifting, hit_in}
 use Rattle.apart_laws.proofs.There.{OwnerOn, HappenedOn, FactsOn}
 use Rattle.apart_laws.proofs.ThereFacts.{known, dealer_same, room_same, investor_same, room_on}
 use Rattle.apart_laws.proofs.ThereFacts.{word_on}

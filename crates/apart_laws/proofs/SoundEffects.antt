@@ -13,7 +13,7 @@ use Rattle.venue_rows.specs.declared.dealer_rows.DealerRow.{DealerRow}
 use Rattle.dealer_desk.specs.DealerFacts.{quote_to_drop}
 use Rattle.dealer_desk.specs.DealerOutput.{closable, further_drop, number_in, unpost_dropped}
 use Rattle.dealer_desk.specs.declared.events.DealerEvent.TheVariants as at_desk
-use Rattle.investor_desk.specs.InvestorOutput.{market_of}
+use Rattle.investor_desk.specs.InvestorDesk.{market_of}
 use Rattle.investor_desk.specs.declared.events.InvestorEvent.TheVariants as at_investor
 use Rattle.request_room.specs.RoomFacts.{hears, takes_quotes}
 use Rattle.request_room.specs.Book.{event_facts, hit_outcome, may_unpost}
@@ -22,14 +22,12 @@ use Rattle.venue_steps.specs.InvestorSteps.{replies_to}
 use Rattle.venue_steps.specs.RoomSteps.{duties_of_decline, duties_of_expire, duties_of_open}
 use Rattle.venue_steps.specs.RoomSteps.{duties_of_pass, duties_of_post, duties_of_unpost, hit_word}
 use Rattle.venue_steps.specs.Words.{has_word}
-use Rattle.step_replay.specs.Actions.{Dealer, acting_dealer, answer_to_drop}
-use Rattle.step_replay.specs.Actions.{answer_to_hit, at_dealer, dealer_of}
-use Rattle.step_replay.specs.Actions.{drop_at, duty_effect, has_word_for, hit_in}
-use Rattle.step_replay.specs.Actions.{hit_with, left_by_drop, lifting}
-use Rattle.step_replay.specs.Actions.{offer_of, posted_by, quote_asked}
-use Rattle.step_replay.specs.Actions.{quote_with_word, shown_to}
-use Rattle.step_replay.specs.Actions.{sweep_effect, told_of, told_to, where_known}
+use Rattle.step_replay.specs.Actions.{Dealer, acting_dealer, answer_to_drop, answer_to_hit}
+use Rattle.step_replay.specs.Actions.{at_dealer, dealer_of, drop_at, has_word_for, hit_in, hit_with}
+use Rattle.step_replay.specs.Actions.{left_by_drop, lifting, offer_of, posted_by, quote_asked}
+use Rattle.step_replay.specs.Actions.{quote_with_word, shown_to, told_of, told_to, where_known}
 use Rattle.step_replay.specs.Actions.{word_for, words_of, answered_by, unposted_by, declined_by}
+use Rattle.step_replay.specs.DutyEffects.{duty_effect, sweep_effect}
 use Rattle.step_replay.specs.DealerTrail.{book_by, entries_of, rooms_by}
 use Rattle.step_replay.specs.EachLemmas.{Every, every_both, every_weaker}
 use Rattle.step_replay.specs.VenueFacts.{Fact, InRoom, of_dealer, of_room}

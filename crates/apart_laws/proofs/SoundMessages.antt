@@ -11,14 +11,12 @@ use Rattle.dealer_desk.specs.declared.events.DealerEvent.TheVariants as at_desk
 use Rattle.dealer_desk.specs.declared.verdicts.DealerVerdict.{DealerVerdict}
 use Rattle.dealer_desk.specs.declared.verdicts.DealerVerdict.TheVariants as verdict
 use Rattle.investor_desk.specs.InvestorRules.{investor_verdict}
-use Rattle.investor_desk.specs.InvestorOutput.{market_for, market_of}
+use Rattle.investor_desk.specs.InvestorDesk.{market_for, market_of}
 use Rattle.investor_desk.specs.declared.events.InvestorEvent.TheVariants as at_investor
-use Rattle.step_replay.specs.Actions.{settlement_of}
-use Rattle.step_replay.specs.Actions.{dealer_at, dealer_of}
-use Rattle.step_replay.specs.Actions.{done_by, done_for}
-use Rattle.step_replay.specs.Actions.{left_by, left_by_investor}
-use Rattle.step_replay.specs.Actions.{message_effect}
-use Rattle.step_replay.specs.Actions.{received_by_dealer, received_by_investor}
+use Rattle.step_replay.specs.Actions.{settlement_of, dealer_at, dealer_of, done_by, done_for}
+use Rattle.step_replay.specs.Actions.{left_by, left_by_investor, received_by_dealer}
+use Rattle.step_replay.specs.Actions.{received_by_investor}
+use Rattle.step_replay.specs.DutyEffects.{message_effect}
 use Rattle.step_replay.specs.DealerTrail.{book_by, rooms_by}
 use Rattle.step_replay.specs.InvestorTrail as investor_trail
 use Rattle.step_replay.specs.VenueFacts.{Fact, of_dealer, of_investor}

@@ -12,7 +12,8 @@ use Rattle.request_room.specs.RoomFacts.{request_of}
 use Rattle.request_room.specs.Book.{event_facts, expired, may_expire}
 use Rattle.request_room.specs.declared.events.RoomEvent.TheVariants as at_room
 use Rattle.venue_steps.specs.RoomSteps.{close_for, dealers_of, told_in}
-use Rattle.step_replay.specs.Actions.{Effect, nothing, sweep_effect}
+use Rattle.step_replay.specs.Actions.{Effect, nothing}
+use Rattle.step_replay.specs.DutyEffects.{sweep_effect}
 use Rattle.step_replay.specs.EachLemmas.{Every}
 use Rattle.step_replay.specs.VenueFacts.{Fact, InRoom, of_room}
 use Rattle.step_replay.specs.declared.steps.TheConstants.{MOST_TURNS_BEHIND}

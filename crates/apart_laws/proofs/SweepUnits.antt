@@ -10,7 +10,8 @@ use Rattle.market_terms.specs.declared.rooms.RoomRef.{RoomRef}
 use Rattle.venue_rows.specs.Rows.{Configuration}
 use Rattle.venue_places.specs.declared.actors.Actor.{Actor}
 use Rattle.venue_places.specs.declared.actors.Actor.TheVariants as actor
-use Rattle.step_replay.specs.Actions.{Effect, sweep_effect}
+use Rattle.step_replay.specs.Actions.{Effect}
+use Rattle.step_replay.specs.DutyEffects.{sweep_effect}
 use Rattle.step_replay.specs.AuditTrail.{AuditTrail, Caused, after_step, duty_of, is_same_actor}
 use Rattle.step_replay.specs.AuditTrail.{pending, with_effect}
 use Rattle.step_replay.specs.EachLemmas.{Every, every_both}

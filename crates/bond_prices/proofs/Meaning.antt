@@ -2,10 +2,10 @@
 use Rattle.std.proofs.Common.{◌≡◌, ◌≢◌, ℕ, ◌+◌, ◌*◌, ◌/◌, ◌%◌, ◌<◌, ◌≤◌, ◌⊎◌, inl, inr, Bool, true}
 use Rattle.std.proofs.Common.{false, List, length, Result, Ok, Err, refl, sym, ◌∙◌, ap, subst}
 use Rattle.std.proofs.Common.{arith, if◌then◌else◌, lit<, ◌↔◌}
-use Rattle.std.proofs.lemmas.Bool.{ltb-true, ltb-false, eqb-true, eqb-false}
+use Rattle.std.proofs.lemmas.Bool.{eqb-true, eqb-false, cases_lt}
 use Rattle.std.proofs.Math.Nat.{mod-add-div, mul-le-mul_right, mul-mod_left, mul-div_cancel}
 use Rattle.std.proofs.Math.Nat.{one-le-pow, mul_comm, le-div_iff_mul-le, div-le_of_le-mul}
-use Rattle.std.specs.Prelude.{nat_lt, ◌==◌}
+use Rattle.std.specs.Prelude.{◌==◌}
 use Rattle.bond_prices.specs.declared.fault.PriceFault.{PriceFault}
 use Rattle.bond_prices.specs.declared.fault.PriceFault.TheVariants.{Form, Range, Grid}
 use Rattle.bond_prices.specs.Price.{Parts, text_of, behind_point, digits_of, number_of, scale_of}
@@ -21,14 +21,6 @@ NumberMeans a s (Ok n) = (a ≡ n * s) × (1 ≤ n) × (n ≤ 255999)
 NumberMeans a s (Err Form) = ⊥
 NumberMeans a s (Err Range) = (a < s) ⊎ (255999 * s < a)
 NumberMeans a s (Err Grid) = Unit {0}
-
--- one of two numbers is below the other, or not
-order : (a b : ℕ) → (a < b) ⊎ (b ≤ a)
-order a b = by_test (nat_lt a b) refl
-  where
-    by_test : (t : Bool) → nat_lt a b ≡ t → (a < b) ⊎ (b ≤ a)
-    by_test true e = inl (ltb-true a b e)
-    by_test false e = inr (ltb-false a b e)
 
 same_or_not : (a b : ℕ) → (a ≡ b) ⊎ (a ≢ b)
 same_or_not a b = by_test (a == b) refl
@@ -49,9 +41,9 @@ whole_means a s pos low high none =
 
 -- what `price_at` answers holds
 pub price_at_means : (a s : ℕ) → 1 ≤ s → NumberMeans a s (price_at a s)
-price_at_means a s pos = elim (order a s) [
+price_at_means a s pos = elim (cases_lt a s) [
   | inl low ↦ rw (price_at-low a s low) (inl low)
-  | inr low ↦ elim (order (255999 * s) a) [
+  | inr low ↦ elim (cases_lt (255999 * s) a) [
     | inl high ↦ rw (price_at-high a s high) (inr high)
     | inr high ↦ elim (same_or_not (a % s) 0) [
       | inl none ↦ rw (price_at-ok a s low high none) (whole_means a s pos low high none)

@@ -1,5 +1,5 @@
 -- What `price_at` answers, by the quotient and the remainder that the code has.
-use Rattle.std.proofs.Common.{◌≡◌, ◌≢◌, ℕ, ◌+◌, ◌*◌, ◌/◌, ◌%◌, ◌<◌, ◌≤◌, ◌⊎◌, inl, inr, Bool, true}
+use Rattle.std.proofs.Common.{◌≡◌, ◌≢◌, ℕ, ◌*◌, ◌/◌, ◌%◌, ◌<◌, ◌≤◌, ◌⊎◌, inl, inr, Bool, true}
 use Rattle.std.proofs.Common.{false, Ok, Err, refl, arith}
 use Rattle.std.proofs.lemmas.Bool.{lt-ltb, le-ltb, eq-eqb, ne_eqb}
 use Rattle.std.proofs.Math.Nat.{mod-add-div, mod-lt, mul-le-mul_left}
@@ -8,6 +8,7 @@ use Rattle.bond_prices.specs.declared.fault.PriceFault.TheVariants.{Range, Grid}
 use Rattle.bond_prices.specs.Price.{price_at}
 
 -- below one 256th
+
 pub price_at-low : (a s : ℕ) → a < s → price_at a s ≡ Err Range
 price_at-low a s low = rw (lt-ltb a s low) refl
 
@@ -31,21 +32,9 @@ price_at-ok a s low high rest = rw (le-ltb a s low, le-ltb (255999 * s) a high, 
 pub low_from_quotient : (a s : ℕ) → 1 ≤ a / s → s ≤ a
 low_from_quotient a s one = omega (arith, mod-add-div a s, mul-le-mul_left s one)
 
--- a quotient of none
-pub low_from_none : (a s : ℕ) → 1 ≤ s → a / s ≡ 0 → a < s
-low_from_none a s pos none = let e : a % s + s * (a / s) ≡ a = mod-add-div a s in let f : a % s + s * 0 ≡ a = rw none at e in omega (arith, mod-lt a pos)
-
 -- a quotient of at most 255,999, which is met with no rest alone
 pub high_from_quotient : (a s : ℕ) → 1 ≤ s → a / s ≤ 255999 → ((a / s ≡ 255999) × (a % s ≤ 0)) ⊎ (a / s ≢ 255999) → a ≤ 255999 * s
 high_from_quotient a s pos most either = elim either [ inl none ↦ omega (arith, mod-add-div a s, mul-le-mul_left s most) | inr less ↦ at_most (omega arith) ]
   where
     at_most : a / s ≤ 255998 → a ≤ 255999 * s
     at_most less = omega (arith, mod-add-div a s, mod-lt a pos, mul-le-mul_left s less)
-
--- a quotient above 255,999
-pub above_from_quotient : (a s : ℕ) → 1 ≤ s → 255999 < a / s → 255999 * s < a
-above_from_quotient a s pos more = omega (arith, mod-add-div a s, mul-le-mul_left s more)
-
--- a quotient of 255,999, and a rest
-pub above_from_rest : (a s : ℕ) → a / s ≡ 255999 → 0 < a % s → 255999 * s < a
-above_from_rest a s most rest = let e : a % s + s * (a / s) ≡ a = mod-add-div a s in let f : a % s + s * 255999 ≡ a = rw most at e in omega arith

@@ -6,6 +6,7 @@ use Rattle.std.proofs.lemmas.Slice.Eq.{bytes_eq-Decides}
 use Rattle.std.specs.Option.{option_map_or}
 use Rattle.std.specs.Prelude.{find, if◌then◌else◌, is_some, option_map, slice_get}
 use Rattle.std.specs.Str.{bytes_eq, chars}
+use Rattle.std.proofs.Math.Bool.{or-false}
 use Rattle.clap.specs.declared.error.kind.ErrorKind.TheVariants as kind
 use Rattle.clap.specs.Faults.{bundle_step_fault, check_fault, defaults_fault, entered_fault}
 use Rattle.clap.specs.Faults.{flag_word_fault, flags_fault, level_fault, long_fault, other_fault}
@@ -24,8 +25,7 @@ use Rattle.command_arguments.proofs.TableEnds.{Ends, ends, leaf_kinds, leaf_rows
 use Rattle.command_arguments.proofs.TableSpots.{before, fits_first, walk_at}
 use Rattle.command_arguments.proofs.WordLemmas.{neither, never, or_nothing}
 use Rattle.command_arguments.proofs.CommandShapes.{leaf_shape, top_shape, top_rules, help_leaf}
-use Rattle.command_arguments.proofs.CommandShapes.{label, names, subs_are, by_name, or_none}
-use Rattle.command_arguments.proofs.CommandShapes.{IsNamed}
+use Rattle.command_arguments.proofs.CommandShapes.{label, names, subs_are, by_name, IsNamed}
 
 -- ---- a command's name, and the words behind it
 
@@ -48,12 +48,12 @@ whole behind w =
 -- the first word is a command's name
 module _ (argument : Text) (rest : List Text) (l : Line) (found : line_of argument commands ≡ Some l) (is : IsNamed argument l) where
   name_met : find (answers_to argument) names ≡ Some (label l)
-  name_met = by_name label (answers_to argument) ((codes "help", []) ∷ []) argument (λ m. or_none (bytes_eq m.name argument)) commands
+  name_met = by_name label (answers_to argument) ((codes "help", []) ∷ []) argument (λ m. or-false (bytes_eq m.name argument)) commands
       ∙ ap (λ o. option_map_or (λ m. Some (label m)) o (find (answers_to argument) ((codes "help", []) ∷ []))) found
 
   leaf_met : find (λ s. answers_to argument (label_of s)) (built venue_app).subs ≡ Some (leaf_shape l)
   leaf_met = ap (find (λ s. answers_to argument (label_of s))) subs_are
-      ∙ by_name leaf_shape (λ s. answers_to argument (label_of s)) (help_leaf ∷ []) argument (λ m. or_none (bytes_eq m.name argument)) commands
+      ∙ by_name leaf_shape (λ s. answers_to argument (label_of s)) (help_leaf ∷ []) argument (λ m. or-false (bytes_eq m.name argument)) commands
       ∙ ap (λ o. option_map_or (λ m. Some (leaf_shape m)) o (find (λ s. answers_to argument (label_of s)) (help_leaf ∷ []))) found
 
   abbrev stopped : Walk
@@ -173,7 +173,7 @@ first_none argument rest e = (neither _ _ (neither _ _ e).0).0
 pub unnamed : (argument : Text) (rest : List Text) → line_of argument commands ≡ None → arguments_fault (argument ∷ rest) ≡ [] → ⊥
 unnamed argument rest lost e =
     let met : find (answers_to argument) names ≡ cond (bytes_eq (codes "help") argument || false) (Some (codes "help", [])) None =
-    by_name label (answers_to argument) ((codes "help", []) ∷ []) argument (λ m. or_none (bytes_eq m.name argument)) commands
+    by_name label (answers_to argument) ((codes "help", []) ∷ []) argument (λ m. or-false (bytes_eq m.name argument)) commands
     ∙ ap (λ o. option_map_or (λ m. Some (label m)) o (find (answers_to argument) ((codes "help", []) ∷ []))) lost in
     let dashes = only_dashes argument (bytes_eq (codes "help") argument) (ap (first_kinds argument) (sym met) ∙ first_none argument rest e) in
     first_dashes rest (subst (λ (w : Text). arguments_fault (w ∷ rest) ≡ []) dashes e)

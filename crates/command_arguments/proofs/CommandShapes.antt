@@ -1,6 +1,6 @@
 -- The commands as clap builds them, and the line of a table that has a name.
-use Rattle.std.proofs.Common.{◌≡◌, ◌∙◌, ◌||◌, ◌&&◌, refl, sym, ap, ap₂, subst, Bool, true, false}
-use Rattle.std.proofs.Common.{List, [], ◌∷◌, ◌++◌, map, Some, cond, not, codes, fold}
+use Rattle.std.proofs.Common.{◌≡◌, ◌∙◌, ◌&&◌, refl, sym, ap, ap₂, subst, Bool, true, false, List}
+use Rattle.std.proofs.Common.{[], ◌∷◌, ◌++◌, map, Some, cond, not, codes, fold}
 use Rattle.std.proofs.lemmas.Bool.{and_parts, not-true}
 use Rattle.std.proofs.lemmas.List.{append-nil, append_assoc}
 use Rattle.std.proofs.lemmas.Slice.Eq.{bytes_eq-Decides}
@@ -10,7 +10,7 @@ use Rattle.std.specs.Prelude.{find, unwrap_or}
 use Rattle.std.specs.Str.{bytes_eq}
 use Rattle.clap.specs.Lexer.{has_byte}
 use Rattle.clap.specs.Simple.{App, Shape, built, built_leaf, filled_from, help_rule, help_shape}
-use Rattle.clap.specs.Simple.{inherited, names_of, new_app, on_top, with_rule}
+use Rattle.clap.specs.Simple.{inherited, new_app, on_top, with_rule}
 use Rattle.clap.specs.Walk.{Names, Rule, Text}
 use Rattle.command_arguments.specs.ArgumentWords.{is_among}
 use Rattle.command_arguments.specs.Arguments.{Line, commands, flag_rule, line_app, line_of}
@@ -22,6 +22,7 @@ use Rattle.command_arguments.proofs.TableSpots.{above, shape}
 -- ---- the commands as clap builds them
 
 -- a command with rules more
+
 ruled : (app : App) (rules : List Rule) → fold with_rule app rules ≡ on_top (λ s. record s { rules = s.rules ++ rules }) app
 ruled app [] = ap (λ rs. on_top (λ s. record s { rules = rs }) app) (sym (append-nil app.top.rules))
 ruled app (rule ∷ rules) =
@@ -59,9 +60,6 @@ label l = (l.name, [])
 abbrev pub names : Names
 names = map label commands ++ (codes "help", []) ∷ []
 
-names_are : names_of (built venue_app) ≡ names
-names_are = refl
-
 pub subs_are : (built venue_app).subs ≡ map leaf_shape commands ++ help_leaf ∷ []
 subs_are = ap (λ (shapes : List Shape). shapes ++ help_leaf ∷ []) (leaves_are commands)
 
@@ -76,10 +74,6 @@ module _ {X : Type 0} (f : Line → X) (p : X → Bool) (rest : List X) (name : 
           → cond b (Some (f l)) (find p (map f lines ++ rest)) ≡ option_map_or (λ m. Some (f m)) (cond b (Some l) (line_of name lines)) (find p rest)
       go true others = refl
       go false others = others
-
-pub or_none : (b : Bool) → (b || false) ≡ b
-or_none true = refl
-or_none false = refl
 
 -- what each line of a table has to be
 abbrev pub is_lawful : Line → Bool

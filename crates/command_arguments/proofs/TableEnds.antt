@@ -1,29 +1,33 @@
 -- The words behind a command's name: what clap finds wrong with them and makes of them, all in all.
-use Rattle.std.proofs.Common.{◌≡◌, ◌∙◌, ◌⊎◌, ◌||◌, ◌&&◌, refl, sym, ap, ap₂, subst, inl, inr}
-use Rattle.std.proofs.Common.{Bool, true, false, List, [], ◌∷◌, ◌++◌, map, Option, Some, None, cond, not, codes, fold}
-use Rattle.std.proofs.lemmas.Bool.{and_left, and_right, false≢true}
+use Rattle.std.proofs.Common.{◌≡◌, ◌∙◌, ◌⊎◌, ◌||◌, ◌&&◌, refl, sym, ap, ap₂, subst, inl, inr, Bool}
+use Rattle.std.proofs.Common.{true, false, List, [], ◌∷◌, ◌++◌, map, Option, Some, None, cond, not}
+use Rattle.std.proofs.Common.{codes, fold}
+use Rattle.std.proofs.lemmas.Bool.{and_left, and_right, false≢true, or_parts}
 use Rattle.std.proofs.lemmas.List.{append-nil, append_assoc, map-append}
 use Rattle.std.proofs.lemmas.List.Folds.{find-append, list_any-append}
 use Rattle.std.specs.Option.{option_map_or, option_or}
 use Rattle.std.specs.Prelude.{if◌then◌else◌, is_some, option_and_then, option_map, slice_get}
 use Rattle.std.specs.Str.{bytes_eq}
+use Rattle.std.proofs.Math.Bool.{or-false}
 use Rattle.clap.specs.declared.error.kind.ErrorKind.TheVariants as kind
 use Rattle.clap.specs.Facts.{explicit_source}
 use Rattle.clap.specs.Faults.{check_fault, defaults_fault, settle_fault, walk_fault}
 use Rattle.clap.specs.Kinds.{Kinds, or_else}
 use Rattle.clap.specs.Takes.{is_given}
-use Rattle.clap.specs.Walk.{Held, Row, Text, Walk, finished, first_of, one_of, row_text, settled, walked, with_default}
+use Rattle.clap.specs.Walk.{Held, Row, Text, Walk, finished, first_of, one_of, row_text, settled}
+use Rattle.clap.specs.Walk.{walked, with_default}
 use Rattle.command_arguments.specs.ArgumentWords.{Words, are_flags, are_words, flags_in, is_among}
 use Rattle.command_arguments.specs.ArgumentWords.{is_flag, no_word, one_or_none, one_word, plain_in}
 use Rattle.command_arguments.specs.ArgumentWords.{spelled}
-use Rattle.command_arguments.proofs.TableRows.{all_defaulted, at_default, at_flag, default_row, defaulted, firm, flag_row, lacks, lacks_word}
+use Rattle.command_arguments.proofs.TableRows.{all_defaulted, at_default, at_flag, default_row}
+use Rattle.command_arguments.proofs.TableRows.{defaulted, firm, flag_row, lacks, lacks_word}
 use Rattle.command_arguments.proofs.TableRows.{no_default_fault, row_at, rules_of, word_row}
-use Rattle.command_arguments.proofs.TableFlags.{AreNames, given_more, or_none}
+use Rattle.command_arguments.proofs.TableFlags.{AreNames, given_more}
 use Rattle.command_arguments.proofs.TableSpots.{Fits, Spot, before, behind, given_at, held_at}
 use Rattle.command_arguments.proofs.TableSpots.{settled_at, among_spelled, settled_is, shape, waits}
 use Rattle.command_arguments.proofs.TableSpots.{walk_at, with_flag, words_at}
 use Rattle.command_arguments.proofs.TableTurns.{open_turn, trailing_turn}
-use Rattle.command_arguments.proofs.WordLemmas.{both_false, neither, never}
+use Rattle.command_arguments.proofs.WordLemmas.{neither, never}
 
 abbrev end_fault : List Text → Words → Text → Held → Kinds
 end_fault own words name held =
@@ -68,7 +72,7 @@ at_firm (waits names argument) clear =
     find-append (λ (r : Row). bytes_eq r.id firm) (map flag_row names) (word_row argument ∷ [])
     ∙ ap (λ o. option_or o (Some (word_row argument))) (at_flag firm names ∙ ap (λ b. cond b (Some (flag_row firm)) None) clear)
 at_firm (behind names argument more) clear =
-    let parts = both_false _ _ (sym (list_any-append (λ other. bytes_eq other firm) names more) ∙ clear) in
+    let parts = or_parts _ _ (sym (list_any-append (λ other. bytes_eq other firm) names more) ∙ clear) in
     find-append (λ (r : Row). bytes_eq r.id firm) (map flag_row names) (word_row argument ∷ map flag_row more)
     ∙ ap (λ o. option_or o (Some (word_row argument))) (at_flag firm names ∙ ap (λ b. cond b (Some (flag_row firm)) None) parts.0)
 
@@ -81,7 +85,7 @@ at_name (before names) name apart = at_flag name names
 at_name (waits names argument) name apart =
     find-append (λ (r : Row). bytes_eq r.id name) (map flag_row names) (word_row argument ∷ [])
     ∙ ap₂ (λ o b. option_or o (cond b (Some (word_row argument)) None)) (at_flag name names) apart
-    ∙ joined (is_among name names) false (flag_row name) ∙ ap (λ b. cond b (Some (flag_row name)) None) (or_none (is_among name names))
+    ∙ joined (is_among name names) false (flag_row name) ∙ ap (λ b. cond b (Some (flag_row name)) None) (or-false (is_among name names))
 at_name (behind names argument more) name apart =
     find-append (λ (r : Row). bytes_eq r.id name) (map flag_row names) (word_row argument ∷ map flag_row more)
     ∙ ap₂ (λ o b. option_or o (cond b (Some (word_row argument)) (row_at name (map flag_row more)))) (at_flag name names) apart

@@ -9,6 +9,7 @@ use Rattle.std.proofs.lemmas.Slice.Eq.{bytes_eq-Decides}
 use Rattle.std.specs.List.{list_all}
 use Rattle.std.specs.Prelude.{if◌then◌else◌, is_some}
 use Rattle.std.specs.Str.{bytes_eq}
+use Rattle.std.proofs.Math.Bool.{or-false}
 use Rattle.clap.specs.declared.builder.value_parser.Reading.TheVariants.{AsWritten}
 use Rattle.clap.specs.declared.error.kind.ErrorKind.TheVariants as kind
 use Rattle.clap.specs.declared.parser.matches.ValueSource.TheVariants.{CommandLine}
@@ -72,15 +73,11 @@ not_other name other names is none = elim (cases_Bool (bytes_eq name other)) [
   | inr apart ↦ apart
 ]
 
-pub or_none : (b : Bool) → (b || false) ≡ b
-or_none true = refl
-or_none false = refl
-
 had_flag : (s : Spot) (name : Text) → bytes_eq firm name ≡ false → has_row name (settled_at s) ≡ is_among name (given_at s)
 had_flag (before names) name apart = has_flag name names
 had_flag (waits names argument) name apart =
     list_any-append (λ (r : Row). bytes_eq r.id name) (map flag_row names) (word_row argument ∷ [])
-    ∙ ap₂ (λ a b. a || (b || false)) (has_flag name names) apart ∙ or_none _
+    ∙ ap₂ (λ a b. a || (b || false)) (has_flag name names) apart ∙ or-false _
 had_flag (behind names argument more) name apart =
     list_any-append (λ (r : Row). bytes_eq r.id name) (map flag_row names) (word_row argument ∷ map flag_row more)
     ∙ ap₂ (λ a b. a || b) (has_flag name names) (ap (λ b. b || has_row name (map flag_row more)) apart ∙ has_flag name more)

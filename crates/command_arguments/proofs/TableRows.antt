@@ -1,7 +1,7 @@
 -- The rules and the rows of a command of the table.
-use Rattle.std.proofs.Common.{◌≡◌, ◌∙◌, ◌||◌, ◌&&◌, refl, sym, ap, ap₂}
-use Rattle.std.proofs.Common.{Bool, ℕ, true, false, List, [], ◌∷◌, ◌++◌, Option, Some, None, cond, not, codes, map, fold}
-use Rattle.std.proofs.lemmas.Bool.{false≢true}
+use Rattle.std.proofs.Common.{◌≡◌, ◌∙◌, ◌||◌, ◌&&◌, refl, sym, ap, ap₂, Bool, ℕ, true, false, List}
+use Rattle.std.proofs.Common.{[], ◌∷◌, ◌++◌, Option, Some, None, cond, not, codes, map, fold}
+use Rattle.std.proofs.lemmas.Bool.{false≢true, or_parts}
 use Rattle.std.proofs.lemmas.List.{append-nil}
 use Rattle.std.proofs.lemmas.List.Folds.{find-append}
 use Rattle.std.proofs.lemmas.List.Sums.{fold-append}
@@ -18,11 +18,10 @@ use Rattle.clap.specs.Faults.{defaults_fault}
 use Rattle.clap.specs.Kinds.{Kinds, or_else}
 use Rattle.clap.specs.Simple.{filled, filled_from, help_rule, with_index}
 use Rattle.clap.specs.Takes.{is_given}
-use Rattle.clap.specs.Walk.{Row, Rule, Text, arg_by_id, arg_by_index, arg_by_long, arg_by_short, at_row}
-use Rattle.clap.specs.Walk.{has_row, more_values, with_default, with_values, without}
+use Rattle.clap.specs.Walk.{Row, Rule, Text, arg_by_id, arg_by_index, arg_by_long, arg_by_short}
+use Rattle.clap.specs.Walk.{at_row, has_row, more_values, with_default, with_values, without}
 use Rattle.command_arguments.specs.ArgumentWords.{Words, is_among, no_word, one_or_none, one_word}
 use Rattle.command_arguments.specs.Arguments.{flag_rule, argument_rule, argument_rules}
-use Rattle.command_arguments.proofs.WordLemmas.{both_false}
 
 -- ---- the rules of a command that is built
 
@@ -68,7 +67,7 @@ by_long (first ∷ own) rest name = here (bytes_eq first name) refl (by_long own
 pub by_id : (own : List Text) (rest : List Rule) (id : Text) → is_among id own ≡ false → arg_by_id (map built_flag own ++ rest) id ≡ arg_by_id rest id
 by_id [] rest id none = refl
 by_id (name ∷ own) rest id none =
-    let parts = both_false (bytes_eq name id) (is_among id own) none in
+    let parts = or_parts (bytes_eq name id) (is_among id own) none in
     ap (λ b. cond b (Some (built_flag name)) (arg_by_id (map built_flag own ++ rest) id)) parts.0 ∙ by_id own rest id parts.1
 
 -- ---- rows
@@ -95,7 +94,7 @@ row_at id rows = find (λ r. bytes_eq r.id id) rows
 at_no_row : (id : Text) (change : Row → List Row) (missing rows : List Row) → has_row id rows ≡ false → at_row id change missing rows ≡ rows ++ missing
 at_no_row id change missing [] none = refl
 at_no_row id change missing (r ∷ rows) none =
-    let parts = both_false (bytes_eq r.id id) (has_row id rows) none in
+    let parts = or_parts (bytes_eq r.id id) (has_row id rows) none in
     ap (λ b. if b then change r ++ rows else r ∷ at_row id change missing rows) parts.0
     ∙ ap (λ (rest : List Row). r ∷ rest) (at_no_row id change missing rows parts.1)
 

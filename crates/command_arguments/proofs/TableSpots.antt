@@ -2,6 +2,7 @@
 use Rattle.std.proofs.Common.{◌≡◌, ◌∙◌, ◌⊎◌, ◌||◌, ◌&&◌, refl, sym, ap, ap₂, inl, inr, ℕ, Bool}
 use Rattle.std.proofs.Common.{true, false, List, [], ◌∷◌, ◌++◌, map, Option, Some, None, not}
 use Rattle.std.proofs.lemmas.Bool.{and_left, and_parts, and_right, cases_Bool, false≢true, not-true}
+use Rattle.std.proofs.lemmas.Bool.{or_parts}
 use Rattle.std.proofs.lemmas.List.Folds.{list_any-append}
 use Rattle.std.proofs.lemmas.Slice.Eq.{bytes_eq-Decides}
 use Rattle.std.specs.Option.{option_map_or}
@@ -20,7 +21,6 @@ use Rattle.command_arguments.specs.ArgumentWords.{one_word, spelled}
 use Rattle.command_arguments.specs.Arguments.{venue_app, argument_rule}
 use Rattle.command_arguments.proofs.TableRows.{by_id, firm, flag_row, has_flag, one_used, rules_of}
 use Rattle.command_arguments.proofs.TableRows.{word_row}
-use Rattle.command_arguments.proofs.WordLemmas.{both_false}
 
 -- the program as its commands take over its settings
 abbrev pub above : Shape
@@ -137,7 +137,7 @@ right_flag own [] flag front_is is new = ap (λ b. b && true) is
 right_flag own (first ∷ front) flag front_is is new =
     let parts = and_parts (is_among first own) _ front_is in
     let more = and_parts (not (is_among first front)) _ parts.1 in
-    let apart = both_false (bytes_eq first flag) (is_among flag front) new in
+    let apart = or_parts (bytes_eq first flag) (is_among flag front) new in
     let there : is_among first (front ++ flag ∷ []) ≡ false =
     list_any-append (λ other. bytes_eq other first) front (flag ∷ [])
     ∙ ap₂ (λ a b. a || (b || false)) (not-true _ more.0) (bytes_apart first flag apart.0) in

@@ -1,8 +1,8 @@
 -- Words as clap reads them, and lists of kinds of errors.
-use Rattle.std.proofs.Common.{◌≡◌, ◌∙◌, ◌⊎◌, ◌||◌, ◌&&◌, ◌==◌, ◌<◌, arith, refl, sym, ap, subst, inl, inr}
-use Rattle.std.proofs.Common.{ℕ, Bool, true, false, [], ◌∷◌, length, Option, Some}
-use Rattle.std.proofs.Common.{None, cond, not, codes}
-use Rattle.std.proofs.lemmas.Bool.{eqb-true, false≢true, false_from_ne_true}
+use Rattle.std.proofs.Common.{◌≡◌, ◌∙◌, ◌⊎◌, ◌||◌, ◌&&◌, ◌==◌, ◌<◌, arith, refl, sym, ap, subst}
+use Rattle.std.proofs.Common.{inl, inr, ℕ, Bool, true, false, [], ◌∷◌, length, Option, Some, None}
+use Rattle.std.proofs.Common.{cond, not, codes}
+use Rattle.std.proofs.lemmas.Bool.{eqb-true, false≢true, false_from_ne_true, or_parts}
 use Rattle.std.proofs.lemmas.List.Sums.{take_while-cons}
 use Rattle.std.proofs.lemmas.Slice.Eq.{bytes_eq-Decides}
 use Rattle.std.specs.List.{before_first}
@@ -10,8 +10,8 @@ use Rattle.std.specs.Prelude.{if◌then◌else◌, is_some, option_and_then, sli
 use Rattle.std.specs.Str.{bytes_eq, chars}
 use Rattle.clap.specs.declared.error.kind.ErrorKind.{ErrorKind}
 use Rattle.clap.specs.Kinds.{Kinds, or_else}
-use Rattle.clap.specs.Lexer.{has_byte, long_of, long_of_rest, name_and_value, short_of, short_of_rest}
-use Rattle.clap.specs.Lexer.{strip_byte}
+use Rattle.clap.specs.Lexer.{has_byte, long_of, long_of_rest, name_and_value, short_of}
+use Rattle.clap.specs.Lexer.{short_of_rest, strip_byte}
 use Rattle.clap.specs.Walk.{Text}
 use Rattle.command_arguments.specs.ArgumentWords.{is_dashes, is_flag, spelled}
 
@@ -28,10 +28,6 @@ pub or_nothing : (a : Kinds) → or_else a [] ≡ a
 or_nothing [] = refl
 or_nothing (k ∷ ks) = refl
 
-pub both_false : (a b : Bool) → (a || b) ≡ false → (a ≡ false) × (b ≡ false)
-both_false true b e = cc
-both_false false b e = (refl, e)
-
 -- ---- the name of a long flag
 
 -- what stands before the first `=`
@@ -44,10 +40,6 @@ NameIs n text name valued = bytes_eq n text ≡ (bytes_eq n name && not valued)
 no_name : (x : ℕ) (xs : Text) (b v : Bool) → (x == 61) ≡ b → NameIs [] (x ∷ xs) (cond (not b) (x ∷ before_first (λ y. y == 61) xs) []) (b || v)
 no_name x xs true v is = refl
 no_name x xs false v is = refl
-
-and_false : (a : Bool) → false ≡ (a && false)
-and_false true = refl
-and_false false = refl
 
 and_assoc : (a b c : Bool) → (a && (b && c)) ≡ ((a && b) && c)
 and_assoc true b c = refl
@@ -75,7 +67,7 @@ name_is (m ∷ ms) [] plain = refl
 name_is [] (x ∷ xs) plain =
     no_name x xs (x == 61) (has_byte 61 xs) refl ∙ ap (λ (t : Text). bytes_eq [] t && not ((x == 61) || has_byte 61 xs)) (sym (before_cons x xs))
 name_is (m ∷ ms) (x ∷ xs) plain =
-    let parts = both_false (m == 61) (has_byte 61 ms) plain in
+    let parts = or_parts (m == 61) (has_byte 61 ms) plain in
     by_head m x ms xs (x == 61) parts.0 (name_is ms xs parts.1) refl
     ∙ ap (λ (t : Text). bytes_eq (m ∷ ms) t && not ((x == 61) || has_byte 61 xs)) (sym (before_cons x xs))
 

@@ -9,8 +9,9 @@ use Rattle.day_weaving.specs.OrderLaws.{ComesBefore, StandsIn, StandsOnce}
 use Rattle.recorded_days.specs.Records.{ActionRef, RecordedDay, action_in}
 use Rattle.day_weaving.specs.declared.weave_plan.Slot.{Slot}
 use Rattle.day_weaving.proofs.DayFormLemmas.{action_within}
-use Rattle.day_weaving.proofs.MessageLemmas.{one_actor, same_self, taken_one}
+use Rattle.day_weaving.proofs.MessageLemmas.{taken_one}
 use Rattle.day_weaving.proofs.NthLemmas.{mono, nth}
+use Rattle.step_replay.specs.QueueLemmas.{same_actor, one_actor}
 
 -- Actors.
 
@@ -30,7 +31,7 @@ module _ (day : RecordedDay) (slots : List Slot) (keeps : KeepsOrder day slots) 
       → action.1 ≤ before action.0 later
   counts_at action place later stands below =
       let mine : is_by action.0 stands.slot ≡ true =
-      ap (λ (one : ActionRef). is_same_actor one.0 action.0) stands.is_it ∙ same_self action.0 in
+      ap (λ (one : ActionRef). is_same_actor one.0 action.0) stands.is_it ∙ same_actor action.0 in
       let one_more : before action.0 (place + 1) ≡ before action.0 place + 1 =
       taken_one (is_by action.0) slots place stands.slot true stands.there mine in
       let within : place + 1 ≤ later = omega arith in

@@ -1,6 +1,6 @@
 -- The actions of a record, and where it is well-formed or malformed.
-use Rattle.std.proofs.Common.{◌≡◌, ◌<◌, ◌≤◌, ℕ, Bool, true, false, count_by, not, length, Option}
-use Rattle.std.proofs.Common.{Some, is_some, refl, sym, ap, ◌∙◌, List}
+use Rattle.std.proofs.Common.{◌≡◌, ◌<◌, ◌≤◌, ℕ, true, false, count_by, length, Option, Some}
+use Rattle.std.proofs.Common.{is_some, sym, ap, ◌∙◌, List}
 use Rattle.std.specs.Prelude.{option_and_then}
 use Rattle.std.specs.List.{list_any}
 use Rattle.std.specs.Option.{option_map}
@@ -67,14 +67,6 @@ desk_swept config day firm order order_is any =
     let found = mapped (λ (lists : FirmLists). lists.order) (firm_in day firm) order
     (sym order_is) in
     DeskIsSwept firm found.0 found.1 (ap (list_any (names_sweep day)) found.2 ∙ any)
-
-pub not_false : (b : Bool) → not b ≡ false → b ≡ true
-not_false true is = refl
-not_false false is = cc
-
-pub not_true : (b : Bool) → not b ≡ true → b ≡ false
-not_true true is = cc
-not_true false is = refl
 
 -- A record is well-formed or malformed, and not both.
 

@@ -5,14 +5,6 @@ use Rattle.std.proofs.Common.{◌∙◌}
 
 -- Lists.
 
-pub set_here : {A : Type 0} (xs : List A) (i : ℕ) (y : A) → i < length xs
-    → slice_get (slice_set xs i y) i ≡ Some y
-set_here [] i y within = absurd (omega arith)
-set_here (x ∷ xs) zero y within = refl
-set_here (x ∷ xs) (suc i) y within =
-    let rest : i < length xs = omega arith in
-    set_here xs i y rest
-
 pub set_else : {A : Type 0} (xs : List A) (i j : ℕ) (y : A) → (i ≡ j → ⊥)
     → slice_get (slice_set xs i y) j ≡ slice_get xs j
 set_else [] i j y apart = refl
@@ -21,14 +13,6 @@ set_else (x ∷ xs) zero (suc j) y apart = refl
 set_else (x ∷ xs) (suc i) zero y apart = refl
 set_else (x ∷ xs) (suc i) (suc j) y apart =
     set_else xs i j y (λ same. apart (ap (λ (n : ℕ). suc n) same))
-
-pub got_left : {A : Type 0} (xs ys : List A) (j : ℕ) → j < length xs
-    → slice_get (xs ++ ys) j ≡ slice_get xs j
-got_left [] ys j within = absurd (omega arith)
-got_left (x ∷ xs) ys zero within = refl
-got_left (x ∷ xs) ys (suc j) within =
-    let rest : j < length xs = omega arith in
-    got_left xs ys j rest
 
 pub got_end : {A : Type 0} (xs : List A) (y : A) → slice_get (xs ++ y ∷ []) (length xs) ≡ Some y
 got_end [] y = refl

@@ -1,7 +1,6 @@
 -- Marks of the search for an order: where one is set, and what is left to do by it.
-use Rattle.std.proofs.Common.{◌≡◌, ◌<◌, ◌≤◌, ℕ, ◌+◌, ◌==◌, Bool, true, false, ◌⊎◌, inl, inr, nat_lt}
-use Rattle.std.proofs.Common.{List, length, slice_get, slice_set, slice_index_or, Some, arith, refl}
-use Rattle.std.proofs.Common.{sym, ap, ◌∙◌, eq-eqb}
+use Rattle.std.proofs.Common.{◌≡◌, ◌<◌, ◌≤◌, ℕ, ◌+◌, Bool, true, false, nat_lt, List, length}
+use Rattle.std.proofs.Common.{slice_get, slice_set, slice_index_or, Some, arith, refl, sym, ap, ◌∙◌}
 use Rattle.std.specs.List.{sum_by}
 use Rattle.std.proofs.lemmas.Bool.Decides.{nat_tests}
 use Rattle.std.proofs.lemmas.List.Sums.{sum_by-set}
@@ -11,7 +10,8 @@ use Rattle.recorded_days.specs.Records.{ActionRef, RecordedDay}
 use Rattle.day_weaving.specs.declared.weave_plan.Slot.{Slot}
 use Rattle.day_weaving.specs.declared.weave_search.Mark.{Mark}
 use Rattle.day_weaving.specs.declared.weave_table.Table.{Table}
-use Rattle.day_weaving.proofs.ListPlaces.{set_else, set_here}
+use Rattle.day_weaving.proofs.ListPlaces.{set_else}
+use Rattle.step_replay.specs.PlaceLemmas.{get_set_same}
 
 -- Marks.
 
@@ -34,17 +34,6 @@ one_place day table one other whole is is_too same =
     let slot : first.slot ≡ second.slot = cc in
     sym first.is_it ∙ ap (λ (s : Slot). s.action) slot ∙ second.is_it
 
-pub same_or_not : (a b : ℕ) → (a ≡ b) ⊎ (a ≡ b → ⊥)
-same_or_not a b = by_test (a == b) refl
-  where
-    by_test : (t : Bool) → (a == b) ≡ t → (a ≡ b) ⊎ (a ≡ b → ⊥)
-    by_test true test = let same : a ≡ b = grind (arith, nat_tests) in inl same
-    by_test false test =
-        inr (λ same.
-        let equal : (a == b) ≡ true = eq-eqb a b same in
-        let clash : true ≡ false = sym equal ∙ test in
-        absurd cc)
-
 pub less_or_not : (a b : ℕ) → a ≤ b → (a ≡ b → ⊥) → a < b
 less_or_not a b most apart = by_test (nat_lt a b) refl
   where
@@ -63,7 +52,7 @@ module _ (table : Table) (marks after : List Mark) (now : ActionRef) (new : Mark
   mark_here action within same =
       ap (λ (list : List Mark). slice_get list (index_in table.firsts action)) are
       ∙ ap (slice_get (slice_set marks (index_in table.firsts now) new)) (sym same)
-      ∙ set_here marks (index_in table.firsts now) new within
+      ∙ get_set_same marks (index_in table.firsts now) new within
 
   pub mark_else : (action : ActionRef)
       → (index_in table.firsts now ≡ index_in table.firsts action → ⊥)

@@ -4,7 +4,6 @@ use Rattle.std.proofs.Common.{take, count_by, length, slice_get, Option, Some, N
 use Rattle.std.proofs.Common.{if◌then◌else◌, refl, sym, ap, subst, ◌∙◌}
 use Rattle.std.specs.Prelude.{option_and_then}
 use Rattle.std.specs.Option.{option_map}
-use Rattle.std.proofs.lemmas.Bool.Decides.{nat_tests}
 use Rattle.std.proofs.lemmas.List.Sums.{count_by_more_no, count_by_more_yes, sum_by-append}
 use Rattle.std.proofs.lemmas.Option.{get_or_from_slice_get, slice_get_within}
 use Rattle.step_replay.specs.AuditTrail.{is_same_actor}
@@ -25,6 +24,7 @@ use Rattle.recorded_days.specs.declared.actions.Kind.TheVariants as kind
 use Rattle.recorded_days.specs.declared.actions.Action.{Action}
 use Rattle.day_weaving.specs.declared.weave_plan.Slot.{Slot}
 use Rattle.day_weaving.proofs.NumberedLemmas.{numbered_at}
+use Rattle.step_replay.specs.QueueLemmas.{same_actor, one_actor}
 
 -- Counts.
 
@@ -50,19 +50,6 @@ taken_one p xs n x false there is =
     let same : count_by p (take n xs) + 0 ≡ count_by p (take n xs) = omega arith in
     count_by_more_no p xs n x within (ap p (get_or_from_slice_get xs n x x there) ∙ is)
     ∙ sym same
-
--- one actor by the test, and the other way round
-pub one_actor : (by other : Actor) → is_same_actor by other ≡ true → by ≡ other
-one_actor (actor.Firm one) (actor.Firm two) same =
-    let equal : one ≡ two = grind (arith, nat_tests) in
-    ap (λ (n : ℕ). actor.Firm n) equal
-one_actor (actor.Firm one) actor.Clock same = cc
-one_actor actor.Clock (actor.Firm two) same = cc
-one_actor actor.Clock actor.Clock same = refl
-
-pub same_self : (by : Actor) → is_same_actor by by ≡ true
-same_self (actor.Firm firm) = grind (arith, nat_tests)
-same_self actor.Clock = refl
 
 -- An action more of an order.
 
@@ -156,7 +143,7 @@ module _ (day : RecordedDay) (before : List Slot) (slot : Slot) (action : Action
         where
           never : firm ≡ sender → ⊥
           never same =
-              let clash : true ≡ false = sym (same_self (actor.Firm firm))
+              let clash : true ≡ false = sym (same_actor (actor.Firm firm))
               ∙ ap (λ (by : Actor). is_same_actor by (actor.Firm firm))
               (ap (λ (n : ℕ). actor.Firm n) same ∙ sym by_sender) ∙ test in
               absurd cc

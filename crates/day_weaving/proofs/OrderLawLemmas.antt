@@ -21,9 +21,9 @@ use Rattle.day_weaving.specs.declared.weave_plan.Slot.{Slot}
 use Rattle.day_weaving.specs.declared.weaving.WeaveFault.{WeaveFault}
 use Rattle.day_weaving.specs.declared.weaving.WeaveFault.TheVariants as fault
 use Rattle.day_weaving.proofs.DayFormLemmas.{never_both}
-use Rattle.day_weaving.proofs.MessageLemmas.{one_actor}
 use Rattle.day_weaving.proofs.NthLemmas.{mono, none_passes}
 use Rattle.day_weaving.proofs.ActorOrderLemmas.{number_at, by_numbers, stands_once}
+use Rattle.step_replay.specs.QueueLemmas.{one_actor}
 
 -- Desks and rooms.
 

@@ -6,6 +6,7 @@ use Rattle.std.specs.List.{list_any}
 use Rattle.std.proofs.lemmas.List.{take-append-le, take_all}
 use Rattle.std.proofs.lemmas.List.Folds.{list_any-append}
 use Rattle.std.proofs.lemmas.Option.{slice_get_within}
+use Rattle.std.proofs.lemmas.Bool.{cases_eq}
 use Rattle.step_replay.specs.AuditTrail.{is_same_actor}
 use Rattle.venue_places.specs.declared.actors.Actor.{Actor}
 use Rattle.day_weaving.specs.DayOrder.{ComesInTurn, is_by, is_granted, is_refused}
@@ -18,10 +19,10 @@ use Rattle.day_weaving.specs.declared.weave_plan.Slot.{Slot}
 use Rattle.day_weaving.specs.declared.weave_search.Search.{Search}
 use Rattle.day_weaving.specs.declared.weave_table.Table.{Table}
 use Rattle.day_weaving.proofs.DayFormLemmas.{action_within}
-use Rattle.day_weaving.proofs.MessageLemmas.{count_one, one_actor, same_self}
+use Rattle.day_weaving.proofs.MessageLemmas.{count_one}
 use Rattle.day_weaving.proofs.PlaceNotes.{key_apart}
 use Rattle.day_weaving.proofs.ListPlaces.{got_push}
-use Rattle.day_weaving.proofs.MarkLemmas.{same_or_not}
+use Rattle.step_replay.specs.QueueLemmas.{same_actor, one_actor}
 
 -- The last action of the way is placed.
 
@@ -39,7 +40,7 @@ module _ (day : RecordedDay) (table : Table) (before after : Search) (slot : Slo
       omega arith
 
   pub same_key_or_not : (key : ℕ) → (key ≡ key_of slot.action.0) ⊎ (key ≡ key_of slot.action.0 → ⊥)
-  same_key_or_not key = same_or_not key (key_of slot.action.0)
+  same_key_or_not key = cases_eq key (key_of slot.action.0)
 
   pub placed_grows : Grows before.done after.done
   placed_grows key = by_key (same_key_or_not key)
@@ -134,7 +135,7 @@ module _ (day : RecordedDay) (table : Table) (before after : Search) (slot : Slo
           let apart : key_of by ≡ key_of slot.action.0 → ⊥ =
           λ same.
           let one : by ≡ slot.action.0 = key_apart by slot.action.0 same in
-          let clash : true ≡ false = sym (same_self slot.action.0)
+          let clash : true ≡ false = sym (same_actor slot.action.0)
           ∙ ap (is_same_actor slot.action.0) (sym one) ∙ test in
           absurd cc in
           let now : count_in after.done (key_of by) ≡ count_in before.done (key_of by) =

@@ -31,6 +31,7 @@ use Rattle.day_weaving.proofs.RecordRoomLemmas.{firm_beyond, room_of_firm}
 -- Keys.
 
 -- two actors have two keys
+
 pub key_apart : (one other : Actor) → key_of one ≡ key_of other → one ≡ other
 key_apart (actor.Firm one) (actor.Firm other) same =
     let equal : one ≡ other = omega arith in
@@ -38,11 +39,6 @@ key_apart (actor.Firm one) (actor.Firm other) same =
 key_apart (actor.Firm one) actor.Clock same = absurd (omega arith)
 key_apart actor.Clock (actor.Firm other) same = absurd (omega arith)
 key_apart actor.Clock actor.Clock same = refl
-
-own_key : (action : ActionRef)
-    → same_key (key_of action.0, action.1) (key_of action.0, action.1) ≡ true
-own_key action =
-    rw (eq-eqb (key_of action.0) (key_of action.0) refl, eq-eqb action.1 action.1 refl) refl
 
 -- two actions are one or have two keys
 pub one_or_two : (one other : ActionRef)

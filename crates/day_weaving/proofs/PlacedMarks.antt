@@ -3,6 +3,7 @@ use Rattle.std.proofs.Common.{◌≡◌, ◌<◌, ◌≤◌, ℕ, ◌+◌, ◌-�
 use Rattle.std.proofs.Common.{Some, arith, refl, sym, ap, subst, ◌∙◌}
 use Rattle.std.proofs.lemmas.List.{length-set}
 use Rattle.std.proofs.lemmas.Option.{slice_get_within}
+use Rattle.std.proofs.lemmas.Bool.{cases_eq}
 use Rattle.venue_places.specs.declared.actors.Actor.{Actor}
 use Rattle.day_weaving.specs.DayOrder.{IsDirectlyBefore}
 use Rattle.day_weaving.specs.OrderCounts.{count_in, key_of}
@@ -15,8 +16,7 @@ use Rattle.day_weaving.specs.declared.weave_search.Search.{Search}
 use Rattle.day_weaving.specs.declared.weave_table.Table.{Table}
 use Rattle.day_weaving.proofs.PlaceNotes.{key_apart}
 use Rattle.day_weaving.proofs.ListPlaces.{got_take, take_got}
-use Rattle.day_weaving.proofs.MarkLemmas.{one_place, same_or_not, less_or_not, mark_here, mark_else}
-use Rattle.day_weaving.proofs.MarkLemmas.{less_by}
+use Rattle.day_weaving.proofs.MarkLemmas.{one_place, less_or_not, mark_here, mark_else, less_by}
 use Rattle.day_weaving.proofs.PlaceLemmas.{on_it, next_number, same_key_or_not, come_stays}
 use Rattle.day_weaving.proofs.PlaceLemmas.{slot_come, placed_order}
 
@@ -50,7 +50,7 @@ module _ (day : RecordedDay) (table : Table) (before after : Search) (slot : Slo
       → (index_in table.firsts slot.action ≡ index_in table.firsts action)
       ⊎ (index_in table.firsts slot.action ≡ index_in table.firsts action → ⊥)
   same_place_or_not action =
-      same_or_not (index_in table.firsts slot.action) (index_in table.firsts action)
+      cases_eq (index_in table.firsts slot.action) (index_in table.firsts action)
 
   placed_placed : (action : ActionRef) → IsAction day action
       → mark_of table after.marks.items action ≡ Some mark.Placed → HasCome after.done action

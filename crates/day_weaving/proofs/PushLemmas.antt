@@ -3,6 +3,7 @@ use Rattle.std.proofs.Common.{◌≡◌, ◌<◌, ℕ, ◌+◌, ◌-◌, ◌⊎�
 use Rattle.std.proofs.Common.{slice_get, Some, arith, refl, sym, ap, subst, ◌∙◌}
 use Rattle.std.proofs.lemmas.List.{length-set}
 use Rattle.std.proofs.lemmas.Option.{slice_get_within}
+use Rattle.std.proofs.lemmas.Bool.{cases_eq}
 use Rattle.day_weaving.specs.DayOrder.{IsDirectlyBefore}
 use Rattle.day_weaving.specs.OrderCounts.{Counts}
 use Rattle.day_weaving.specs.OrderSearch.{HasCome, HasOrder, IsAction, IsLeft, IsOnWay, IsTable}
@@ -12,8 +13,9 @@ use Rattle.day_weaving.specs.declared.weave_plan.Slot.{Slot}
 use Rattle.day_weaving.specs.declared.weave_search.Mark.TheVariants as mark
 use Rattle.day_weaving.specs.declared.weave_search.Search.{Search}
 use Rattle.day_weaving.specs.declared.weave_table.Table.{Table}
-use Rattle.day_weaving.proofs.ListPlaces.{got_end, got_left, got_push}
-use Rattle.day_weaving.proofs.MarkLemmas.{one_place, same_or_not, mark_here, mark_else, less_by}
+use Rattle.day_weaving.proofs.ListPlaces.{got_end, got_push}
+use Rattle.day_weaving.proofs.MarkLemmas.{one_place, mark_here, mark_else, less_by}
+use Rattle.step_replay.specs.PlaceLemmas.{get_first}
 
 -- An action comes onto the way.
 
@@ -24,9 +26,6 @@ module _ (day : RecordedDay) (table : Table) (before after : Search) (now : Acti
     → slice_get before.way.items (length before.way.items - 1) ≡ Some last
     → IsDirectlyBefore day now last)
     (pushes : Pushes table before after now) where
-  at_end : ℕ
-  at_end = length before.way.items
-
   push_within : index_in table.firsts now < length before.marks.items
   push_within =
       slice_get_within before.marks.items (index_in table.firsts now) mark.New new
@@ -47,7 +46,7 @@ module _ (day : RecordedDay) (table : Table) (before after : Search) (now : Acti
   pushed_placed : (action : ActionRef) → IsAction day action
       → mark_of table after.marks.items action ≡ Some mark.Placed → HasCome after.done action
   pushed_placed action is_too marked =
-      by_place (same_or_not (index_in table.firsts now) (index_in table.firsts action))
+      by_place (cases_eq (index_in table.firsts now) (index_in table.firsts action))
     where
       by_place : (index_in table.firsts now ≡ index_in table.firsts action)
           ⊎ (index_in table.firsts now ≡ index_in table.firsts action → ⊥)
@@ -64,7 +63,7 @@ module _ (day : RecordedDay) (table : Table) (before after : Search) (now : Acti
       → mark_of table after.marks.items action ≡ Some (mark.OnWay at)
       → slice_get after.way.items at ≡ Some action
   pushed_marked action at is_too marked =
-      by_place (same_or_not (index_in table.firsts now) (index_in table.firsts action))
+      by_place (cases_eq (index_in table.firsts now) (index_in table.firsts action))
     where
       by_place : (index_in table.firsts now ≡ index_in table.firsts action)
           ⊎ (index_in table.firsts now ≡ index_in table.firsts action → ⊥)
@@ -81,7 +80,7 @@ module _ (day : RecordedDay) (table : Table) (before after : Search) (now : Acti
           let was : slice_get before.way.items at ≡ Some action =
           stands.marked action at is_too (sym (pushed_else action apart) ∙ marked) in
           ap (λ (way : List ActionRef). slice_get way at) pushes.way_is
-          ∙ got_left before.way.items (now ∷ []) at
+          ∙ get_first before.way.items (now ∷ []) at
           (slice_get_within before.way.items at action was) ∙ was
 
   pushed_on_way : (at : ℕ) (action : ActionRef) → slice_get after.way.items at ≡ Some action

@@ -5,6 +5,7 @@ use Rattle.std.proofs.Common.{subst, ◌∙◌}
 use Rattle.std.specs.List.{sum_by}
 use Rattle.std.proofs.lemmas.List.Sums.{get_or-le-sum_by, sum_by-cons}
 use Rattle.std.proofs.lemmas.Option.{get_or_from_slice_get}
+use Rattle.std.proofs.lemmas.List.{length-replicate}
 use Rattle.venue_places.specs.declared.actors.Actor.{Actor}
 use Rattle.day_weaving.specs.DayOrder.{KeepsOrder}
 use Rattle.day_weaving.specs.OrderCounts.{count_in, key_of}
@@ -101,16 +102,12 @@ same_in zero x i y is = cc
 same_in (suc n) x zero y is = cc
 same_in (suc n) x (suc i) y is = same_in n x i y is
 
-long_replicate : {A : Type 0} (n : ℕ) (x : A) → length (replicate n x) ≡ n
-long_replicate zero x = refl
-long_replicate (suc n) x = ap (λ (k : ℕ). suc k) (long_replicate n x)
-
 pub begins : (day : RecordedDay) (table : Table) (state : Search)
     → state.marks.items ≡ replicate (length table.slots.items) mark.New
     → ((key : ℕ) → count_in state.done key ≡ 0) → state.order.items ≡ []
     → state.way.items ≡ [] → Stands day table state
 begins day table state marks_are none_done order_is way_is = record {
-  long = ap length marks_are ∙ long_replicate (length table.slots.items) mark.New;
+  long = ap length marks_are ∙ length-replicate (length table.slots.items) mark.New;
   order = subst (λ (order : List Slot). HasOrder day state.done order) (sym order_is) (record {
     turns = λ place now there. cc;
     actors = λ by. none_done (key_of by);

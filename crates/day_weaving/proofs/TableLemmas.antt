@@ -12,7 +12,7 @@ use Rattle.venue_places.specs.declared.actors.Actor.TheVariants as actor
 use Rattle.venue_rows.specs.Rows.{Configuration}
 use Rattle.day_weaving.specs.DayForm.{AreNamedOnce, HasFirmsOf}
 use Rattle.day_weaving.specs.DayOrder.{grants, is_granted}
-use Rattle.day_weaving.specs.OrderCounts.{Counts, SetsCount, count_in, key_of}
+use Rattle.day_weaving.specs.OrderCounts.{Counts, count_in, key_of}
 use Rattle.day_weaving.specs.OrderLaws.{StandsIn}
 use Rattle.day_weaving.specs.OrderSearch.{HasActor, IsAction, IsBound, IsBuilt, IsChain, IsInTable}
 use Rattle.day_weaving.specs.OrderSearch.{IsSlot, IsTable, Links, Puts, index_in}
@@ -24,8 +24,8 @@ use Rattle.day_weaving.specs.declared.weave_table.Table.{Table}
 use Rattle.day_weaving.proofs.DayFormLemmas.{action_within}
 use Rattle.day_weaving.proofs.NumberedLemmas.{mapped}
 use Rattle.day_weaving.proofs.RecordRoomLemmas.{firm_within}
-use Rattle.day_weaving.proofs.PlaceNotes.{key_apart}
-use Rattle.day_weaving.proofs.ListPlaces.{got_left, got_end, got_push}
+use Rattle.day_weaving.proofs.ListPlaces.{got_end, got_push}
+use Rattle.step_replay.specs.PlaceLemmas.{get_first}
 
 -- Places.
 
@@ -33,7 +33,7 @@ pub stands_more : (slots : List Slot) (now : Slot) (action : ActionRef) (place :
     → StandsIn slots action place → StandsIn (slots ++ now ∷ []) action place
 stands_more slots now action place stands = record {
   slot = stands.slot;
-  there = got_left slots (now ∷ []) place (slice_get_within slots place stands.slot stands.there)
+  there = get_first slots (now ∷ []) place (slice_get_within slots place stands.slot stands.there)
       ∙ stands.there;
   is_it = stands.is_it;
 }
@@ -53,10 +53,10 @@ bound_more day slots now word up_to bound was most =
       within = was.within;
       granted = λ slot least there.
           let inside : bound - 1 < length slots = omega arith in
-          was.granted slot least (sym (got_left slots (now ∷ []) (bound - 1) inside) ∙ there);
+          was.granted slot least (sym (get_first slots (now ∷ []) (bound - 1) inside) ∙ there);
       none = λ place slot from below there.
           let inside : place < length slots = omega arith in
-          was.none place slot from below (sym (got_left slots (now ∷ []) place inside) ∙ there);
+          was.none place slot from below (sym (get_first slots (now ∷ []) place inside) ∙ there);
     }
 
 pub chain_more : (day : RecordedDay) (slots : List Slot) (below : List ℕ) (last after : Counts)
@@ -84,7 +84,7 @@ chain_more day slots below last after now action behind bound chain is behind_is
         let within : place < length slots = omega arith in
         let most : place ≤ length slots = omega arith in
         bound_more day slots now word place at
-        (chain.links word place at slot was (sym (got_left slots (now ∷ []) place within) ∙ there)
+        (chain.links word place at slot was (sym (get_first slots (now ∷ []) place within) ∙ there)
         granted) most
     by_place word place at slot there granted (inr last_one) =
         let place_is : place ≡ length slots = last_one.0 ∙ chain.long in
@@ -128,7 +128,7 @@ chain_more day slots below last after now action behind bound chain is behind_is
               let least_too : 0 < count_in last word = omega (arith, least, count) in
               let inside : count_in last word - 1 < length slots = omega arith in
               was.granted slot least_too
-              (sym (got_left slots (now ∷ []) (count_in last word - 1) inside)
+              (sym (get_first slots (now ∷ []) (count_in last word - 1) inside)
               ∙ ap (λ (n : ℕ). slice_get (slots ++ now ∷ []) (n - 1)) (sym count) ∙ there);
           none = λ place slot from under there.
               by_end place slot (omega (arith, from, count)) (got_push slots now place slot there);
@@ -181,17 +181,6 @@ pub stand_more : (before after : Table) (now action : ActionRef) (place : ℕ)
 stand_more before after now action place puts stands =
     subst (λ (slots : List Slot). StandsIn slots action place) (sym puts.slots_are)
     (stands_more before.slots.items puts.slot action place stands)
-
--- the first place of one actor is no other's
-pub others_stay : (before after : Counts) (slots : List Slot) (by other : Actor) (place : ℕ)
-    → SetsCount before after (key_of by) place → (other ≡ by → ⊥) → (number : ℕ)
-    → StandsIn slots (other, number) (index_in before (other, number))
-    → StandsIn slots (other, number) (index_in after (other, number))
-others_stay before after slots by other place sets apart number stands =
-    let differs : key_of other ≡ key_of by → ⊥ = λ same. apart (key_apart other by same) in
-    let count : count_in after (key_of other) ≡ count_in before (key_of other) =
-    sets.others (key_of other) differs in
-    subst (λ (n : ℕ). StandsIn slots (other, number) (n + (number - 1))) (sym count) stands
 
 pub actor_whole : (day : RecordedDay) (table : Table) (by : Actor) (actions : List Action)
     (up_to first : ℕ) → actions_of day by ≡ Some actions → length actions ≤ up_to

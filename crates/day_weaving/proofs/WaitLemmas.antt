@@ -1,43 +1,26 @@
 -- What an action waits for.
-use Rattle.std.proofs.Common.{◌≡◌, ◌<◌, ◌≤◌, ℕ, ◌+◌, ◌-◌, ◌==◌, Bool, true, false, ◌&&◌}
-use Rattle.std.proofs.Common.{not, nat_le, nat_lt, List, length, slice_get, Option, Some, None}
-use Rattle.std.proofs.Common.{is_some, arith, refl, sym, ap, subst, ◌∙◌, eq-eqb}
-use Rattle.std.specs.Prelude.{option_and_then}
+use Rattle.std.proofs.Common.{◌≡◌, ◌<◌, ◌≤◌, ℕ, ◌+◌, ◌-◌, ◌==◌, Bool, true, false, ◌&&◌, not}
+use Rattle.std.proofs.Common.{nat_le, nat_lt, List, length, slice_get, Option, Some, None, arith}
+use Rattle.std.proofs.Common.{refl, sym, ap, subst, ◌∙◌, eq-eqb}
 use Rattle.std.specs.Option.{option_map_or}
 use Rattle.std.proofs.lemmas.Bool.Decides.{nat_tests}
-use Rattle.std.proofs.lemmas.Option.{slice_get_within}
+use Rattle.std.proofs.lemmas.Bool.{and_parts}
 use Rattle.quote_word.specs.declared.settled.Settled.{Settled}
 use Rattle.step_replay.specs.AuditTrail.{is_same_actor}
 use Rattle.venue_places.specs.declared.actors.Actor.{Actor}
-use Rattle.day_weaving.specs.DayOrder.{Asked, ByActor, BySite, IsBehind, IsNextAtSite}
-use Rattle.day_weaving.specs.DayOrder.{OfOneWord, StandsAt, grants, is_as_wished}
-use Rattle.day_weaving.specs.DayOrder.{is_granted, order_at, refuses}
+use Rattle.day_weaving.specs.DayOrder.{Asked, ByActor, IsBehind, IsNextAtSite, OfOneWord, StandsAt}
+use Rattle.day_weaving.specs.DayOrder.{grants, is_as_wished, is_granted, refuses}
 use Rattle.day_weaving.specs.OrderCounts.{AreOfActors, Counts, count_in, key_of}
-use Rattle.day_weaving.specs.OrderSearch.{HasCome, IsAction, IsBound, IsLeft}
-use Rattle.day_weaving.specs.OrderSearch.{IsLeftBefore, IsSlot, IsTable, grants_to, is_word}
-use Rattle.day_weaving.specs.OrderSearch.{refuses_to}
+use Rattle.day_weaving.specs.OrderSearch.{HasCome, IsAction, IsBound, IsLeft, IsLeftBefore, IsTable}
+use Rattle.day_weaving.specs.OrderSearch.{is_word}
 use Rattle.recorded_days.specs.Records.{ActionRef, RecordedDay, action_in}
 use Rattle.recorded_days.specs.declared.actions.Action.{Action}
-use Rattle.day_weaving.specs.declared.sites.Site.{Site}
 use Rattle.day_weaving.specs.declared.weave_plan.Slot.{Slot}
 use Rattle.day_weaving.specs.declared.weave_table.Table.{Table}
 use Rattle.day_weaving.proofs.DayFormLemmas.{action_there, action_within}
-use Rattle.day_weaving.proofs.NumberedLemmas.{within_some}
-use Rattle.day_weaving.proofs.MessageLemmas.{same_self}
+use Rattle.step_replay.specs.QueueLemmas.{same_actor}
 
 -- Tests.
-
-both_true : (a b : Bool) → (a && b) ≡ true → (a ≡ true) × (b ≡ true)
-both_true true b is = (refl, is)
-both_true false b is = cc
-
-and_true : (a : Bool) → (a && true) ≡ a
-and_true true = refl
-and_true false = refl
-
-and_false : (a : Bool) → (a && false) ≡ false
-and_false true = refl
-and_false false = refl
 
 pub come_of : (done : Counts) (action : ActionRef) (b : Bool)
     → b ≡ nat_le action.1 (count_in done (key_of action.0)) → b ≡ true → HasCome done action
@@ -67,7 +50,7 @@ before_of_actor day done one other is by next least left =
     record {
       is_action = one_is;
       before = ByActor (record {
-        same = ap (λ (actor : Actor). is_same_actor actor other.0) by ∙ same_self other.0;
+        same = ap (λ (actor : Actor). is_same_actor actor other.0) by ∙ same_actor other.0;
         earlier = omega arith;
         one_is = one_is;
         other_is = is;
@@ -76,48 +59,6 @@ before_of_actor day done one other is by next least left =
     }
 
 -- At a desk or in a room.
-
-pub before_at_site : (day : RecordedDay) (table : Table) (done : Counts) (one : ActionRef)
-    (slot : Slot) → IsTable day table → IsSlot day slot → StandsAt day slot.site (slot.spot - 1) one
-    → 0 < slot.spot → IsLeft done one → IsLeftBefore day done one slot.action
-before_at_site day table done one slot whole is stands least left = record {
-  is_action = whole.named.nothing_else one slot.site (slot.spot - 1) stands;
-  before = BySite (record {
-    at = slot.site;
-    one_spot = slot.spot - 1;
-    other_spot = slot.spot;
-    earlier = omega arith;
-    one_is = stands;
-    other_is = is.stands;
-  });
-  left = left;
-}
-
--- what stands behind another has that before it
-pub none_behind : (day : RecordedDay) (at : Site) (spot : ℕ) (action : ActionRef)
-    → StandsAt day at spot action
-    → option_and_then (λ (order : List ActionRef). slice_get order (spot - 1)) (order_at day at)
-    ≡ None → ⊥
-none_behind day at spot action stands none = by_order (order_at day at) refl
-  where
-    by_order : (order : Option (List ActionRef)) → order_at day at ≡ order → ⊥
-    by_order None is =
-        let clash : None ≡ Some action =
-        ap (λ (o : Option (List ActionRef)). option_and_then
-        (λ (list : List ActionRef). slice_get list spot) o) (sym is) ∙ stands in
-        absurd cc
-    by_order (Some order) is =
-        let there : slice_get order spot ≡ Some action =
-        ap (λ (o : Option (List ActionRef)). option_and_then
-        (λ (list : List ActionRef). slice_get list spot) o) (sym is) ∙ stands in
-        let inside : spot < length order = slice_get_within order spot action there in
-        let within : spot - 1 < length order = omega arith in
-        let found = within_some order (spot - 1) within in
-        let nothing : slice_get order (spot - 1) ≡ None =
-        ap (λ (o : Option (List ActionRef)). option_and_then
-        (λ (list : List ActionRef). slice_get list (spot - 1)) o) (sym is) ∙ none in
-        let clash : None ≡ Some found.0 = sym nothing ∙ found.1 in
-        absurd cc
 
 pub next_at_site : (day : RecordedDay) (done : Counts) (slot : Slot) (one : ActionRef)
     → StandsAt day slot.site (slot.spot - 1) one → HasCome done one → (before : List Slot)
@@ -139,7 +80,7 @@ granted_asks action word granted = by_word action.word refl
         (asked.0 == word) && is_as_wished action.kind asked.1) w false) (sym is) ∙ granted in
         absurd cc
     by_word (Some asked) is =
-        let parts = both_true (asked.0 == word) (is_as_wished action.kind asked.1)
+        let parts = and_parts (asked.0 == word) (is_as_wished action.kind asked.1)
         (ap (λ (w : Option (ℕ × Settled)). option_map_or (λ (one : ℕ × Settled).
         (one.0 == word) && is_as_wished action.kind one.1) w false) (sym is) ∙ granted) in
         let same : asked.0 ≡ word = grind (arith, nat_tests, parts.0) in
@@ -165,7 +106,7 @@ refused_asks action word refused = by_word action.word refl
         (asked.0 == word) && not (is_as_wished action.kind asked.1)) w false) (sym is) ∙ refused in
         absurd cc
     by_word (Some asked) is =
-        let parts = both_true (asked.0 == word) (not (is_as_wished action.kind asked.1))
+        let parts = and_parts (asked.0 == word) (not (is_as_wished action.kind asked.1))
         (ap (λ (w : Option (ℕ × Settled)). option_map_or (λ (one : ℕ × Settled).
         (one.0 == word) && not (is_as_wished action.kind one.1)) w false) (sym is) ∙ refused) in
         let same : asked.0 ≡ word = grind (arith, nat_tests, parts.0) in
@@ -182,24 +123,6 @@ pub record IsHead (day : RecordedDay) (done : Counts) (slots : List Slot) (word 
       → is_granted day word slot ≡ true
   pub come : (place : ℕ) (slot : Slot) → bound ≤ place → slice_get slots place ≡ Some slot
       → is_granted day word slot ≡ true → HasCome done slot.action
-
-pub head_first : (day : RecordedDay) (table : Table) (done : Counts) (word bound : ℕ)
-    → IsTable day table → bound ≡ count_in table.last word
-    → IsHead day done table.slots.items word bound
-head_first day table done word bound whole is =
-    subst (λ (n : ℕ). IsHead day done table.slots.items word n) (sym is) head
-  where
-    last : IsBound day table.slots.items word (length table.slots.items) (count_in table.last word)
-    last = whole.built.chain.lasts word
-
-    head : IsHead day done table.slots.items word (count_in table.last word)
-    head = record {
-      granted = last.granted;
-      come = λ place slot from there granted.
-          let none : is_granted day word slot ≡ false =
-          last.none place slot from (slice_get_within table.slots.items place slot there) there in
-          absurd cc;
-    }
 
 pub head_next : (day : RecordedDay) (table : Table) (done : Counts) (word bound next : ℕ)
     (slot : Slot) → IsTable day table → IsHead day done table.slots.items word bound → 0 < bound
@@ -238,38 +161,6 @@ head_next day table done word bound next slot whole head least there linked come
     by_place place found from found_there granted false false test equal =
         let beyond : bound ≤ place = grind (arith, nat_tests) in
         head.come place found beyond found_there granted
-
--- where it is none, all have come
-pub all_come : (day : RecordedDay) (table : Table) (done : Counts) (word bound : ℕ)
-    → IsTable day table → IsHead day done table.slots.items word bound → bound ≡ 0
-    → (one : ActionRef) → grants_to day word one ≡ true → HasCome done one
-all_come day table done word bound whole head none one granted = by_action (action_in day one) refl
-  where
-    by_action : (found : Option Action) → action_in day one ≡ found → HasCome done one
-    by_action None is =
-        let clash : false ≡ true =
-        ap (λ (a : Option Action). option_map_or (grants word) a false) (sym is) ∙ granted in
-        absurd cc
-    by_action (Some action) is =
-        let stands = whole.each one (ap is_some is) in
-        let granted_there : is_granted day word stands.slot ≡ true =
-        ap (grants_to day word) stands.is_it ∙ granted in
-        let from : bound ≤ index = omega (arith, none) in
-        subst (HasCome done) stands.is_it
-        (head.come index stands.slot from stands.there granted_there)
-      where
-        index : ℕ
-        index = count_in table.firsts (key_of one.0) + (one.1 - 1)
-
--- the word that an action was refused is the one that refused it
-pub word_is : (day : RecordedDay) (ref : ActionRef) (action : Action) (asked : Option ℕ)
-    → Some action ≡ action_in day ref → ((word : ℕ) → refuses word action ≡ is_word asked word)
-    → (word : ℕ) → refuses_to day word ref ≡ is_word asked word
-word_is day ref action asked is refused word =
-    sym (ap (λ (a : Option Action). option_map_or (refuses word) a false) is) ∙ refused word
-
-pub same_word : (one word : ℕ) → is_word (Some one) word ≡ true → one ≡ word
-same_word one word is = grind (arith, nat_tests)
 
 pub own_word : (word : ℕ) → is_word (Some word) word ≡ true
 own_word word = eq-eqb word word refl

@@ -7,9 +7,9 @@ use Rattle.std.proofs.lemmas.Bool.Decides.{nat_tests}
 use Rattle.std.proofs.lemmas.List.{length-drop}
 use Rattle.std.proofs.lemmas.Option.{slice_get_within}
 use Rattle.day_weaving.specs.DayOrder.{HasOneBefore, IsCircle, IsDirectlyBefore}
-use Rattle.day_weaving.specs.OrderCounts.{Counts, count_in, key_of}
-use Rattle.day_weaving.specs.OrderSearch.{Grows, HasCome, IsAction, IsLeft, IsTable, Stands}
-use Rattle.day_weaving.specs.OrderSearch.{index_in, mark_of, place_on}
+use Rattle.day_weaving.specs.OrderCounts.{count_in, key_of}
+use Rattle.day_weaving.specs.OrderSearch.{IsAction, IsLeft, IsTable, Stands, index_in, mark_of}
+use Rattle.day_weaving.specs.OrderSearch.{place_on}
 use Rattle.recorded_days.specs.Records.{ActionRef, RecordedDay}
 use Rattle.day_weaving.specs.declared.weave_plan.Slot.{Slot}
 use Rattle.day_weaving.specs.declared.weave_search.Mark.{Mark}
@@ -74,32 +74,10 @@ comes_round day way start one top there at_top closes chain = record {
 
 -- What stands on the way.
 
-pub is_none : {A : Type 0} (found : Option A) → is_some found ≡ false → found ≡ None
-is_none None is = refl
-is_none (Some x) is = cc
-
-pub is_not_none : {A : Type 0} (found : Option A) (P : Type 0) → is_some found ≡ true
-    → IfNone found P
-is_not_none None P is = cc
-is_not_none (Some x) P is = tt
-
 pub if_none : {A : Type 0} (found : Option A) (P : Type 0) → is_some found ≡ false
     → IfNone found P → P
 if_none None P is holds = holds
 if_none (Some x) P is holds = absurd cc
-
-pub grows_on : (one two three : Counts) → Grows one two → Grows two three → Grows one three
-grows_on one two three first then key =
-    let a : count_in one key ≤ count_in two key = first key in
-    let b : count_in two key ≤ count_in three key = then key in
-    omega arith
-
-pub come_on : (before after : Counts) (action : ActionRef) → Grows before after
-    → HasCome before action → HasCome after action
-come_on before after action grows come =
-    let more : count_in before (key_of action.0) ≤ count_in after (key_of action.0) =
-    grows (key_of action.0) in
-    omega arith
 
 -- an action that is left and not on the way is new
 pub fresh : (day : RecordedDay) (table : Table) (state : Search) (action : ActionRef)

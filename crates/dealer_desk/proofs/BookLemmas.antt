@@ -3,6 +3,7 @@ use Rattle.std.proofs.Common.{◌≡◌, ℕ, ◌+◌, Bool, true, false, ◌||�
 use Rattle.std.proofs.Common.{length, map, Option, Some, None, refl, ap, ◌∙◌}
 use Rattle.std.specs.Option.{option_or}
 use Rattle.std.proofs.lemmas.List.{append-nil}
+use Rattle.std.proofs.Math.Bool.{or-false, or-true}
 use Rattle.market_terms.specs.declared.asks.Ask.{Ask}
 use Rattle.market_terms.specs.declared.closes.Close.{Close}
 use Rattle.dealer_desk.specs.DealerFacts.{DealerFact, Came, Shown, Quoted, Withdrawn, Late, Dropped}
@@ -18,14 +19,6 @@ use Rattle.dealer_desk.specs.declared.standing.QuoteEnd.{QuoteEnd}
 use Rattle.dealer_desk.specs.declared.standing.QuoteEnd.TheVariants as end
 use Rattle.dealer_desk.proofs.ListLemmas.{same_map, all_fixed}
 
-pub or_false : (b : Bool) → (b || false) ≡ b
-or_false true = refl
-or_false false = refl
-
-pub or_true : (b : Bool) → (b || true) ≡ true
-or_true true = refl
-or_true false = refl
-
 pub or_none : (o : Option QuoteEnd) → option_or o None ≡ o
 or_none None = refl
 or_none (Some how) = refl
@@ -34,34 +27,34 @@ or_none (Some how) = refl
 
 same_quote : (own : StandingQuote) → record { quote = own.quote; is_known_lifted = own.is_known_lifted || false; end = option_or own.end None } ≡ own
 same_quote own =
-    ap (λ (b : Bool). record own { is_known_lifted = b; end = option_or own.end None }) (or_false own.is_known_lifted)
+    ap (λ (b : Bool). record own { is_known_lifted = b; end = option_or own.end None }) (or-false own.is_known_lifted)
     ∙ ap (λ (e : Option QuoteEnd). record own { end = e }) (or_none own.end)
 
 late_quote : (b : Bool) (own : StandingQuote) → record { quote = own.quote; is_known_lifted = own.is_known_lifted || b; end = option_or own.end None } ≡ cond b (record own { is_known_lifted = true }) own
 late_quote true own =
-    ap (λ (b : Bool). record own { is_known_lifted = b; end = option_or own.end None }) (or_true own.is_known_lifted)
+    ap (λ (b : Bool). record own { is_known_lifted = b; end = option_or own.end None }) (or-true own.is_known_lifted)
     ∙ ap (λ (e : Option QuoteEnd). record own { is_known_lifted = true; end = e }) (or_none own.end)
 late_quote false own = same_quote own
 
 ended_quote : (b : Bool) (how : QuoteEnd) (own : StandingQuote) → record { quote = own.quote; is_known_lifted = own.is_known_lifted || false; end = option_or own.end (cond b (Some how) None) } ≡ cond b (record own { end = option_or own.end (Some how) }) own
-ended_quote true how own = ap (λ (b : Bool). record own { is_known_lifted = b; end = option_or own.end (Some how) }) (or_false own.is_known_lifted)
+ended_quote true how own = ap (λ (b : Bool). record own { is_known_lifted = b; end = option_or own.end (Some how) }) (or-false own.is_known_lifted)
 ended_quote false how own = same_quote own
 
 same_request : (request : StandingRequest) → record { number = request.number; ask = request.ask; is_declined = request.is_declined || false; is_told = request.is_told || false } ≡ request
 same_request request =
-    ap (λ (b : Bool). record request { is_declined = b; is_told = request.is_told || false }) (or_false request.is_declined)
-    ∙ ap (λ (b : Bool). record request { is_told = b }) (or_false request.is_told)
+    ap (λ (b : Bool). record request { is_declined = b; is_told = request.is_told || false }) (or-false request.is_declined)
+    ∙ ap (λ (b : Bool). record request { is_told = b }) (or-false request.is_told)
 
 declined_request : (b : Bool) (request : StandingRequest) → record { number = request.number; ask = request.ask; is_declined = request.is_declined || b; is_told = request.is_told || false } ≡ cond b (record request { is_declined = true }) request
 declined_request true request =
-    ap (λ (b : Bool). record request { is_declined = b; is_told = request.is_told || false }) (or_true request.is_declined)
-    ∙ ap (λ (b : Bool). record request { is_declined = true; is_told = b }) (or_false request.is_told)
+    ap (λ (b : Bool). record request { is_declined = b; is_told = request.is_told || false }) (or-true request.is_declined)
+    ∙ ap (λ (b : Bool). record request { is_declined = true; is_told = b }) (or-false request.is_told)
 declined_request false request = same_request request
 
 told_request : (b : Bool) (request : StandingRequest) → record { number = request.number; ask = request.ask; is_declined = request.is_declined || false; is_told = request.is_told || b } ≡ cond b (record request { is_told = true }) request
 told_request true request =
-    ap (λ (b : Bool). record request { is_declined = b; is_told = request.is_told || true }) (or_false request.is_declined)
-    ∙ ap (λ (b : Bool). record request { is_told = b }) (or_true request.is_told)
+    ap (λ (b : Bool). record request { is_declined = b; is_told = request.is_told || true }) (or-false request.is_declined)
+    ∙ ap (λ (b : Bool). record request { is_told = b }) (or-true request.is_told)
 told_request false request = same_request request
 
 -- All quotes, all requests.

@@ -5,6 +5,7 @@ use Rattle.std.specs.List.{list_any, count_by}
 use Rattle.std.specs.Option.{option_or}
 use Rattle.std.proofs.lemmas.List.Sums.{sum_by-append}
 use Rattle.std.proofs.lemmas.List.{append-nil, append_assoc}
+use Rattle.std.proofs.Math.Bool.{or-false}
 use Rattle.market_terms.specs.declared.asks.Ask.{Ask}
 use Rattle.dealer_desk.specs.DealerFacts.{DealerFact, Shown, Quoted, DealerBook, book_of}
 use Rattle.dealer_desk.specs.DealerFacts.{standing_request, standing_quote, requests_from}
@@ -16,7 +17,7 @@ use Rattle.dealer_desk.specs.declared.accepted.AcceptedQuote.{AcceptedQuote}
 use Rattle.dealer_desk.specs.declared.standing.StandingRequest.{StandingRequest}
 use Rattle.dealer_desk.specs.declared.standing.StandingQuote.{StandingQuote}
 use Rattle.dealer_desk.specs.declared.standing.QuoteEnd.{QuoteEnd}
-use Rattle.dealer_desk.proofs.BookLemmas.{or_false, or_none}
+use Rattle.dealer_desk.proofs.BookLemmas.{or_none}
 
 -- Counts, tests and first sayings of one fact more.
 
@@ -25,7 +26,7 @@ or_assoc true b c = refl
 or_assoc false b c = refl
 
 pub any_push : {A : Type 0} (p : A → Bool) (xs : List A) (x : A) → list_any p (xs ++ x ∷ []) ≡ (list_any p xs || p x)
-any_push p [] x = or_false (p x)
+any_push p [] x = or-false (p x)
 any_push p (y ∷ xs) x = ap (λ (b : Bool). p y || b) (any_push p xs x) ∙ or_assoc (p y) (list_any p xs) (p x)
 
 more_where : (b : Bool) (n : ℕ) → n + (0 + cond b 1 0) ≡ counted b n

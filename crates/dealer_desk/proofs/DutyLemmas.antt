@@ -10,9 +10,9 @@ use Rattle.market_terms.specs.declared.duties.Duty.TheVariants as duty
 use Rattle.quote_word.specs.declared.settled.Settled.{Settled}
 use Rattle.dealer_desk.specs.DealerFacts.{DealerBook, quote_to_drop, is_droppable, is_live}
 use Rattle.dealer_desk.specs.DealerFacts.{number_to_drop}
-use Rattle.dealer_desk.specs.DealerOutput.{DeskEvents, rooms_at, book_at, verdict_at, room_of}
-use Rattle.dealer_desk.specs.DealerOutput.{verdict_duty, unpost_dropped, goes_through, is_withdrawn}
-use Rattle.dealer_desk.specs.DealerOutput.{post_of, word_asked}
+use Rattle.dealer_desk.specs.DealerDesk.{DeskEvents, rooms_at, book_at, verdict_at}
+use Rattle.dealer_desk.specs.DealerOutput.{room_of, verdict_duty, unpost_dropped, goes_through}
+use Rattle.dealer_desk.specs.DealerOutput.{is_withdrawn, post_of, word_asked}
 use Rattle.dealer_desk.specs.DeskLaws.{IsOfDay, request_meant}
 use Rattle.dealer_desk.specs.BookChanges.{IsLiveNumber}
 use Rattle.dealer_desk.specs.declared.standing.StandingQuote.{StandingQuote}

@@ -15,11 +15,12 @@ use Rattle.quote_word.specs.declared.settled.Settled.TheVariants as settled
 use Rattle.dealer_desk.specs.DealerFacts.{DealerFact, Came, Shown, Told, DealerBook, book_of}
 use Rattle.dealer_desk.specs.DealerFacts.{exposure_of, number_to_drop, quote_to_drop}
 use Rattle.dealer_desk.specs.DealerRules.{dealer_verdict}
-use Rattle.dealer_desk.specs.DealerOutput.{DeskEvents, DeskState, book_at, rooms_at, verdict_at}
-use Rattle.dealer_desk.specs.DealerOutput.{desk_after, event_facts, event_message, verdict_facts}
-use Rattle.dealer_desk.specs.DealerOutput.{verdict_message, settled_facts, uses_number, closable}
-use Rattle.dealer_desk.specs.DealerOutput.{rooms_of, shown_room, sent_with, moment_of, next_message}
-use Rattle.dealer_desk.specs.DealerOutput.{next_request, notice_of, drop_message, word_asked}
+use Rattle.dealer_desk.specs.DealerDesk.{DeskEvents, verdict_at}
+use Rattle.dealer_desk.specs.DealerOutput.{DeskState, desk_after, event_facts, event_message}
+use Rattle.dealer_desk.specs.DealerOutput.{verdict_facts, verdict_message, settled_facts}
+use Rattle.dealer_desk.specs.DealerOutput.{uses_number, closable, rooms_of, shown_room, sent_with}
+use Rattle.dealer_desk.specs.DealerOutput.{moment_of, next_message, next_request, notice_of}
+use Rattle.dealer_desk.specs.DealerOutput.{drop_message, word_asked}
 use Rattle.dealer_desk.specs.BookChanges.{book_after, IsSound}
 use Rattle.dealer_desk.specs.DealerTable.{IndexView, with_fact, with_request}
 use Rattle.dealer_desk.specs.RuleCuts.{IsDesk, IsLawfulNote, note_of, note_uses, note_facts}
@@ -38,6 +39,7 @@ use Rattle.dealer_desk.proofs.DeskLemmas.{Stood, desk_sound, desk_after_push}
 use Rattle.dealer_desk.proofs.DutyLemmas.{drop_asks}
 
 -- what holds of the book of an index
+
 pub index_stands : (date : List ℕ) (row : DealerRow) (events : List DealerEvent) (sent : List (List ℕ)) (index : IndexView) → IsDesk date row events sent index → Stood row index.book (length events) (length index.rooms)
 index_stands date row events sent index kept =
     subst (λ (b : DealerBook). Stood row b (length events) (length index.rooms)) (sym kept.book_is)
@@ -57,14 +59,6 @@ exposure_within date row events sent index kept = (index_stands date row events 
 
 abbrev pub seen : List ℕ → DealerRow → List DealerEvent → DeskEvents
 seen date row events = record { date = date; row = row; events = events }
-
-pub book_seen : (date : List ℕ) (row : DealerRow) (events : List DealerEvent) (sent : List (List ℕ)) (index : IndexView) (self : DeskEvents)
-    → IsDesk date row events sent index → seen date row events ≡ self → index.book ≡ book_at self
-book_seen date row events sent index self kept is = kept.book_is ∙ ap (λ (d : DeskEvents). book_at d) is
-
-pub rooms_seen : (date : List ℕ) (row : DealerRow) (events : List DealerEvent) (sent : List (List ℕ)) (index : IndexView) (self : DeskEvents)
-    → IsDesk date row events sent index → seen date row events ≡ self → index.rooms ≡ rooms_at self
-rooms_seen date row events sent index self kept is = kept.rooms_are ∙ ap (λ (d : DeskEvents). rooms_at d) is
 
 pub verdict_seen : (date : List ℕ) (row : DealerRow) (events : List DealerEvent) (sent : List (List ℕ)) (index : IndexView) (self : DeskEvents) (moment : ℕ) (bytes : List ℕ)
     → IsDesk date row events sent index → seen date row events ≡ self

@@ -1,21 +1,12 @@
 -- What stands at a place of a list, and what is found in it, after an element is put behind it,
 -- written into it or changed throughout.
-use Rattle.std.proofs.Common.{◌≡◌, ◌<◌, ◌≤◌, ◌⊎◌, ℕ, zero, suc, ◌+◌, Bool, true, false, ◌||◌, cond}
-use Rattle.std.proofs.Common.{List, [], ◌∷◌, ◌++◌, length, map, set, filter, find, Option, Some}
-use Rattle.std.proofs.Common.{None, option_map, slice_get, get_or, inl, inr, refl, sym, ap, ◌∙◌}
-use Rattle.std.proofs.Common.{arith}
+use Rattle.std.proofs.Common.{◌≡◌, ◌<◌, ◌≤◌, ◌⊎◌, ℕ, zero, suc, ◌+◌, Bool, true, false, cond, List}
+use Rattle.std.proofs.Common.{[], ◌∷◌, ◌++◌, length, map, set, filter, find, Option, Some, None}
+use Rattle.std.proofs.Common.{option_map, slice_get, get_or, inl, inr, refl, sym, ap, ◌∙◌, arith}
 use Rattle.std.specs.List.{list_any, position_or_len}
 use Rattle.std.proofs.lemmas.Option.{none-some, same_Some, slice_get-get_or, get_or_from_slice_get}
 use Rattle.std.proofs.lemmas.List.Sums.{position_or_len_is, fails_before_first}
-
--- a test that can't be true is false
-pub ruled_out : (b : Bool) → (b ≡ true → ⊥) → b ≡ false
-ruled_out true never = absurd (never refl)
-ruled_out false never = refl
-
-none_of : (b c : Bool) → b ≡ false → c ≡ false → (b || c) ≡ false
-none_of true c e h = cc
-none_of false c e h = h
+use Rattle.std.proofs.lemmas.Bool.{false_from_ne_true, or_from}
 
 fewer_first : (b c : Bool) → (b ≡ true → c ≡ true) → (m n : ℕ) → m ≤ n → cond b 1 0 + m ≤ cond c 1 0 + n
 fewer_first true true only m n h = omega arith
@@ -106,7 +97,7 @@ module _ {A : Type 0} where
 
   pub any_none : (p : A → Bool) (xs : List A) → ((k : ℕ) (y : A) → slice_get xs k ≡ Some y → p y ≡ false) → list_any p xs ≡ false
   any_none p [] fails = refl
-  any_none p (x ∷ xs) fails = none_of (p x) (list_any p xs) (fails zero x refl) (any_none p xs (λ k y at. fails (suc k) y at))
+  any_none p (x ∷ xs) fails = or_from (p x) (list_any p xs) (fails zero x refl) (any_none p xs (λ k y at. fails (suc k) y at))
 
   -- where nothing is found no element passes
   not_first : (b : Bool) (z : A) (rest : Option A) → cond b (Some z) rest ≡ None → (b ≡ false) × (rest ≡ None)
@@ -152,10 +143,10 @@ module _ {A : Type 0} where
   lone_others p (z ∷ xs) zero x few at pass (suc k) y there other =
       let first : p z ≡ true = ap p (same_Some z x at) ∙ pass in
       let count : length (filter p (z ∷ xs)) ≡ 1 + length (filter p xs) = rw first (omega arith) in
-      ruled_out (p y) (λ so. let one = passing p xs k y there so in omega arith)
+      false_from_ne_true (p y) (λ so. let one = passing p xs k y there so in omega arith)
   lone_others p (z ∷ xs) (suc place) x few at pass zero y there other =
       let one = passing p xs place x at pass in
-      ruled_out (p y) (λ so.
+      false_from_ne_true (p y) (λ so.
       let first : p z ≡ true = ap p (same_Some z y there) ∙ so in
       let count : length (filter p (z ∷ xs)) ≡ 1 + length (filter p xs) = rw first (omega arith) in
       omega arith)
@@ -181,21 +172,6 @@ module _ {A : Type 0} where
   find_unique p (z ∷ xs) (suc place) x at pass others =
       found_later (p z) z x (find p xs) (others zero z refl (λ e. cc))
       (find_unique p xs place x at pass (λ k y there other. others (suc k) y there (λ e. let g : k ≡ place = cc in other g)))
-
-  -- where one at most passes, the one that does is found
-  first_found : (b : Bool) (z : A) (rest : Option A) (x : A) → b ≡ false → rest ≡ Some x → cond b (Some z) rest ≡ Some x
-  first_found true z rest x e h = cc
-  first_found false z rest x e h = h
-
-  pub lone_found : (p : A → Bool) (xs : List A) (place : ℕ) (x : A) → length (filter p xs) ≤ 1 → slice_get xs place ≡ Some x → p x ≡ true → find p xs ≡ Some x
-  lone_found p [] place x few at pass = absurd (none-some x at)
-  lone_found p (z ∷ xs) zero x few at pass =
-      let first : p z ≡ true = ap p (same_Some z x at) ∙ pass in
-      rw first at
-  lone_found p (z ∷ xs) (suc place) x few at pass =
-      let count : length (filter p (z ∷ xs)) ≡ cond (p z) 1 0 + length (filter p xs) = passes_more (p z) z (filter p xs) in
-      let rest : length (filter p xs) ≤ 1 = omega arith in
-      first_found (p z) z (find p xs) x (lone_others p (z ∷ xs) (suc place) x few at pass zero z refl (λ e. cc)) (lone_found p xs place x rest at pass)
 
   -- fewer pass after a change by which none begins to pass
   pub fewer_pass : (p : A → Bool) (f : A → A) → ((y : A) → p (f y) ≡ true → p y ≡ true) → (xs : List A) → length (filter p (map f xs)) ≤ length (filter p xs)

@@ -1,10 +1,11 @@
 -- What the readers of an index find: live quotes, the quote that a drop takes, and the exposure
 -- beside a quote.
-use Rattle.std.proofs.Common.{◌≡◌, ◌<◌, ◌≤◌, ℕ, zero, suc, ◌+◌, ◌==◌, true, false, ◌&&◌, not}
-use Rattle.std.proofs.Common.{nat_le, nat_lt, is_some, List, length, Some, None, find, slice_get}
-use Rattle.std.proofs.Common.{get_or, ◌-◌, ◌⊎◌, inl, inr, refl, sym, ap, subst, ◌∙◌, arith}
+use Rattle.std.proofs.Common.{◌≡◌, ◌<◌, ◌≤◌, ℕ, ◌+◌, ◌==◌, true, false, ◌&&◌, not, nat_le, nat_lt}
+use Rattle.std.proofs.Common.{is_some, List, length, Some, None, find, slice_get, get_or, ◌-◌, inl}
+use Rattle.std.proofs.Common.{inr, refl, sym, ap, subst, ◌∙◌, arith}
 use Rattle.std.specs.List.{position_or_len}
-use Rattle.std.proofs.lemmas.Bool.{eqb-true, eq-eqb}
+use Rattle.std.proofs.lemmas.Bool.{eqb-true, eq-eqb, false_from_ne_true, cases_lt, and_right}
+use Rattle.std.proofs.lemmas.Bool.{and_left, and_from}
 use Rattle.std.proofs.lemmas.Option.{same_Some, slice_get_past, get_or_from_slice_get}
 use Rattle.std.proofs.lemmas.Bool.Decides.{nat_tests}
 use Rattle.std.proofs.lemmas.List.Sums.{passes_at_first}
@@ -19,13 +20,11 @@ use Rattle.dealer_desk.specs.declared.standing.StandingQuote.{StandingQuote}
 use Rattle.dealer_desk.specs.declared.table.RequestRow.{RequestRow}
 use Rattle.dealer_desk.proofs.ListLemmas.{find_at_place, fails_where_none, find_none, find_stands}
 use Rattle.dealer_desk.proofs.ListLemmas.{stands_within, within_from, before_place, past_end}
-use Rattle.dealer_desk.proofs.ListLemmas.{ruled_out}
 use Rattle.dealer_desk.proofs.TableReads.{read_at}
 use Rattle.dealer_desk.proofs.TableClosing.{live_stands}
 use Rattle.dealer_desk.proofs.TableGrowth.{beside_dead, beside_live}
 use Rattle.dealer_desk.proofs.IndexLemmas.{book_with}
-use Rattle.dealer_desk.proofs.ReaderLemmas.{found_by_number, absurd_bool, and_so_false}
-use Rattle.dealer_desk.proofs.ReaderLemmas.{so_false_and, both_so, no_number}
+use Rattle.dealer_desk.proofs.ReaderLemmas.{found_by_number, absurd_bool, no_number}
 
 -- Live quotes by their requests.
 
@@ -40,7 +39,7 @@ pub live_missing_request : (used notices : ℕ) (requests : List StandingRequest
     → request_numbered (book_with used notices requests quotes) number ≡ None → live_quote_on (book_with used notices requests quotes) number ≡ None
 unfolding request_numbered live_quote_on
 live_missing_request used notices requests quotes number sound none = find_none (is_live_on number) quotes (λ k y at.
-    and_so_false (is_live y) (y.quote.request == number) (ruled_out (y.quote.request == number) (λ so.
+    and_right (is_live y) (y.quote.request == number) (false_from_ne_true (y.quote.request == number) (λ so.
     let same : y.quote.request ≡ number = eqb-true y.quote.request number so in
     let least = sound.from_first k y at in
     let last = sound.to_last k y at in
@@ -75,15 +74,8 @@ live_within used notices requests quotes request number sound is =
 
 -- The quote that a drop takes.
 
--- a number is below another or is not
-apart : (m n : ℕ) → (m < n) ⊎ (n ≤ m)
-apart zero zero = inr (omega arith)
-apart zero (suc n) = inl (omega arith)
-apart (suc m) zero = inr (omega arith)
-apart (suc m) (suc n) = elim (apart m n) [ inl less ↦ inl (omega arith) | inr more ↦ inr (omega arith) ]
-
 le_false : (m n : ℕ) → n < m → nat_le m n ≡ false
-le_false m n h = ruled_out (nat_le m n) (λ so. let le : m ≤ n = grind (arith, nat_tests) in let never : ⊥ = omega arith in never)
+le_false m n h = false_from_ne_true (nat_le m n) (λ so. let le : m ≤ n = grind (arith, nat_tests) in let never : ⊥ = omega arith in never)
 
 le_true : (m n : ℕ) → m ≤ n → nat_le m n ≡ true
 le_true m n h = grind (arith, nat_tests)
@@ -96,7 +88,7 @@ drop_missing used notices requests quotes first last is none =
     find_none (λ (q : StandingQuote). is_droppable q && nat_le q.quote.number last) quotes (λ k y at.
     let within = within_from quotes k y at in
     let below : k < position_or_len is_droppable quotes = subst (λ (n : ℕ). k < n) is (omega arith) in
-    so_false_and (is_droppable y) (nat_le y.quote.number last) (before_place is_droppable quotes k y below at))
+    and_left (is_droppable y) (nat_le y.quote.number last) (before_place is_droppable quotes k y below at))
 
 pub drop_beyond : (used notices : ℕ) (requests : List StandingRequest) (quotes : List StandingQuote) (first last : ℕ) (own : StandingQuote) → IsSound requests quotes → first ≡ position_or_len is_droppable quotes
     → slice_get quotes first ≡ Some own → last < own.quote.number → quote_to_drop (book_with used notices requests quotes) last ≡ None
@@ -105,9 +97,9 @@ drop_beyond used notices requests quotes first last own sound is stands beyond =
     let here : own.quote.number ≡ first + 1 = sound.quotes_numbered first own stands in
     find_none (λ (q : StandingQuote). is_droppable q && nat_le q.quote.number last) quotes (λ k y at.
     let number : y.quote.number ≡ k + 1 = sound.quotes_numbered k y at in
-    elim (apart k first) [
-      | inl less ↦ so_false_and (is_droppable y) (nat_le y.quote.number last) (before_place is_droppable quotes k y (subst (λ (n : ℕ). k < n) is less) at)
-      | inr more ↦ (let far : last < y.quote.number = omega arith in and_so_false (is_droppable y) (nat_le y.quote.number last) (le_false y.quote.number last far))
+    elim (cases_lt k first) [
+      | inl less ↦ and_left (is_droppable y) (nat_le y.quote.number last) (before_place is_droppable quotes k y (subst (λ (n : ℕ). k < n) is less) at)
+      | inr more ↦ (let far : last < y.quote.number = omega arith in and_right (is_droppable y) (nat_le y.quote.number last) (le_false y.quote.number last far))
     ])
 
 pub drop_found : (used notices : ℕ) (requests : List StandingRequest) (quotes : List StandingQuote) (first last : ℕ) (own : StandingQuote) → first ≡ position_or_len is_droppable quotes
@@ -117,8 +109,8 @@ drop_found used notices requests quotes first last own is stands within =
     let inside : position_or_len is_droppable quotes < length quotes = subst (λ (n : ℕ). n < length quotes) is (within_from quotes first own stands) in
     let passes : is_droppable own ≡ true =
     ap is_droppable (sym (get_or_from_slice_get quotes first own own stands)) ∙ ap (λ (n : ℕ). is_droppable (get_or quotes n own)) is ∙ passes_at_first is_droppable quotes own inside in
-    find_at_place (λ (q : StandingQuote). is_droppable q && nat_le q.quote.number last) quotes first own stands (both_so (is_droppable own) (nat_le own.quote.number last) passes (le_true own.quote.number last within))
-    (λ k y below at. so_false_and (is_droppable y) (nat_le y.quote.number last) (before_place is_droppable quotes k y (subst (λ (n : ℕ). k < n) is below) at))
+    find_at_place (λ (q : StandingQuote). is_droppable q && nat_le q.quote.number last) quotes first own stands (and_from (is_droppable own) (nat_le own.quote.number last) passes (le_true own.quote.number last within))
+    (λ k y below at. and_left (is_droppable y) (nat_le y.quote.number last) (before_place is_droppable quotes k y (subst (λ (n : ℕ). k < n) is below) at))
 
 -- The exposure beside a quote.
 

@@ -24,6 +24,7 @@ use Rattle.dealer_desk.specs.declared.standing.StandingQuote.{StandingQuote}
 use Rattle.dealer_desk.proofs.ListLemmas.{find_mapped}
 
 -- a change of quotes that keeps what was accepted keeps the map
+
 pub ids_kept : (quotes : List StandingQuote) (by_id : BTreeMap IdKey ℕ) (f : StandingQuote → StandingQuote) → ((own : StandingQuote) → (f own).quote ≡ own.quote)
     → IsIdMap quotes by_id → IsIdMap (map f quotes) by_id
 ids_kept quotes by_id f keeps ids = record {
@@ -52,7 +53,7 @@ same_key key id =
       | inr apart ↦ then_apart (nat_cmp (rank_of key) (rank_of id)) (slice_cmp nat_cmp key id) (is_eq-slice_cmp key id ∙ apart) ∙ sym apart
     ]
 
-or_none : {A : Type 0} (o : Option A) → option_or o None ≡ o
+pub or_none : {A : Type 0} (o : Option A) → option_or o None ≡ o
 or_none None = refl
 or_none (Some x) = refl
 
@@ -96,7 +97,3 @@ rooms_pushed rooms old new room number was is put = record {
       ∙ ap (λ (n : ℕ). option_or (number_in rooms q) (cond (is_same_room room q) (Some n) None)) (is ∙ omega arith)
       ∙ sym (number_pushed rooms room q 1);
 }
-
--- the same rooms by another map
-pub rooms_same : (rooms : List RoomRef) (old new : BTreeMap RoomRef ℕ) → IsRoomMap rooms old → ((q : RoomRef) → get room_cmp new q ≡ get room_cmp old q) → IsRoomMap rooms new
-rooms_same rooms old new was same = record { rooms_are = λ q. same q ∙ was.rooms_are q }

@@ -1,7 +1,6 @@
 -- A notice that is due: its request was shown, and it is what the desk sends.
 use Rattle.std.proofs.Common.{◌≡◌, ◌≤◌, ◌<◌, ℕ, ◌+◌, ◌==◌, Bool, true, false, cond, List, [], ◌∷◌}
-use Rattle.std.proofs.Common.{◌++◌}
-use Rattle.std.proofs.Common.{length, find, Option, Some, None, is_some, option_map, refl, sym, ap}
+use Rattle.std.proofs.Common.{◌++◌, length, find, Option, Some, None, option_map, refl, sym, ap}
 use Rattle.std.proofs.Common.{subst, ◌∙◌, arith}
 use Rattle.std.proofs.lemmas.Bool.{eqb-true}
 use Rattle.std.proofs.lemmas.Option.{same_Some}
@@ -9,8 +8,7 @@ use Rattle.venue_rows.specs.declared.dealer_rows.DealerRow.{DealerRow}
 use Rattle.market_terms.specs.declared.closes.Close.{Close}
 use Rattle.quote_messages.specs.declared.out_messages.OutMessage.{OutMessage}
 use Rattle.dealer_desk.specs.DealerFacts.{DealerBook, Told, request_numbered}
-use Rattle.dealer_desk.specs.DealerOutput.{DeskEvents, closable, untold, next_message, notice_of}
-use Rattle.dealer_desk.specs.DealerOutput.{may_close, with_notice, with_event}
+use Rattle.dealer_desk.specs.DealerOutput.{closable, untold, next_message, notice_of}
 use Rattle.dealer_desk.specs.DealerTable.{IndexView, with_fact}
 use Rattle.dealer_desk.specs.RuleCuts.{IsDesk}
 use Rattle.dealer_desk.specs.declared.standing.StandingRequest.{StandingRequest}
@@ -19,9 +17,10 @@ use Rattle.dealer_desk.specs.declared.events.DealerEvent.TheVariants as event
 use Rattle.dealer_desk.proofs.ListLemmas.{find_stands, within_from}
 use Rattle.dealer_desk.proofs.StandLemmas.{StandsIn}
 use Rattle.dealer_desk.proofs.VerdictLemmas.{IsShown}
-use Rattle.dealer_desk.proofs.KeptLemmas.{kept_told, index_stands, seen, book_seen}
+use Rattle.dealer_desk.proofs.KeptLemmas.{kept_told, index_stands}
 
 -- a request that was not told is the one that was found
+
 not_told : (b : Bool) (found request : StandingRequest)
     → cond b None (Some found) ≡ Some request → Some found ≡ Some request
 not_told true found request is = cc
@@ -76,30 +75,3 @@ kept_notice date row events sent index index2 number close moment notice bytes k
     written ∙ ap (λ (m : OutMessage). next_message date row sent moment m) due.2 in
     subst (λ (b : List ℕ). IsDesk date row (events ++ event.Told number close moment ∷ []) (sent ++ b ∷ []) index2) (sym said)
     (kept_told date row events sent index index2 number due.0 close moment kept due.1 changed)
-
--- whether a notice is due, as a contract says it
-is_mapped : (book : DealerBook) (close : Close) (found : Option StandingRequest)
-    → is_some (option_map (notice_of book close) found) ≡ is_some found
-is_mapped book close None = refl
-is_mapped book close (Some request) = refl
-
-pub notice_due : (date : List ℕ) (row : DealerRow) (events : List DealerEvent) (sent : List (List ℕ))
-    (index : IndexView) (self : DeskEvents) (number : ℕ) (close : Close) (notice : Option OutMessage)
-    → IsDesk date row events sent index → seen date row events ≡ self
-    → notice ≡ option_map (notice_of index.book close) (closable index.book number)
-    → is_some notice ≡ may_close self number
-notice_due date row events sent index self number close notice kept is gives =
-    ap (λ (n : Option OutMessage). is_some n) gives
-    ∙ is_mapped index.book close (closable index.book number)
-    ∙ ap (λ (b : DealerBook). is_some (closable b number)) (book_seen date row events sent index self kept is)
-
--- the desk behind it, where one is due and where none is
-pub with_due : (self : DeskEvents) (number : ℕ) (close : Close) (moment : ℕ) → may_close self number ≡ true
-    → with_notice self number close moment ≡ with_event self (event.Told number close moment)
-with_due self number close moment due =
-    ap (λ (b : Bool). cond b (with_event self (event.Told number close moment)) self) due
-
-pub with_none : (self : DeskEvents) (number : ℕ) (close : Close) (moment : ℕ) → may_close self number ≡ false
-    → with_notice self number close moment ≡ self
-with_none self number close moment none =
-    ap (λ (b : Bool). cond b (with_event self (event.Told number close moment)) self) none

@@ -3,7 +3,8 @@ use Rattle.std.proofs.Common.{◌≡◌, ◌<◌, ℕ, ◌+◌, Bool, true, fals
 use Rattle.std.proofs.Common.{map, set, Option, Some, None, is_none, option_map, slice_get, get_or}
 use Rattle.std.proofs.Common.{inl, inr, refl, sym, ap, subst, ◌∙◌, arith}
 use Rattle.std.specs.Option.{option_or}
-use Rattle.std.proofs.lemmas.Bool.{eqb-true, eq-eqb}
+use Rattle.std.proofs.lemmas.Bool.{eqb-true, eq-eqb, false_from_ne_true, cond-true, and_right}
+use Rattle.std.proofs.lemmas.Bool.{and_left, and_from}
 use Rattle.std.proofs.lemmas.Bool.Decides.{eqb_tells}
 use Rattle.std.proofs.lemmas.Option.{same_Some, get_or_from_slice_get}
 use Rattle.std.proofs.lemmas.List.{length-map, get_or-map}
@@ -18,7 +19,7 @@ use Rattle.dealer_desk.specs.declared.standing.QuoteEnd.{QuoteEnd}
 use Rattle.dealer_desk.specs.declared.standing.QuoteEnd.TheVariants as end
 use Rattle.dealer_desk.specs.declared.table.RequestRow.{RequestRow}
 use Rattle.dealer_desk.proofs.ListLemmas.{set_at, mapped_at, find_none, find_mapped, any_mapped}
-use Rattle.dealer_desk.proofs.ListLemmas.{lone_others, within_from, ruled_out}
+use Rattle.dealer_desk.proofs.ListLemmas.{lone_others, within_from}
 
 -- Changes of one quote.
 
@@ -37,7 +38,7 @@ pub or_some : (end : Option QuoteEnd) (how : QuoteEnd) → is_none (option_or en
 or_some None how = refl
 or_some (Some was) how = refl
 
-ended_by : (b : Bool) (how : QuoteEnd) (own : StandingQuote) → is_live (cond b (record own { end = option_or own.end (Some how) }) own) ≡ true → is_live own ≡ true
+pub ended_by : (b : Bool) (how : QuoteEnd) (own : StandingQuote) → is_live (cond b (record own { end = option_or own.end (Some how) }) own) ≡ true → is_live own ≡ true
 ended_by true how own h = let never = or_some own.end how in cc
 ended_by false how own h = h
 
@@ -62,19 +63,11 @@ ended_known number how own = known_by (number == own.quote.number) how own
 pub other_number : (requests : List StandingRequest) (quotes : List StandingQuote) (number place k : ℕ) (own : StandingQuote) → IsSound requests quotes
     → number ≡ place + 1 → slice_get quotes k ≡ Some own → (k ≡ place → ⊥) → (number == own.quote.number) ≡ false
 other_number requests quotes number place k own sound here at other =
-    ruled_out (number == own.quote.number) (λ so.
+    false_from_ne_true (number == own.quote.number) (λ so.
     let same : number ≡ own.quote.number = eqb-true number own.quote.number so in
     let there : own.quote.number ≡ k + 1 = sound.quotes_numbered k own at in
     let equal : k ≡ place = omega arith in
     other equal)
-
-pub chosen : (b : Bool) (x y : StandingQuote) → b ≡ false → cond b x y ≡ y
-chosen true x y e = cc
-chosen false x y e = refl
-
-pub chosen_first : (b : Bool) (x y : StandingQuote) → b ≡ true → cond b x y ≡ x
-chosen_first true x y e = refl
-chosen_first false x y e = cc
 
 pub nothing : (end : Option QuoteEnd) → is_none end ≡ true → end ≡ None
 nothing None h = refl
@@ -83,11 +76,11 @@ nothing (Some how) h = cc
 -- the live quote with a number, once it ended
 pub ended_own : (number : ℕ) (how : QuoteEnd) (own : StandingQuote) → number ≡ own.quote.number → is_live own ≡ true → ended_at number how own ≡ record own { end = Some how }
 ended_own number how own same live =
-    chosen_first (number == own.quote.number) (record own { end = option_or own.end (Some how) }) own (eq-eqb number own.quote.number same)
+    cond-true (number == own.quote.number) (record own { end = option_or own.end (Some how) }) own (eq-eqb number own.quote.number same)
     ∙ ap (λ (e : Option QuoteEnd). record own { end = option_or e (Some how) }) (nothing own.end live)
 
 pub late_own : (number : ℕ) (own : StandingQuote) → number ≡ own.quote.number → late_at number own ≡ record own { is_known_lifted = true }
-late_own number own same = chosen_first (number == own.quote.number) (record own { is_known_lifted = true }) own (eq-eqb number own.quote.number same)
+late_own number own same = cond-true (number == own.quote.number) (record own { is_known_lifted = true }) own (eq-eqb number own.quote.number same)
 
 -- A change f of the one quote at a place, whose request has the row at i.
 pub record Changes (quotes : List StandingQuote) (f : StandingQuote → StandingQuote) (place i : ℕ) (own : StandingQuote) : Type 0 where
@@ -97,18 +90,6 @@ pub record Changes (quotes : List StandingQuote) (f : StandingQuote → Standing
   pub stands : slice_get quotes place ≡ Some own
   pub request_is : own.quote.request ≡ i + 1
 
-pub and_false : (b c : Bool) → c ≡ false → (b && c) ≡ false
-and_false true c e = e
-and_false false c e = refl
-
-pub left_false : (b c : Bool) → b ≡ false → (b && c) ≡ false
-left_false true c e = cc
-left_false false c e = refl
-
-both_true : (b c : Bool) → b ≡ true → c ≡ true → (b && c) ≡ true
-both_true true c e h = h
-both_true false c e h = cc
-
 -- a test of quotes on another request sees no change
 pub elsewhere : (test : StandingQuote → Bool) (quotes : List StandingQuote) (f : StandingQuote → StandingQuote) (place i k : ℕ) (own : StandingQuote) → Changes quotes f place i own → (k ≡ i → ⊥)
     → (j : ℕ) (y : StandingQuote) → slice_get quotes j ≡ Some y → (test (f y) && ((f y).quote.request == (k + 1))) ≡ (test y && (y.quote.request == (k + 1)))
@@ -116,10 +97,10 @@ elsewhere test quotes f place i k own change other j y at = elim (eqb_tells j pl
   | inl here ↦
       let same : own ≡ y = same_Some own y (sym change.stands ∙ ap (slice_get quotes) (sym here.1) ∙ at) in
       let there : y.quote.request ≡ i + 1 = ap (λ (q : StandingQuote). q.quote.request) (sym same) ∙ change.request_is in
-      let not_it : (y.quote.request == (k + 1)) ≡ false = ruled_out (y.quote.request == (k + 1)) (λ so.
+      let not_it : (y.quote.request == (k + 1)) ≡ false = false_from_ne_true (y.quote.request == (k + 1)) (λ so.
       let equal : y.quote.request ≡ k + 1 = eqb-true y.quote.request (k + 1) so in let f2 : k ≡ i = omega arith in other f2) in
-      and_false (test (f y)) ((f y).quote.request == (k + 1)) (ap (λ (q : AcceptedQuote). q.request == (k + 1)) (change.keeps y) ∙ not_it)
-      ∙ sym (and_false (test y) (y.quote.request == (k + 1)) not_it)
+      and_right (test (f y)) ((f y).quote.request == (k + 1)) (ap (λ (q : AcceptedQuote). q.request == (k + 1)) (change.keeps y) ∙ not_it)
+      ∙ sym (and_right (test y) (y.quote.request == (k + 1)) not_it)
   | inr there ↦ ap (λ (q : StandingQuote). test q && (q.quote.request == (k + 1))) (change.others j y at there.1)
 ]
 
@@ -151,9 +132,9 @@ row_ended requests quotes f place i own row sound change live dead known was = r
         | inl here ↦
             let same : own ≡ from.0 = same_Some own from.0 (sym change.stands ∙ ap (slice_get quotes) (sym here.1) ∙ from.1) in
             let ended : is_live y ≡ false = ap is_live (sym from.2) ∙ ap (λ (q : StandingQuote). is_live (f q)) (sym same) ∙ dead in
-            left_false (is_live y) (y.quote.request == (i + 1)) ended
+            and_left (is_live y) (y.quote.request == (i + 1)) ended
         | inr there ↦
-            let on_it : is_live_on (i + 1) own ≡ true = both_true (is_live own) (own.quote.request == (i + 1)) live (eq-eqb own.quote.request (i + 1) change.request_is) in
+            let on_it : is_live_on (i + 1) own ≡ true = and_from (is_live own) (own.quote.request == (i + 1)) live (eq-eqb own.quote.request (i + 1) change.request_is) in
             ap (is_live_on (i + 1)) (sym from.2 ∙ change.others k from.0 from.1 there.1)
             ∙ lone_others (is_live_on (i + 1)) quotes place own (sound.lone (i + 1)) change.stands on_it k from.0 from.1 there.1
       ])));
@@ -173,7 +154,7 @@ row_late quotes f place i own row change lives known was = record {
       let within : place < length quotes = within_from quotes place own change.stands in
       let inside : place < length (map f quotes) = omega (arith, length-map quotes f) in
       let there : get_or (map f quotes) place (f own) ≡ f own = get_or-map f quotes place own (f own) within ∙ ap f (get_or_from_slice_get quotes place own own change.stands) in
-      let on_it : is_lifted_on (i + 1) (f own) ≡ true = both_true (f own).is_known_lifted ((f own).quote.request == (i + 1)) known
+      let on_it : is_lifted_on (i + 1) (f own) ≡ true = and_from (f own).is_known_lifted ((f own).quote.request == (i + 1)) known
       (ap (λ (q : AcceptedQuote). q.request == (i + 1)) (change.keeps own) ∙ eq-eqb own.quote.request (i + 1) change.request_is) in
       sym (list_any_at (is_lifted_on (i + 1)) (map f quotes) place (f own) inside (ap (is_lifted_on (i + 1)) there ∙ on_it));
 }

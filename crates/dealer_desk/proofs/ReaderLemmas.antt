@@ -1,9 +1,9 @@
 -- What the readers of an index find: requests and quotes, by their numbers and their names.
-use Rattle.std.proofs.Common.{◌≡◌, ◌<◌, ◌≤◌, ℕ, ◌+◌, ◌^◌, ◌==◌, Bool, true, false, ◌&&◌, List}
-use Rattle.std.proofs.Common.{length, Option, Some, None, option_map, find, slice_get, get_or, ◌-◌}
-use Rattle.std.proofs.Common.{◌⊎◌, inl, inr, refl, sym, ap, subst, ◌∙◌, arith}
+use Rattle.std.proofs.Common.{◌≡◌, ◌<◌, ◌≤◌, ℕ, ◌+◌, ◌^◌, ◌==◌, Bool, true, false, List, length}
+use Rattle.std.proofs.Common.{Option, Some, None, option_map, find, slice_get, get_or, ◌-◌, ◌⊎◌}
+use Rattle.std.proofs.Common.{inl, inr, refl, sym, ap, subst, ◌∙◌, arith}
 use Rattle.std.specs.List.{list_any}
-use Rattle.std.proofs.lemmas.Bool.{eqb-true, eq-eqb}
+use Rattle.std.proofs.lemmas.Bool.{eqb-true, eq-eqb, false_from_ne_true}
 use Rattle.std.proofs.lemmas.Option.{none-some, same_Some, slice_get-map}
 use Rattle.std.specs.BTreeMap.{BTreeMap, get}
 use Rattle.std.proofs.lemmas.List.{length-map}
@@ -21,7 +21,7 @@ use Rattle.dealer_desk.specs.declared.standing.StandingRequest.{StandingRequest}
 use Rattle.dealer_desk.specs.declared.standing.StandingQuote.{StandingQuote}
 use Rattle.dealer_desk.specs.declared.table.RequestRow.{RequestRow}
 use Rattle.dealer_desk.proofs.ListLemmas.{find_unique, fails_where_none, find_none, find_stands}
-use Rattle.dealer_desk.proofs.ListLemmas.{within_from, ruled_out}
+use Rattle.dealer_desk.proofs.ListLemmas.{within_from}
 use Rattle.dealer_desk.proofs.TableReads.{read_at}
 use Rattle.dealer_desk.proofs.TableGrowth.{row_read}
 use Rattle.dealer_desk.proofs.IndexLemmas.{book_with}
@@ -32,7 +32,7 @@ pub number_found : {A : Type 0} (num : A → ℕ) (xs : List A) (number : ℕ) (
 number_found {A} num xs number x numbered least at =
     let place : (number - 1) + 1 ≡ number = omega arith in
     find_unique (λ y. num y == number) xs (number - 1) x at (eq-eqb (num x) number (numbered (number - 1) x at ∙ place))
-    (λ k y there other. ruled_out (num y == number) (λ so.
+    (λ k y there other. false_from_ne_true (num y == number) (λ so.
     let same : num y ≡ number = eqb-true (num y) number so in
     let there2 : num y ≡ k + 1 = numbered k y there in
     let e : k ≡ number - 1 = omega arith in other e))
@@ -40,7 +40,7 @@ number_found {A} num xs number x numbered least at =
 -- none has a number past them
 pub number_missing : {A : Type 0} (num : A → ℕ) (xs : List A) (number : ℕ) → ((k : ℕ) (y : A) → slice_get xs k ≡ Some y → num y ≡ k + 1)
     → (number < 1) ⊎ (length xs < number) → find (λ y. num y == number) xs ≡ None
-number_missing {A} num xs number numbered past = find_none (λ y. num y == number) xs (λ k y at. ruled_out (num y == number) (λ so.
+number_missing {A} num xs number numbered past = find_none (λ y. num y == number) xs (λ k y at. false_from_ne_true (num y == number) (λ so.
     let same : num y ≡ number = eqb-true (num y) number so in
     let here : num y ≡ k + 1 = numbered k y at in
     let within = within_from xs k y at in
@@ -129,7 +129,7 @@ pub named_missing : (used notices : ℕ) (rows : List RequestRow) (quotes : List
 unfolding request_named
 named_missing used notices rows quotes name sound few never =
     find_none (λ (r : StandingRequest). same_text (request_name r.number) name) (requests_in rows) (λ k y at.
-    ruled_out (same_text (request_name y.number) name) (λ so.
+    false_from_ne_true (same_text (request_name y.number) name) (λ so.
     let within : k < length (requests_in rows) = within_from (requests_in rows) k y at in
     let number : y.number ≡ k + 1 = sound.requests_numbered k y at in
     let many : length (requests_in rows) ≡ length rows = length-map rows (λ (r : RequestRow). r.request) in
@@ -147,7 +147,7 @@ named_found used notices rows quotes name number request sound few known only at
     let here : request.number ≡ stands.0 + 1 = sound.requests_numbered stands.0 request stands.1 in
     find_unique (λ (r : StandingRequest). same_text (request_name r.number) name) (requests_in rows) stands.0 request stands.1
     (ap (λ (n : ℕ). same_text (request_name n) name) same ∙ known)
-    (λ k y there other. ruled_out (same_text (request_name y.number) name) (λ so.
+    (λ k y there other. false_from_ne_true (same_text (request_name y.number) name) (λ so.
     let within : k < length (requests_in rows) = within_from (requests_in rows) k y there in
     let number2 : y.number ≡ k + 1 = sound.requests_numbered k y there in
     let many : length (requests_in rows) ≡ length rows = length-map rows (λ (r : RequestRow). r.request) in
@@ -163,7 +163,7 @@ pub named_past : (used notices : ℕ) (rows : List RequestRow) (quotes : List St
 unfolding request_named request_numbered
 named_past used notices rows quotes name number sound few only none =
     find_none (λ (r : StandingRequest). same_text (request_name r.number) name) (requests_in rows) (λ k y at.
-    ruled_out (same_text (request_name y.number) name) (λ so.
+    false_from_ne_true (same_text (request_name y.number) name) (λ so.
     let within : k < length (requests_in rows) = within_from (requests_in rows) k y at in
     let number2 : y.number ≡ k + 1 = sound.requests_numbered k y at in
     let many : length (requests_in rows) ≡ length rows = length-map rows (λ (r : RequestRow). r.request) in
@@ -172,18 +172,6 @@ named_past used notices rows quotes name number sound few only none =
     let passes : (y.number == number) ≡ true = eq-eqb y.number number (sym equal) in
     let fails : (y.number == number) ≡ false = fails_where_none (λ (r : StandingRequest). r.number == number) (requests_in rows) none k y at in
     absurd_bool passes fails))
-
-pub and_so_false : (b c : Bool) → c ≡ false → (b && c) ≡ false
-and_so_false true c e = e
-and_so_false false c e = refl
-
-pub so_false_and : (b c : Bool) → b ≡ false → (b && c) ≡ false
-so_false_and true c e = cc
-so_false_and false c e = refl
-
-pub both_so : (b c : Bool) → b ≡ true → c ≡ true → (b && c) ≡ true
-both_so true c e h = h
-both_so false c e h = cc
 
 -- Quotes by their QuoteIDs.
 

@@ -1,18 +1,17 @@
 -- What every fact and every event at a desk keeps: a sound book, the exposure and the number of
 -- quotes within the limits of the dealer's row.
 use Rattle.std.proofs.Common.{◌≡◌, ◌<◌, ◌≤◌, ℕ, ◌+◌, Bool, true, false, ◌==◌, cond, List, [], ◌∷◌}
-use Rattle.std.proofs.Common.{◌++◌, length, map, find, Option, Some, None, is_none, refl, sym, ap}
-use Rattle.std.proofs.Common.{subst, ◌∙◌, arith}
+use Rattle.std.proofs.Common.{◌++◌, length, map, find, Option, Some, None, refl, sym, ap, subst}
+use Rattle.std.proofs.Common.{◌∙◌, arith}
 use Rattle.std.specs.List.{sum_by}
-use Rattle.std.specs.Option.{option_or}
 use Rattle.std.proofs.lemmas.List.{length-append, length-map}
 use Rattle.std.proofs.lemmas.List.Sums.{sum_by-append, sum_by-cons}
 use Rattle.venue_rows.specs.Texts.{same_text}
 use Rattle.venue_rows.specs.declared.dealer_rows.DealerRow.{DealerRow}
 use Rattle.market_terms.specs.declared.asks.Ask.{Ask}
 use Rattle.market_terms.specs.declared.closes.Close.{Close}
-use Rattle.dealer_desk.specs.DealerFacts.{Came, Shown, Quoted, Withdrawn, Late, Dropped, Declined}
-use Rattle.dealer_desk.specs.DealerFacts.{Told, DealerBook, is_live, live_quantity, quantity_beside}
+use Rattle.dealer_desk.specs.DealerFacts.{Shown, Quoted, Withdrawn, Late, Dropped, Declined, Told}
+use Rattle.dealer_desk.specs.DealerFacts.{DealerBook, is_live, live_quantity, quantity_beside}
 use Rattle.dealer_desk.specs.DealerFacts.{standing_quote, quote_with_id, live_quote_on}
 use Rattle.dealer_desk.specs.DealerFacts.{exposure_beside}
 use Rattle.dealer_desk.specs.BookChanges.{IsSound, FitsBook, book_after, ended_at, late_at}
@@ -22,18 +21,19 @@ use Rattle.dealer_desk.specs.declared.accepted.AcceptedQuote.{AcceptedQuote}
 use Rattle.dealer_desk.specs.declared.standing.StandingRequest.{StandingRequest}
 use Rattle.dealer_desk.specs.declared.standing.StandingQuote.{StandingQuote}
 use Rattle.dealer_desk.specs.declared.standing.Withdrawal.{Withdrawal}
-use Rattle.dealer_desk.specs.declared.standing.QuoteEnd.{QuoteEnd}
 use Rattle.dealer_desk.specs.declared.standing.QuoteEnd.TheVariants as end
-use Rattle.dealer_desk.proofs.BookLemmas.{came_book, dropped_book, shown_book, quoted_book}
-use Rattle.dealer_desk.proofs.BookLemmas.{withdrawn_book, late_book, declined_book, told_book}
+use Rattle.dealer_desk.proofs.BookLemmas.{dropped_book, shown_book, quoted_book, withdrawn_book}
+use Rattle.dealer_desk.proofs.BookLemmas.{late_book, declined_book, told_book}
 use Rattle.dealer_desk.proofs.SoundLemmas.{sound_empty, sound_mapped, sound_requests, sound_shown}
 use Rattle.dealer_desk.proofs.SoundLemmas.{sound_quoted}
 use Rattle.dealer_desk.proofs.QuoteChanges.{ended_keeps, ended_lives, late_keeps, late_lives}
+use Rattle.dealer_desk.proofs.QuoteChanges.{ended_by}
 use Rattle.dealer_desk.proofs.TableReads.{declined_keeps, told_keeps}
 use Rattle.dealer_desk.proofs.TableGrowth.{replaced_none, sum_beside}
 use Rattle.dealer_desk.proofs.IndexLemmas.{closed_keeps}
 
 -- what stands at a desk
+
 pub record Stands (row : DealerRow) (requests : List StandingRequest) (quotes : List StandingQuote) : Type 0 where
   pub sound : IsSound requests quotes
   pub within : sum_by live_quantity quotes ≤ row.exposure
@@ -106,9 +106,6 @@ stands_requests row requests quotes f keeps stands = record {
 
 -- Facts one by one.
 
-pub came_stands : (row : DealerRow) (book : DealerBook) (moment : ℕ) (bytes : List ℕ) (used : Bool) → StandsIn row book → StandsIn row (book_after book (Came moment bytes used))
-came_stands row book moment bytes used stands = subst (λ (b : DealerBook). StandsIn row b) (sym (came_book book moment bytes used)) stands
-
 pub dropped_stands : (row : DealerRow) (book : DealerBook) (last moment : ℕ) → StandsIn row book → StandsIn row (book_after book (Dropped last moment))
 dropped_stands row book last moment stands = subst (λ (b : DealerBook). StandsIn row b) (sym (dropped_book book last moment)) stands
 
@@ -128,18 +125,10 @@ pub declined_stands : (row : DealerRow) (book : DealerBook) (number : ℕ) → S
 declined_stands row book number stands = subst (λ (b : DealerBook). StandsIn row b) (sym (declined_book book number))
     (stands_requests row book.requests book.quotes (declined_at number) (declined_keeps number) stands)
 
-or_some : (was : Option QuoteEnd) (how : QuoteEnd) → is_none (option_or was (Some how)) ≡ false
-or_some None how = refl
-or_some (Some by) how = refl
-
-closed_if : (b : Bool) (how : QuoteEnd) (own : StandingQuote) → is_live (cond b (record own { end = option_or own.end (Some how) }) own) ≡ true → is_live own ≡ true
-closed_if true how own h = let never = or_some own.end how in cc
-closed_if false how own h = h
-
 pub told_stands : (row : DealerRow) (book : DealerBook) (number : ℕ) (close : Close) (moment : ℕ) → StandsIn row book → StandsIn row (book_after book (Told number close moment))
 told_stands row book number close moment stands = subst (λ (b : DealerBook). StandsIn row b) (sym (told_book book number close moment))
     (stands_requests row book.requests (map (closed_on number close) book.quotes) (told_at number) (told_keeps number)
-    (stands_changed row book.requests book.quotes (closed_on number close) (closed_keeps number close) (λ own live. closed_if (number == own.quote.request) (end.Closed close) own live) stands))
+    (stands_changed row book.requests book.quotes (closed_on number close) (closed_keeps number close) (λ own live. ended_by (number == own.quote.request) (end.Closed close) own live) stands))
 
 -- A quote behind the others.
 

@@ -4,9 +4,10 @@ use Rattle.std.proofs.Common.{◌∷◌, ◌++◌, length, map, Option, Some, No
 use Rattle.std.proofs.Common.{inr, refl, sym, ap, subst, ◌∙◌, arith}
 use Rattle.std.specs.List.{list_any}
 use Rattle.std.specs.Option.{option_or}
-use Rattle.std.proofs.lemmas.Bool.{eqb-true}
+use Rattle.std.proofs.lemmas.Bool.{eqb-true, false_from_ne_true}
 use Rattle.std.proofs.lemmas.Option.{same_Some}
 use Rattle.std.proofs.lemmas.List.{length-append, length-map, append-nil}
+use Rattle.std.proofs.Math.Bool.{or-false, or-true}
 use Rattle.market_terms.specs.declared.closes.Close.{Close}
 use Rattle.quote_word.specs.declared.settled.Settled.{Settled}
 use Rattle.quote_word.specs.declared.settled.Settled.TheVariants as settled
@@ -19,9 +20,9 @@ use Rattle.dealer_desk.specs.declared.standing.StandingQuote.{StandingQuote}
 use Rattle.dealer_desk.specs.declared.standing.QuoteEnd.{QuoteEnd}
 use Rattle.dealer_desk.specs.declared.standing.QuoteEnd.TheVariants as end
 use Rattle.dealer_desk.specs.declared.standing.Withdrawal.{Withdrawal}
-use Rattle.dealer_desk.proofs.BookLemmas.{or_false, or_true}
 use Rattle.dealer_desk.proofs.BookPush.{any_push}
-use Rattle.dealer_desk.proofs.ListLemmas.{mapped_at, pushed_at, ruled_out, within_from}
+use Rattle.dealer_desk.proofs.ListLemmas.{mapped_at, pushed_at, within_from}
+use Rattle.dealer_desk.proofs.QuoteChanges.{nothing}
 
 -- a quote stands as its word was settled
 pub record AsAnswered (words : List (ℕ × Settled)) (own : StandingQuote) : Type 0 where
@@ -40,22 +41,22 @@ more_withdrawn : (words : List (ℕ × Settled)) (number quote : ℕ) → list_a
 more_withdrawn words number quote = any_push (says_withdrawn number) words (quote, settled.Withdrawn)
 
 no_more_withdrawn : (words : List (ℕ × Settled)) (number quote : ℕ) → list_any (says_withdrawn number) (words ++ (quote, settled.Lifted) ∷ []) ≡ list_any (says_withdrawn number) words
-no_more_withdrawn words number quote = any_push (says_withdrawn number) words (quote, settled.Lifted) ∙ or_false (list_any (says_withdrawn number) words)
+no_more_withdrawn words number quote = any_push (says_withdrawn number) words (quote, settled.Lifted) ∙ or-false (list_any (says_withdrawn number) words)
 
 more_lifted : (words : List (ℕ × Settled)) (number quote : ℕ) → list_any (says_lifted number) (words ++ (quote, settled.Lifted) ∷ []) ≡ (list_any (says_lifted number) words || (quote == number))
 more_lifted words number quote = any_push (says_lifted number) words (quote, settled.Lifted)
 
 no_more_lifted : (words : List (ℕ × Settled)) (number quote : ℕ) → list_any (says_lifted number) (words ++ (quote, settled.Withdrawn) ∷ []) ≡ list_any (says_lifted number) words
-no_more_lifted words number quote = any_push (says_lifted number) words (quote, settled.Withdrawn) ∙ or_false (list_any (says_lifted number) words)
+no_more_lifted words number quote = any_push (says_lifted number) words (quote, settled.Withdrawn) ∙ or-false (list_any (says_lifted number) words)
 
 said_so : (a b : Bool) → b ≡ true → true ≡ (a || b)
-said_so a b so = sym (ap (λ (c : Bool). a || c) so ∙ or_true a)
+said_so a b so = sym (ap (λ (c : Bool). a || c) so ∙ or-true a)
 
 said_not : (a b : Bool) → b ≡ false → a ≡ (a || b)
-said_not a b so = sym (ap (λ (c : Bool). a || c) so ∙ or_false a)
+said_not a b so = sym (ap (λ (c : Bool). a || c) so ∙ or-false a)
 
 other_than : (number quote last : ℕ) → quote ≤ last → last < number → (quote == number) ≡ false
-other_than number quote last within past = ruled_out (quote == number) (λ so. let same : quote ≡ number = eqb-true quote number so in let never : ⊥ = omega arith in never)
+other_than number quote last within past = false_from_ne_true (quote == number) (λ so. let same : quote ≡ number = eqb-true quote number so in let never : ⊥ = omega arith in never)
 
 pub no_word_more : (words : List (ℕ × Settled)) (quotes : List StandingQuote) → Answered words quotes → Answered (words ++ []) quotes
 no_word_more words quotes said = subst (λ (ws : List (ℕ × Settled)). Answered ws quotes) (sym (append-nil words)) said
@@ -79,10 +80,6 @@ ended_one false number how words own is live said = record {
   lifted = said.lifted ∙ sym (no_more_lifted words own.quote.number number);
 }
 
-no_end : (e : Option QuoteEnd) → is_none e ≡ true → e ≡ None
-no_end None h = refl
-no_end (Some how) h = cc
-
 -- the live quote of a number, and any other of that number, are one
 one_live : (requests : List StandingRequest) (quotes : List StandingQuote) (number k : ℕ) (own : StandingQuote) → IsSound requests quotes → IsLiveNumber quotes number → slice_get quotes k ≡ Some own
     → own.quote.number ≡ number → own.end ≡ None
@@ -91,7 +88,7 @@ one_live requests quotes number k own sound live at same =
     let there : number ≡ live.place + 1 = live.number_is in
     let place : k ≡ live.place = omega arith in
     let one : own ≡ live.own = same_Some own live.own (sym at ∙ ap (slice_get quotes) place ∙ live.stands) in
-    no_end own.end (ap (λ (q : StandingQuote). is_none q.end) one ∙ live.live)
+    nothing own.end (ap (λ (q : StandingQuote). is_none q.end) one ∙ live.live)
 
 live_inside : (quotes : List StandingQuote) (number : ℕ) → IsLiveNumber quotes number → number ≤ length quotes
 live_inside quotes number live =

@@ -2,7 +2,7 @@
 use Rattle.std.proofs.Common.{◌≡◌, ℕ, ◌+◌, Bool, true, false, ◌&&◌, ◌==◌, cond, not, List, map, set}
 use Rattle.std.proofs.Common.{find, Option, Some, None, is_none, option_map, refl, sym, ap, ◌∙◌}
 use Rattle.std.specs.Option.{option_or}
-use Rattle.std.proofs.lemmas.Bool.{eqb-true, eq-eqb}
+use Rattle.std.proofs.lemmas.Bool.{eqb-true, eq-eqb, cond-false, cond-true}
 use Rattle.std.proofs.lemmas.Option.{none-some, same_Some}
 use Rattle.dealer_desk.specs.DealerFacts.{is_live, is_live_on}
 use Rattle.dealer_desk.specs.BookChanges.{IsSound, IsLiveNumber, ended_at, closed_on}
@@ -15,7 +15,7 @@ use Rattle.market_terms.specs.declared.closes.Close.{Close}
 use Rattle.dealer_desk.proofs.ListLemmas.{set_map, all_fixed, find_stands, fails_where_none}
 use Rattle.dealer_desk.proofs.ListLemmas.{lone_others}
 use Rattle.dealer_desk.proofs.SoundLemmas.{none_live}
-use Rattle.dealer_desk.proofs.QuoteChanges.{chosen, chosen_first, ended_own, nothing, other_number}
+use Rattle.dealer_desk.proofs.QuoteChanges.{ended_own, nothing, other_number}
 
 -- The closing of a request.
 
@@ -43,7 +43,7 @@ closed_others number close own apart = closed_fixed (number == own.quote.request
 
 pub closed_own : (number : ℕ) (close : Close) (own : StandingQuote) → own.quote.request ≡ number → is_live own ≡ true → closed_on number close own ≡ record own { end = Some (end.Closed close) }
 closed_own number close own same live =
-    chosen_first (number == own.quote.request) (record own { end = option_or own.end (Some (end.Closed close)) }) own (eq-eqb number own.quote.request (sym same))
+    cond-true (number == own.quote.request) (record own { end = option_or own.end (Some (end.Closed close)) }) own (eq-eqb number own.quote.request (sym same))
     ∙ ap (λ (e : Option QuoteEnd). record own { end = option_or e (Some (end.Closed close)) }) (nothing own.end live)
 
 -- where no quote on it is live
@@ -84,7 +84,7 @@ closed_found requests quotes request number close sound (Some own) at is =
     let place_is : number ≡ stands.0 + 1 = number_is ∙ sound.quotes_numbered stands.0 own stands.1 in
     sym (ap (set quotes stands.0) (sym (ended_own number (end.Closed close) own number_is live))
     ∙ set_map (ended_at number (end.Closed close)) quotes stands.0 own stands.1
-    (λ k y there other. chosen (number == y.quote.number) (record y { end = option_or y.end (Some (end.Closed close)) }) y (other_number requests quotes number stands.0 k y sound place_is there other)))
+    (λ k y there other. cond-false (number == y.quote.number) (record y { end = option_or y.end (Some (end.Closed close)) }) y (other_number requests quotes number stands.0 k y sound place_is there other)))
     ∙ (ap (set quotes stands.0) (sym (closed_own request close own on_it live))
     ∙ set_map (closed_on request close) quotes stands.0 own stands.1
     (λ k y there other. closed_others request close y (lone_others (is_live_on request) quotes stands.0 own (sound.lone request) stands.1 stands.2 k y there other)))

@@ -1,17 +1,19 @@
 -- What a table keeps when a request or a quote more comes, and when another quote replaces one.
-use Rattle.std.proofs.Common.{◌≡◌, ◌<◌, ◌≤◌, ℕ, zero, suc, ◌+◌, ◌-◌, Bool, true, false, ◌||◌, ◌==◌}
-use Rattle.std.proofs.Common.{cond, List, [], ◌∷◌, ◌++◌, length, map, set, find, Option, Some, None}
+use Rattle.std.proofs.Common.{◌≡◌, ◌<◌, ◌≤◌, ℕ, zero, suc, ◌+◌, ◌-◌, Bool, true, false, ◌==◌, cond}
+use Rattle.std.proofs.Common.{List, [], ◌∷◌, ◌++◌, length, map, set, find, Option, Some, None}
 use Rattle.std.proofs.Common.{option_map, slice_get, get_or, inl, inr, refl, sym, ap, subst, ◌∙◌}
 use Rattle.std.proofs.Common.{arith}
 use Rattle.std.specs.List.{list_any, sum_by, position_or_len}
 use Rattle.std.specs.Option.{option_or}
 use Rattle.std.proofs.Math.Dec.{eqb}
-use Rattle.std.proofs.lemmas.Bool.{eqb-true, eq-eqb}
+use Rattle.std.proofs.lemmas.Bool.{eqb-true, eq-eqb, false_from_ne_true, cond-false, and_right}
+use Rattle.std.proofs.lemmas.Bool.{and_left}
 use Rattle.std.proofs.lemmas.Bool.Decides.{eqb_tells}
 use Rattle.std.proofs.lemmas.Option.{none-some, same_Some}
 use Rattle.std.proofs.lemmas.List.{map-append, length-map, length-append}
 use Rattle.std.proofs.lemmas.List.Sums.{sum_by-cons, sum_by_push}
 use Rattle.std.proofs.lemmas.List.Folds.{list_any-append, find-append, position_or_len_push}
+use Rattle.std.proofs.Math.Bool.{or-false}
 use Rattle.venue_rows.specs.declared.dealer_rows.TheConstants.DealerRow.{MOST_QUOTES, MOST_EXPOSURE}
 use Rattle.market_terms.specs.declared.lines.QuoteLine.{QuoteLine}
 use Rattle.dealer_desk.specs.DealerFacts.{standing_request, standing_quote, is_live, is_live_on}
@@ -29,13 +31,13 @@ use Rattle.market_terms.specs.declared.asks.Ask.{Ask}
 use Rattle.market_terms.specs.declared.closes.Close.TheVariants as closes
 use Rattle.dealer_desk.specs.declared.table.RequestRow.{RequestRow}
 use Rattle.dealer_desk.proofs.ListLemmas.{set_at, set_map, pushed_at, any_none, find_stands}
-use Rattle.dealer_desk.proofs.ListLemmas.{mapped_at, find_none, lone_others, ruled_out}
+use Rattle.dealer_desk.proofs.ListLemmas.{mapped_at, find_none, lone_others}
 use Rattle.dealer_desk.proofs.SoundLemmas.{sound_shown, sound_quoted, none_live}
-use Rattle.dealer_desk.proofs.QuoteChanges.{and_false, chosen, ended_own, left_false, or_some}
-use Rattle.dealer_desk.proofs.QuoteChanges.{other_number}
+use Rattle.dealer_desk.proofs.QuoteChanges.{ended_own, or_some, other_number}
 use Rattle.dealer_desk.proofs.TableLemmas.{quantity_live, requests_kept, sum_changed}
 use Rattle.dealer_desk.proofs.TableReads.{read_at}
 use Rattle.dealer_desk.proofs.TableClosing.{first_holds}
+use Rattle.dealer_desk.proofs.MapLemmas.{or_none}
 
 -- a row that is read by the number of its request
 pub row_read : (rows : List RequestRow) (quotes : List StandingQuote) (lines : List QuoteLine) (exposure first number : ℕ) (row : RequestRow)
@@ -57,7 +59,7 @@ pub push_request_table : (rows : List RequestRow) (quotes : List StandingQuote) 
 push_request_table rows quotes lines exposure first ask table =
     let many : length (map (λ (r : RequestRow). r.request) rows) ≡ length rows = length-map rows (λ (r : RequestRow). r.request) in
     let after : (k : ℕ) (y : StandingQuote) → slice_get quotes k ≡ Some y → (y.quote.request == (length rows + 1)) ≡ false = λ k y at.
-    ruled_out (y.quote.request == (length rows + 1)) (λ so.
+    false_from_ne_true (y.quote.request == (length rows + 1)) (λ so.
     let same : y.quote.request ≡ length rows + 1 = eqb-true y.quote.request (length rows + 1) so in
     let last = table.sound.to_last k y at in
     let never : ⊥ = omega arith in never) in
@@ -70,8 +72,8 @@ push_request_table rows quotes lines exposure first ask table =
         | inl was ↦ table.rows_are k row was
         | inr new ↦ subst (λ (w : RequestRow). IsRow quotes (k + 1) w) new.1 (subst (λ (n : ℕ). IsRow quotes (n + 1) (record { request = standing_request (length rows + 1) ask []; live = None; has_lifted = false })) (sym new.0)
             (record {
-              live_is = sym (ap (option_map (λ (q : StandingQuote). q.quote.number)) (find_none (is_live_on (length rows + 1)) quotes (λ j y there. and_false (is_live y) (y.quote.request == (length rows + 1)) (after j y there))));
-              lifted_is = sym (any_none (is_lifted_on (length rows + 1)) quotes (λ j y there. and_false y.is_known_lifted (y.quote.request == (length rows + 1)) (after j y there)));
+              live_is = sym (ap (option_map (λ (q : StandingQuote). q.quote.number)) (find_none (is_live_on (length rows + 1)) quotes (λ j y there. and_right (is_live y) (y.quote.request == (length rows + 1)) (after j y there))));
+              lifted_is = sym (any_none (is_lifted_on (length rows + 1)) quotes (λ j y there. and_right y.is_known_lifted (y.quote.request == (length rows + 1)) (after j y there)));
             }))
       ];
       lines_are = table.lines_are;
@@ -83,14 +85,6 @@ push_request_table rows quotes lines exposure first ask table =
 
 -- A quote behind the others.
 
-or_false : (b : Bool) → (b || false) ≡ b
-or_false true = refl
-or_false false = refl
-
-or_none : {A : Type 0} (o : Option A) → option_or o None ≡ o
-or_none None = refl
-or_none (Some x) = refl
-
 -- the row of the request of a quote that was put behind the others
 row_pushed : (quotes : List StandingQuote) (quote : AcceptedQuote) (row : RequestRow) → find (is_live_on quote.request) quotes ≡ None
     → IsRow quotes quote.request row → IsRow (quotes ++ standing_quote quote [] ∷ []) quote.request (record row { live = Some quote.number })
@@ -99,7 +93,7 @@ row_pushed quotes quote row none was =
     record {
       live_is = sym (ap (option_map (λ (q : StandingQuote). q.quote.number)) (find-append (is_live_on quote.request) quotes (standing_quote quote [] ∷ []) ∙ ap (λ (o : Option StandingQuote). option_or o (find (is_live_on quote.request) (standing_quote quote [] ∷ []))) none
           ∙ ap (λ (b : Bool). cond b (Some (standing_quote quote [])) None) here));
-      lifted_is = was.lifted_is ∙ sym (list_any-append (is_lifted_on quote.request) quotes (standing_quote quote [] ∷ []) ∙ or_false (list_any (is_lifted_on quote.request) quotes));
+      lifted_is = was.lifted_is ∙ sym (list_any-append (is_lifted_on quote.request) quotes (standing_quote quote [] ∷ []) ∙ or-false (list_any (is_lifted_on quote.request) quotes));
     }
 
 -- the row of another request
@@ -108,7 +102,7 @@ row_beside : (quotes : List StandingQuote) (quote : AcceptedQuote) (number : ℕ
 row_beside quotes quote number row other was = record {
   live_is = was.live_is ∙ sym (ap (option_map (λ (q : StandingQuote). q.quote.number)) (find-append (is_live_on number) quotes (standing_quote quote [] ∷ [])
       ∙ ap (λ (b : Bool). option_or (find (is_live_on number) quotes) (cond b (Some (standing_quote quote [])) None)) other ∙ or_none (find (is_live_on number) quotes)));
-  lifted_is = was.lifted_is ∙ sym (list_any-append (is_lifted_on number) quotes (standing_quote quote [] ∷ []) ∙ or_false (list_any (is_lifted_on number) quotes));
+  lifted_is = was.lifted_is ∙ sym (list_any-append (is_lifted_on number) quotes (standing_quote quote [] ∷ []) ∙ or-false (list_any (is_lifted_on number) quotes));
 }
 
 first_stays : (b : Bool) (at len : ℕ) → eqb at len ≡ b → cond b (len + 0) at ≡ at
@@ -133,7 +127,7 @@ push_quote_table rows quotes lines exposure first quote row line table number fe
       rows_are = λ k r at. elim (set_at rows (quote.request - 1) (record row { live = Some quote.number }) k r within at) [
         | inl here ↦ subst (λ (n : ℕ). IsRow (quotes ++ standing_quote quote [] ∷ []) n r) (sym place ∙ ap (λ (n : ℕ). n + 1) (sym here.0))
             (subst (λ (w : RequestRow). IsRow (quotes ++ standing_quote quote [] ∷ []) quote.request w) here.1 (row_pushed quotes quote row (none_live quotes quote.request alone) was))
-        | inr there ↦ row_beside quotes quote (k + 1) r (ruled_out (quote.request == (k + 1)) (λ so.
+        | inr there ↦ row_beside quotes quote (k + 1) r (false_from_ne_true (quote.request == (k + 1)) (λ so.
             let same : quote.request ≡ k + 1 = eqb-true quote.request (k + 1) so in let e : k ≡ quote.request - 1 = omega arith in there.0 e)) (table.rows_are k r there.1)
       ];
       lines_are = ap (λ (l : List QuoteLine). l ++ line ∷ []) table.lines_are ∙ ap (λ (l : QuoteLine). map line_of quotes ++ l ∷ []) line_is ∙ sym (map-append line_of quotes (standing_quote quote [] ∷ []));
@@ -166,9 +160,9 @@ replaced_found requests quotes request number how sound (Some own) at is =
       | inl here ↦
           let same : own ≡ from.0 = same_Some own from.0 (sym stands.1 ∙ ap (slice_get quotes) (sym here.1) ∙ from.1) in
           let ended : ended_at number how from.0 ≡ record own { end = Some how } = ap (ended_at number how) (sym same) ∙ ended_own number how own number_is live in
-          left_false (is_live y) (y.quote.request == request) (ap is_live (sym from.2 ∙ ended))
+          and_left (is_live y) (y.quote.request == request) (ap is_live (sym from.2 ∙ ended))
       | inr apart ↦
-          ap (is_live_on request) (sym from.2 ∙ chosen (number == from.0.quote.number) (record from.0 { end = option_or from.0.end (Some how) }) from.0 (other_number requests quotes number stands.0 k from.0 sound place_is from.1 apart.1))
+          ap (is_live_on request) (sym from.2 ∙ cond-false (number == from.0.quote.number) (record from.0 { end = option_or from.0.end (Some how) }) from.0 (other_number requests quotes number stands.0 k from.0 sound place_is from.1 apart.1))
           ∙ lone_others (is_live_on request) quotes stands.0 own (sound.lone request) stands.1 stands.2 k from.0 from.1 apart.1
     ]))
 
@@ -187,7 +181,7 @@ sum_mapped f g change same (own ∷ quotes) =
 turned : (a b : ℕ) → (a == b) ≡ (b == a)
 turned a b = elim (eqb_tells a b) [
   | inl same ↦ same.0 ∙ sym (eq-eqb b a (sym same.1))
-  | inr apart ↦ apart.0 ∙ sym (ruled_out (b == a) (λ so. apart.1 (sym (eqb-true b a so))))
+  | inr apart ↦ apart.0 ∙ sym (false_from_ne_true (b == a) (λ so. apart.1 (sym (eqb-true b a so))))
 ]
 
 dead_or_live : (b : Bool) (how : QuoteEnd) (own : StandingQuote) → live_quantity (cond b (record own { end = option_or own.end (Some how) }) own) ≡ cond b 0 (live_quantity own)
@@ -223,7 +217,7 @@ beside_live requests quotes number place own sound number_is stands live =
     let after : set quotes place (record own { end = Some (end.Closed closes.Pass) }) ≡ map (ended_at number (end.Closed closes.Pass)) quotes =
     ap (set quotes place) (sym (ended_own number (end.Closed closes.Pass) own same live))
     ∙ set_map (ended_at number (end.Closed closes.Pass)) quotes place own stands
-    (λ k y there other. chosen (number == y.quote.number) (record y { end = option_or y.end (Some (end.Closed closes.Pass)) }) y (other_number requests quotes number place k y sound number_is there other)) in
+    (λ k y there other. cond-false (number == y.quote.number) (record y { end = option_or y.end (Some (end.Closed closes.Pass)) }) y (other_number requests quotes number place k y sound number_is there other)) in
     let sum = sum_changed quotes place own (record own { end = Some (end.Closed closes.Pass) }) stands in
     let beside : sum_by live_quantity (set quotes place (record own { end = Some (end.Closed closes.Pass) })) ≡ sum_by (quantity_beside (Some number)) quotes =
     ap (sum_by live_quantity) after ∙ sum_beside quotes number (end.Closed closes.Pass) in

@@ -6,6 +6,7 @@ use Rattle.std.specs.Option.{option_or}
 use Rattle.std.proofs.lemmas.Option.{same_Some, get_or_from_slice_get}
 use Rattle.std.proofs.lemmas.List.{map-set}
 use Rattle.std.proofs.lemmas.List.Sums.{sum_by-set}
+use Rattle.std.proofs.lemmas.Bool.{cond-false}
 use Rattle.market_terms.specs.declared.lines.QuoteLine.{QuoteLine}
 use Rattle.dealer_desk.specs.DealerFacts.{is_live, is_droppable, live_quantity}
 use Rattle.dealer_desk.specs.QuoteLines.{state_of, line_of}
@@ -21,8 +22,8 @@ use Rattle.dealer_desk.specs.declared.table.RequestRow.{RequestRow}
 use Rattle.dealer_desk.proofs.ListLemmas.{set_map, set_same, mapped_at, within_from}
 use Rattle.dealer_desk.proofs.SoundLemmas.{sound_mapped}
 use Rattle.dealer_desk.proofs.QuoteChanges.{ended_keeps, late_keeps, ended_lives, late_lives}
-use Rattle.dealer_desk.proofs.QuoteChanges.{ended_known, other_number, chosen, ended_own, late_own}
-use Rattle.dealer_desk.proofs.QuoteChanges.{Changes, rows_changed, row_ended, row_late}
+use Rattle.dealer_desk.proofs.QuoteChanges.{ended_known, other_number, ended_own, late_own, Changes}
+use Rattle.dealer_desk.proofs.QuoteChanges.{rows_changed, row_ended, row_late}
 
 -- the requests, after a write of a row that leaves its request as it is
 pub requests_kept : (rows : List RequestRow) (i : ℕ) (row other : RequestRow) → slice_get rows i ≡ Some row → other.request ≡ row.request
@@ -79,7 +80,7 @@ ended_table rows quotes lines exposure first place i how own row line table stan
     let same : place + 1 ≡ own.quote.number = sym (sound.quotes_numbered place own stands) in
     let after : ended_at (place + 1) how own ≡ record own { end = Some how } = ended_own (place + 1) how own same live in
     let others : (k : ℕ) (y : StandingQuote) → slice_get quotes k ≡ Some y → (k ≡ place → ⊥) → ended_at (place + 1) how y ≡ y =
-    λ k y at other. chosen (place + 1 == y.quote.number) (record y { end = option_or y.end (Some how) }) y (other_number (map (λ (r : RequestRow). r.request) rows) quotes (place + 1) place k y sound refl at other) in
+    λ k y at other. cond-false (place + 1 == y.quote.number) (record y { end = option_or y.end (Some how) }) y (other_number (map (λ (r : RequestRow). r.request) rows) quotes (place + 1) place k y sound refl at other) in
     let as_map : set quotes place (record own { end = Some how }) ≡ map (ended_at (place + 1) how) quotes =
     ap (set quotes place) (sym after) ∙ set_map (ended_at (place + 1) how) quotes place own stands others in
     let change : Changes quotes (ended_at (place + 1) how) place i own = record {
@@ -118,7 +119,7 @@ ended_quotes rows quotes lines exposure first place how own table stands live =
     let same : place + 1 ≡ own.quote.number = sym (sound.quotes_numbered place own stands) in
     ap (set quotes place) (sym (ended_own (place + 1) how own same live))
     ∙ set_map (ended_at (place + 1) how) quotes place own stands
-    (λ k y at other. chosen (place + 1 == y.quote.number) (record y { end = option_or y.end (Some how) }) y (other_number (map (λ (r : RequestRow). r.request) rows) quotes (place + 1) place k y sound refl at other))
+    (λ k y at other. cond-false (place + 1 == y.quote.number) (record y { end = option_or y.end (Some how) }) y (other_number (map (λ (r : RequestRow). r.request) rows) quotes (place + 1) place k y sound refl at other))
 
 -- the table after the live quote at a place was found lifted
 pub late_table : (rows : List RequestRow) (quotes : List StandingQuote) (lines : List QuoteLine) (exposure first place i : ℕ) (own : StandingQuote) (row : RequestRow) (line : QuoteLine)
@@ -131,7 +132,7 @@ late_table rows quotes lines exposure first place i own row line table stands re
     let same : place + 1 ≡ own.quote.number = sym (sound.quotes_numbered place own stands) in
     let after : late_at (place + 1) own ≡ record own { is_known_lifted = true } = late_own (place + 1) own same in
     let others : (k : ℕ) (y : StandingQuote) → slice_get quotes k ≡ Some y → (k ≡ place → ⊥) → late_at (place + 1) y ≡ y =
-    λ k y at other. chosen (place + 1 == y.quote.number) (record y { is_known_lifted = true }) y (other_number (map (λ (r : RequestRow). r.request) rows) quotes (place + 1) place k y sound refl at other) in
+    λ k y at other. cond-false (place + 1 == y.quote.number) (record y { is_known_lifted = true }) y (other_number (map (λ (r : RequestRow). r.request) rows) quotes (place + 1) place k y sound refl at other) in
     let as_map : set quotes place (record own { is_known_lifted = true }) ≡ map (late_at (place + 1)) quotes =
     ap (set quotes place) (sym after) ∙ set_map (late_at (place + 1)) quotes place own stands others in
     let lives : (y : StandingQuote) → is_live (late_at (place + 1) y) ≡ true → is_live y ≡ true = λ y h. sym (late_lives (place + 1) y) ∙ h in
@@ -170,4 +171,4 @@ late_quotes rows quotes lines exposure first place own table stands =
     let same : place + 1 ≡ own.quote.number = sym (sound.quotes_numbered place own stands) in
     ap (set quotes place) (sym (late_own (place + 1) own same))
     ∙ set_map (late_at (place + 1)) quotes place own stands
-    (λ k y at other. chosen (place + 1 == y.quote.number) (record y { is_known_lifted = true }) y (other_number (map (λ (r : RequestRow). r.request) rows) quotes (place + 1) place k y sound refl at other))
+    (λ k y at other. cond-false (place + 1 == y.quote.number) (record y { is_known_lifted = true }) y (other_number (map (λ (r : RequestRow). r.request) rows) quotes (place + 1) place k y sound refl at other))

@@ -1,11 +1,10 @@
 -- What the code reads and writes of a table, and what a table keeps when a request of its own
 -- changes.
-use Rattle.std.proofs.Common.{◌≡◌, ◌<◌, ◌≤◌, ℕ, ◌+◌, ◌-◌, Bool, true, false, ◌&&◌, ◌==◌, cond, not}
-use Rattle.std.proofs.Common.{List, length, map, set, Some, None, option_map, slice_get, get_or}
-use Rattle.std.proofs.Common.{inl, inr, refl, sym, ap, subst, ◌∙◌, arith, length-set}
-use Rattle.std.proofs.Common.{get_or-set_same}
+use Rattle.std.proofs.Common.{◌≡◌, ◌<◌, ◌≤◌, ℕ, ◌+◌, ◌-◌, Bool, true, false, ◌==◌, cond, not, List}
+use Rattle.std.proofs.Common.{length, map, set, Some, None, option_map, slice_get, get_or, inl, inr}
+use Rattle.std.proofs.Common.{refl, sym, ap, subst, ◌∙◌, arith, length-set, get_or-set_same}
 use Rattle.std.specs.List.{position_or_len}
-use Rattle.std.proofs.lemmas.Bool.{eqb-true, eq-eqb}
+use Rattle.std.proofs.lemmas.Bool.{eqb-true, eq-eqb, false_from_ne_true, cond-false, cond-true}
 use Rattle.std.proofs.lemmas.Option.{same_Some, slice_get-get_or, slice_get-map}
 use Rattle.std.proofs.lemmas.List.{map-set, length-map}
 use Rattle.std.proofs.lemmas.List.Sums.{prefix_len-le-length}
@@ -20,9 +19,8 @@ use Rattle.dealer_desk.specs.declared.standing.StandingRequest.{StandingRequest}
 use Rattle.dealer_desk.specs.declared.standing.StandingQuote.{StandingQuote}
 use Rattle.dealer_desk.specs.declared.standing.QuoteEnd.{QuoteEnd}
 use Rattle.dealer_desk.specs.declared.table.RequestRow.{RequestRow}
-use Rattle.dealer_desk.proofs.ListLemmas.{set_at, set_map, within_from, ruled_out, before_place}
+use Rattle.dealer_desk.proofs.ListLemmas.{set_at, set_map, within_from, before_place}
 use Rattle.dealer_desk.proofs.SoundLemmas.{sound_requests}
-use Rattle.dealer_desk.proofs.QuoteChanges.{left_false}
 use Rattle.dealer_desk.proofs.TableLemmas.{ended_quotes, ended_table, late_quotes, late_table}
 use Rattle.dealer_desk.proofs.TableLemmas.{requests_kept}
 
@@ -102,9 +100,6 @@ row_kept rows quotes lines exposure first number own row other table lives is ro
     let r = is_read rows quotes lines exposure first number own table lives is in
     requests_kept rows (own.quote.request - 1) row other (read_at rows (own.quote.request - 1) row r.row_within row_is) same
 
-dead_end : (b c : Bool) → b ≡ false → (b && c) ≡ false
-dead_end b c e = left_false b c e
-
 -- none before the first droppable place begins to be droppable where one quote ends
 pub none_before : (quotes : List StandingQuote) (place first : ℕ) (after : StandingQuote) → place < length quotes → first ≡ position_or_len is_droppable quotes → is_droppable after ≡ false
     → (k : ℕ) (y : StandingQuote) → k < first → slice_get (set quotes place after) k ≡ Some y → is_droppable y ≡ false
@@ -150,14 +145,6 @@ find_lifted_quotes rows quotes lines exposure first number own table lives is =
 row_same : (quotes : List StandingQuote) (number : ℕ) (row other : RequestRow) → other.live ≡ row.live → other.has_lifted ≡ row.has_lifted → IsRow quotes number row → IsRow quotes number other
 row_same quotes number row other live lifted is = record { live_is = live ∙ is.live_is; lifted_is = lifted ∙ is.lifted_is }
 
-chosen_request : (b : Bool) (x y : StandingRequest) → b ≡ false → cond b x y ≡ y
-chosen_request true x y e = cc
-chosen_request false x y e = refl
-
-first_request : (b : Bool) (x y : StandingRequest) → b ≡ true → cond b x y ≡ x
-first_request true x y e = refl
-first_request false x y e = cc
-
 -- the requests after a change g of the one with a number
 pub requests_changed : (rows : List RequestRow) (quotes : List StandingQuote) (number : ℕ) (row : RequestRow) (after : StandingRequest) (g : StandingRequest → StandingRequest)
     → IsSound (map (λ (r : RequestRow). r.request) rows) quotes → 1 ≤ number → number ≤ length rows → row ≡ get_or rows (number - 1) row
@@ -173,7 +160,7 @@ requests_changed rows quotes number row after g sound first last is here others 
     let same : number ≡ row.request.number = omega arith in
     map-set (λ (r : RequestRow). r.request) rows (number - 1) (record row { request = after })
     ∙ ap (set requests (number - 1)) (sym (here row.request same refl))
-    ∙ set_map g requests (number - 1) row.request request_stands (λ k y at other. others y (ruled_out (number == y.number) (λ so.
+    ∙ set_map g requests (number - 1) row.request request_stands (λ k y at other. others y (false_from_ne_true (number == y.number) (λ so.
     let equal : number ≡ y.number = eqb-true number y.number so in
     let there : y.number ≡ k + 1 = sound.requests_numbered k y at in
     let e : k ≡ number - 1 = omega arith in other e)))
@@ -215,13 +202,13 @@ pub declined_requests : (rows : List RequestRow) (quotes : List StandingQuote) (
     → map (λ (r : RequestRow). r.request) (set rows (number - 1) (record row { request = record row.request { is_declined = true } })) ≡ map (declined_at number) (map (λ (r : RequestRow). r.request) rows)
 declined_requests rows quotes number row sound first last is =
     requests_changed rows quotes number row (record row.request { is_declined = true }) (declined_at number) sound first last is
-    (λ request same here. first_request (number == request.number) (record request { is_declined = true }) request (eq-eqb number request.number same) ∙ ap (λ (r : StandingRequest). record r { is_declined = true }) here)
-    (λ request other. chosen_request (number == request.number) (record request { is_declined = true }) request other)
+    (λ request same here. cond-true (number == request.number) (record request { is_declined = true }) request (eq-eqb number request.number same) ∙ ap (λ (r : StandingRequest). record r { is_declined = true }) here)
+    (λ request other. cond-false (number == request.number) (record request { is_declined = true }) request other)
 
 pub told_requests : (rows : List RequestRow) (quotes : List StandingQuote) (number : ℕ) (row : RequestRow)
     → IsSound (map (λ (r : RequestRow). r.request) rows) quotes → 1 ≤ number → number ≤ length rows → row ≡ get_or rows (number - 1) row
     → map (λ (r : RequestRow). r.request) (set rows (number - 1) (record row { request = record row.request { is_told = true } })) ≡ map (told_at number) (map (λ (r : RequestRow). r.request) rows)
 told_requests rows quotes number row sound first last is =
     requests_changed rows quotes number row (record row.request { is_told = true }) (told_at number) sound first last is
-    (λ request same here. first_request (number == request.number) (record request { is_told = true }) request (eq-eqb number request.number same) ∙ ap (λ (r : StandingRequest). record r { is_told = true }) here)
-    (λ request other. chosen_request (number == request.number) (record request { is_told = true }) request other)
+    (λ request same here. cond-true (number == request.number) (record request { is_told = true }) request (eq-eqb number request.number same) ∙ ap (λ (r : StandingRequest). record r { is_told = true }) here)
+    (λ request other. cond-false (number == request.number) (record request { is_told = true }) request other)

@@ -30,7 +30,7 @@ use Rattle.dealer_desk.specs.DealerRules.{decline_checks, decline_answer, declin
 use Rattle.dealer_desk.specs.DealerRules.{message_verdict, arrival_verdict, dealer_verdict}
 use Rattle.dealer_desk.specs.DealerOutput.{word_asked}
 use Rattle.dealer_desk.specs.BookChanges.{IsLiveNumber}
-use Rattle.dealer_desk.specs.RuleCuts.{IsLawful, IsLawfulNote, note_of}
+use Rattle.dealer_desk.specs.RuleCuts.{IsLawfulNote, note_of}
 use Rattle.dealer_desk.specs.declared.standing.StandingRequest.{StandingRequest}
 use Rattle.dealer_desk.specs.declared.standing.StandingQuote.{StandingQuote}
 use Rattle.dealer_desk.specs.declared.standing.QuoteEnd.{QuoteEnd}
@@ -42,6 +42,7 @@ use Rattle.dealer_desk.proofs.TableClosing.{live_stands}
 use Rattle.dealer_desk.proofs.StandLemmas.{Stands, StandsIn, Fits, fits_book}
 
 -- a number of a request that was shown
+
 abbrev pub IsShown : DealerBook → ℕ → Type 0
 IsShown book number = (1 ≤ number) × (number ≤ length book.requests)
 
@@ -186,12 +187,6 @@ unfolding dealer_verdict
 verdict_holds date row book moment bytes stands = arrival_holds row book moment (dealer_arrival date row (expected_number book) bytes) stands
 
 -- So it is lawful, and what is noted of it.
-
-pub lawful : (row : DealerRow) (book : DealerBook) (given : DealerVerdict) → Holds row book given → IsLawful book given
-lawful row book (verdict.QuoteAccepted request id quote replaced) holds = fits_book row book quote replaced holds
-lawful row book (verdict.CancelAccepted id quote request) holds = holds.0
-lawful row book (verdict.DeclineAccepted request number) holds = holds
-lawful row book other holds = tt
 
 pub lawful_note : (row : DealerRow) (book : DealerBook) (given : DealerVerdict) (settlement : Option Settled) → StandsIn row book → Holds row book given → IsLawfulNote book (note_of given settlement)
 lawful_note row book (verdict.QuoteAccepted request id quote None) settlement stands holds = fits_book row book quote None holds

@@ -14,10 +14,11 @@ use Rattle.dealer_desk.specs.DealerFacts.{DealerFact, Quoted, Withdrawn, Told, D
 use Rattle.dealer_desk.specs.DealerFacts.{number_to_drop, quote_to_drop, is_withdrawal}
 use Rattle.dealer_desk.specs.BookChanges.{IsSound, IsLiveNumber, book_after, ended_at, closed_on}
 use Rattle.dealer_desk.specs.DealerRules.{dealer_verdict}
-use Rattle.dealer_desk.specs.DealerOutput.{DeskState, DeskEvents, no_facts, after_event, desk_after}
-use Rattle.dealer_desk.specs.DealerOutput.{facts_at, book_at, event_facts, verdict_facts}
-use Rattle.dealer_desk.specs.DealerOutput.{settled_facts, answer_facts, uses_number, closable}
-use Rattle.dealer_desk.specs.DealerOutput.{settled_word, settled_words}
+use Rattle.dealer_desk.specs.DealerDesk.{DeskEvents, facts_at, book_at}
+use Rattle.dealer_desk.specs.DealerOutput.{DeskState, no_facts, after_event, desk_after}
+use Rattle.dealer_desk.specs.DealerOutput.{event_facts, verdict_facts, settled_facts, answer_facts}
+use Rattle.dealer_desk.specs.DealerOutput.{uses_number, closable}
+use Rattle.dealer_desk.specs.SettledWords.{settled_word, settled_words}
 use Rattle.dealer_desk.specs.DeskLaws.{says_lifted, says_withdrawn}
 use Rattle.dealer_desk.specs.declared.accepted.AcceptedQuote.{AcceptedQuote}
 use Rattle.dealer_desk.specs.declared.standing.StandingQuote.{StandingQuote}

@@ -12,8 +12,8 @@ use Rattle.dealer_desk.specs.DealerFacts.{DealerBook, book_of, number_to_drop, f
 use Rattle.dealer_desk.specs.DeskLaws.{withdraws, says_lifted, says_withdrawn}
 use Rattle.dealer_desk.specs.DealerRules.{dealer_verdict}
 use Rattle.dealer_desk.specs.DealerOutput.{desk_after, event_facts, verdict_facts, settled_facts}
-use Rattle.dealer_desk.specs.DealerOutput.{uses_number, closable, settled_word, settled_words}
-use Rattle.dealer_desk.specs.DealerOutput.{asked_word, asked_by, word_asked}
+use Rattle.dealer_desk.specs.DealerOutput.{uses_number, closable, word_asked}
+use Rattle.dealer_desk.specs.SettledWords.{settled_word, settled_words, asked_word, asked_by}
 use Rattle.dealer_desk.specs.declared.standing.Withdrawal.{Withdrawal}
 use Rattle.dealer_desk.specs.declared.standing.Withdrawal.TheVariants as by
 use Rattle.dealer_desk.specs.declared.events.DealerEvent.{DealerEvent}

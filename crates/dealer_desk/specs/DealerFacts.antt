@@ -2,8 +2,7 @@
 -- shown, its quotes and what became of them, and its exposure. Facts are only ever added. They bear
 -- the dealer's own numbers and no room.
 use Rattle.std.specs.Prelude.{ℕ, ◌+◌, Bool, true, false, ◌&&◌, ◌==◌, not, nat_le, List, [], ◌∷◌}
-use Rattle.std.specs.Prelude.{length, filter, find, count_by, Option, Some, None, is_none}
-use Rattle.std.specs.Prelude.{if◌then◌else◌}
+use Rattle.std.specs.Prelude.{length, find, count_by, Option, Some, None, is_none, if◌then◌else◌}
 use Rattle.std.specs.List.{list_any, sum_by}
 use Rattle.std.specs.Option.{option_map, option_or}
 use Rattle.venue_rows.specs.Texts.{same_text}
@@ -18,6 +17,7 @@ use Rattle.dealer_desk.specs.declared.standing.QuoteEnd.{QuoteEnd}
 use Rattle.dealer_desk.specs.declared.standing.QuoteEnd.TheVariants as end
 
 -- What became so at a desk. Quotes and requests stand in it by the dealer's own numbers, from 1.
+
 pub data DealerFact : Type 0 where
   -- at this moment these bytes came, and used up the expected number or not
   Came : ℕ → List ℕ → Bool → DealerFact
@@ -171,10 +171,6 @@ is_live own = is_none own.end
 -- whether a quote is live and answers this request
 abbrev pub is_live_on : ℕ → StandingQuote → Bool
 is_live_on request own = is_live own && (own.quote.request == request)
-
--- the live quotes, the first one first
-abbrev pub live_quotes : DealerBook → List StandingQuote
-live_quotes book = filter is_live book.quotes
 
 -- the dealer's live quote on a request
 unfoldable pub live_quote_on : DealerBook → ℕ → Option StandingQuote

@@ -206,33 +206,6 @@ desk_after date row events = fold (after_event date row) no_facts events
 abbrev pub dealer_output : List ℕ → DealerRow → List DealerEvent → List (List ℕ)
 dealer_output date row events = (desk_after date row events).sent
 
--- The words that were asked, each with its settlement: they stand in the facts.
-
--- the word that a fact says was asked, with its settlement
-abbrev pub settled_word : DealerFact → Option (ℕ × Settled)
-settled_word (Withdrawn quote how) = Some (quote, settled.Withdrawn)
-settled_word (Late quote) = Some (quote, settled.Lifted)
-settled_word fact = None
-
--- the words that were asked, by the own numbers of their quotes, with their settlements
-abbrev pub settled_words : List DealerFact → List (ℕ × Settled)
-settled_words facts = filter_map settled_word facts
-
--- a word that is asked, with its settlement, where both are there
-abbrev pub asked_word : Option ℕ → Option Settled → List (ℕ × Settled)
-asked_word (Some quote) (Some settlement) = (quote, settlement) ∷ []
-asked_word (Some quote) None = []
-asked_word None settlement = []
-
--- the word that an event asks, with its settlement
-abbrev pub asked_by : List ℕ → DealerRow → DealerBook → DealerEvent → List (ℕ × Settled)
-asked_by date row book (event.Received moment bytes settlement) =
-    asked_word (word_asked (dealer_verdict date row book moment bytes)) settlement
-asked_by date row book (event.Shown room ask moment) = []
-asked_by date row book (event.Told request close moment) = []
-asked_by date row book (event.Drop last moment settlement) =
-    asked_word (number_to_drop book last) settlement
-
 -- Rooms. They stand beside the facts, and nothing that is sent can read them.
 
 -- the room of a request that an event shows
@@ -298,48 +271,3 @@ unpost_dropped rooms moment settlement (Some own) =
 abbrev pub further_drop : DealerBook → ℕ → ℕ → Option Duty
 further_drop book last moment =
     if is_some (quote_to_drop book last) then Some (duty.Drop last moment) else None
-
--- What a contract sees of a dealer's desk.
-pub record DeskEvents : Type 0 where
-  pub date : List ℕ
-  pub row : DealerRow
-  pub events : List DealerEvent
-
--- a desk to which one more event came, and nothing else changed
-abbrev pub with_event : DeskEvents → DealerEvent → DeskEvents
-with_event desk event = record desk { events = desk.events ++ event ∷ [] }
-
--- the facts that stand at a desk
-abbrev pub facts_at : DeskEvents → List DealerFact
-facts_at desk = (desk_after desk.date desk.row desk.events).facts
-
--- its book
-abbrev pub book_at : DeskEvents → DealerBook
-book_at desk = book_of (facts_at desk)
-
--- the rooms of the requests that were shown at a desk
-abbrev pub rooms_at : DeskEvents → List RoomRef
-rooms_at desk = rooms_of desk.events
-
--- the verdict on bytes that come to a desk
-abbrev pub verdict_at : DeskEvents → ℕ → List ℕ → DealerVerdict
-verdict_at desk moment bytes = dealer_verdict desk.date desk.row (book_at desk) moment bytes
-
--- whether a notice of a request may be sent from a desk
-abbrev pub may_close : DeskEvents → ℕ → Bool
-may_close desk request = is_some (closable (book_at desk) request)
-
--- a desk to which a notice came: it stays as it was where no notice is due
-abbrev pub with_notice : DeskEvents → ℕ → Close → ℕ → DeskEvents
-with_notice desk request close moment =
-    if may_close desk request then with_event desk (event.Told request close moment) else desk
-
--- the same by that number, where the room was shown
-abbrev pub may_close_in : DeskEvents → Option ℕ → Bool
-may_close_in desk None = false
-may_close_in desk (Some request) = may_close desk request
-
--- a desk to which a notice of that request came, where the room was shown
-abbrev pub with_notice_in : DeskEvents → Option ℕ → Close → ℕ → DeskEvents
-with_notice_in desk None close moment = desk
-with_notice_in desk (Some request) close moment = with_notice desk request close moment

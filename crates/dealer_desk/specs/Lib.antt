@@ -1,4 +1,5 @@
 pub mod BookChanges
+pub mod DealerDesk
 pub mod DealerFacts
 pub mod DealerOutput
 pub mod DealerRules
@@ -6,3 +7,4 @@ pub mod DealerTable
 pub mod DeskLaws
 pub mod QuoteLines
 pub mod RuleCuts
+pub mod SettledWords

@@ -34,6 +34,7 @@ use Rattle.dealer_desk.specs.declared.verdicts.DealerVerdict.{DealerVerdict}
 use Rattle.dealer_desk.specs.declared.verdicts.DealerVerdict.TheVariants as verdict
 
 -- whether a request takes quotes of this dealer at all
+
 abbrev pub standing_checks : DealerBook → StandingRequest → List (Bool × QuoteRejectReason)
 standing_checks book shown =
     (shown.is_declined, Other)
@@ -114,14 +115,6 @@ note_facts (note.Replaced replaced quote) = Withdrawn replaced by.Replacement �
 note_facts (note.Cancelled quote) = Withdrawn quote by.Cancel ∷ []
 note_facts (note.Late quote) = Late quote ∷ []
 note_facts (note.Declined request) = Declined request ∷ []
-
--- what holds of a verdict on a sound book
-abbrev pub IsLawful : DealerBook → DealerVerdict → Type 0
-IsLawful book (verdict.QuoteAccepted request id quote replaced) = FitsBook book quote replaced
-IsLawful book (verdict.CancelAccepted id quote request) = IsLiveNumber book.quotes quote
-IsLawful book (verdict.DeclineAccepted request number) =
-    (1 ≤ number) × (number ≤ requests_shown book)
-IsLawful book other = Unit {0}
 
 -- and so of what is noted of it
 abbrev pub IsLawfulNote : DealerBook → Note → Type 0

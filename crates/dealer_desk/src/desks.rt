@@ -1,13 +1,12 @@
 //! The desk of one dealer.
-ghost use Rattle.std.specs.Prelude.{◌≡◌, ◌+◌, ◌≤◌, [], is_some, IfOk, IfSome, IsTrue};
-ghost use Rattle.std.specs.Prelude.{OnOk, OnErr};
+ghost use Rattle.std.specs.Prelude.{◌≡◌, ◌+◌, ◌≤◌, [], is_some, IfOk, IfSome, IsTrue, OnOk, OnErr};
 ghost use Rattle.fix_fields.specs.Frame.{frame_of};
-ghost use Rattle.dealer_desk.specs.DealerFacts.{requests_shown, exposure_of};
-ghost use Rattle.dealer_desk.specs.DealerFacts.{number_to_drop, quote_to_drop};
+ghost use Rattle.dealer_desk.specs.DealerFacts.{requests_shown, exposure_of, number_to_drop};
+ghost use Rattle.dealer_desk.specs.DealerFacts.{quote_to_drop};
 ghost use Rattle.dealer_desk.specs.DealerOutput as spec;
-ghost use Rattle.dealer_desk.specs.DealerOutput.{dealer_output, book_at, rooms_at, with_event};
-ghost use Rattle.dealer_desk.specs.DealerOutput.{with_notice, with_notice_in, number_in, may_close};
-ghost use Rattle.dealer_desk.specs.DealerOutput.{may_close_in, verdict_at, word_asked};
+ghost use Rattle.dealer_desk.specs.DealerDesk.{book_at, rooms_at, with_event, with_notice};
+ghost use Rattle.dealer_desk.specs.DealerDesk.{with_notice_in, may_close, may_close_in, verdict_at};
+ghost use Rattle.dealer_desk.specs.DealerOutput.{dealer_output, number_in, word_asked};
 ghost use Rattle.dealer_desk.specs.DealerOutput.{verdict_duty};
 ghost use Rattle.dealer_desk.specs.QuoteLines.{lines_of};
 
@@ -40,7 +39,7 @@ pub struct DealerDesk {
 }
 
 impl Model for DealerDesk {
-    ghost use Rattle.dealer_desk.specs.DealerOutput.{DeskEvents};
+    ghost use Rattle.dealer_desk.specs.DealerDesk.{DeskEvents};
     ghost use Rattle.dealer_desk.specs.RuleCuts.{IsDesk};
 
     ghost Value = { DeskEvents };

@@ -9,10 +9,10 @@ ghost use Rattle.dealer_desk.specs.DealerFacts.{DealerBook, DealerFact, book_of,
 ghost use Rattle.dealer_desk.specs.DealerFacts.{finds_lifted, is_live_on, is_withdrawal};
 ghost use Rattle.dealer_desk.specs.DealerFacts.{number_to_drop, quote_to_drop, quotes_accepted};
 ghost use Rattle.dealer_desk.specs.DealerRules.{dealer_verdict};
-ghost use Rattle.dealer_desk.specs.DealerOutput.{DeskEvents, desk_after, event_facts};
-ghost use Rattle.dealer_desk.specs.DealerOutput.{settled_words, asked_by, word_asked, facts_at};
-ghost use Rattle.dealer_desk.specs.DealerOutput.{book_at, rooms_at, verdict_at, room_of};
+ghost use Rattle.dealer_desk.specs.DealerDesk.{DeskEvents, facts_at, book_at, rooms_at, verdict_at};
+ghost use Rattle.dealer_desk.specs.DealerOutput.{desk_after, event_facts, word_asked, room_of};
 ghost use Rattle.dealer_desk.specs.DealerOutput.{verdict_duty, unpost_dropped};
+ghost use Rattle.dealer_desk.specs.SettledWords.{settled_words, asked_by};
 ghost use Rattle.dealer_desk.specs.DeskLaws.{IsOfDay, request_meant, says_lifted, says_withdrawn};
 ghost use Rattle.dealer_desk.specs.DeskLaws.{withdraws};
 ghost use Rattle.std.specs.List.{list_any};

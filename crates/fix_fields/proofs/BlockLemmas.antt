@@ -5,7 +5,7 @@ use Rattle.std.proofs.lemmas.Bool.{cases_lt}
 use Rattle.std.proofs.lemmas.List.Sums.{position_or_len_is}
 use Rattle.std.proofs.lemmas.Simd.{run_in_chunk_fails, run_in_chunk_stops}
 use Rattle.std.specs.Simd.Lanes.{chunk}
-use Rattle.fix_fields.proofs.FieldLemmas.{place_of}
+use Rattle.fix_fields.proofs.PlaceLemmas.{place_of}
 
 -- it stands neither in front of a block nor in front of its first place there
 pub none_in_block : (c : ℕ) (xs : List ℕ) (i r : ℕ) → i + 16 ≤ length xs

@@ -4,7 +4,7 @@ use Rattle.std.proofs.Common.{subst, refl, arith, inl, inr, zero, suc, append_as
 use Rattle.std.proofs.Common.{Result, Ok, Err}
 use Rattle.std.specs.Prelude.{fold}
 use Rattle.std.specs.List.{AllByRecursion, concat}
-use Rattle.std.proofs.lemmas.List.{append-nil}
+use Rattle.std.proofs.lemmas.List.{append-nil, nil_from_length}
 use Rattle.std.proofs.lemmas.List.Sums.{fold-append}
 use Rattle.fix_fields.specs.declared.fault.StreamFault.{StreamFault}
 use Rattle.fix_fields.specs.Frame.{Field, IsFrame, fields_text}
@@ -14,9 +14,9 @@ use Rattle.fix_fields.specs.Envelope.{with_byte, cut_behind, uncut, envelopes_of
 use Rattle.fix_fields.specs.Envelope.{envelopes_of_pieces}
 use Rattle.fix_fields.specs.Scan.{cutting, cut_on}
 use Rattle.fix_fields.specs.Envelope.Front.{Begun, Whole, Faulty}
-use Rattle.fix_fields.proofs.FrontLemmas.{HasWhole, cases_Front, front_fault, front_whole}
-use Rattle.fix_fields.proofs.FrontLemmas.{front_more_faulty, front_more_whole, has_fault, has_whole}
-use Rattle.fix_fields.proofs.FrontLemmas.{envelope_len}
+use Rattle.fix_fields.proofs.FrontFacts.{HasWhole, cases_Front, has_fault, has_whole}
+use Rattle.fix_fields.proofs.FrontLemmas.{front_fault, front_whole, front_more_faulty}
+use Rattle.fix_fields.proofs.FrontLemmas.{front_more_whole, envelope_len}
 
 one_more : (rest : List ℕ) (byte : ℕ) (bytes : List ℕ) → rest ++ (byte ∷ bytes) ≡ (rest ++ (byte ∷ [])) ++ bytes
 one_more rest byte bytes = sym (append_assoc rest (byte ∷ []) bytes)
@@ -66,10 +66,6 @@ cut_faulty (byte ∷ bytes) rest messages fault begun is =
       ]
     ]
 
-none_left : (bytes : List ℕ) → length bytes ≡ 0 → bytes ≡ []
-none_left [] none = refl
-none_left (byte ∷ bytes) none = absurd (omega arith)
-
 -- bytes that end a message
 pub cut_whole : (bytes rest : List ℕ) (messages : List (List ℕ)) (n : ℕ) → front_of rest ≡ Begun
     → front_of (rest ++ bytes) ≡ Whole n → n ≡ length (rest ++ bytes)
@@ -91,7 +87,7 @@ cut_whole (byte ∷ bytes) rest messages n begun is long =
             let has = has_whole now whole.0 whole.1 in
             let none : length bytes ≡ 0 =
             omega (arith, ap length split, length-append now bytes, ap length has.text, length-append has.message has.behind, has.long) in
-            let last : bytes ≡ [] = none_left bytes none in
+            let last : bytes ≡ [] = nil_from_length bytes none in
             let own_text : now ≡ rest ++ (byte ∷ bytes) = ap (λ t. rest ++ (byte ∷ t)) (sym last) in
             ap (λ v. fold with_byte (taken messages now v) bytes) whole.1
             ∙ (ap (λ t. fold with_byte (cutting (messages ++ (now ∷ [])) (Ok [])) t) last
@@ -203,7 +199,7 @@ some_message bytes n has =
 
 cut_somehow : (fuel : ℕ) (stream : List ℕ) → length stream ≤ fuel → (cut : Cutting) × IsCutting stream cut
 cut_somehow zero stream few =
-    cut_of_begun stream (ap front_of (none_left stream (omega arith)) ∙ front_none)
+    cut_of_begun stream (ap front_of (nil_from_length stream (omega arith)) ∙ front_none)
 cut_somehow (suc fuel) stream few =
     elim (cases_Front (front_of stream)) [
       | inl begun ↦ cut_of_begun stream begun

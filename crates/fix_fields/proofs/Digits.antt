@@ -1,6 +1,7 @@
 -- Numbers in decimal, as they stand at the front of a text.
 use Rattle.std.proofs.Common.{◌≡◌, ℕ, ◌+◌, ◌-◌, ◌*◌, ◌<◌, ◌≤◌, true, false, List, [], ◌∷◌, ◌++◌}
-use Rattle.std.proofs.Common.{length, take, get_or, sym, refl, arith, inl, inr, zero, suc, add-one}
+use Rattle.std.proofs.Common.{length, take, get_or, sym, refl, ap₂, arith, inl, inr, zero, suc}
+use Rattle.std.proofs.Common.{add-one}
 use Rattle.std.specs.Char.{is_ascii_digit, digit_value}
 use Rattle.std.specs.List.{prefix_len}
 use Rattle.std.specs.Str.{all_ascii_digits}
@@ -16,6 +17,10 @@ use Rattle.std.proofs.lemmas.List.{get_or-take, length-take, length-take-le}
 use Rattle.std.proofs.lemmas.List.Sums.{prefix_len_is}
 use Rattle.std.proofs.Math.Nat.{add_comm}
 use Rattle.std.proofs.lemmas.Str.{digit_value_digit}
+
+-- two texts are one where their first bytes are, and what stands behind these
+pub cons_same : {x y : ℕ} {xs ys : List ℕ} → x ≡ y → xs ≡ ys → x ∷ xs ≡ y ∷ ys
+cons_same first behind = ap₂ (λ x xs. x ∷ xs) first behind
 
 pub plain : IsNumeralModel (AllDigits 10) (digits_value 10)
 plain = numerals_by_value (AllDigits 10) tells_digits

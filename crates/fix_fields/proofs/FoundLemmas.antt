@@ -1,8 +1,7 @@
 -- What is found at the front of bytes, from what the code sees of them.
 use Rattle.std.proofs.Common.{◌≡◌, ◌≢◌, ℕ, ◌+◌, ◌-◌, ◌<◌, ◌≤◌, ◌==◌, ◌⊎◌, Bool, true, false, eqb}
 use Rattle.std.proofs.Common.{List, [], ◌∷◌, ◌++◌, length, take, drop, get_or, sym, ap, ◌∙◌, subst}
-use Rattle.std.proofs.Common.{refl, arith, inl, inr, zero, suc, add-one, append_assoc}
-use Rattle.std.proofs.Common.{length-append}
+use Rattle.std.proofs.Common.{refl, arith, inl, inr, add-one, append_assoc, length-append}
 use Rattle.std.specs.Prelude.{nat_lt}
 use Rattle.std.specs.Char.{is_ascii_digit}
 use Rattle.std.specs.List.{prefix_len}
@@ -11,9 +10,10 @@ use Rattle.std.proofs.lemmas.Bool.{cases_Bool, cases_lt, false≢true, eqb-true}
 use Rattle.std.proofs.lemmas.Bool.Decides.{nat_tests}
 use Rattle.std.specs.Cmp.Lexicographic.{pointwise}
 use Rattle.std.proofs.lemmas.List.{append-nil, take_rest, take-append-drop, length-take}
-use Rattle.std.proofs.lemmas.List.{length-take-le, length-drop}
-use Rattle.std.proofs.lemmas.List.Sums.{prefix_len-le-length}
-use Rattle.std.proofs.Math.Seq.{take-append_seam, drop-append-add, drop-cons}
+use Rattle.std.proofs.lemmas.List.{length-take-le, length-drop, nil_from_length, take_all}
+use Rattle.std.proofs.lemmas.List.{get_or-take}
+use Rattle.std.proofs.lemmas.List.Sums.{prefix_len-le-length, prefix_len_stops}
+use Rattle.std.proofs.Math.Seq.{drop-append-add, drop-cons}
 use Rattle.fix_fields.specs.declared.limits.TheConstants.{MOST_FRAME}
 use Rattle.fix_fields.specs.declared.fault.StreamFault.TheVariants.{Start, Length, TooLong, End}
 use Rattle.fix_fields.specs.Frame.{IsLength, start_text, front_text}
@@ -23,8 +23,8 @@ use Rattle.fix_fields.specs.Envelope.{front_behind_length}
 use Rattle.fix_fields.specs.Envelope.Front.{Begun, Whole, Faulty}
 use Rattle.fix_fields.proofs.Digits.{counted_digits}
 use Rattle.fix_fields.proofs.CutLemmas.{begins_of}
+use Rattle.fix_fields.proofs.FrontFacts.{begun_short}
 use Rattle.fix_fields.proofs.FrontLemmas.{front_digits, front_measured, front_fault, front_whole}
-use Rattle.fix_fields.proofs.FrontLemmas.{begun_short}
 
 -- BeginString and the tag of BodyLength
 
@@ -42,15 +42,11 @@ departs (first ∷ wanted) (byte ∷ bytes) longer shorter =
       | inr other ↦ rw other refl
     ]
 
-none_left : (bytes : List ℕ) → length bytes ≡ 0 → bytes ≡ []
-none_left [] none = refl
-none_left (byte ∷ bytes) none = absurd (omega arith)
-
 pub found_departs : (bytes : List ℕ) → 13 ≤ length bytes → ((more : List ℕ) → ¬ (bytes ≡ start_text ++ more)) → front_of bytes ≡ Faulty Start
 unfolding front_of
 found_departs bytes long none =
     departs start_text bytes none (λ more is.
-    (let nothing : more ≡ [] = none_left more (omega (arith, ap length is, length-append bytes more)) in
+    (let nothing : more ≡ [] = nil_from_length more (omega (arith, ap length is, length-append bytes more)) in
     none [] (sym (is ∙ (ap (λ t. bytes ++ t) nothing ∙ append-nil bytes)))))
 
 pub found_departs_early : (bytes : List ℕ) → length bytes < 13 → ((more : List ℕ) → ¬ (start_text ≡ bytes ++ more)) → front_of bytes ≡ Faulty Start
@@ -80,16 +76,11 @@ found_in_start bytes more short is =
 -- a count stops at a byte that does not pass, unless it is full or at the end
 stops : (most : ℕ) (text : List ℕ) (n : ℕ) → n ≡ prefix_len is_ascii_digit (take most text) → n < most → n < length text
     → is_ascii_digit (get_or text n 0) ≡ false
-stops zero text n is less inside = absurd (omega arith)
-stops (suc most) [] n is less inside = absurd (omega arith)
-stops (suc most) (c ∷ text) n is less inside =
-    elim (cases_Bool (is_ascii_digit c)) [
-      | inl digit ↦
-          (let m = prefix_len is_ascii_digit (take most text) in
-          let next : n ≡ suc m = is ∙ rw digit (omega arith) in
-          rw next (stops most text m refl (omega arith) (omega arith)))
-      | inr other ↦ (let none : n ≡ 0 = is ∙ rw other refl in rw none other)
-    ]
+stops most text n is less inside =
+    let before : prefix_len is_ascii_digit (take most text) < length (take most text) = omega (arith, length-take most text) in
+    let stop = prefix_len_stops is_ascii_digit (take most text) 0 before in
+    let here : get_or (take most text) n 0 ≡ get_or text n 0 = get_or-take most text n 0 less in
+    ap is_ascii_digit (sym here ∙ ap (λ k. get_or (take most text) k 0) is) ∙ stop
 
 -- the digits that were counted
 pub record AreCounted (bytes rest : List ℕ) (n : ℕ) : Type 0 where
@@ -126,13 +117,10 @@ in_length_none : (digits : List ℕ) → front_in_length digits [] ≡ Begun
 unfolding front_in_length
 in_length_none digits = refl
 
-take_whole : (rest : List ℕ) (n : ℕ) → n ≡ length rest → take n rest ≡ rest
-take_whole rest n all = (let t = take-append_seam rest [] in rw all (ap (λ x. take (length rest) x) (sym (append-nil rest)) ∙ t))
-
 -- digits alone
 pub found_digits : (bytes rest : List ℕ) (n : ℕ) → AreCounted bytes rest n → n ≡ length rest → WaitsFor 0 bytes
 found_digits bytes rest n are all =
-    let whole = take_whole rest n all in
+    let whole = take_all n rest (omega arith) in
     let digits : AllDigits 10 rest = subst (λ t. AllDigits 10 t) whole are.all_digits in
     let few = are.few in
     waits_for_none bytes (ap front_of (are.text ∙ ap (λ t. start_text ++ t) (sym (append-nil rest)))
@@ -250,9 +238,6 @@ seven_at bytes digits behind tail n v is enough tail_is =
           ∙ (ap (λ t. take v behind ++ t) (take-append-drop 7 (drop v behind)) ∙ take-append-drop v behind));
     }
 
-own_length : (digits body : List ℕ) (v : ℕ) → IsLength digits v → length body ≡ v → IsLength digits (length body)
-own_length digits body v is same = subst (λ k. IsLength digits k) (sym same) is
-
 text_of_seven : (bytes digits behind tail : List ℕ) (n v : ℕ) → IsHead bytes digits behind n v → HasSeven digits behind tail v
     → bytes ≡ front_text digits (take v behind) ++ (tail ++ drop 7 (drop v behind))
 text_of_seven bytes digits behind tail n v is has =
@@ -270,7 +255,7 @@ found_no_end bytes digits behind tail n v is fits enough tail_is none =
       body = take v behind;
       tail = tail;
       behind = drop 7 (drop v behind);
-      length_is = own_length digits (take v behind) v is.length_is has.body_len;
+      length_is = subst (λ k. IsLength digits k) (sym has.body_len) is.length_is;
       fits = omega arith;
       seven = has.seven;
       text = text_of_seven bytes digits behind tail n v is has;
@@ -294,7 +279,7 @@ found_whole bytes digits behind tail sum_digits n v is fits enough tail_is end =
       length_digits = digits;
       body = body;
       sum_digits = sum_digits;
-      length_is = own_length digits body v is.length_is body_len;
+      length_is = subst (λ k. IsLength digits k) (sym body_len) is.length_is;
       sum_is = end.lawful;
       text = ap (λ t. front_text digits body ++ t) end.is;
       fits = omega arith;

@@ -11,8 +11,8 @@ use Rattle.std.proofs.lemmas.List.Sums.{prefix_len-le-length, prefix_len_passes}
 use Rattle.fix_fields.specs.Frame.{Field, IsField, fields_text, pieces_of, fields_of}
 use Rattle.fix_fields.specs.Scan.{BeginsWithField, IsFieldsText}
 use Rattle.fix_fields.proofs.Digits.{small}
-use Rattle.fix_fields.proofs.FieldLemmas.{place_of, tag_len, HasParts, IsFieldAt, parts_of}
-use Rattle.fix_fields.proofs.FieldLemmas.{field_at}
+use Rattle.fix_fields.proofs.FieldLemmas.{tag_len, HasParts, IsFieldAt, parts_of, field_at}
+use Rattle.fix_fields.proofs.PlaceLemmas.{place_of}
 
 -- the parts of the field
 pub lawful_parts : (text : List ℕ) → BeginsWithField text → HasParts text (tag_len text) (place_of 1 (drop (tag_len text + 1) text))

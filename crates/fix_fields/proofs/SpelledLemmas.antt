@@ -14,7 +14,8 @@ use Rattle.std.proofs.lemmas.Fmt.{first_decimal, decimal_nonempty, length-decima
 use Rattle.std.proofs.Math.Seq.{get_or-append_seam, take-append_seam, drop-cons}
 use Rattle.fix_fields.specs.Frame.{IsTag, IsValue, Spells, field_text, field_len}
 use Rattle.fix_fields.proofs.Digits.{plain, count_of, counted_digits}
-use Rattle.fix_fields.proofs.FieldLemmas.{IsFree, tag_len, positive}
+use Rattle.fix_fields.proofs.FieldLemmas.{tag_len, positive}
+use Rattle.fix_fields.proofs.PlaceLemmas.{IsFree}
 use Rattle.fix_fields.proofs.WriterLemmas.{length-decimal}
 
 -- what such a text fixes

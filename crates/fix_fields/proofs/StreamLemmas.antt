@@ -13,8 +13,8 @@ use Rattle.fix_fields.specs.declared.fault.StreamFault.{StreamFault}
 use Rattle.fix_fields.specs.Scan.{cutting, cut_on, rest_of, WaitsFor, IsWhole, IsKept}
 use Rattle.fix_fields.specs.Envelope.{front_of, with_byte, cut_behind}
 use Rattle.fix_fields.specs.Envelope.Front.{Begun, Whole, Faulty}
-use Rattle.fix_fields.proofs.FrontLemmas.{front_more_whole, front_more_faulty, has_whole}
-use Rattle.fix_fields.proofs.FrontLemmas.{front_whole, begun_short}
+use Rattle.fix_fields.proofs.FrontFacts.{has_whole, begun_short}
+use Rattle.fix_fields.proofs.FrontLemmas.{front_more_whole, front_more_faulty, front_whole}
 use Rattle.fix_fields.proofs.CuttingLemmas.{cut_begun, cut_faulty, cut_whole, front_none}
 use Rattle.fix_fields.proofs.CuttingLemmas.{some_message}
 

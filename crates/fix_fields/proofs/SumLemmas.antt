@@ -35,7 +35,7 @@ folded a (x ∷ xs) small =
     let rest = folded ((a + x) % 256) xs (omega arith) in omega (arith, rest, one x xs)
 
 -- and of bytes, 16 at a time
-split_at : (xs : List ℕ) (i : ℕ) → take (i + 16) xs ≡ take i xs ++ take 16 (drop i xs)
+pub split_at : (xs : List ℕ) (i : ℕ) → take (i + 16) xs ≡ take i xs ++ take 16 (drop i xs)
 split_at xs i =
     sym (take-append-drop i (take (i + 16) xs))
     ∙ ap (λ t. t ++ drop i (take (i + 16) xs)) (take-take i (i + 16) xs (omega arith))

@@ -18,9 +18,10 @@ use Rattle.fix_fields.specs.Frame.{frame_text, decimal_len, field_len, fields_le
 use Rattle.fix_fields.specs.Frame.{fields_of}
 use Rattle.fix_fields.specs.Scan.{IsBodyText, text_around}
 use Rattle.fix_fields.proofs.Digits.{plain}
-use Rattle.fix_fields.proofs.FieldLemmas.{fields_of-text, AreBody-lawful}
+use Rattle.fix_fields.proofs.FieldsText.{fields_of-text, AreBody-lawful}
 
 -- a number from 10 ^ k on has more than k digits
+
 longer : (k n : ℕ) → n < 2 ^ 64 → 10 ^ k ≤ n → k < length (decimal n)
 longer k n small large =
     elim (cases_lt k (length (decimal n))) [
@@ -51,9 +52,6 @@ length-decimal n small =
     (λ h12. one_digit_more n 12 _ small h12 (λ h13. one_digit_more n 13 _ small h13 (λ h14. one_digit_more n 14 _ small h14
     (λ h15. one_digit_more n 15 _ small h15 (λ h16. one_digit_more n 16 _ small h16 (λ h17. one_digit_more n 17 _ small h17
     (λ h18. one_digit_more n 18 _ small h18 (λ h19. omega (arith, length-decimal-le 20 n (lit< tt) (omega arith) small))))))))))))))))))))
-
-pub decimal_len-le : (n : ℕ) → n < 2 ^ 64 → decimal_len n ≤ 20
-decimal_len-le n small = rw (← length-decimal n small) (length-decimal-le 20 n (lit< tt) (omega arith) small)
 
 pub length-field_text : (tag : ℕ) (value : List ℕ) → tag < 2 ^ 64 → length (field_text (tag, value)) ≡ field_len tag (length value)
 length-field_text tag value small =

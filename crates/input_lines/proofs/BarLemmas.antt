@@ -1,18 +1,20 @@
 -- Bars in the place of SOH: in words without one, and put into bytes one by one and 16 at a time.
-use Rattle.std.proofs.Common.{◌≡◌, ℕ, ◌+◌, ◌-◌, ◌<◌, ◌≤◌, true, Bool, List, [], ◌∷◌}
-use Rattle.std.proofs.Common.{◌++◌, length, take, drop, map, get_or, set, sym, ap, ◌∙◌, refl, arith}
-use Rattle.std.proofs.Common.{drop-drop, cond, eqb, replicate}
+use Rattle.std.proofs.Common.{◌≡◌, ℕ, ◌+◌, ◌-◌, ◌<◌, ◌≤◌, true, Bool, List, [], ◌∷◌, ◌++◌, length}
+use Rattle.std.proofs.Common.{take, drop, map, get_or, set, sym, ap, ◌∙◌, refl, arith, drop-drop}
+use Rattle.std.proofs.Common.{cond, eqb, replicate}
 use Rattle.std.proofs.lemmas.List.{take_more_set, drop-set-lt, take_all, map_more, get_or-drop}
-use Rattle.std.proofs.lemmas.List.{take-append-drop, take-take, drop-take, length-take-le, length-map, map-append}
+use Rattle.std.proofs.lemmas.List.{take-append-drop, length-take-le, length-map, map-append}
 use Rattle.std.proofs.lemmas.List.{append-nil, drop_all, length-drop, take_rest}
 use Rattle.std.proofs.lemmas.Slice.{drop-append-drop}
-use Rattle.std.proofs.lemmas.Simd.{take_more_put_chunk, put_chunk_is, length-chunk, zip2_splat, splat_is_map}
+use Rattle.std.proofs.lemmas.Simd.{take_more_put_chunk, put_chunk_is, length-chunk, zip2_splat}
+use Rattle.std.proofs.lemmas.Simd.{splat_is_map}
 use Rattle.std.proofs.Math.Seq.{drop-append-add}
 use borrow.Rule.Slice.PartMut.{put_mid}
 use Rattle.std.specs.Simd.Lanes.{chunk, put_chunk, sel_l, zip2}
 use Rattle.input_lines.specs.BarLaws.{barred_value}
 use Rattle.input_lines.specs.SayLine.{is_plain_value, with_bar}
 use Rattle.input_lines.proofs.TagLemmas.{value_is_plain}
+use Rattle.fix_fields.proofs.SumLemmas.{split_at}
 
 pub barred_plain : (part : List ℕ) → is_plain_value part ≡ true → map with_bar part ≡ part
 barred_plain part plain = barred_value part (value_is_plain part plain)
@@ -45,13 +47,6 @@ barred_all was now i end long barred =
 
 pub barred_none : (was : List ℕ) → IsBarred was 0 was
 barred_none was = record { front = refl; behind = refl }
-
--- the same of a block of 16 bytes
-split_at : (xs : List ℕ) (i : ℕ) → take (i + 16) xs ≡ take i xs ++ take 16 (drop i xs)
-split_at xs i =
-    sym (take-append-drop i (take (i + 16) xs))
-    ∙ ap (λ t. t ++ drop i (take (i + 16) xs)) (take-take i (i + 16) xs (omega arith))
-    ∙ ap (λ t. take i xs ++ t) (drop-take i 16 xs)
 
 behind_block : (xs ys : List ℕ) (i : ℕ) → length ys ≡ 16 → i + 16 ≤ length xs → drop (i + 16) (put_chunk i xs ys) ≡ drop 16 (drop i xs)
 behind_block xs ys i long fit =

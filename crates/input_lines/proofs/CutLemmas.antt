@@ -1,7 +1,7 @@
 -- Cutting a text at the first place of a byte, and the parts that this gives.
 use Rattle.std.proofs.Common.{◌≡◌, ℕ, ◌+◌, ◌-◌, ◌≤◌, ◌==◌, Bool, cond, nat_lt, true, false, List}
-use Rattle.std.proofs.Common.{[], ◌∷◌, length, take, drop, get_or, sym, ap, ◌∙◌, refl, arith}
-use Rattle.std.proofs.Common.{inl, inr, Some, None}
+use Rattle.std.proofs.Common.{[], ◌∷◌, length, take, drop, get_or, sym, ap, ◌∙◌, refl, arith, inl}
+use Rattle.std.proofs.Common.{inr, Some, None}
 use Rattle.std.proofs.lemmas.Bool.Decides.{nat_tests}
 use Rattle.std.specs.List.{before_first, after_first, onto_first, position, position_or_len}
 use Rattle.std.proofs.lemmas.Bool.{cases_Bool, false_from_ne_true}
@@ -71,10 +71,6 @@ pub parts_of-cut : (byte : ℕ) (text front behind : List ℕ) → (length text 
     → behind ≡ after_first (λ (d : ℕ). d == byte) text → parts_of byte text ≡ front ∷ parts_of byte behind
 parts_of-cut byte [] front behind some e f = absurd (grind (arith, nat_tests))
 parts_of-cut byte (c ∷ text) front behind some e f = rw (e, f) (parts_cut byte c text)
-
-pub parts_of-empty : (byte : ℕ) (text : List ℕ) → (length text == 0) ≡ true → parts_of byte text ≡ []
-parts_of-empty byte [] none = refl
-parts_of-empty byte (c ∷ text) none = absurd (grind (arith, nat_tests))
 
 length-onto : (c : ℕ) (parts : List (List ℕ)) → length (onto_first c parts) ≤ length parts + 1
 length-onto c [] = omega arith

@@ -1,6 +1,7 @@
 -- The parts of an input, and texts that are no UTF-8.
-use Rattle.std.proofs.Common.{◌≡◌, ℕ, ◌+◌, ◌-◌, ◌<◌, ◌≤◌, ◌==◌, Bool, true, false, List, [], ◌∷◌, ◌++◌, length, take, drop, suc}
-use Rattle.std.proofs.Common.{Ok, Err, refl, sym, ap, ◌∙◌, arith, inl, inr, append_assoc, add-one}
+use Rattle.std.proofs.Common.{◌≡◌, ℕ, ◌+◌, ◌-◌, ◌<◌, ◌≤◌, ◌==◌, Bool, true, false, List, [], ◌∷◌}
+use Rattle.std.proofs.Common.{◌++◌, length, take, drop, suc, Ok, Err, refl, sym, ap, ◌∙◌, arith}
+use Rattle.std.proofs.Common.{inl, inr, append_assoc, add-one}
 use Rattle.std.proofs.Math.Nat.{add_comm}
 use Rattle.std.specs.List.{list_any, before_first, after_first, position_or_len}
 use Rattle.std.specs.Str.{IsUtf8, is_utf8}
@@ -15,7 +16,7 @@ use Rattle.input_lines.specs.Lines.{lines_of, parts_of}
 use Rattle.input_lines.specs.PartReading.{StandsApart}
 use Rattle.input_lines.specs.VenueParts.{is_divider, text_of_lines, divided}
 use Rattle.input_lines.specs.declared.faults.ProgramFault.TheVariants.{Parts}
-use Rattle.input_lines.proofs.CutLemmas.{parts_of-cut, parts_of-empty}
+use Rattle.input_lines.proofs.CutLemmas.{parts_of-cut}
 
 -- Texts.
 
@@ -31,22 +32,22 @@ is_no_text bytes other =
 
 -- The first element of a list that passes a test.
 
-stop_here : {X : Type 0} (p : X → Bool) (x : X) (xs : List X) → p x ≡ true → position_or_len p (x ∷ xs) ≡ 0
+pub stop_here : {X : Type 0} (p : X → Bool) (x : X) (xs : List X) → p x ≡ true → position_or_len p (x ∷ xs) ≡ 0
 stop_here p x xs here = rw here refl
 
-skip_one : {X : Type 0} (p : X → Bool) (x : X) (xs : List X) → p x ≡ false → position_or_len p (x ∷ xs) ≡ suc (position_or_len p xs)
+pub skip_one : {X : Type 0} (p : X → Bool) (x : X) (xs : List X) → p x ≡ false → position_or_len p (x ∷ xs) ≡ suc (position_or_len p xs)
 skip_one p x xs other = rw other (add_comm 1 (position_or_len p xs) ∙ add-one (position_or_len p xs))
 
-before_here : {X : Type 0} (p : X → Bool) (x : X) (xs : List X) → p x ≡ true → before_first p (x ∷ xs) ≡ []
+pub before_here : {X : Type 0} (p : X → Bool) (x : X) (xs : List X) → p x ≡ true → before_first p (x ∷ xs) ≡ []
 before_here p x xs here = ap (λ n. take n (x ∷ xs)) (stop_here p x xs here)
 
-after_here : {X : Type 0} (p : X → Bool) (x : X) (xs : List X) → p x ≡ true → after_first p (x ∷ xs) ≡ xs
+pub after_here : {X : Type 0} (p : X → Bool) (x : X) (xs : List X) → p x ≡ true → after_first p (x ∷ xs) ≡ xs
 after_here p x xs here = ap (λ n. drop (n + 1) (x ∷ xs)) (stop_here p x xs here)
 
-before_skip : {X : Type 0} (p : X → Bool) (x : X) (xs : List X) → p x ≡ false → before_first p (x ∷ xs) ≡ x ∷ before_first p xs
+pub before_skip : {X : Type 0} (p : X → Bool) (x : X) (xs : List X) → p x ≡ false → before_first p (x ∷ xs) ≡ x ∷ before_first p xs
 before_skip p x xs other = ap (λ n. take n (x ∷ xs)) (skip_one p x xs other)
 
-after_skip : {X : Type 0} (p : X → Bool) (x : X) (xs : List X) → p x ≡ false → after_first p (x ∷ xs) ≡ after_first p xs
+pub after_skip : {X : Type 0} (p : X → Bool) (x : X) (xs : List X) → p x ≡ false → after_first p (x ∷ xs) ≡ after_first p xs
 after_skip p x xs other =
     let n = position_or_len p xs in
     let place : position_or_len p (x ∷ xs) + 1 ≡ suc (n + 1) = ap (λ m. m + 1) (skip_one p x xs other) ∙ omega arith in
@@ -114,17 +115,6 @@ pub record Reached (text : List ℕ) (count : ℕ) (rest : List ℕ) : Type 0 wh
   pub text_is : (length rest == 0) ≡ false → text ≡ text_of_lines done ++ rest
   pub fits : count + length rest ≤ length text
 
-pub reached_first : (text : List ℕ) → Reached text 0 text
-reached_first text = record {
-  done = [];
-  lines = refl;
-  none = refl;
-  count_is = refl;
-  closed = λ tail. refl;
-  text_is = λ some. refl;
-  fits = omega arith;
-}
-
 module _ (text : List ℕ) (count : ℕ) (rest line behind : List ℕ) (at : Reached text count rest) (some : (length rest == 0) ≡ false)
     (front : line ≡ before_first (λ (c : ℕ). c == 10) rest) (back : behind ≡ after_first (λ (c : ℕ). c == 10) rest) (shorter : length behind < length rest) where
   lines_then : lines_of text ≡ at.done ++ line ∷ lines_of behind
@@ -171,10 +161,6 @@ module _ (text : List ℕ) (count : ℕ) (rest line behind : List ℕ) (at : Rea
         behind_fits = omega (arith, at.fits, shorter);
         before_fits = omega (arith, ap length before, long);
       }
-
-pub reached_end : (text : List ℕ) (count : ℕ) (rest : List ℕ) → Reached text count rest → (length rest == 0) ≡ true → list_any is_divider (lines_of text) ≡ false
-reached_end text count rest at none =
-    ap (list_any is_divider) (at.lines ∙ ap (λ lines. at.done ++ lines) (parts_of-empty 10 rest none) ∙ append-nil at.done) ∙ at.none
 
 -- The same of parts.
 

@@ -8,39 +8,20 @@ use Rattle.std.specs.Option.{option_map}
 use Rattle.step_replay.specs.declared.dues.Due.{Due}
 use Rattle.input_lines.specs.declared.faults.ProgramFault.{ProgramFault}
 use Rattle.input_lines.specs.SayLine.{fitting, with_field, SayLine, header_field, said_message}
-use Rattle.input_lines.specs.OptionSteps as option
-use Rattle.input_lines.specs.ResultSteps as result
 use Rattle.std.proofs.lemmas.List.{length-append, append-nil}
 use Rattle.std.proofs.lemmas.Bool.{cases_Bool}
 use Rattle.std.proofs.lemmas.Bool.Decides.{nat_tests}
 
 -- fields that were read, before others that are
+
 abbrev pub behind_fields : List Field → Option (List Field) → Option (List Field)
 behind_fields done None = None
 behind_fields done (Some rest) = Some (done ++ rest)
-
-pub behind_fields-more : (done : List Field) (field : Field) (rest : Option (List Field))
-    → behind_fields done (option.◌>>=◌ rest (λ fields. Some (field ∷ fields))) ≡ behind_fields (done ++ field ∷ []) rest
-behind_fields-more done field None = refl
-behind_fields-more done field (Some rest) = ap Some (sym (append_assoc done (field ∷ []) rest))
 
 -- items that were read, before others that are
 abbrev pub behind_dues : List Due → Result (List Due) ProgramFault → Result (List Due) ProgramFault
 behind_dues done (Err fault) = Err fault
 behind_dues done (Ok rest) = Ok (done ++ rest)
-
-pub behind_dues-more : (done : List Due) (due : Due) (rest : Result (List Due) ProgramFault)
-    → behind_dues done (result.◌>>=◌ rest (λ dues. Ok (due ∷ dues))) ≡ behind_dues (done ++ due ∷ []) rest
-behind_dues-more done due (Err fault) = refl
-behind_dues-more done due (Ok rest) = ap Ok (sym (append_assoc done (due ∷ []) rest))
-
-pub behind_dues-none : (rest : Result (List Due) ProgramFault) → behind_dues [] rest ≡ rest
-behind_dues-none (Err fault) = refl
-behind_dues-none (Ok rest) = refl
-
-pub behind_fields-none : (rest : Option (List Field)) → behind_fields [] rest ≡ rest
-behind_fields-none None = refl
-behind_fields-none (Some rest) = refl
 
 -- the length of fields
 length-field : (field : Field) → length (field_text field) ≡ length (decimal field.0) + length field.1 + 2

@@ -3,18 +3,15 @@ use Rattle.std.proofs.Common.{◌≡◌, ◌≢◌, ℕ, ◌<◌, ◌≤◌, ◌
 use Rattle.std.proofs.Common.{arith, inl, inr, Some, None, [], ◌∷◌, map}
 use Rattle.std.specs.List.{list_all}
 use Rattle.std.specs.Char.{is_ascii_digit}
-use Rattle.std.specs.Str.Parse.{AllDigits, digits_value}
+use Rattle.std.specs.Str.Parse.{digits_value}
 use Rattle.std.proofs.lemmas.Bool.{and_parts, cases_Bool}
 use Rattle.std.proofs.lemmas.Bool.Decides.{nat_tests}
-use Rattle.std.proofs.lemmas.Str.Parse.{IsNumeralModel, numerals_by_value, tells_digits}
 use Rattle.std.proofs.lemmas.Str.Parse.{digits_value_short}
 use Rattle.fix_fields.specs.Frame.{IsValue}
 use Rattle.fix_fields.specs.TextLaws.{digits_if_all, value_if_all}
 use Rattle.quote_messages.specs.Texts.{number_up_to}
 use Rattle.input_lines.specs.SayLine.{is_plain_value, is_plain_character, is_plain_part, with_bar}
-
-pub plain : IsNumeralModel (AllDigits 10) (digits_value 10)
-plain = numerals_by_value (AllDigits 10) tells_digits
+use Rattle.fix_fields.proofs.Digits.{plain}
 
 -- a number of at most nine digits
 pub number_is_small : (text : List ℕ) (n : ℕ) → Some n ≡ number_up_to 9 text → n < 1000000000

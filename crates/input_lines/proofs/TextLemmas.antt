@@ -23,7 +23,7 @@ use Rattle.input_lines.specs.SayLine.{is_no_body_tag, is_plain_value, said_field
 use Rattle.input_lines.specs.SayReading.{is_header_tag, with_text}
 use Rattle.input_lines.proofs.MadeLemmas.{text_put}
 use Rattle.input_lines.proofs.SpellLemmas.{fitting-short, push_fits}
-use Rattle.input_lines.proofs.TagLemmas.{plain}
+use Rattle.fix_fields.proofs.Digits.{plain}
 
 -- The tag.
 

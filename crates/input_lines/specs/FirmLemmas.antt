@@ -1,60 +1,25 @@
 -- The numbers of firms and the rooms of investors, by the values of a configuration.
-use Rattle.std.proofs.Common.{◌≡◌, ℕ, ◌+◌, Bool, true, false, List, [], ◌∷◌, ◌++◌, length, map}
-use Rattle.std.proofs.Common.{cond, Option, Some, None, option_map, refl, sym, ap, ◌∙◌, arith}
-use Rattle.std.proofs.Common.{position}
-use Rattle.std.proofs.Common.{◌-◌, ◌<◌, nat_le, nat_lt, inl, inr}
+use Rattle.std.proofs.Common.{◌≡◌, ℕ, ◌+◌, Bool, true, List, [], ◌∷◌, ◌++◌, length, map, Option}
+use Rattle.std.proofs.Common.{Some, None, option_map, refl, sym, ap, ◌∙◌, arith, position, ◌-◌, ◌<◌}
+use Rattle.std.proofs.Common.{nat_le, nat_lt, inl, inr}
 use Rattle.std.specs.List.{position_from}
 use Rattle.std.proofs.lemmas.Bool.{cases_Bool}
 use Rattle.std.proofs.lemmas.Bool.Decides.{nat_tests}
-use Rattle.std.proofs.lemmas.List.{length-append}
+use Rattle.std.proofs.lemmas.List.{length-append, length-map}
 use Rattle.std.proofs.lemmas.Option.{slice_get-map}
 use Rattle.venue_rows.specs.Rows as rows
-use Rattle.venue_rows.specs.Rows.{Configuration, DealerValues, InvestorValues, values_of, dealer_values, investor_values}
-use Rattle.venue_rows.specs.Rows.{firm_names, firm_number, has_room, may_request}
+use Rattle.venue_rows.specs.Rows.{Configuration, DealerValues, InvestorValues, values_of}
+use Rattle.venue_rows.specs.Rows.{dealer_values, investor_values, firm_names, firm_number, has_room}
+use Rattle.venue_rows.specs.Rows.{may_request}
 use Rattle.venue_rows.specs.Texts.{same_text}
 use Rattle.venue_rows.specs.declared.dealer_rows.DealerRow.{DealerRow}
 use Rattle.venue_rows.specs.declared.investor_rows.InvestorRow.{InvestorRow}
 use Rattle.step_replay.specs.StepFaults.{firms_of}
 use Rattle.input_lines.specs.StepLines as by_values
 use Rattle.input_lines.specs.StepLines.{names_of_firms, firm_named, is_request_of, is_room}
-use Rattle.std.proofs.lemmas.List.{length-map}
 use Rattle.std.proofs.lemmas.Iterator.Adapters.{position_from-zero}
-
--- where a test passes in front, and where it passes nowhere there
-found_more : (test : Bool) (i k : ℕ) (rest all : Option ℕ) → cond test (Some i) rest ≡ Some k → (rest ≡ Some k → all ≡ Some k) → cond test (Some i) all ≡ Some k
-found_more true i k rest all e then = e
-found_more false i k rest all e then = then e
-
-pub found_in_front : {X : Type 0} (p : X → Bool) (i k : ℕ) (xs ys : List X) → position_from p i xs ≡ Some k → position_from p i (xs ++ ys) ≡ Some k
-found_in_front p i k [] ys e = cc
-found_in_front p i k (x ∷ xs) ys e =
-    found_more (p x) i k (position_from p (i + 1) xs) (position_from p (i + 1) (xs ++ ys)) e (found_in_front p (i + 1) k xs ys)
-
-none_more : (test : Bool) (i : ℕ) (rest all behind : Option ℕ) → cond test (Some i) rest ≡ None → (rest ≡ None → all ≡ behind) → cond test (Some i) all ≡ behind
-none_more true i rest all behind e then = cc
-none_more false i rest all behind e then = then e
-
-pub found_behind : {X : Type 0} (p : X → Bool) (i : ℕ) (xs ys : List X) → position_from p i xs ≡ None → position_from p i (xs ++ ys) ≡ position_from p (i + length xs) ys
-found_behind p i [] ys e = ap (λ n. position_from p n ys) (omega arith)
-found_behind p i (x ∷ xs) ys e =
-    none_more (p x) i (position_from p (i + 1) xs) (position_from p (i + 1) (xs ++ ys)) (position_from p (i + length (x ∷ xs)) ys) e
-    (λ none. found_behind p (i + 1) xs ys none ∙ ap (λ n. position_from p n ys) (omega arith))
-
--- a test of what a list is mapped to
-pub found_mapped : {X Y : Type 0} (p : Y → Bool) (f : X → Y) (i : ℕ) (xs : List X) → position_from p i (map f xs) ≡ position_from (λ x. p (f x)) i xs
-found_mapped p f i [] = refl
-found_mapped p f i (x ∷ xs) = ap (λ rest. cond (p (f x)) (Some i) rest) (found_mapped p f (i + 1) xs)
-
--- a list that begins at another number
-shifted : (test : Bool) (n i : ℕ) (there here : Option ℕ) → there ≡ option_map (λ k. n + k) here → cond test (Some (n + i)) there ≡ option_map (λ k. n + k) (cond test (Some i) here)
-shifted true n i there here e = refl
-shifted false n i there here e = e
-
-pub found_from : {X : Type 0} (p : X → Bool) (n i : ℕ) (xs : List X) → position_from p (n + i) xs ≡ option_map (λ k. n + k) (position_from p i xs)
-found_from p n i [] = refl
-found_from p n i (x ∷ xs) =
-    let more : position_from p (n + i + 1) xs ≡ position_from p (n + (i + 1)) xs = ap (λ m. position_from p m xs) (omega arith) in
-    shifted (p x) n i (position_from p (n + i + 1) xs) (position_from p (i + 1) xs) (more ∙ found_from p n (i + 1) xs)
+use Rattle.std.proofs.lemmas.Simd.{map-map}
+use Rattle.venue_rows.proofs.FirmLemmas.{found_in_front, found_behind, found_mapped, found_from}
 
 -- the first of two mapped lists that has it
 module _ {X Y : Type 0} (p : List ℕ → Bool) (f : X → List ℕ) (g : Y → List ℕ) (xs : List X) (ys : List Y) where
@@ -73,16 +38,12 @@ module _ {X Y : Type 0} (p : List ℕ → Bool) (f : X → List ℕ) (g : Y → 
 
 -- By the values of a configuration.
 
-mapped_twice : {X Y Z : Type 0} (g : Y → Z) (f : X → Y) (xs : List X) → map g (map f xs) ≡ map (λ x. g (f x)) xs
-mapped_twice g f [] = refl
-mapped_twice g f (x ∷ xs) = ap (λ rest. g (f x) ∷ rest) (mapped_twice g f xs)
-
 pub same_names : (config : Configuration) → names_of_firms (values_of config) ≡ firm_names config
 same_names config =
     ap (λ names. names ++ map (λ (row : InvestorValues). row.name) (map investor_values config.investors))
-    (mapped_twice (λ (row : DealerValues). row.name) dealer_values config.dealers)
+    (map-map (λ (row : DealerValues). row.name) dealer_values config.dealers)
     ∙ ap (λ names. map (λ (row : DealerRow). row.name) config.dealers ++ names)
-    (mapped_twice (λ (row : InvestorValues). row.name) investor_values config.investors)
+    (map-map (λ (row : InvestorValues). row.name) investor_values config.investors)
 
 pub same_firm : (config : Configuration) (name : List ℕ) → firm_named (values_of config) name ≡ firm_number config name
 same_firm config name = ap (position (λ own. same_text own name)) (same_names config)

@@ -1,7 +1,6 @@
 -- Lines of steps: what was read so far, and what is left.
-use Rattle.std.proofs.Common.{◌≡◌, ℕ, ◌+◌, true, List, [], ◌∷◌, ◌++◌, refl, ap, sym, ◌∙◌}
-use Rattle.std.proofs.Common.{None, Result, Ok, Err, append_assoc, replicate}
-use Rattle.std.proofs.Common.{zero, suc, nat_lt}
+use Rattle.std.proofs.Common.{◌≡◌, ℕ, ◌+◌, true, List, [], ◌∷◌, ◌++◌, refl, ap, sym, ◌∙◌, None}
+use Rattle.std.proofs.Common.{Result, Ok, Err, append_assoc, replicate, zero, suc, nat_lt}
 use Rattle.venue_rows.specs.Rows.{ConfigValues, Configuration, values_of}
 use Rattle.step_replay.specs.StepFaults.{first_fault, first_fault_from, firms_of}
 use Rattle.venue_places.specs.declared.actors.Actor.{Actor}
@@ -19,13 +18,10 @@ use Rattle.input_lines.specs.StepFaultLemmas.{none_then}
 use Rattle.input_lines.specs.RoomLemmas.{known_sweeps}
 
 -- steps that were read, before others that are
+
 abbrev pub behind_steps : List Step → Result (List Step) ProgramFault → Result (List Step) ProgramFault
 behind_steps done (Err fault) = Err fault
 behind_steps done (Ok rest) = Ok (done ++ rest)
-
-pub behind_steps-none : (rest : Result (List Step) ProgramFault) → behind_steps [] rest ≡ rest
-behind_steps-none (Err fault) = refl
-behind_steps-none (Ok rest) = refl
 
 pub behind_steps-more : (done more : List Step) (rest : Result (List Step) ProgramFault)
     → behind_steps done (rest >>= (λ steps. Ok (more ++ steps))) ≡ behind_steps (done ++ more) rest

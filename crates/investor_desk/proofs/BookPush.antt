@@ -6,6 +6,7 @@ use Rattle.std.specs.List.{list_any, count_by}
 use Rattle.std.specs.Option.{option_or}
 use Rattle.std.proofs.lemmas.List.Sums.{sum_by-append}
 use Rattle.std.proofs.lemmas.List.{append-nil, append_assoc}
+use Rattle.std.proofs.Math.Bool.{or-false}
 use Rattle.investor_desk.specs.InvestorFacts.{InvestorFact, Asked, Offered, InvestorBook}
 use Rattle.investor_desk.specs.InvestorFacts.{StandingRequest, book_of, standing_request}
 use Rattle.investor_desk.specs.InvestorFacts.{requests_of, offers_of, standing_on, first_said}
@@ -23,12 +24,8 @@ or_assoc : (a b c : Bool) → (a || (b || c)) ≡ ((a || b) || c)
 or_assoc true b c = refl
 or_assoc false b c = refl
 
-or_false : (b : Bool) → (b || false) ≡ b
-or_false true = refl
-or_false false = refl
-
 any_push : {A : Type 0} (p : A → Bool) (xs : List A) (x : A) → list_any p (xs ++ x ∷ []) ≡ (list_any p xs || p x)
-any_push p [] x = or_false (p x)
+any_push p [] x = or-false (p x)
 any_push p (y ∷ xs) x = ap (λ (b : Bool). p y || b) (any_push p xs x) ∙ or_assoc (p y) (list_any p xs) (p x)
 
 more_where : (b : Bool) (n : ℕ) → n + (0 + cond b 1 0) ≡ counted b n

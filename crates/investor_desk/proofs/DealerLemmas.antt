@@ -7,6 +7,7 @@ use Rattle.std.proofs.lemmas.Bool.Decides.{nat_tests}
 use Rattle.std.proofs.lemmas.List.{append_assoc}
 use Rattle.std.proofs.lemmas.List.Elements.{All-cons, All-nil}
 use Rattle.std.proofs.lemmas.List.Quantifiers.{position-Some}
+use Rattle.std.proofs.lemmas.Bool.{or_parts}
 use Rattle.venue_rows.specs.Texts.{same_text}
 use Rattle.market_terms.specs.Checks.{first_refusal}
 use Rattle.market_terms.specs.Dealers.{are_distinct, are_askable}
@@ -38,14 +39,10 @@ one_more : (found : Option ℕ) (numbers : List ℕ) (many : ℕ) → is_none fo
 one_more None numbers many known same = cc
 one_more (Some number) numbers many known same = ap suc same
 
-parts_false : (b c : Bool) → (b || c) ≡ false → (b ≡ false) × (c ≡ false)
-parts_false true c h = cc
-parts_false false c h = (refl, h)
-
 pub numbers_many : (market : InvestorMarket) (names : List (List ℕ)) → list_any (is_unknown_dealer market) names ≡ false → length (dealer_numbers market names) ≡ length names
 numbers_many market [] known = refl
 numbers_many market (name ∷ names) known =
-    let parts = parts_false (is_unknown_dealer market name) (list_any (is_unknown_dealer market) names) known in
+    let parts = or_parts (is_unknown_dealer market name) (list_any (is_unknown_dealer market) names) known in
     one_more (dealer_named market name) (dealer_numbers market names) (length names) parts.0 (numbers_many market names parts.1)
 
 -- The checks of the dealers that a request names: all give one reason.

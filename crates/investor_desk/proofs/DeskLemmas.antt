@@ -13,13 +13,13 @@ use Rattle.investor_desk.specs.InvestorFacts.{InvestorFact, Came, Offered, Gone,
 use Rattle.investor_desk.specs.InvestorFacts.{StandingRequest, book_of, is_open, request_numbered}
 use Rattle.investor_desk.specs.InvestorFacts.{while_open, offer_of_dealer, offer_with_word}
 use Rattle.investor_desk.specs.InvestorRules.{InvestorMarket, investor_verdict}
+use Rattle.investor_desk.specs.InvestorDesk.{DeskEvents, book_at, verdict_at}
 use Rattle.investor_desk.specs.InvestorOutput.{DeskState, no_facts, after_event, desk_after}
 use Rattle.investor_desk.specs.InvestorOutput.{event_facts, event_messages, verdict_facts}
 use Rattle.investor_desk.specs.InvestorOutput.{uses_number, gone_facts, next_offer, offer_facts}
 use Rattle.investor_desk.specs.InvestorOutput.{withdrawal_facts, close_by_answer, closed_facts}
 use Rattle.investor_desk.specs.InvestorOutput.{refusal_of, answer_facts, expiry_facts, sent_with}
-use Rattle.investor_desk.specs.InvestorOutput.{moment_of, investor_output, DeskEvents, book_at}
-use Rattle.investor_desk.specs.InvestorOutput.{verdict_at, verdict_duty}
+use Rattle.investor_desk.specs.InvestorOutput.{moment_of, investor_output, verdict_duty}
 use Rattle.investor_desk.specs.BookChanges.{IsAccepted, FitsOffer, book_after, counted, at_number}
 use Rattle.investor_desk.specs.BookChanges.{without_some}
 use Rattle.investor_desk.specs.DeskLaws.{IsOfDay}

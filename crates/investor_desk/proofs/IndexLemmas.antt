@@ -8,7 +8,7 @@ use Rattle.std.specs.Option.{option_or}
 use Rattle.std.specs.BTreeMap.{BTreeMap, get, is_at}
 use Rattle.std.specs.Cmp.Lexicographic.{slice_cmp}
 use Rattle.std.specs.Ordering.{nat_cmp}
-use Rattle.std.proofs.lemmas.Bool.{eqb-true, eq-eqb}
+use Rattle.std.proofs.lemmas.Bool.{eqb-true, eq-eqb, cond-true, cond-false, false_from_ne_true}
 use Rattle.std.proofs.lemmas.Option.{none-some, slice_get-get_or, slice_get-map}
 use Rattle.std.proofs.lemmas.List.{map-set, map-append, length-map, length-append}
 use Rattle.std.proofs.lemmas.List.Sums.{sum_by-append, sum_by-cons}
@@ -25,8 +25,7 @@ use Rattle.investor_desk.specs.declared.index.RequestRow.{RequestRow}
 use Rattle.investor_desk.specs.declared.standing.AcceptedRequest.{AcceptedRequest}
 use Rattle.investor_desk.specs.declared.standing.RequestClose.{RequestClose}
 use Rattle.investor_desk.specs.declared.standing.ShownOffer.{ShownOffer}
-use Rattle.investor_desk.proofs.ListLemmas.{ruled_out, set_map, find_mapped, mapped_at, pushed_at}
-use Rattle.investor_desk.proofs.ListLemmas.{set_same}
+use Rattle.investor_desk.proofs.ListLemmas.{set_map, find_mapped, mapped_at, pushed_at, set_same}
 use Rattle.investor_desk.proofs.StandLemmas.{without_keeps, offer_keeps}
 
 -- One request, by its number.
@@ -46,23 +45,15 @@ request_read rows number row accepted is =
     let within : number - 1 < length rows = omega arith in
     slice_get-map request_in rows (number - 1) ∙ ap (option_map request_in) (read_at rows (number - 1) row within is)
 
-chosen : (b : Bool) (x y : StandingRequest) → b ≡ true → cond b x y ≡ x
-chosen true x y e = refl
-chosen false x y e = cc
-
-passed : (b : Bool) (x y : StandingRequest) → b ≡ false → cond b x y ≡ y
-passed true x y e = cc
-passed false x y e = refl
-
 -- a write of the request with a number, changed
 pub set_number : (f : StandingRequest → StandingRequest) (requests : List StandingRequest) (number : ℕ) (own : StandingRequest) → Numbered requests → 1 ≤ number → slice_get requests (number - 1) ≡ Some own
     → set requests (number - 1) (f own) ≡ map (at_number number f) requests
 set_number f requests number own numbered first at =
     let here : own.request.number ≡ (number - 1) + 1 = numbered (number - 1) own at in
     let same : number ≡ own.request.number = omega arith in
-    ap (set requests (number - 1)) (sym (chosen (number == own.request.number) (f own) own (eq-eqb number own.request.number same)))
+    ap (set requests (number - 1)) (sym (cond-true (number == own.request.number) (f own) own (eq-eqb number own.request.number same)))
     ∙ set_map (at_number number f) requests (number - 1) own at (λ k other there apart.
-    passed (number == other.request.number) (f other) other (ruled_out (number == other.request.number) (λ so.
+    cond-false (number == other.request.number) (f other) other (false_from_ne_true (number == other.request.number) (λ so.
     let equal : number ≡ other.request.number = eqb-true number other.request.number so in
     let place : other.request.number ≡ k + 1 = numbered k other there in
     let e : k ≡ number - 1 = omega arith in

@@ -5,10 +5,10 @@ use Rattle.std.specs.Option.{option_to_list}
 use Rattle.std.proofs.lemmas.List.{length-append, append_assoc}
 use Rattle.investor_desk.specs.InvestorFacts.{InvestorBook, book_of}
 use Rattle.investor_desk.specs.InvestorRules.{InvestorMarket, investor_verdict}
+use Rattle.investor_desk.specs.InvestorDesk.{DeskEvents, book_at, verdict_at}
 use Rattle.investor_desk.specs.InvestorOutput.{DeskState, desk_after, event_facts, event_messages}
 use Rattle.investor_desk.specs.InvestorOutput.{sent_with, written_from, moment_of, investor_output}
-use Rattle.investor_desk.specs.InvestorOutput.{DeskEvents, book_at, verdict_at, verdict_message}
-use Rattle.investor_desk.specs.InvestorOutput.{own_facts}
+use Rattle.investor_desk.specs.InvestorOutput.{verdict_message, own_facts}
 use Rattle.investor_desk.specs.BookChanges.{book_after, book_with}
 use Rattle.investor_desk.specs.RuleCuts.{IsDesk, IsLawful, noted, received_outcome, messages_of}
 use Rattle.investor_desk.specs.RuleCuts.{next_written}

@@ -5,11 +5,6 @@ use Rattle.std.proofs.Common.{◌++◌, length, map, set, filter, find, Option, 
 use Rattle.std.proofs.Common.{slice_get, inl, inr, refl, sym, ap, ◌∙◌, arith}
 use Rattle.std.proofs.lemmas.Option.{none-some, same_Some}
 
--- a test that can't be true is false
-pub ruled_out : (b : Bool) → (b ≡ true → ⊥) → b ≡ false
-ruled_out true never = absurd (never refl)
-ruled_out false never = refl
-
 module _ {A : Type 0} where
   -- what stands at a place after one more was put behind the others
   pub pushed_at : (xs : List A) (y : A) (k : ℕ) (x : A) → slice_get (xs ++ y ∷ []) k ≡ Some x → (slice_get xs k ≡ Some x) ⊎ ((k ≡ length xs) × (y ≡ x))
@@ -45,12 +40,6 @@ module _ {A : Type 0} where
       let first : f z ≡ z = others zero z refl (λ e. cc) in
       let rest : set xs place (f x) ≡ map f xs = set_map f xs place x h (λ k y at ne. others (suc k) y at (λ e. let g : k ≡ place = cc in ne g)) in
       cc
-
-  -- an element stands at each place within
-  pub stands_within : (xs : List A) (k : ℕ) → k < length xs → (x : A) × (slice_get xs k ≡ Some x)
-  stands_within [] k within = absurd (omega arith)
-  stands_within (x ∷ xs) zero within = (x, refl)
-  stands_within (x ∷ xs) (suc k) within = let below : k < length xs = omega arith in stands_within xs k below
 
   -- a place at which an element stands is within
   pub within_from : (xs : List A) (k : ℕ) (x : A) → slice_get xs k ≡ Some x → k < length xs
@@ -135,14 +124,6 @@ mapped_at f (x ∷ xs) (suc k) y h = mapped_at f xs k y h
 pub same_map : {A B : Type 0} (f g : A → B) (xs : List A) → ((y : A) → f y ≡ g y) → map f xs ≡ map g xs
 same_map f g [] same = refl
 same_map f g (x ∷ xs) same = let rest : map f xs ≡ map g xs = same_map f g xs same in let first : f x ≡ g x = same x in cc
-
--- tests that agree
-pub same_filter : {A : Type 0} (p q : A → Bool) (xs : List A) → ((y : A) → p y ≡ q y) → filter p xs ≡ filter q xs
-same_filter p q [] same = refl
-same_filter p q (x ∷ xs) same =
-    let rest : filter p xs ≡ filter q xs = same_filter p q xs same in
-    let first : p x ≡ q x = same x in
-    rw (first, rest) refl
 
 -- a test that all pass
 pub filter_all : {A : Type 0} (xs : List A) → filter (λ (y : A). true) xs ≡ xs

@@ -5,7 +5,7 @@ use Rattle.std.proofs.Common.{inr, refl, sym, ap, subst, ◌∙◌, arith}
 use Rattle.std.specs.BTreeMap.{BTreeMap, get}
 use Rattle.std.specs.Cmp.Lexicographic.{slice_cmp}
 use Rattle.std.specs.Ordering.{nat_cmp}
-use Rattle.std.proofs.lemmas.Bool.{eqb-true, eq-eqb}
+use Rattle.std.proofs.lemmas.Bool.{eqb-true, eq-eqb, false_from_ne_true}
 use Rattle.std.proofs.lemmas.Option.{none-some, same_Some}
 use Rattle.std.proofs.lemmas.List.{length-map}
 use Rattle.std.proofs.lemmas.Slice.Eq.{bytes_eq-Decides}
@@ -20,8 +20,8 @@ use Rattle.investor_desk.specs.declared.index.RequestRow.{RequestRow}
 use Rattle.investor_desk.specs.declared.standing.ShownOffer.{ShownOffer}
 use Rattle.investor_desk.proofs.BookLemmas.{the_book}
 use Rattle.investor_desk.proofs.IndexLemmas.{read_at, request_read}
-use Rattle.investor_desk.proofs.ListLemmas.{ruled_out, find_unique, find_none, find_stands}
-use Rattle.investor_desk.proofs.ListLemmas.{fails_where_none, within_from}
+use Rattle.investor_desk.proofs.ListLemmas.{find_unique, find_none, find_stands, fails_where_none}
+use Rattle.investor_desk.proofs.ListLemmas.{within_from}
 
 -- the one with a number, among those that are numbered from 1
 number_found : {A : Type 0} (num : A → ℕ) (xs : List A) (number : ℕ) (x : A) → ((k : ℕ) (y : A) → slice_get xs k ≡ Some y → num y ≡ k + 1)
@@ -29,7 +29,7 @@ number_found : {A : Type 0} (num : A → ℕ) (xs : List A) (number : ℕ) (x : 
 number_found {A} num xs number x numbered least at =
     let place : (number - 1) + 1 ≡ number = omega arith in
     find_unique (λ y. num y == number) xs (number - 1) x at (eq-eqb (num x) number (numbered (number - 1) x at ∙ place))
-    (λ k y there other. ruled_out (num y == number) (λ so.
+    (λ k y there other. false_from_ne_true (num y == number) (λ so.
     let same : num y ≡ number = eqb-true (num y) number so in
     let there2 : num y ≡ k + 1 = numbered k y there in
     let e : k ≡ number - 1 = omega arith in other e))
@@ -37,7 +37,7 @@ number_found {A} num xs number x numbered least at =
 -- none has a number past them
 number_missing : {A : Type 0} (num : A → ℕ) (xs : List A) (number : ℕ) → ((k : ℕ) (y : A) → slice_get xs k ≡ Some y → num y ≡ k + 1)
     → (number < 1) ⊎ (length xs < number) → find (λ y. num y == number) xs ≡ None
-number_missing {A} num xs number numbered past = find_none (λ y. num y == number) xs (λ k y at. ruled_out (num y == number) (λ so.
+number_missing {A} num xs number numbered past = find_none (λ y. num y == number) xs (λ k y at. false_from_ne_true (num y == number) (λ so.
     let same : num y ≡ number = eqb-true (num y) number so in
     let here : num y ≡ k + 1 = numbered k y at in
     let within = within_from xs k y at in
@@ -123,7 +123,7 @@ pub named_missing : (used : ℕ) (requests : List StandingRequest) (offers : Lis
 unfolding offer_named
 named_missing used requests offers lines open_now by_id name index few never =
     find_none (λ (s : ShownOffer). same_text (quote_name s.number) name) offers (λ k y at.
-    ruled_out (same_text (quote_name y.number) name) (λ so.
+    false_from_ne_true (same_text (quote_name y.number) name) (λ so.
     let within : k < length offers = within_from offers k y at in
     let number : y.number ≡ k + 1 = index.offers_numbered k y at in
     let fits : y.number < 2 ^ 64 = omega arith in
@@ -136,7 +136,7 @@ pub named_is : (used : ℕ) (requests : List StandingRequest) (offers : List Sho
 unfolding offer_named offer_numbered
 named_is used requests offers lines open_now by_id name number index few known only None none =
     find_none (λ (s : ShownOffer). same_text (quote_name s.number) name) offers (λ k y at.
-    ruled_out (same_text (quote_name y.number) name) (λ so.
+    false_from_ne_true (same_text (quote_name y.number) name) (λ so.
     let within : k < length offers = within_from offers k y at in
     let number2 : y.number ≡ k + 1 = index.offers_numbered k y at in
     let fits : y.number < 2 ^ 64 = omega arith in
@@ -150,7 +150,7 @@ named_is used requests offers lines open_now by_id name number index few known o
     let here : shown.number ≡ stands.0 + 1 = index.offers_numbered stands.0 shown stands.1 in
     find_unique (λ (s : ShownOffer). same_text (quote_name s.number) name) offers stands.0 shown stands.1
     (ap (λ (n : ℕ). same_text (quote_name n) name) same ∙ known)
-    (λ k y there other. ruled_out (same_text (quote_name y.number) name) (λ so.
+    (λ k y there other. false_from_ne_true (same_text (quote_name y.number) name) (λ so.
     let within : k < length offers = within_from offers k y there in
     let number2 : y.number ≡ k + 1 = index.offers_numbered k y there in
     let fits : y.number < 2 ^ 64 = omega arith in

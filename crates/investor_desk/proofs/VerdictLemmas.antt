@@ -1,10 +1,11 @@
 -- What holds of every verdict on a book that stands: an accepted request fits, a hit and a pass
 -- mean a request that was accepted.
-use Rattle.std.proofs.Common.{◌≡◌, ◌<◌, ◌≤◌, ℕ, ◌+◌, Bool, true, false, ◌==◌, ◌&&◌, not, nat_le}
-use Rattle.std.proofs.Common.{nat_lt, cond, List, [], ◌∷◌, length, Option, Some, None, is_some}
-use Rattle.std.proofs.Common.{IfSome, All, refl, ap, ◌∙◌, arith}
+use Rattle.std.proofs.Common.{◌≡◌, ◌<◌, ◌≤◌, ℕ, ◌+◌, Bool, true, false, ◌==◌, ◌&&◌, nat_le, nat_lt}
+use Rattle.std.proofs.Common.{cond, List, [], ◌∷◌, length, Option, Some, None, is_some, IfSome, All}
+use Rattle.std.proofs.Common.{refl, ap, ◌∙◌, arith}
 use Rattle.std.specs.List.{count_by}
 use Rattle.std.proofs.lemmas.Bool.Decides.{nat_tests}
+use Rattle.std.proofs.lemmas.Bool.{not-false}
 use Rattle.venue_rows.specs.Texts.{same_text}
 use Rattle.venue_rows.specs.declared.bond_rows.BondRow.{BondRow}
 use Rattle.market_terms.specs.Checks.{first_refusal}
@@ -78,10 +79,6 @@ some_named n h = grind (arith, nat_tests)
 few_named : (m n : ℕ) → nat_lt m n ≡ false → nat_le n m ≡ true
 few_named m n h = grind (arith, nat_tests)
 
-is_so : (b : Bool) → not b ≡ false → b ≡ true
-is_so true h = refl
-is_so false h = cc
-
 all_three : (a b c : Bool) → a ≡ true → b ≡ true → c ≡ true → ((a && b) && c) ≡ true
 all_three a b c x y z = rw (x, y) z
 
@@ -106,7 +103,7 @@ request_fits market book moment request bond passed =
       },
       record {
         askable = askable_named (dealer_numbers market request.dealers) (length request.dealers) (numbers_many market request.dealers h.1.1.1.1.0) h.1.1.1.0 h.1.1.1.1.1.1.0
-            (is_so (are_distinct (dealer_numbers market request.dealers)) h.1.1.1.1.1.0);
+            (not-false (are_distinct (dealer_numbers market request.dealers)) h.1.1.1.1.1.0);
         within = numbers_within market request.dealers;
       },
     )

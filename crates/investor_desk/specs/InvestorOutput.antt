@@ -1,7 +1,7 @@
 -- What an investor is sent, as a function of the venue's configuration and of the events at its
 -- desk, and what its messages leave to be done in the rooms of its requests.
-use Rattle.std.specs.Prelude.{ℕ, ◌+◌, Bool, true, false, List, [], ◌∷◌, ◌++◌, map, length, Option}
-use Rattle.std.specs.Prelude.{Some, None, fold}
+use Rattle.std.specs.Prelude.{ℕ, ◌+◌, Bool, true, false, List, [], ◌∷◌, ◌++◌, length, Option, Some}
+use Rattle.std.specs.Prelude.{None, fold}
 use Rattle.std.specs.Option.{option_map, option_to_list}
 use Rattle.quote_messages.specs.Written.{written}
 use Rattle.market_terms.specs.declared.closes.HitRefusal.{HitRefusal}
@@ -12,8 +12,6 @@ use Rattle.market_terms.specs.declared.rooms.Offer.{Offer}
 use Rattle.market_terms.specs.declared.rooms.ResponseRef.{ResponseRef}
 use Rattle.market_terms.specs.declared.duties.Duty.{Duty}
 use Rattle.market_terms.specs.declared.duties.Duty.TheVariants as duty
-use Rattle.venue_rows.specs.Rows.{Configuration, investor_numbered}
-use Rattle.venue_rows.specs.declared.investor_rows.InvestorRow.{InvestorRow}
 use Rattle.quote_messages.specs.declared.out_messages.Head.{Head}
 use Rattle.quote_messages.specs.declared.out_messages.OutMessage.{OutMessage}
 use Rattle.quote_messages.specs.declared.out_messages.OutMessage.TheVariants as out
@@ -273,22 +271,6 @@ desk_after market events = fold (after_event market) no_facts events
 abbrev pub investor_output : InvestorMarket → List InvestorEvent → List (List ℕ)
 investor_output market events = (desk_after market events).sent
 
--- What the desk looks at of the configuration of a venue.
-
--- the market of an investor with this number and row
-abbrev pub market_of : Configuration → ℕ → InvestorRow → InvestorMarket
-market_of config firm row = record {
-  date = config.date;
-  bonds = config.bonds;
-  dealers = map (λ dealer. dealer.name) config.dealers;
-  firm = firm;
-  row = row;
-}
-
--- the market of the firm with this number, where it is an investor
-abbrev pub market_for : Configuration → ℕ → Option InvestorMarket
-market_for config firm = option_map (market_of config firm) (investor_numbered config firm)
-
 -- Duties.
 
 -- the room of a request
@@ -305,28 +287,3 @@ verdict_duty market moment (verdict.Hits request response word) =
 verdict_duty market moment (verdict.Passes request response) =
     Some (duty.Pass (room_of market request) response moment)
 verdict_duty market moment other = None
-
--- What a contract sees of an investor's desk.
-pub record DeskEvents : Type 0 where
-  pub market : InvestorMarket
-  pub events : List InvestorEvent
-
--- a desk at the start of the day
-abbrev pub no_events : InvestorMarket → DeskEvents
-no_events market = record { market = market; events = [] }
-
--- a desk to which one more event came, and nothing else changed
-abbrev pub with_event : DeskEvents → InvestorEvent → DeskEvents
-with_event desk event = record desk { events = desk.events ++ event ∷ [] }
-
--- the facts that stand at a desk
-abbrev pub facts_at : DeskEvents → List InvestorFact
-facts_at desk = (desk_after desk.market desk.events).facts
-
--- its book
-abbrev pub book_at : DeskEvents → InvestorBook
-book_at desk = book_of (facts_at desk)
-
--- the verdict on bytes that come to a desk
-abbrev pub verdict_at : DeskEvents → ℕ → List ℕ → InvestorVerdict
-verdict_at desk moment bytes = investor_verdict desk.market (book_at desk) moment bytes

@@ -1,5 +1,6 @@
 pub mod BookChanges
 pub mod DeskLaws
+pub mod InvestorDesk
 pub mod InvestorFacts
 pub mod InvestorOutput
 pub mod InvestorRules

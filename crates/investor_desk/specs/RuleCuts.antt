@@ -16,8 +16,8 @@ use Rattle.investor_desk.specs.InvestorFacts.{Asked, Offered, Gone, Closed, Inve
 use Rattle.investor_desk.specs.InvestorFacts.{request_with_id, requests_accepted, requests_open}
 use Rattle.investor_desk.specs.InvestorRules.{InvestorMarket, bond_with_id, is_unknown_dealer}
 use Rattle.investor_desk.specs.InvestorRules.{dealer_numbers}
-use Rattle.investor_desk.specs.InvestorOutput.{DeskEvents, desk_after, investor_output}
-use Rattle.investor_desk.specs.InvestorOutput.{written_from}
+use Rattle.investor_desk.specs.InvestorDesk.{DeskEvents}
+use Rattle.investor_desk.specs.InvestorOutput.{desk_after, investor_output, written_from}
 use Rattle.investor_desk.specs.BookChanges.{book_after, book_with, gone_of, IsAccepted, FitsBook}
 use Rattle.investor_desk.specs.BookChanges.{FitsOffer}
 use Rattle.investor_desk.specs.declared.events.InvestorEvent.{InvestorEvent}

@@ -1,14 +1,14 @@
 //! The desk of one investor.
-ghost use Rattle.std.specs.Prelude.{◌≡◌, ◌≤◌, ◌++◌, true, is_some, length, Some, IfOk, OnOk};
-ghost use Rattle.std.specs.Prelude.{OnErr, option_and_then};
+ghost use Rattle.std.specs.Prelude.{◌≡◌, ◌≤◌, ◌++◌, true, is_some, length, Some, IfOk, OnOk, OnErr};
+ghost use Rattle.std.specs.Prelude.{option_and_then};
 ghost use Rattle.std.specs.Option.{option_map, option_to_list};
 ghost use Rattle.venue_rows.specs.Rows.{investor_numbered};
 ghost use Rattle.investor_desk.specs.InvestorFacts.{knows, offer_with_word, offers_shown};
 ghost use Rattle.investor_desk.specs.InvestorFacts.{open_request};
-ghost use Rattle.investor_desk.specs.InvestorOutput as spec;
-ghost use Rattle.investor_desk.specs.InvestorOutput.{investor_output, market_for, no_events};
-ghost use Rattle.investor_desk.specs.InvestorOutput.{book_at, verdict_at, with_event, verdict_duty};
-ghost use Rattle.investor_desk.specs.InvestorOutput.{event_facts, event_messages, moment_of};
+ghost use Rattle.investor_desk.specs.InvestorDesk.{market_for, no_events, book_at, verdict_at};
+ghost use Rattle.investor_desk.specs.InvestorDesk.{with_event};
+ghost use Rattle.investor_desk.specs.InvestorOutput.{investor_output, verdict_duty, event_facts};
+ghost use Rattle.investor_desk.specs.InvestorOutput.{event_messages, moment_of};
 ghost use Rattle.investor_desk.specs.BookChanges.{book_with};
 ghost use Rattle.investor_desk.specs.RuleCuts.{IsLawful, messages_of, next_written, noted};
 ghost use Rattle.investor_desk.specs.RequestLines.{lines_of};
@@ -46,7 +46,7 @@ pub struct InvestorDesk {
 }
 
 impl Model for InvestorDesk {
-    ghost use Rattle.investor_desk.specs.InvestorOutput.{DeskEvents};
+    ghost use Rattle.investor_desk.specs.InvestorDesk.{DeskEvents};
     ghost use Rattle.investor_desk.specs.RuleCuts.{IsDesk};
 
     ghost Value = { DeskEvents };

@@ -3,9 +3,10 @@ ghost use Rattle.std.specs.Prelude.{◌≡◌, ◌≤◌, ℕ, List, [], ◌∷�
 ghost use Rattle.investor_desk.specs.declared.events.InvestorEvent.{InvestorEvent};
 ghost use Rattle.investor_desk.specs.InvestorFacts.{book_of, requests_accepted, requests_open};
 ghost use Rattle.investor_desk.specs.InvestorRules.{InvestorMarket};
-ghost use Rattle.investor_desk.specs.InvestorOutput.{DeskEvents, desk_after, event_facts};
-ghost use Rattle.investor_desk.specs.InvestorOutput.{event_messages, investor_output, moment_of};
-ghost use Rattle.investor_desk.specs.InvestorOutput.{sent_with, verdict_at, verdict_duty};
+ghost use Rattle.investor_desk.specs.InvestorDesk.{DeskEvents, verdict_at};
+ghost use Rattle.investor_desk.specs.InvestorOutput.{desk_after, event_facts, event_messages};
+ghost use Rattle.investor_desk.specs.InvestorOutput.{investor_output, moment_of, sent_with};
+ghost use Rattle.investor_desk.specs.InvestorOutput.{verdict_duty};
 ghost use Rattle.investor_desk.specs.DeskLaws.{IsOfDay};
 
 /// The facts after one event more are those before it, and behind them what this event adds: a

@@ -3,7 +3,7 @@ ghost use Rattle.std.specs.Prelude.{◌≡◌, ◌≤◌, length, map, position,
 ghost use Rattle.venue_rows.specs.Texts.{same_text};
 ghost use Rattle.venue_rows.specs.declared.dealer_rows.DealerRow.{DealerRow};
 ghost use Rattle.investor_desk.specs.InvestorRules as spec;
-ghost use Rattle.investor_desk.specs.InvestorOutput.{market_of};
+ghost use Rattle.investor_desk.specs.InvestorDesk.{market_of};
 
 use fix_fields::{Date, Memory};
 use std::alloc::Global;

@@ -3,7 +3,8 @@ use Rattle.std.proofs.Common.{◌≡◌, ◌<◌, ◌≤◌, ℕ, ◌+◌, List,
 use Rattle.std.proofs.Common.{sym, ap, ◌∙◌}
 use Rattle.std.proofs.lemmas.List.{take_all, take_more}
 use Rattle.std.proofs.lemmas.List.Sums.{fold-append}
-use Rattle.investor_desk.specs.InvestorOutput.{DeskEvents, investor_output, no_events}
+use Rattle.investor_desk.specs.InvestorDesk.{DeskEvents, no_events}
+use Rattle.investor_desk.specs.InvestorOutput.{investor_output}
 use Rattle.investor_views.specs.InvestorView.{SeenMarket, after_due, investor_view, market_seen}
 use Rattle.investor_views.specs.InvestorView.{sent_at, view_after}
 use Rattle.investor_views.specs.declared.dues.InvestorDue.{InvestorDue}

@@ -4,7 +4,7 @@ use Rattle.std.specs.Prelude.{◌≡◌, ℕ, ◌==◌, List, [], ◌∷◌, ◌
 use Rattle.std.specs.Prelude.{if◌then◌else◌, replicate}
 use Rattle.venue_rows.specs.Rows.{Configuration, investor_numbered}
 use Rattle.venue_rows.specs.declared.investor_rows.InvestorRow.{InvestorRow}
-use Rattle.investor_desk.specs.InvestorOutput.{book_at, market_of, no_events}
+use Rattle.investor_desk.specs.InvestorDesk.{book_at, market_of, no_events}
 use Rattle.venue_places.specs.declared.actors.Actor.{Actor}
 use Rattle.venue_places.specs.declared.arrivals.Placement.{Placement}
 use Rattle.venue_places.specs.declared.arrivals.Placement.TheVariants as arrival

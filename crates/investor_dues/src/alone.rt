@@ -1,7 +1,7 @@
 //! Every message that an investor is sent for what is due to it.
 ghost use Rattle.std.specs.Prelude.{◌≡◌, ◌+◌, IfOk, OnOk};
 ghost use Rattle.investor_desk.specs.InvestorFacts.{offers_shown};
-ghost use Rattle.investor_desk.specs.InvestorOutput.{book_at, no_events};
+ghost use Rattle.investor_desk.specs.InvestorDesk.{book_at, no_events};
 ghost use Rattle.investor_views.specs.InvestorView as spec;
 
 use crate::{InvestorDue, InvestorSeen};

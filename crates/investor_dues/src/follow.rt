@@ -1,7 +1,7 @@
 //! A day that is followed for one investor, step by step: what was due to it.
 ghost use Rattle.std.specs.Prelude.{◌≡◌, ℕ, ◌++◌, ◌∷◌, [], List, None, Some, true, is_some};
 ghost use Rattle.std.specs.Prelude.{option_map, IfOk, OnOk};
-ghost use Rattle.investor_desk.specs.InvestorOutput.{book_at};
+ghost use Rattle.investor_desk.specs.InvestorDesk.{book_at};
 ghost use Rattle.investor_dues.specs.Followed as kept;
 ghost use Rattle.investor_dues.specs.Followed.{IsFollowed, all_turns, firm_followed, meant};
 ghost use Rattle.investor_views.specs.Comings.{For, Own, after_coming, comes_by};

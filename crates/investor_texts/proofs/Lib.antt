@@ -5,7 +5,6 @@ mod DayLemmas
 mod FaultLemmas
 mod LineLemmas
 mod MarketLemmas
-mod NumberLemmas
 mod ReadBackLists
 mod ReadBackMessages
 mod ReadBackParts

@@ -2,7 +2,7 @@
 use Rattle.std.proofs.Common.{◌≡◌, ◌<◌, ℕ, ◌+◌, List, [], ◌∷◌, ◌++◌, length, take, get_or, true}
 use Rattle.std.proofs.Common.{append_assoc, false, refl, sym, ap, subst, ◌∙◌, Option, Some, None}
 use Rattle.std.proofs.Common.{Result, Ok, Err, IfOk}
-use Rattle.std.proofs.lemmas.List.{append-nil, length-append, length-map, take_more}
+use Rattle.std.proofs.lemmas.List.{append-nil, take_more}
 use Rattle.std.proofs.lemmas.List.Concat.{flat_map-append}
 use Rattle.venue_rows.specs.Rows.{Configuration, investor_numbered, values_of}
 use Rattle.venue_rows.specs.declared.investor_rows.InvestorRow.{InvestorRow}
@@ -11,7 +11,7 @@ use Rattle.step_replay.specs.declared.steps.Step.{Step}
 use Rattle.investor_dues.specs.Followed.{IsFollowed}
 use Rattle.investor_dues.specs.declared.follow.FollowedInvestor.{FollowedInvestor}
 use Rattle.input_lines.specs.Lines.{is_skipped}
-use Rattle.input_lines.specs.StepLines.{Heard, Read, names_of_firms}
+use Rattle.input_lines.specs.StepLines.{Heard, Read}
 use Rattle.input_lines.specs.declared.faults.ProgramFault.{ProgramFault}
 use Rattle.venue_text.specs.LiveLines.{Taken, live_steps_of, with_any_line, with_read}
 use Rattle.investor_texts.specs.LineDays.{KeepsDay, KeepsMore}
@@ -51,12 +51,6 @@ pub both_ok : {A E : Type 0} (r : Result A E) (P Q R : A → Type 0) → IfOk r 
     → ((x : A) → P x → Q x → R x) → IfOk r R
 both_ok (Ok x) P Q R p q f = f x p q
 both_ok (Err e) P Q R p q f = tt
-
--- how many firms a venue has
-pub names_count : (config : Configuration)
-    → length (names_of_firms (values_of config))
-    ≡ length config.dealers + length config.investors
-names_count config = simp (length-append, length-map)
 
 -- A line more of a day.
 

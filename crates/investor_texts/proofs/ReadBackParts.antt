@@ -1,8 +1,8 @@
 -- The parts of a line that tells what was due to an investor: the number of a request, a name, a
 -- price, a time, a reply, each as it is written and read again.
-use Rattle.std.proofs.Common.{◌≡◌, ℕ, ◌/◌, ◌%◌, ◌*◌, ◌+◌, ◌<◌, ◌≤◌, ◌==◌, not, Bool, true, cond}
-use Rattle.std.proofs.Common.{List, [], ◌∷◌, ◌++◌, map, decimal, Option, Some, None, Ok, refl, ap}
-use Rattle.std.proofs.Common.{◌∙◌, arith, inl, inr}
+use Rattle.std.proofs.Common.{◌≡◌, ℕ, ◌/◌, ◌%◌, ◌*◌, ◌+◌, ◌≤◌, ◌==◌, not, Bool, true, cond, List}
+use Rattle.std.proofs.Common.{[], ◌∷◌, ◌++◌, map, decimal, Option, Some, None, Ok, refl, ap, ◌∙◌}
+use Rattle.std.proofs.Common.{arith, inl, inr}
 use Rattle.std.specs.List.{list_all}
 use Rattle.std.specs.Option.{IfSome, option_map}
 use Rattle.std.specs.Result.{result_ok}
@@ -20,14 +20,15 @@ use Rattle.market_terms.specs.declared.closes.Reply.TheVariants as reply
 use Rattle.quote_messages.specs.Texts.{number_of}
 use Rattle.input_lines.specs.Lines.{behind_part, first_part, time_of}
 use Rattle.input_lines.specs.OptionSteps.{◌>>=◌}
-use Rattle.venue_text.specs.ReadBack.{is_in_line, is_in_part, is_short}
-use Rattle.venue_text.proofs.ReadBackParts.{all_append, all_more, all_weaker, behind_is}
+use Rattle.venue_text.specs.ReadBack.{is_in_line, is_in_part}
+use Rattle.venue_text.proofs.ReadBackParts.{all_append, all_more, all_weaker, behind_is, glyph}
 use Rattle.venue_text.proofs.ReadBackParts.{decimal_in_part, first_is, in_line, last_is}
 use Rattle.venue_text.proofs.ReadBackParts.{more_behind, name_in_part, none_behind, short_back}
 use Rattle.venue_text.proofs.ReadBackParts.{time_in_part}
 use Rattle.investor_texts.specs.InvestorLines.{quote_behind, reply_of, until_behind}
 use Rattle.investor_texts.specs.ReadBack.{is_short_if}
 use Rattle.investor_texts.specs.WrittenText.{quote_text, reply_text, until_text}
+use Rattle.venue_text.proofs.ReadBackItems.{short_word}
 
 -- Parts.
 
@@ -48,11 +49,6 @@ pub before_line : (part behind : List ℕ) → list_all is_in_part part ≡ true
 before_line part behind word later =
     all_append is_in_line part (32 ∷ behind) (in_line part word) (all_more is_in_line 32 behind refl later)
 
-pub short_word : (n : ℕ) → is_short n ≡ true → list_all is_in_part (decimal n) ≡ true
-short_word n short =
-    let below : n < 1000000000 = grind (arith, nat_tests) in
-    decimal_in_part n (omega arith)
-
 pub firm_word : (name : List ℕ) → is_firm_name name ≡ true → list_all is_in_part name ≡ true
 firm_word name named =
     name_in_part name (and_parts (not (is_among reserved_names name)) (is_name name) named).1
@@ -69,9 +65,6 @@ id_word id is =
     (and_parts _ (list_all is_id_character id) is).1
 
 -- A price.
-
-glyph : (d : ℕ) → is_in_part (48 + d) ≡ true
-glyph d = grind (arith, nat_tests)
 
 glyphs : (f : ℕ → ℕ) (places : List ℕ)
     → list_all is_in_part (map (λ (place : ℕ). 48 + f place) places) ≡ true

@@ -17,9 +17,10 @@ use Rattle.investor_views.specs.declared.dues.InvestorDue.TheVariants as due
 use Rattle.investor_texts.specs.InvestorLines.{declined_of, gone_of, quoted_of, until_behind}
 use Rattle.investor_texts.specs.ReadBack.{ReadsAs}
 use Rattle.investor_texts.specs.WrittenText.{declined_line, gone_line, quoted_line, until_text}
-use Rattle.investor_texts.proofs.ReadBackParts.{Cut, cut, before_line, short_word, firm_word}
-use Rattle.investor_texts.proofs.ReadBackParts.{firm_back, price_word, price_back, until_word}
-use Rattle.investor_texts.proofs.ReadBackParts.{three_parts, four_parts}
+use Rattle.investor_texts.proofs.ReadBackParts.{Cut, cut, before_line, firm_word, firm_back}
+use Rattle.investor_texts.proofs.ReadBackParts.{price_word, price_back, until_word, three_parts}
+use Rattle.investor_texts.proofs.ReadBackParts.{four_parts}
+use Rattle.venue_text.proofs.ReadBackItems.{short_word}
 
 -- A quote.
 

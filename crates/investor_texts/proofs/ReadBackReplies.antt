@@ -17,8 +17,9 @@ use Rattle.investor_views.specs.declared.dues.InvestorDue.TheVariants as due
 use Rattle.investor_texts.specs.InvestorLines.{answered_of, expired_of, quote_behind, reply_of}
 use Rattle.investor_texts.specs.ReadBack.{ReadsAs, is_short_if}
 use Rattle.investor_texts.specs.WrittenText.{answered_line, expired_line, quote_text, reply_text}
-use Rattle.investor_texts.proofs.ReadBackParts.{Cut, cut, before_line, short_word, id_word}
-use Rattle.investor_texts.proofs.ReadBackParts.{quote_word, reply_word, four_parts}
+use Rattle.investor_texts.proofs.ReadBackParts.{Cut, cut, before_line, id_word, quote_word}
+use Rattle.investor_texts.proofs.ReadBackParts.{reply_word, four_parts}
+use Rattle.venue_text.proofs.ReadBackItems.{short_word}
 
 -- The reply to a hit or a pass.
 

@@ -102,7 +102,7 @@ fn due_difference(one: &[InvestorDue], other: &[InvestorDue]) -> Option<usize>
 }
 
 /// Whether two lists have the same at a place, or have both ended.
-#[tactic(auto, using(crate::proofs::CompareLemmas::same_found))]
+#[tactic(auto, using(venue_text::proofs::CompareLemmas::same_found))]
 fn is_same_due_at(one: &[InvestorDue], other: &[InvestorDue], place: usize) -> bool
     ensures { IsTrue result ↔ (slice_get one.now place ≡ slice_get other.now place) }
 {

@@ -1,35 +1,34 @@
 -- What an investor was sent in a day is what its desk sends for all that came to it.
-use Rattle.std.proofs.Common.{◌≡◌, ◌≤◌, ◌<◌, ℕ, ◌==◌, ◌-◌, nat_lt, Bool, true, false, List, []}
-use Rattle.std.proofs.Common.{◌∷◌, ◌++◌, fold}
+use Rattle.std.proofs.Common.{◌≡◌, ◌≤◌, ℕ, ◌==◌, ◌-◌, Bool, true, false, List, [], ◌∷◌, ◌++◌, fold}
 use Rattle.std.proofs.Common.{length, nat_le, Option, Some, None, is_some, option_map}
 use Rattle.std.proofs.Common.{if◌then◌else◌, refl, sym, ap, subst, ◌∙◌, arith}
 use Rattle.std.specs.Prelude.{slice_get}
 use Rattle.std.specs.Option.{option_to_list}
 use Rattle.std.proofs.lemmas.Bool.Decides.{nat_tests}
+use Rattle.std.proofs.lemmas.Option.{slice_get_past}
 use Rattle.market_terms.specs.declared.duties.Duty.{Duty}
 use Rattle.market_terms.specs.declared.rooms.RoomRef.{RoomRef}
 use Rattle.venue_rows.specs.Rows.{Configuration, dealer_numbered, has_room, investor_numbered}
 use Rattle.venue_rows.specs.declared.dealer_rows.DealerRow.{DealerRow}
 use Rattle.venue_rows.specs.declared.investor_rows.InvestorRow.{InvestorRow}
 use Rattle.investor_desk.specs.InvestorRules.{InvestorMarket}
-use Rattle.investor_desk.specs.InvestorOutput.{DeskEvents, DeskState, investor_output}
-use Rattle.investor_desk.specs.InvestorOutput.{market_for, market_of, no_events}
+use Rattle.investor_desk.specs.InvestorDesk.{DeskEvents, market_for, market_of, no_events}
+use Rattle.investor_desk.specs.InvestorOutput.{DeskState, investor_output}
 use Rattle.investor_desk.specs.declared.events.InvestorEvent.TheVariants as event
 use Rattle.venue_places.specs.Dealers.{dealer_at}
 use Rattle.venue_places.specs.Placed.{placed, swept, where_so}
 use Rattle.venue_places.specs.declared.actors.Actor.{Actor}
 use Rattle.venue_places.specs.declared.arrivals.Placement.TheVariants as arrival
 use Rattle.venue_places.specs.declared.arrivals.ForRoom.TheVariants as to_room
-use Rattle.step_replay.specs.Actions.{Effect, done_by, done_for, duty_effect}
-use Rattle.step_replay.specs.Actions.{message_effect, received_by_dealer, received_by_investor}
-use Rattle.step_replay.specs.Actions.{sweep_effect}
+use Rattle.step_replay.specs.Actions.{Effect, done_by, done_for, received_by_dealer}
+use Rattle.step_replay.specs.Actions.{received_by_investor}
+use Rattle.step_replay.specs.DutyEffects.{duty_effect, message_effect, sweep_effect}
 use Rattle.step_replay.specs.AuditTrail.{AuditTrail, after_step, after_turn, audit_trail, no_steps}
 use Rattle.step_replay.specs.AuditTrail.{pending, sent_to}
 use Rattle.step_replay.specs.Coming.{effect_where}
 use Rattle.step_replay.specs.DealerTrail as dealer_trail
 use Rattle.step_replay.specs.InvestorTrail as investor_trail
-use Rattle.step_replay.specs.PlaceLemmas.{get_within, not_lent, other_investor}
-use Rattle.step_replay.specs.StepFaults.{firms_of}
+use Rattle.step_replay.specs.PlaceLemmas.{other_investor}
 use Rattle.step_replay.specs.VenueFacts.{Fact, of_dealer, of_investor}
 use Rattle.step_replay.specs.declared.steps.Step.{Step}
 use Rattle.step_replay.specs.declared.steps.Step.TheVariants as step
@@ -50,24 +49,7 @@ no_dealer config number row is = by_test (nat_le (length config.dealers) number)
         → dealer_numbered config number ≡ None
     by_test true behind found =
         let beyond : length config.dealers ≤ number = grind (arith, nat_tests) in
-        not_lent config.dealers number beyond
-    by_test false behind found = cc
-
--- an investor is a firm of the venue
-pub investor_within : (config : Configuration) (number : ℕ) (row : InvestorRow)
-    → investor_numbered config number ≡ Some row → nat_lt number (firms_of config) ≡ true
-investor_within config number row is = by_test (nat_le (length config.dealers) number) refl is
-  where
-    by_test : (b : Bool) → nat_le (length config.dealers) number ≡ b
-        → (if b then slice_get config.investors (number - length config.dealers) else None)
-        ≡ Some row
-        → nat_lt number (firms_of config) ≡ true
-    by_test true behind found =
-        let after : length config.dealers ≤ number = grind (arith, nat_tests) in
-        let there : number - length config.dealers < length config.investors =
-        get_within config.investors (number - length config.dealers) row found in
-        let within : number < firms_of config = omega arith in
-        grind (arith, nat_tests)
+        slice_get_past config.dealers number beyond
     by_test false behind found = cc
 
 -- the table's law: a duty does what comes by the table, and so does a sweep

@@ -1,98 +1,18 @@
 -- An investor's desk stands where its trail has come, after what happens there and after what
 -- happens anywhere else.
-use Rattle.std.proofs.Common.{◌≡◌, ℕ, ◌+◌, Bool, true, false, List, [], ◌∷◌, ◌++◌, map, filter_map}
-use Rattle.std.proofs.Common.{length, Option, Some, None, if◌then◌else◌, refl, sym, ap, ◌∙◌}
-use Rattle.std.proofs.lemmas.List.{append-nil}
-use Rattle.std.proofs.lemmas.List.Elements.{filter_map-append}
-use Rattle.std.proofs.lemmas.List.Sums.{fold-append}
-use Rattle.investor_desk.specs.InvestorFacts.{InvestorFact, book_of}
+use Rattle.std.proofs.Common.{◌≡◌, Bool, true, false, List, [], ◌++◌, map, if◌then◌else◌, refl, sym}
+use Rattle.std.proofs.Common.{ap, ◌∙◌}
+use Rattle.investor_desk.specs.InvestorFacts.{book_of}
 use Rattle.investor_desk.specs.InvestorRules.{InvestorMarket}
-use Rattle.investor_desk.specs.InvestorOutput.{DeskEvents, DeskState, after_event, book_at}
-use Rattle.investor_desk.specs.InvestorOutput.{desk_after, event_facts, event_messages, moment_of}
-use Rattle.investor_desk.specs.InvestorOutput.{no_events, no_facts, with_event, written_from}
+use Rattle.investor_desk.specs.InvestorDesk.{DeskEvents, book_at, no_events, with_event}
+use Rattle.investor_desk.specs.InvestorOutput.{DeskState, after_event, desk_after}
 use Rattle.investor_desk.specs.declared.events.InvestorEvent.{InvestorEvent}
 use Rattle.venue_steps.specs.InvestorSteps.{where_so}
 use Rattle.step_replay.specs.Actions.{at_market, nothing}
-use Rattle.step_replay.specs.InvestorTrail.{InvestorEntry, AtDesk, Sent, book_by, entries_of}
-use Rattle.step_replay.specs.InvestorTrail.{fact_in, facts_of, message_in, sent_by}
-use Rattle.step_replay.specs.PlaceLemmas.{investor_grown, own_investor}
+use Rattle.step_replay.specs.InvestorGrowth.{desk_of, desk_push, trail_push}
+use Rattle.step_replay.specs.InvestorTrail.{InvestorEntry, book_by, entries_of}
+use Rattle.step_replay.specs.PlaceLemmas.{investor_grown, own_investor, investor_stays}
 use Rattle.step_replay.specs.VenueFacts.{Fact, AtInvestor, of_investor}
-
--- What an event adds to an investor's trail.
-
-none_of : {A Y : Type 0} (h : InvestorEntry → Option Y) (f : A → InvestorEntry)
-    → ((x : A) → h (f x) ≡ None) → (xs : List A) → filter_map h (map f xs) ≡ []
-none_of h f none [] = refl
-none_of h f none (x ∷ xs) = rw (none x) (none_of h f none xs)
-
-each_of : {A : Type 0} (h : InvestorEntry → Option A) (f : A → InvestorEntry)
-    → ((x : A) → h (f x) ≡ Some x) → (xs : List A) → filter_map h (map f xs) ≡ xs
-each_of h f each [] = refl
-each_of h f each (x ∷ xs) = rw (each x) (ap (λ l. x ∷ l) (each_of h f each xs))
-
-facts_added : (facts : List InvestorFact) (messages : List (List ℕ))
-    → filter_map fact_in (map AtDesk facts ++ map Sent messages) ≡ facts
-facts_added facts messages =
-    filter_map-append fact_in (map AtDesk facts) (map Sent messages)
-    ∙ ap (λ l. filter_map fact_in (map AtDesk facts) ++ l)
-    (none_of fact_in Sent (λ m. refl) messages)
-    ∙ append-nil (filter_map fact_in (map AtDesk facts))
-    ∙ each_of fact_in AtDesk (λ fact. refl) facts
-
-sent_added : (facts : List InvestorFact) (messages : List (List ℕ))
-    → filter_map message_in (map AtDesk facts ++ map Sent messages) ≡ messages
-sent_added facts messages =
-    filter_map-append message_in (map AtDesk facts) (map Sent messages)
-    ∙ ap (λ l. l ++ filter_map message_in (map Sent messages))
-    (none_of message_in AtDesk (λ fact. refl) facts)
-    ∙ each_of message_in Sent (λ m. refl) messages
-
--- a desk with these facts, whose investor was sent these messages
-abbrev pub state_of : List InvestorFact → List (List ℕ) → DeskState
-state_of facts sent = record { facts = facts; sent = sent }
-
--- a desk where a trail has come
-abbrev pub desk_of : List InvestorEntry → DeskState
-desk_of trail = state_of (facts_of trail) (sent_by trail)
-
-pub both : (facts facts_too : List InvestorFact) (sent sent_too : List (List ℕ))
-    → facts ≡ facts_too → sent ≡ sent_too → state_of facts sent ≡ state_of facts_too sent_too
-both facts facts_too sent sent_too one other =
-    ap (λ f. state_of f sent) one ∙ ap (λ s. state_of facts_too s) other
-
--- a desk after one event more
-pub desk_push : (market : InvestorMarket) (events : List InvestorEvent) (more : InvestorEvent)
-    → desk_after market (events ++ more ∷ []) ≡ after_event market (desk_after market events) more
-unfolding desk_after
-desk_push market events more = fold-append (after_event market) no_facts events (more ∷ [])
-
-module _ (market : InvestorMarket) (trail : List InvestorEntry) (more : InvestorEvent) where
-  -- the messages that the event sends
-  abbrev messages : List (List ℕ)
-  messages = written_from market (length (sent_by trail) + 1) (moment_of more)
-      (event_messages market (book_by trail) more)
-
-  -- the trail with the event
-  abbrev grown : List InvestorEntry
-  grown = trail ++ entries_of market trail more
-
-  facts_grown : facts_of grown ≡ facts_of trail ++ event_facts market (book_by trail) more
-  unfolding entries_of
-  facts_grown =
-      filter_map-append fact_in trail (entries_of market trail more)
-      ∙ ap (λ l. facts_of trail ++ l)
-      (facts_added (event_facts market (book_by trail) more) messages)
-
-  sent_grown : sent_by grown ≡ sent_by trail ++ messages
-  unfolding entries_of
-  sent_grown =
-      filter_map-append message_in trail (entries_of market trail more)
-      ∙ ap (λ l. sent_by trail ++ l)
-      (sent_added (event_facts market (book_by trail) more) messages)
-
-  -- a desk of a trail after one event more
-  trail_push : after_event market (desk_of trail) more ≡ desk_of grown
-  trail_push = both _ _ _ _ (sym facts_grown) (sym sent_grown)
 
 -- The desk of the investor with this number and market has come where the facts of the venue have.
 pub record DeskStands (market : InvestorMarket) (facts : List Fact) (desk : DeskEvents)
@@ -117,9 +37,7 @@ module _ (market : InvestorMarket) where
     market_is = before.market_is;
     state_is = before.state_is
         ∙ ap (λ (l : List InvestorEntry). desk_of l)
-        (sym (investor_grown market.firm facts added
-        ∙ ap (λ l. trail_by facts ++ l) none
-        ∙ append-nil (trail_by facts)));
+        (sym (investor_stays market.firm facts added none));
   }
 
   -- after one event there

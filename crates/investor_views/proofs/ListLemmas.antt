@@ -1,10 +1,10 @@
 -- Lists whose items are changed: who does not ask for the change finds the same.
-use Rattle.std.proofs.Common.{◌≡◌, ℕ, ◌+◌, Bool, true, false, cond, List, [], ◌∷◌, map}
-use Rattle.std.proofs.Common.{fold, count_by, Option, Some, None, option_map}
-use Rattle.std.proofs.Common.{is_some, find, refl, ap, subst, ◌∙◌}
+use Rattle.std.proofs.Common.{◌≡◌, ℕ, ◌+◌, Bool, true, false, cond, List, [], ◌∷◌, map, fold}
+use Rattle.std.proofs.Common.{count_by, Option, Some, None, option_map, is_some, find, refl, ap}
+use Rattle.std.proofs.Common.{subst, ◌∙◌}
 use Rattle.std.specs.List.{list_any}
+use Rattle.std.proofs.lemmas.Option.{same_Some}
 use Rattle.step_replay.specs.EachLemmas.{Every}
-use Rattle.step_replay.specs.OwnerLemmas.{same_value}
 
 pub map_cond : {X Y : Type 0} (e : X → Y) (b : Bool) (x : X) (rest : Option X)
     → cond b (Some (e x)) (option_map e rest) ≡ option_map e (cond b (Some x) rest)
@@ -47,5 +47,5 @@ found_has P p [] every x is = cc
 found_has P p (y ∷ ys) every x is = by_test (p y) (found_has P p ys every.1 x) is
   where
     by_test : (b : Bool) → (find p ys ≡ Some x → P x) → cond b (Some y) (find p ys) ≡ Some x → P x
-    by_test true later found = subst P (same_value y x found) every.0
+    by_test true later found = subst P (same_Some y x found) every.0
     by_test false later found = later found

@@ -1,16 +1,16 @@
 -- The quotes that an investor is shown have the numbers 1, 2, 3 and so on, so those that stand on a
 -- request have rising numbers, and a number finds the quote that has it.
-use Rattle.std.proofs.Common.{◌≡◌, ◌<◌, ◌≤◌, ℕ, ◌+◌, ◌==◌, Bool, true, false, cond}
-use Rattle.std.proofs.Common.{List, [], ◌∷◌, ◌++◌, length, find, Option, Some, None, option_map}
-use Rattle.std.proofs.Common.{if◌then◌else◌, refl, sym, ap, subst, ◌∙◌, arith, eq-eqb}
+use Rattle.std.proofs.Common.{◌≡◌, ◌<◌, ◌≤◌, ℕ, ◌+◌, ◌==◌, Bool, true, false, cond, List, [], ◌∷◌}
+use Rattle.std.proofs.Common.{◌++◌, length, find, Option, Some, None, option_map, if◌then◌else◌}
+use Rattle.std.proofs.Common.{refl, sym, ap, subst, ◌∙◌, arith, eq-eqb}
 use Rattle.std.proofs.lemmas.Bool.Decides.{nat_tests}
-use Rattle.investor_desk.specs.InvestorFacts.{InvestorFact, StandingRequest, Asked}
-use Rattle.investor_desk.specs.InvestorFacts.{Offered, book_of, is_open, offer_with_word, offers_of}
+use Rattle.std.proofs.lemmas.Option.{same_Some}
+use Rattle.investor_desk.specs.InvestorFacts.{InvestorFact, StandingRequest, Asked, Offered}
+use Rattle.investor_desk.specs.InvestorFacts.{book_of, is_open, offer_with_word, offers_of}
 use Rattle.investor_desk.specs.InvestorFacts.{open_request, request_numbered, requests_of}
 use Rattle.investor_desk.specs.InvestorFacts.{standing_on, stands_on, while_open}
 use Rattle.investor_desk.specs.declared.standing.ShownOffer.{ShownOffer}
 use Rattle.step_replay.specs.EachLemmas.{Every}
-use Rattle.step_replay.specs.OwnerLemmas.{same_value}
 use Rattle.investor_views.specs.InvestorDues.{number_of}
 use Rattle.investor_views.proofs.ListLemmas.{find_changed, found_has}
 use Rattle.investor_views.proofs.Renamed.{renamed, renamed_request}
@@ -110,7 +110,7 @@ found_above least p (shown ∷ later) rising found is =
     by_test : (b : Bool) → (find p later ≡ Some found → shown.number < found.number)
         → cond b (Some shown) (find p later) ≡ Some found → least < found.number
     by_test true behind same =
-        subst (λ (s : ShownOffer). least < s.number) (same_value shown found same) rising.0
+        subst (λ (s : ShownOffer). least < s.number) (same_Some shown found same) rising.0
     by_test false behind same =
         let first : least < shown.number = rising.0 in
         let above : shown.number < found.number = behind same in
@@ -132,7 +132,7 @@ found_again least p (shown ∷ later) rising found is =
     by_test true behind same =
         let test : (shown.number == found.number) ≡ true =
         eq-eqb shown.number found.number
-        (ap (λ (s : ShownOffer). s.number) (same_value shown found same)) in
+        (ap (λ (s : ShownOffer). s.number) (same_Some shown found same)) in
         rw test same
     by_test false behind same =
         let above : shown.number < found.number =

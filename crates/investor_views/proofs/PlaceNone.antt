@@ -20,8 +20,8 @@ use Rattle.venue_places.specs.declared.arrivals.ForDealer.{ForDealer}
 use Rattle.venue_places.specs.declared.arrivals.ForDealer.TheVariants as to_dealer
 use Rattle.venue_places.specs.declared.arrivals.ForRoom.{ForRoom}
 use Rattle.venue_places.specs.declared.arrivals.ForRoom.TheVariants as to_room
-use Rattle.step_replay.specs.Actions.{Effect, at_dealer, done_by, dropped_by, hit_in}
-use Rattle.step_replay.specs.Actions.{hit_with, in_room, left_by, left_by_drop, lifting, nothing}
+use Rattle.step_replay.specs.Actions.{Effect, at_dealer, done_by, dropped_by, hit_in, hit_with}
+use Rattle.step_replay.specs.Actions.{in_room, left_by, left_by_drop, lifting, nothing}
 use Rattle.step_replay.specs.Actions.{received_by_dealer, told_of, verdict_on}
 use Rattle.step_replay.specs.Coming.{dealer_gets, room_gets}
 use Rattle.step_replay.specs.PlaceLemmas.{investor_at_dealer, investor_grown, investor_in_room}

@@ -1,15 +1,14 @@
 -- What the desk of an investor sends for all that comes to it is the investor view of what is due.
 use Rattle.std.proofs.Common.{◌≡◌, ℕ, ◌+◌, Bool, true, false, List, [], ◌∷◌, ◌++◌, map, fold}
-use Rattle.std.proofs.Common.{length}
-use Rattle.std.proofs.Common.{refl, ap, sym, subst, ◌∙◌, arith, ◌&&◌, None}
+use Rattle.std.proofs.Common.{length, refl, ap, sym, subst, ◌∙◌, arith, ◌&&◌, None}
 use Rattle.std.proofs.lemmas.List.{append-nil, append_assoc, map-append}
 use Rattle.quote_messages.specs.declared.out_messages.OutMessage.{OutMessage}
 use Rattle.investor_desk.specs.InvestorFacts.{InvestorFact, InvestorBook, book_of, knows, offers_of}
 use Rattle.investor_desk.specs.InvestorRules.{InvestorMarket}
-use Rattle.investor_desk.specs.InvestorOutput.{DeskEvents, DeskState, after_event, book_at}
-use Rattle.investor_desk.specs.InvestorOutput.{desk_after, event_facts, event_messages, head_of}
-use Rattle.investor_desk.specs.InvestorOutput.{investor_output, moment_of, no_events, sent_with}
-use Rattle.investor_desk.specs.InvestorOutput.{with_event, written_from}
+use Rattle.investor_desk.specs.InvestorDesk.{DeskEvents, book_at, no_events, with_event}
+use Rattle.investor_desk.specs.InvestorOutput.{DeskState, after_event, desk_after, event_facts}
+use Rattle.investor_desk.specs.InvestorOutput.{event_messages, head_of, investor_output, moment_of}
+use Rattle.investor_desk.specs.InvestorOutput.{sent_with, written_from}
 use Rattle.investor_desk.specs.declared.events.InvestorEvent.{InvestorEvent}
 use Rattle.investor_desk.specs.declared.events.InvestorEvent.TheVariants as event
 use Rattle.quote_messages.specs.Written.{written}
@@ -20,7 +19,7 @@ use Rattle.investor_views.specs.Comings.{Coming, Own, For, after_coming, desk_by
 use Rattle.investor_views.specs.DeskView.{coming_of, event_dues, event_dues_from, with_item}
 use Rattle.investor_views.specs.InvestorDues.{due_by, dues_from, number_of, quote_meant}
 use Rattle.investor_views.specs.InvestorView.{after_due, coming_by, offer_due, sent_at}
-use Rattle.investor_views.proofs.DeskLemmas.{desk_push}
+use Rattle.step_replay.specs.InvestorGrowth.{desk_push}
 use Rattle.investor_views.proofs.ClosingItems.{answered_answers, declined_answers, expired_answers}
 use Rattle.investor_views.proofs.ItemLemmas.{Answers, came_answers, gone_answers, own_answers}
 use Rattle.investor_views.proofs.NumberedBook.{book_same, knows_same}

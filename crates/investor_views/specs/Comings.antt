@@ -5,7 +5,7 @@ use Rattle.std.specs.Prelude.{if◌then◌else◌}
 use Rattle.std.specs.Option.{option_to_list}
 use Rattle.market_terms.specs.declared.duties.Duty.{Duty}
 use Rattle.venue_rows.specs.Rows.{Configuration}
-use Rattle.investor_desk.specs.InvestorOutput.{DeskEvents, no_events}
+use Rattle.investor_desk.specs.InvestorDesk.{DeskEvents, no_events}
 use Rattle.investor_desk.specs.InvestorRules.{InvestorMarket}
 use Rattle.venue_steps.specs.InvestorSteps.{desk_after_own}
 use Rattle.venue_places.specs.Brought.{investor_with}

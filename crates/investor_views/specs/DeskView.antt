@@ -2,7 +2,7 @@
 -- whether it fits what stands at the view's desk, as each step of the venue asks it there; the desk
 -- view takes each item as it stands, and is one with it where every item fits.
 use Rattle.std.specs.Prelude.{ℕ, List, [], ◌∷◌, fold}
-use Rattle.investor_desk.specs.InvestorOutput.{DeskEvents, book_at, no_events, with_event}
+use Rattle.investor_desk.specs.InvestorDesk.{DeskEvents, book_at, no_events, with_event}
 use Rattle.investor_desk.specs.InvestorRules.{InvestorMarket}
 use Rattle.investor_desk.specs.declared.events.InvestorEvent.{InvestorEvent}
 use Rattle.investor_desk.specs.declared.events.InvestorEvent.TheVariants as event

@@ -6,7 +6,7 @@ use Rattle.market_terms.specs.declared.rooms.Offer.{Offer}
 use Rattle.venue_rows.specs.Rows.{Configuration}
 use Rattle.investor_desk.specs.InvestorFacts.{InvestorBook, offer_with_word}
 use Rattle.investor_desk.specs.InvestorFacts.{open_request}
-use Rattle.investor_desk.specs.InvestorOutput.{DeskEvents, book_at, market_for, no_events}
+use Rattle.investor_desk.specs.InvestorDesk.{DeskEvents, book_at, market_for, no_events}
 use Rattle.investor_desk.specs.InvestorRules.{InvestorMarket}
 use Rattle.investor_desk.specs.declared.standing.ShownOffer.{ShownOffer}
 use Rattle.venue_places.specs.declared.arrivals.ForInvestor.TheVariants as to_investor

@@ -2,7 +2,8 @@
 ghost use Rattle.std.specs.Prelude.{◌≡◌, ℕ, List, Some};
 ghost use Rattle.venue_rows.specs.Rows.{Configuration, investor_numbered};
 ghost use Rattle.venue_rows.specs.declared.investor_rows.InvestorRow.{InvestorRow};
-ghost use Rattle.investor_desk.specs.InvestorOutput.{book_at, investor_output, market_of, no_events};
+ghost use Rattle.investor_desk.specs.InvestorDesk.{book_at, market_of, no_events};
+ghost use Rattle.investor_desk.specs.InvestorOutput.{investor_output};
 ghost use Rattle.investor_desk.specs.InvestorRules.{InvestorMarket};
 ghost use Rattle.investor_desk.specs.declared.events.InvestorEvent.{InvestorEvent};
 ghost use Rattle.step_replay.specs.AuditTrail.{audit_trail};

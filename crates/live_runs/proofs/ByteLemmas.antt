@@ -5,44 +5,23 @@ use Rattle.std.proofs.Common.{append_assoc, nat_lt, take, drop}
 use Rattle.std.specs.List.{list_any}
 use Rattle.std.proofs.lemmas.Bool.{cases_Bool}
 use Rattle.std.proofs.lemmas.Bool.Decides.{nat_tests}
-use Rattle.std.proofs.lemmas.List.{append-nil, length-append, take-append-drop}
+use Rattle.std.proofs.lemmas.List.{length-append, take-append-drop}
 use Rattle.std.proofs.lemmas.List.Folds.{list_any-append}
 use Rattle.input_lines.specs.Lines.{lines_of}
 use Rattle.input_lines.specs.declared.faults.ProgramFault.{ProgramFault}
 use Rattle.input_lines.specs.declared.faults.ProgramFault.TheVariants.{Input, Memory}
 use Rattle.input_lines.specs.declared.lines.TheConstants.{MOST_INPUT}
-use Rattle.live_runs.specs.LineForms.{LineForm, meant_form}
 use Rattle.live_runs.specs.LiveRuns.{EndsDay}
 use Rattle.live_runs.specs.LiveCalls.{err_new, err_old, out_new, out_old, FeedFails, Feeds}
-use Rattle.live_runs.specs.LiveCalls.{LineFails, LineTakes, StageFails, StageTakes}
-use Rattle.live_runs.specs.LiveStages.{IsCut, StageIs, StandsAt}
+use Rattle.live_runs.specs.LiveCalls.{LineFails, LineTakes}
+use Rattle.live_runs.specs.LiveStages.{IsCut, StandsAt}
 use Rattle.live_runs.specs.Written.{Written}
-use Rattle.live_runs.specs.declared.line_forms.LineForm.{LineForm as RustForm}
 use Rattle.live_runs.specs.declared.live.LiveRun.{LiveRun}
-use Rattle.live_runs.specs.declared.stages.Stage.{Stage}
 use Rattle.live_runs.specs.declared.live.TheConstants.{MOST_LINES}
 use Rattle.live_runs.proofs.FeedLemmas.{line_closed, line_goes_on, feeds_end, feeds_stay}
 use Rattle.live_runs.proofs.StageLemmas.{answered_by, still}
 
 -- The line that has begun is whole.
-
-pub line_takes : (before after : LiveRun) (out err : Written)
-    → StageTakes (meant_form before.form) before.number before.line.items before.stage after.stage out err
-    → after.number ≡ before.number + 1 → after.form ≡ before.form → LineTakes before after out err
-line_takes before after out err takes number form_same form lines start come = record {
-  number_is = number ∙ ap (λ n. n + 1) (come.number_is ∙ sym (length-append lines (before.line.items ∷ [])));
-  form_is = ap (λ (f : RustForm). meant_form f) form_same ∙ come.form_is;
-  stage_is = subst (λ (f : LineForm). StageIs f (lines ++ before.line.items ∷ []) after.stage (out_new start out) (err_new start err)) come.form_is
-      (takes lines start come.number_is
-      (subst (λ (f : LineForm). StageIs f lines before.stage (out_old start out) (err_old start err)) (sym come.form_is) come.stage_is));
-}
-
-pub line_fails : (before : LiveRun) (fault : ProgramFault) (out err : Written)
-    → StageFails (meant_form before.form) before.number before.line.items before.stage fault out err → LineFails before fault out err
-line_fails before fault out err fails form lines start come more =
-    subst (λ (f : LineForm). EndsDay f fault ((lines ++ before.line.items ∷ []) ++ more) (out_new start out) (err_new start err)) come.form_is
-    (fails lines start come.number_is
-    (subst (λ (f : LineForm). StageIs f lines before.stage (out_old start out) (err_old start err)) (sym come.form_is) come.stage_is) more)
 
 pub line_past : (before : LiveRun) (o e : Option (List ℕ)) → MOST_LINES < before.number → LineFails before Input (still o) (still e)
 line_past before o e past form lines start come more =
@@ -96,20 +75,6 @@ take_fails before c fault out err is fails form read start stands tail =
     (subst (λ (l : List (List ℕ)). EndsDay form fault l (out_new start out) (err_new start err))
     (sym ((cut_end read stands.lines before.line.items stands.cut).closed tail)) (fails form stands.lines start stands.come (lines_of tail)))
 
-pub take_more : (before after : LiveRun) (c : ℕ) (o e : Option (List ℕ)) → (c == 10) ≡ false → after.number ≡ before.number
-    → after.form ≡ before.form → after.stage ≡ before.stage → after.line.items ≡ before.line.items ++ c ∷ []
-    → Feeds (c ∷ []) before after (still o) (still e)
-take_more before after c o e goes number form_same same line form read start stands = record {
-  lines = stands.lines;
-  cut = subst (IsCut (read ++ c ∷ []) stands.lines) (sym line) (cut_more read stands.lines before.line.items c goes stands.cut);
-  come = record {
-    number_is = number ∙ stands.come.number_is;
-    form_is = ap (λ (f : RustForm). meant_form f) form_same ∙ stands.come.form_is;
-    stage_is = subst (λ (s : Stage). StageIs form stands.lines s (out_new start (still o)) (err_new start (still e))) (sym same)
-        stands.come.stage_is;
-  };
-}
-
 long_line : (lines : List (List ℕ)) (line : List ℕ) (behind : List (List ℕ)) → MOST_INPUT < length line
     → list_any (λ l. nat_lt MOST_INPUT (length l)) (lines ++ line ∷ behind) ≡ true
 long_line [] line behind long = let is : nat_lt MOST_INPUT (length line) ≡ true = grind (arith, nat_tests) in rw is refl
@@ -151,10 +116,6 @@ put_fails before c fault o e goes (inr is) form read start stands tail =
     })
 
 -- Bytes come.
-
-pub feeds_none : (run : LiveRun) (o e : Option (List ℕ)) → Feeds [] run run (still o) (still e)
-feeds_none run o e form read start stands =
-    subst (λ (r : List ℕ). StandsAt form r run (out_new start (still o)) (err_new start (still e))) (sym (append-nil read)) stands
 
 pub feeds_both : (first mid last : LiveRun) (a b : List ℕ) (o o' o'' e e' e'' : Option (List ℕ))
     → Feeds a first mid (record { before = o; after = o' }) (record { before = e; after = e' })

@@ -1,13 +1,11 @@
 -- A line of the configuration.
-use Rattle.std.proofs.Common.{◌≡◌, ℕ, ◌+◌, true, false, List, [], ◌∷◌, ◌++◌, Ok, refl, sym, ap}
-use Rattle.std.proofs.Common.{subst, ◌∙◌}
+use Rattle.std.proofs.Common.{◌≡◌, ℕ, true, List, [], ◌∷◌, ◌++◌, Ok, refl, sym, ap, subst, ◌∙◌}
 use Rattle.venue_rows.specs.Rows.{Configuration, values_of}
 use Rattle.investor_texts.specs.SoughtDays as sought_days
 use Rattle.investor_texts.specs.SoughtDays.{OpensSought, Sought, sought_of}
 use Rattle.venue_text.specs.LiveAnswers.{Goes, Opens}
 use Rattle.venue_text.specs.LiveInput.{configuration_in, taken_in}
 use Rattle.venue_text.specs.LiveLines.{Taken, nothing_taken}
-use Rattle.input_lines.specs.StepLines.{asked}
 use Rattle.input_lines.specs.VenueParts.{is_divider, venue_of}
 use Rattle.investor_texts.specs.declared.sought_days.SoughtDay.{SoughtDay}
 use Rattle.venue_text.specs.declared.live_form.LiveForm.{LiveForm}
@@ -20,20 +18,9 @@ use Rattle.live_runs.specs.Written.{Gains, Written}
 use Rattle.live_runs.specs.declared.stages.Stage.{Stage}
 use Rattle.live_runs.specs.declared.stages.Stage.TheVariants as stage
 use Rattle.live_runs.proofs.LineLemmas.{configuration_is, none_behind, nothing_behind}
-use Rattle.live_runs.proofs.LineLemmas.{nothing_printed, now_divided, still_undivided, text_grows}
+use Rattle.live_runs.proofs.LineLemmas.{nothing_printed, now_divided}
 use Rattle.live_runs.proofs.GainLemmas.{gains_nothing}
 use Rattle.live_runs.proofs.DayLineLemmas.{asked_of}
-
-pub config_goes_on : (lines : List (List ℕ)) (line text after : List ℕ) (out err : Written) → AwaitsDay lines text out err → is_divider line ≡ false
-    → after ≡ text ++ line ++ 10 ∷ [] → AwaitsDay (lines ++ line ∷ []) after out err
-config_goes_on lines line text after out err had other is = record {
-  nothing = record {
-    undivided = still_undivided lines line had.nothing.undivided other;
-    left = had.nothing.left;
-    untold = had.nothing.untold;
-  };
-  text_is = is ∙ ap (λ (t : List ℕ). t ++ line ++ 10 ∷ []) had.text_is ∙ sym (text_grows lines line);
-}
 
 -- the lines so far are of a configuration, and this one ends it
 module _ (lines : List (List ℕ)) (line text : List ℕ) (out err : Written) (had : AwaitsDay lines text out err) (here : is_divider line ≡ true) where

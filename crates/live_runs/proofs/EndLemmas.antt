@@ -1,6 +1,6 @@
 -- The input ends.
-use Rattle.std.proofs.Common.{◌≡◌, ◌≢◌, ℕ, ◌+◌, ◌==◌, true, false, List, [], ◌∷◌, ◌++◌, length}
-use Rattle.std.proofs.Common.{Option, refl, sym, ap, subst, ◌∙◌, inl, inr, take}
+use Rattle.std.proofs.Common.{◌≡◌, ℕ, ◌+◌, ◌==◌, true, false, List, [], ◌∷◌, ◌++◌, length, Option}
+use Rattle.std.proofs.Common.{refl, sym, ap, subst, ◌∙◌, inl, inr, take}
 use Rattle.std.specs.Io.KnownBytes.{Appends}
 use Rattle.std.specs.Prelude.{Vec}
 use Rattle.std.specs.declared.alloc.Global.{Global}
@@ -13,11 +13,9 @@ use Rattle.investor_texts.specs.SoughtDays as sought_days
 use Rattle.investor_texts.specs.SoughtDays.{Sought, Whom, sought_of, sought_text, IsComparison}
 use Rattle.venue_text.specs.LiveInput.{taken_in}
 use Rattle.venue_text.specs.LiveLines.{Taken}
-use Rattle.input_lines.specs.StepLines.{asked}
 use Rattle.input_lines.specs.declared.faults.ProgramFault.{ProgramFault}
 use Rattle.input_lines.specs.declared.faults.ProgramFault.TheVariants.{Memory, Parts, Write}
 use Rattle.investor_texts.specs.declared.sought_days.SoughtDay.{SoughtDay}
-use Rattle.venue_text.specs.declared.live_lines.LiveDay.{LiveDay}
 use Rattle.live_runs.specs.LineForms.{answered, compared_for, kept_for}
 use Rattle.live_runs.specs.LiveRuns.{EndsDay, EndsInAnswers, HasCompared, TakesOne, ended_lines}
 use Rattle.live_runs.specs.LiveRuns.{second_taken}
@@ -104,33 +102,12 @@ closes_bare t fault o none form lines start err is =
       left = no_day form lines (record { before = start; after = o }) err is.nothing;
     })
 
--- each line was answered
-pub closes_answered : (day : LiveDay) (o : Option (List ℕ)) → Closes (stage.Day day) (still o)
-closes_answered day o (answered form) lines start err is = (is.config, is.answers)
-closes_answered day o (kept_for sought) lines start err is = absurd is
-closes_answered day o (compared_for whom) lines start err is = absurd is
-
 -- what is asked for is what the lines have brought
 abbrev pub TextAnywhere : SoughtDay → List ℕ → Type 0
 TextAnywhere day text = (config : Configuration) (sought : Sought) (taken : Taken) → sought_days.Keeps sought config taken day
     → text ≡ sought_text sought config taken.steps
 
 module _ (day : SoughtDay) (o o' : Option (List ℕ)) where
-  pub closes_kept : (text : List ℕ) → TextAnywhere day text → Appends o o' text → Closes (stage.Kept day) (record { before = o; after = o' })
-  closes_kept text texts gained (answered form) lines start err is = absurd is
-  closes_kept text texts gained (compared_for whom) lines start err is = absurd is
-  closes_kept text texts gained (kept_for sought) lines start err is =
-      let text_is = texts is.config sought (taken_in is.config lines) is.keeps in (
-        is.config,
-        record {
-          divided = is.answers.divided;
-          spelled = is.answers.spelled;
-          asked = is.answers.asked;
-          printed = subst (λ (t : List ℕ). Appends start o' t) text_is (appends_both start o o' [] text is.answers.printed gained);
-          told = is.answers.told;
-        },
-      )
-
   pub closes_unprinted : (text : List ℕ) (fault : ProgramFault) → fault ≡ Write → TextAnywhere day text
       → GainsPart text (record { before = o; after = o' }) → CloseFails (stage.Kept day) fault (record { before = o; after = o' })
   closes_unprinted text fault write texts part (answered form) lines start err is = absurd is
@@ -249,14 +226,6 @@ module _ (last : Stage) where
   pub last_bare : (t : Vec ℕ Global) (fault : ProgramFault) (o : Option (List ℕ)) → last ≡ stage.Configuration t → fault ≡ Parts
       → CloseFails last fault (still o)
   last_bare t fault o was none = subst (λ (s : Stage). CloseFails s fault (still o)) (sym was) (closes_bare t fault o none)
-
-  pub last_answered : (day : LiveDay) (o : Option (List ℕ)) → last ≡ stage.Day day → Closes last (still o)
-  last_answered day o was = subst (λ (s : Stage). Closes s (still o)) (sym was) (closes_answered day o)
-
-  pub last_kept : (day : SoughtDay) (o o' : Option (List ℕ)) (text : List ℕ) → last ≡ stage.Kept day → TextAnywhere day text
-      → Appends o o' text → Closes last (record { before = o; after = o' })
-  last_kept day o o' text was texts gained =
-      subst (λ (s : Stage). Closes s (record { before = o; after = o' })) (sym was) (closes_kept day o o' text texts gained)
 
   pub last_unprinted : (day : SoughtDay) (o o' : Option (List ℕ)) (text : List ℕ) (fault : ProgramFault) → last ≡ stage.Kept day
       → fault ≡ Write → TextAnywhere day text → GainsPart text (record { before = o; after = o' })

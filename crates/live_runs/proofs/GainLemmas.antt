@@ -1,8 +1,8 @@
 -- What streams gain, and what two clauses say of a result.
-use Rattle.std.proofs.Common.{◌≡◌, ℕ, ◌+◌, ◌==◌, Bool, true, false, List, [], ◌∷◌, ◌++◌, length}
-use Rattle.std.proofs.Common.{Option, Some, None, Result, Ok, Err, refl, sym, ap, subst, ◌∙◌, arith}
+use Rattle.std.proofs.Common.{◌≡◌, ℕ, ◌==◌, true, List, [], ◌∷◌, ◌++◌, length, Option, Some, None}
+use Rattle.std.proofs.Common.{Result, Ok, Err, refl, sym, ap, subst, ◌∙◌, arith}
 use Rattle.std.specs.Io.KnownBytes.{Appends, Keeps}
-use Rattle.std.specs.Prelude.{IfErr, IsErrAnd, OnErr, OnOk}
+use Rattle.std.specs.Prelude.{IfErr, IsErrAnd}
 use Rattle.std.proofs.lemmas.Bool.Decides.{nat_tests}
 use Rattle.std.proofs.lemmas.List.{append-nil}
 use Rattle.input_lines.specs.declared.faults.ProgramFault.{ProgramFault}
@@ -10,21 +10,9 @@ use Rattle.live_runs.specs.LiveRuns.{GainsFaults}
 
 -- Results.
 
-pub on_ok_both : {A E : Type 0} (r : Result A E) (P Q R : Type 0) → OnOk r P → OnOk r Q → (P → Q → R) → OnOk r R
-on_ok_both (Ok x) P Q R p q f = f p q
-on_ok_both (Err e) P Q R p q f = tt
-
-pub on_err_both : {A E : Type 0} (r : Result A E) (P R : E → Type 0) (Q : Type 0) → IfErr r P → OnErr r Q → ((e : E) → P e → Q → R e) → IfErr r R
-on_err_both (Ok x) P R Q p q f = tt
-on_err_both (Err e) P R Q p q f = f e p q
-
 pub same_fault : {A : Type 0} (P : ProgramFault → Type 0) (r : Result A ProgramFault) (e : ProgramFault) → IsErrAnd r (λ f. f ≡ e) → P e → IfErr r P
 same_fault P (Ok x) e is p = tt
 same_fault P (Err f) e is p = subst P (sym is) p
-
-pub is_false : (b : Bool) → (b ≡ true → ⊥) → b ≡ false
-is_false true never = absurd (never refl)
-is_false false never = refl
 
 pub empty_line : (line : List ℕ) → true ≡ (length line == 0) → line ≡ []
 empty_line [] e = refl

@@ -6,7 +6,7 @@ use Rattle.std.proofs.lemmas.Bool.{cases_Bool}
 use Rattle.std.proofs.lemmas.List.{length-append, append-nil}
 use Rattle.std.proofs.lemmas.Grind.{flat_map-append, fold-append}
 use Rattle.std.proofs.lemmas.List.Folds.{list_any-append}
-use Rattle.venue_rows.specs.Rows.{ConfigValues, Configuration, values_of}
+use Rattle.venue_rows.specs.Rows.{Configuration, values_of}
 use Rattle.input_lines.specs.DueText.{Lines}
 use Rattle.input_lines.specs.Lines.{is_skipped, spoken_from}
 use Rattle.venue_text.specs.LiveInput.{are_divided, as_part, configuration_in, lines_text}
@@ -19,8 +19,9 @@ use Rattle.venue_text.specs.declared.live_form.LiveForm.{LiveForm}
 use Rattle.live_runs.specs.LiveRuns.{are_four, behind_one, first_taken, second_configuration}
 use Rattle.live_runs.specs.LiveRuns.{second_day, second_taken}
 use Rattle.live_runs.specs.LiveStages.{taken_at}
-use Rattle.live_runs.proofs.PartLemmas.{before_here, after_here, parts_stay, before_more}
-use Rattle.live_runs.proofs.PartLemmas.{after_more}
+use Rattle.live_runs.proofs.PartLemmas.{parts_stay, before_more, after_more}
+use Rattle.input_lines.proofs.PartLemmas.{before_here, after_here}
+use Rattle.venue_text.proofs.UnmarkedLemmas.{any_lines}
 
 -- Lines that divide, and lines behind them.
 
@@ -209,34 +210,6 @@ module _ (first : List (List ℕ)) (divider : List ℕ) (behind : List (List ℕ
 
   pub second_taken_is : (config : Configuration) → second_taken config (first ++ divider ∷ behind) ≡ taken_at config (length first + 2) behind
   second_taken_is config = ap (λ (p : InputPart). taken_of (values_of config) (spoken_in (part_behind p))) second_is
-
--- lines that are skipped bring nothing
-any_lines : (config : ConfigValues) (taken : Taken) (k : ℕ) (lines : List (List ℕ))
-    → fold (with_any_line config) taken (numbered_from k lines)
-    ≡ fold (with_line config) taken (spoken_from k lines)
-any_lines config taken k [] = refl
-any_lines config taken k (line ∷ lines) =
-    go (is_skipped line) refl (λ then. any_lines config then (k + 1) lines)
-  where
-    go : (b : Bool) → is_skipped line ≡ b
-        → ((then : Taken) → fold (with_any_line config) then (numbered_from (k + 1) lines)
-        ≡ fold (with_line config) then (spoken_from (k + 1) lines))
-        → fold (with_any_line config) taken (numbered_from k (line ∷ lines))
-        ≡ fold (with_line config) taken (spoken_from k (line ∷ lines))
-    go true skipped later =
-        let one : with_any_line config taken (k, line) ≡ taken = rw skipped refl in
-        let none : spoken_from k (line ∷ lines) ≡ spoken_from (k + 1) lines = rw skipped refl in
-        ap (λ (t : Taken). fold (with_any_line config) t (numbered_from (k + 1) lines)) one
-        ∙ later taken
-        ∙ ap (λ (l : Lines). fold (with_line config) taken l) (sym none)
-    go false spoken later =
-        let then = with_line config taken (k, line) in
-        let one : with_any_line config taken (k, line) ≡ then = rw spoken refl in
-        let some : spoken_from k (line ∷ lines) ≡ (k, line) ∷ spoken_from (k + 1) lines =
-        rw spoken refl in
-        ap (λ (t : Taken). fold (with_any_line config) t (numbered_from (k + 1) lines)) one
-        ∙ later then
-        ∙ ap (λ (l : Lines). fold (with_line config) taken l) (sym some)
 
 numbered_more : (k : ℕ) (lines : List (List ℕ)) (line : List ℕ)
     → numbered_from k (lines ++ line ∷ []) ≡ numbered_from k lines ++ (k + length lines, line) ∷ []

@@ -1,32 +1,11 @@
 -- The parts of a list before and behind its first element that passes a test.
-use Rattle.std.proofs.Common.{◌≡◌, ◌+◌, ◌||◌, Bool, true, false, List, [], ◌∷◌, ◌++◌, length, take}
-use Rattle.std.proofs.Common.{drop, suc, refl, sym, ap, ◌∙◌, arith, inl, inr, add-one}
-use Rattle.std.proofs.Math.Nat.{add_comm}
-use Rattle.std.specs.List.{list_any, before_first, after_first, position_or_len}
+use Rattle.std.proofs.Common.{◌≡◌, ◌+◌, Bool, true, false, List, [], ◌∷◌, ◌++◌, length, refl, sym}
+use Rattle.std.proofs.Common.{ap, ◌∙◌, arith, inl, inr}
+use Rattle.std.specs.List.{list_any, before_first, after_first}
 use Rattle.std.proofs.lemmas.Bool.{cases_Bool, false≢true}
+use Rattle.input_lines.proofs.PartLemmas.{before_here, after_here, before_skip, after_skip}
 
 -- The first element of a list that passes a test.
-
-stop_here : {X : Type 0} (p : X → Bool) (x : X) (xs : List X) → p x ≡ true → position_or_len p (x ∷ xs) ≡ 0
-stop_here p x xs here = rw here refl
-
-skip_one : {X : Type 0} (p : X → Bool) (x : X) (xs : List X) → p x ≡ false → position_or_len p (x ∷ xs) ≡ suc (position_or_len p xs)
-skip_one p x xs other = rw other (add_comm 1 (position_or_len p xs) ∙ add-one (position_or_len p xs))
-
-pub before_here : {X : Type 0} (p : X → Bool) (x : X) (xs : List X) → p x ≡ true → before_first p (x ∷ xs) ≡ []
-before_here p x xs here = ap (λ n. take n (x ∷ xs)) (stop_here p x xs here)
-
-pub after_here : {X : Type 0} (p : X → Bool) (x : X) (xs : List X) → p x ≡ true → after_first p (x ∷ xs) ≡ xs
-after_here p x xs here = ap (λ n. drop (n + 1) (x ∷ xs)) (stop_here p x xs here)
-
-before_skip : {X : Type 0} (p : X → Bool) (x : X) (xs : List X) → p x ≡ false → before_first p (x ∷ xs) ≡ x ∷ before_first p xs
-before_skip p x xs other = ap (λ n. take n (x ∷ xs)) (skip_one p x xs other)
-
-after_skip : {X : Type 0} (p : X → Bool) (x : X) (xs : List X) → p x ≡ false → after_first p (x ∷ xs) ≡ after_first p xs
-after_skip p x xs other =
-    let n = position_or_len p xs in
-    let place : position_or_len p (x ∷ xs) + 1 ≡ suc (n + 1) = ap (λ m. m + 1) (skip_one p x xs other) ∙ omega arith in
-    ap (λ m. drop m (x ∷ xs)) place
 
 -- more elements behind a list that has one
 pub record PartsStay {X : Type 0} (p : X → Bool) (xs more : List X) : Type 0 where
@@ -71,6 +50,3 @@ after_more p (x ∷ xs) more none =
       | inl here ↦ (let never : true ≡ false = rw here at none in cc)
       | inr other ↦ after_skip p x (xs ++ more) other ∙ after_more p xs more (rw other at none)
     ]
-
-any_or : (a b : Bool) → a ≡ false → (a || b) ≡ b
-any_or a b e = rw e refl

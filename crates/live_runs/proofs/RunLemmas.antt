@@ -1,11 +1,8 @@
 -- All of an input, and how a run ends over it.
-use Rattle.std.proofs.Common.{◌≡◌, ℕ, ◌+◌, ◌==◌, List, [], ◌++◌, Option, Some, None, refl, sym, ap}
-use Rattle.std.proofs.Common.{subst, ◌∙◌, inl, inr, append_assoc, take}
+use Rattle.std.proofs.Common.{◌≡◌, ℕ, List, [], ◌++◌, Option, Some, None, refl, sym, ap, subst, ◌∙◌}
+use Rattle.std.proofs.Common.{inl, inr, append_assoc, take}
 use Rattle.std.specs.Io.KnownBytes.{Consumes, IsAtEnd, Keeps}
-use Rattle.std.specs.List.{list_any}
 use Rattle.std.specs.Option.{IfSome}
-use Rattle.std.specs.Prelude.{Vec}
-use Rattle.std.specs.declared.alloc.Global.{Global}
 use Rattle.std.proofs.lemmas.List.{append-nil}
 use Rattle.input_lines.specs.Faults.{told_line}
 use Rattle.input_lines.specs.Lines.{lines_of}
@@ -15,23 +12,19 @@ use Rattle.input_lines.specs.declared.faults.ProgramFault.TheVariants.{Form, Mem
 use Rattle.input_lines.specs.declared.faults.ProgramFault.TheVariants.{Read as NotRead, Stream}
 use Rattle.input_lines.specs.declared.faults.ProgramFault.TheVariants.{UnknownFirm, UnknownRoom}
 use Rattle.input_lines.specs.declared.faults.ProgramFault.TheVariants.{Weave, Write}
-use Rattle.live_runs.specs.LineForms.{LineForm, answered, meant_form}
+use Rattle.live_runs.specs.LineForms.{LineForm}
 use Rattle.live_runs.specs.LiveRuns.{EndsWith, EndsDay, EndsInAnswers, EndsInLive, HasAnswered}
 use Rattle.live_runs.specs.LiveCalls.{Start, AnswersAll, EndFails, Ends, FailsIn, FeedFails, Feeds}
 use Rattle.live_runs.specs.LiveCalls.{StandsFirst}
-use Rattle.live_runs.specs.LiveStages.{StageIs}
 use Rattle.live_runs.specs.Written.{GainsPart, Written}
-use Rattle.live_runs.specs.declared.line_forms.LineForm.{LineForm as RustForm}
 use Rattle.live_runs.specs.declared.live.LiveRun.{LiveRun}
-use Rattle.live_runs.specs.declared.stages.Stage.{Stage}
-use Rattle.live_runs.specs.declared.stages.Stage.TheVariants as stage
-use Rattle.live_runs.proofs.StreamLemmas.{keeps_same}
-use Rattle.live_runs.proofs.StageLemmas.{answered_by, still}
+use Rattle.live_runs.proofs.StageLemmas.{answered_by}
 use Rattle.live_runs.proofs.EndLemmas.{ended_is}
 
 -- All of the input.
 
 -- a fault of lines
+
 ends_with : (fault : ProgramFault) (form : LineForm) (input : List ℕ) (left : Option (List ℕ)) (out err : Written)
     → EndsDay form fault (lines_of input) out err → EndsWith form fault input left out err
 ends_with NotRead form input left out err ends = absurd ends.is_fault
@@ -109,10 +102,6 @@ consumes_both (Some all) None now a b one two = absurd one
 consumes_both (Some all) (Some ys) None a b one two = absurd two
 consumes_both (Some all) (Some ys) (Some zs) a b one two = one ∙ ap (λ (l : List ℕ). a ++ l) two ∙ sym (append_assoc a b zs)
 
-pub consumes_none : (known : Option (List ℕ)) → Consumes known known []
-consumes_none None = tt
-consumes_none (Some all) = refl
-
 pub consumes_more : (known mid now : Option (List ℕ)) (a b : List ℕ) → Consumes known mid a → Consumes mid now b → Consumes known now (a ++ b)
 consumes_more = consumes_both
 
@@ -123,22 +112,6 @@ consumes_end known mid now bytes more count one two none =
     (consumes_both known mid now bytes [] one (subst (λ (n : ℕ). Consumes mid now (take n more)) none two))
 
 -- How the run ends.
-
-pub first_stands : (form : RustForm) (run : LiveRun) → run.number ≡ 1 → run.form ≡ form → run.line.items ≡ [] → (t : Vec ℕ Global)
-    → run.stage ≡ stage.Configuration t → t.items ≡ [] → StandsFirst (meant_form form) run
-first_stands form run number form_same line t at empty start = record {
-  lines = [];
-  cut = record { count = refl; closed = λ tail. ap (λ (l : List ℕ). lines_of (l ++ tail)) (sym line); goes_on = ap (list_any (λ (c : ℕ). c == 10)) line };
-  come = record {
-    number_is = number;
-    form_is = ap (λ (f : RustForm). meant_form f) form_same;
-    stage_is = subst (λ (s : Stage). StageIs (meant_form form) [] s (still start.out) (still start.err)) (sym at)
-        (record {
-          nothing = record { undivided = refl; left = keeps_same start.out; untold = keeps_same start.err };
-          text_is = empty;
-        });
-  };
-}
 
 pub run_answered : (form : LineForm) (argument : List ℕ) (run : LiveRun) (known left : Option (List ℕ)) (out err : Written) → StandsFirst form run
     → IfSome known (λ all. AnswersAll all run out err)

@@ -1,6 +1,6 @@
 -- A line at a stage.
-use Rattle.std.proofs.Common.{◌≡◌, ℕ, ◌+◌, false, List, [], ◌∷◌, ◌++◌, Option, Some, None, sym}
-use Rattle.std.proofs.Common.{subst, inl, inr, append_assoc}
+use Rattle.std.proofs.Common.{◌≡◌, ℕ, false, List, [], ◌∷◌, ◌++◌, Option, Some, sym, subst, inl}
+use Rattle.std.proofs.Common.{inr, append_assoc}
 use Rattle.std.specs.Option.{option_to_list}
 use Rattle.std.specs.Prelude.{Vec}
 use Rattle.std.specs.declared.alloc.Global.{Global}
@@ -8,12 +8,10 @@ use Rattle.input_lines.specs.VenueParts.{is_divider}
 use Rattle.input_lines.specs.declared.faults.ProgramFault.{ProgramFault}
 use Rattle.input_lines.specs.declared.faults.ProgramFault.TheVariants.{Memory}
 use Rattle.investor_texts.specs.declared.sought_days.SoughtDay.{SoughtDay}
-use Rattle.venue_text.specs.declared.live_lines.LiveDay.{LiveDay}
 use Rattle.live_runs.specs.LineForms.{LineForm, answered, compared_for, kept_for}
 use Rattle.live_runs.specs.LiveRuns.{EndsDay, GainsFaults, HasAnswered}
 use Rattle.live_runs.specs.LiveCalls.{IsBad, KeepsAnywhere, KeepsStep, is_turn, err_new, err_old}
-use Rattle.live_runs.specs.LiveCalls.{out_new, out_old, DayFails, DayTakes, IsNext, KeptTakes}
-use Rattle.live_runs.specs.LiveCalls.{StageFails, StageTakes}
+use Rattle.live_runs.specs.LiveCalls.{out_new, out_old, IsNext, KeptTakes, StageFails, StageTakes}
 use Rattle.live_runs.specs.LiveStages.{StageIs}
 use Rattle.live_runs.specs.Written.{Written}
 use Rattle.live_runs.specs.declared.stages.Stage.{Stage}
@@ -21,21 +19,15 @@ use Rattle.live_runs.specs.declared.stages.Stage.TheVariants as stage
 use Rattle.live_runs.proofs.DayLineLemmas.{kept_taken}
 use Rattle.live_runs.proofs.TwoDayLemmas.{answers_nothing, awaiting_more, awaiting_taken}
 use Rattle.live_runs.proofs.TwoDayLemmas.{both_answered, both_more, first_more, one_taken}
-use Rattle.live_runs.proofs.ConfigurationLemmas.{config_goes_on, stage_opened}
+use Rattle.live_runs.proofs.ConfigurationLemmas.{stage_opened}
 use Rattle.live_runs.proofs.RefusalLemmas.{config_bad}
 
 -- where the streams stay as they are
+
 abbrev pub still : Option (List ℕ) → Written
 still known = record { before = known; after = known }
 
 module _ (form : LineForm) (number : ℕ) (line : List ℕ) (before : Stage) where
-  pub stage_waits : (after : Stage) (t u : Vec ℕ Global) (o e : Option (List ℕ)) → before ≡ stage.Configuration t → after ≡ stage.Configuration u
-      → IsNext form line t.items u.items None → StageTakes form number line before after (still o) (still e)
-  stage_waits after t u o e was is next lines start at had =
-      subst (λ (s : Stage). StageIs form (lines ++ line ∷ []) s (out_new start (still o)) (err_new start (still e))) (sym is)
-      (config_goes_on lines line t.items u.items _ _
-      (subst (λ (s : Stage). StageIs form lines s (out_old start (still o)) (err_old start (still e))) was had) next.0 next.1)
-
   pub stage_opens : (after : Stage) (t : Vec ℕ Global) (now : List ℕ) (o e : Option (List ℕ)) → before ≡ stage.Configuration t
       → IsNext form line t.items now (Some after) → StageTakes form number line before after (still o) (still e)
   stage_opens after t now o e was next lines start at had =
@@ -67,18 +59,6 @@ answered_by (answered form) lines (stage.Between d t) out err is = absurd is
 answered_by (answered form) lines (stage.Both d d') out err is = absurd is
 answered_by (kept_for sought) lines (stage.Between d t) out err is = absurd is
 answered_by (kept_for sought) lines (stage.Both d d') out err is = absurd is
-
-day_goes : (form : LineForm) (number : ℕ) (line : List ℕ) (d d' : LiveDay) (out err : Written) → DayTakes number line d d' out err
-    → StageTakes form number line (stage.Day d) (stage.Day d') out err
-day_goes (answered form) number line d d' out err takes lines start at had = takes form lines start at had
-day_goes (kept_for sought) number line d d' out err takes lines start at had = absurd had
-day_goes (compared_for whom) number line d d' out err takes lines start at had = absurd had
-
-day_fails : (form : LineForm) (number : ℕ) (line : List ℕ) (d : LiveDay) (fault : ProgramFault) (out err : Written) → DayFails number line d fault out err
-    → StageFails form number line (stage.Day d) fault out err
-day_fails (answered form) number line d fault out err fails lines start at had more = fails form lines start at had more
-day_fails (kept_for sought) number line d fault out err fails lines start at had more = absurd had
-day_fails (compared_for whom) number line d fault out err fails lines start at had more = absurd had
 
 kept_goes : (form : LineForm) (number : ℕ) (line : List ℕ) (d d' : SoughtDay) (out err : Written) → KeptTakes number line d d' out err
     → StageTakes form number line (stage.Kept d) (stage.Kept d') out err
@@ -123,17 +103,6 @@ refused_behind form number line before fault o e is lines start at had more =
     })
 
 module _ (form : LineForm) (number : ℕ) (line : List ℕ) (before : Stage) where
-  pub stage_goes : (after : Stage) (d d' : LiveDay) (out err : Written) → before ≡ stage.Day d → after ≡ stage.Day d'
-      → DayTakes number line d d' out err → StageTakes form number line before after out err
-  stage_goes after d d' out err was is takes =
-      subst (λ (s : Stage). StageTakes form number line s after out err) (sym was)
-      (subst (λ (s : Stage). StageTakes form number line (stage.Day d) s out err) (sym is) (day_goes form number line d d' out err takes))
-
-  pub stage_fails : (d : LiveDay) (fault : ProgramFault) (out err : Written) → before ≡ stage.Day d → DayFails number line d fault out err
-      → StageFails form number line before fault out err
-  stage_fails d fault out err was fails =
-      subst (λ (s : Stage). StageFails form number line s fault out err) (sym was) (day_fails form number line d fault out err fails)
-
   pub stage_keeps : (after : Stage) (d d' : SoughtDay) (out err err' : Option (List ℕ)) → before ≡ stage.Kept d
       → after ≡ stage.Kept d' → KeepsStep number line d d' (record { before = err; after = err' })
       → StageTakes form number line before after (still out) (record { before = err; after = err' })
@@ -169,9 +138,6 @@ module _ (form : LineForm) (number : ℕ) (line : List ℕ) (before : Stage) whe
       subst (λ (s : Stage). StageTakes form number line s after (still out) (record { before = err; after = err' })) (sym was)
       (subst (λ (s : Stage). StageTakes form number line (stage.Both one d) s (still out) (record { before = err; after = err' })) (sym is)
       (both_go form number line step.fault one d d' out err err' step.keeps step.told))
-
-  pub stage_refused : (fault : ProgramFault) (o e : Option (List ℕ)) → fault ≡ Memory → StageFails form number line before fault (still o) (still e)
-  stage_refused fault o e is = refused_behind form number line before fault o e is
 
   -- and standard error is as it was
   pub stage_refused_as_it_was : (fault : ProgramFault) (o e e' : Option (List ℕ)) → (fault ≡ Memory) × (e' ≡ e)

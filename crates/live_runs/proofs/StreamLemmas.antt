@@ -1,5 +1,7 @@
 -- What readers and writers hold, where they tell it.
-use Rattle.std.proofs.Common.{◌≡◌, ◌<◌, ◌≤◌, ℕ, ◌+◌, ◌-◌, List, [], ◌∷◌, ◌++◌, length, get_or, take, drop, sym, ap, ◌∙◌, subst, refl, arith, Option, Some, None, append_assoc}
+use Rattle.std.proofs.Common.{◌≡◌, ◌<◌, ◌≤◌, ℕ, ◌+◌, ◌-◌, List, [], ◌∷◌, ◌++◌, length, get_or, take}
+use Rattle.std.proofs.Common.{drop, sym, ap, ◌∙◌, subst, refl, arith, Option, Some, None}
+use Rattle.std.proofs.Common.{append_assoc}
 use Rattle.std.specs.Io.KnownBytes.{Appends, Keeps}
 use Rattle.std.proofs.lemmas.Grind.{flat_map-append}
 use Rattle.std.specs.List.{flat_map}
@@ -8,6 +10,7 @@ use Rattle.std.proofs.Math.Seq.{take-append_seam}
 use Rattle.live_runs.specs.Written.{Gains, GainsPart, Written}
 
 -- two texts that were taken one behind the other
+
 pub appends_both : (old mid new : Option (List ℕ)) (a b : List ℕ) → Appends old mid a → Appends mid new b → Appends old new (a ++ b)
 appends_both None mid new a b first second = tt
 appends_both (Some xs) None new a b first second = absurd first
@@ -37,15 +40,6 @@ split_more text written rest n split =
 pub keeps_same : (known : Option (List ℕ)) → Keeps known known
 keeps_same None = tt
 keeps_same (Some xs) = refl
-
-pub nothing_taken : (known : Option (List ℕ)) (text : List ℕ) → GainsPart text (record { before = known; after = known })
-nothing_taken None text = record { taken = 0; gained = tt }
-nothing_taken (Some xs) text = record { taken = 0; gained = sym (append-nil xs) }
-
-pub all_taken : (old mid new : Option (List ℕ)) (text : List ℕ) → Appends old mid text → Keeps mid new
-    → GainsPart text (record { before = old; after = new })
-all_taken old mid new text all stays =
-    prefix_taken (record { before = old; after = new }) text text [] (appends_kept old mid new text all stays) (sym (append-nil text))
 
 -- ---- a line of a front, a word and a line feed
 

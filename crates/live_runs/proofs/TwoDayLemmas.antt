@@ -9,7 +9,6 @@ use Rattle.investor_texts.specs.SoughtDays as sought_days
 use Rattle.investor_texts.specs.SoughtDays.{KeepsMore, OpensSought, Whom, sought_of}
 use Rattle.venue_text.specs.LiveInput.{are_divided, configuration_in, taken_in}
 use Rattle.venue_text.specs.LiveLines.{Taken}
-use Rattle.input_lines.specs.StepLines.{asked}
 use Rattle.input_lines.specs.VenueParts.{is_divider, venue_of}
 use Rattle.input_lines.specs.declared.faults.ProgramFault.{ProgramFault}
 use Rattle.investor_texts.specs.declared.sought_days.SoughtDay.{SoughtDay}
@@ -72,12 +71,6 @@ one_taken whom lines day out err first = record {
 
 module _ (whom : Whom) (lines first : List (List ℕ)) (divider : List ℕ) (behind : List (List ℕ)) (two : AreTwo lines first divider behind)
     (day : SoughtDay) (out err : Written) (goes : FirstGoes whom first day out err) where
-  abbrev whole_lines_are : List (List ℕ)
-  whole_lines_are = first ++ divider ∷ behind
-
-  same_lines : whole_lines_are ≡ lines
-  same_lines = sym two.split
-
   first_spelled : venue_of (configuration_in lines) ≡ Ok (values_of goes.goes.config)
   first_spelled =
       ap (λ l. venue_of (configuration_in l)) two.split

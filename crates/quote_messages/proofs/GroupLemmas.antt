@@ -1,7 +1,7 @@
 -- The party group, field by field.
-use Rattle.std.proofs.Common.{◌≡◌, ◌≢◌, ℕ, ◌+◌, ◌≤◌, ◌==◌, Bool, true, false, ◌||◌, ◌&&◌, List, []}
-use Rattle.std.proofs.Common.{◌∷◌, length, drop, cond, Option, Some, None, arith, refl, ap, ◌∙◌}
-use Rattle.std.proofs.Common.{sym, suc, is_some, not, codes}
+use Rattle.std.proofs.Common.{◌≡◌, ℕ, ◌+◌, ◌≤◌, ◌==◌, Bool, true, false, ◌||◌, ◌&&◌, List, [], ◌∷◌}
+use Rattle.std.proofs.Common.{length, drop, cond, Option, Some, None, arith, refl, ap, ◌∙◌, sym}
+use Rattle.std.proofs.Common.{suc, is_some, not, codes}
 use Rattle.std.specs.List.{filter_map, take_while, position_or_len, after_first, cons_option}
 use Rattle.std.proofs.lemmas.List.Sums.{take_while-cons, sum_by-cons}
 use Rattle.std.proofs.lemmas.Bool.Decides.{nat_tests}
@@ -18,24 +18,15 @@ use Rattle.quote_messages.specs.Slots.{joined}
 use Rattle.quote_messages.specs.PartyGroup.{is_of_party, is_beside_parties, not_ignored, group_of}
 use Rattle.quote_messages.specs.PartyGroup.{before_entry, entries_of, entry_lines, entries_fault}
 use Rattle.quote_messages.specs.PartyGroup.{dealer_of_entry, named_dealers}
-use Rattle.quote_messages.specs.GroupReading.{run_of, IsAbsent, StandsBefore}
+use Rattle.quote_messages.specs.GroupReading.{run_of, StandsBefore}
 use Rattle.quote_messages.proofs.SlotLemmas.{one_value, joined-same, joined-other, none-joined}
 
 -- the run, by what its first field is
+
 pub run_of-party : (field : Field) (fields : List Field) → is_of_party field.0 ≡ true → run_of (field ∷ fields) ≡ field ∷ run_of fields
 run_of-party field fields p =
     let kept : not_ignored (field ∷ fields) ≡ field ∷ not_ignored fields = rw p refl in
     ap (λ all. take_while (λ f. is_of_party f.0) all) kept ∙ take_while-cons (λ f. is_of_party f.0) field (not_ignored fields) ∙ ap (λ b. cond b (field ∷ run_of fields) []) p
-
-pub run_of-beside : (field : Field) (fields : List Field) → is_of_party field.0 ≡ false → is_beside_parties field.0 ≡ true → run_of (field ∷ fields) ≡ []
-run_of-beside field fields p b =
-    let kept : not_ignored (field ∷ fields) ≡ field ∷ not_ignored fields = rw (p, b) refl in
-    ap (λ all. take_while (λ f. is_of_party f.0) all) kept ∙ take_while-cons (λ f. is_of_party f.0) field (not_ignored fields) ∙ ap (λ b. cond b (field ∷ run_of fields) []) p
-
-pub run_of-ignored : (field : Field) (fields : List Field) → is_of_party field.0 ≡ false → is_beside_parties field.0 ≡ false → run_of (field ∷ fields) ≡ run_of fields
-run_of-ignored field fields p b =
-    let kept : not_ignored (field ∷ fields) ≡ not_ignored fields = rw (p, b) refl in
-    ap (λ all. take_while (λ f. is_of_party f.0) all) kept
 
 -- what stands behind the first element that passes a test
 after_first-cons : {X : Type 0} (p : X → Bool) (b : Bool) (x : X) (xs : List X) → p x ≡ b → after_first p (x ∷ xs) ≡ cond b xs (after_first p xs)
@@ -44,20 +35,6 @@ after_first-cons p false x xs h =
     let n = position_or_len p xs in
     let more : 1 + n + 1 ≡ suc (n + 1) = omega arith in
     rw h (ap (λ k. drop k (x ∷ xs)) more)
-
-or_yes : (b : Bool) → b || true ≡ true
-or_yes true = refl
-or_yes false = refl
-
-count_is_kept : (tag : ℕ) → tag == 453 ≡ true → is_beside_parties tag ≡ true
-count_is_kept tag h = let is : tag ≡ 453 = grind (arith, nat_tests) in rw is refl
-
--- the group, where its number of entries stands first
-pub group_of-count : (field : Field) (fields : List Field) → field.0 == 453 ≡ true → group_of (field ∷ fields) ≡ run_of fields
-group_of-count field fields h =
-    let kept : not_ignored (field ∷ fields) ≡ field ∷ not_ignored fields = ap (λ b. cond (is_of_party field.0 || b) (field ∷ not_ignored fields) (not_ignored fields)) (count_is_kept field.0 h) ∙ ap (λ b. cond b (field ∷ not_ignored fields) (not_ignored fields)) (or_yes (is_of_party field.0)) in
-    ap (λ all. take_while (λ f. is_of_party f.0) (after_first (λ f. f.0 == 453) all)) kept
-    ∙ ap (λ all. take_while (λ f. is_of_party f.0) all) (after_first-cons (λ f. f.0 == 453) true field (not_ignored fields) h)
 
 group_of-kept : (b : Bool) (field : Field) (fields : List Field) → field.0 == 453 ≡ false → is_of_party field.0 || is_beside_parties field.0 ≡ b → group_of (field ∷ fields) ≡ group_of fields
 group_of-kept true field fields h k =
@@ -95,22 +72,6 @@ entry_id id fields =
     ∙ sym (joined-same (record { first = None; is_repeated = false }) 448 (448, id) (before_entry fields) refl)
     ∙ ap (λ rest. joined (one_value id) rest) (none_before fields)
 
--- another tag of it
-pub in_entry : (tag : ℕ) (id : List ℕ) (fields : List Field) → tag ≢ 448 → occurrence_of tag ((448, id) ∷ before_entry fields) ≡ occurrence_of tag (before_entry fields)
-in_entry tag id fields apart = let other : 448 == tag ≡ false = grind (arith, nat_tests) in joined-other tag (448, id) (before_entry fields) other
-
--- entries behind a whole one
-pub entries_behind : (date : List ℕ) (field : Field) (fields : List Field) → field.0 == 448 ≡ true → first_fault entry_lines date (field ∷ before_entry fields) ≡ None → entries_fault date (entries_of (field ∷ fields)) ≡ entries_fault date (entries_of fields)
-entries_behind date field fields h whole =
-    ap (λ b. entries_fault date (cond b ((field ∷ before_entry fields) ∷ entries_of fields) (entries_of fields))) h
-    ∙ ap (λ found. or_next found (entries_fault date (entries_of fields))) whole
-
--- the first fault of entries is that of the first entry that has one
-pub entries_at : (date : List ℕ) (field : Field) (fields : List Field) (fault : SessionFault) → field.0 == 448 ≡ true → first_fault entry_lines date (field ∷ before_entry fields) ≡ Some fault → entries_fault date (entries_of (field ∷ fields)) ≡ Some fault
-entries_at date field fields fault h found =
-    ap (λ b. entries_fault date (cond b ((field ∷ before_entry fields) ∷ entries_of fields) (entries_of fields))) h
-    ∙ ap (λ found. or_next found (entries_fault date (entries_of fields))) found
-
 -- a field that begins no entry
 pub entries_skip : (field : Field) (fields : List Field) → field.0 == 448 ≡ false → entries_of (field ∷ fields) ≡ entries_of fields
 entries_skip field fields h = ap (λ b. cond b ((field ∷ before_entry fields) ∷ entries_of fields) (entries_of fields)) h
@@ -121,9 +82,6 @@ stands_before tag field fields h t =
     ap (λ all. occurrence_of tag all) (before_entry-other field fields h)
     ∙ sym (none-joined (occurrence_of tag (field ∷ before_entry fields)))
     ∙ sym (joined-same (record { first = None; is_repeated = false }) tag field (before_entry fields) t)
-
-pub absent_before : (tag : ℕ) (field : Field) (fields : List Field) → field.0 == 448 ≡ true → IsAbsent tag (before_entry (field ∷ fields))
-absent_before tag field fields h = ap (λ all. occurrence_of tag all) (before_entry-entry field fields h)
 
 pub passed_before : (tag : ℕ) (field : Field) (fields : List Field) → field.0 == 448 ≡ false → field.0 == tag ≡ false → occurrence_of tag (before_entry (field ∷ fields)) ≡ occurrence_of tag (before_entry fields)
 passed_before tag field fields h t =
@@ -151,7 +109,7 @@ times_same n one total all field rest o e h =
     omega (arith, counted, h)
 
 -- no fault before a fault
-or_next-none : (a b : Option SessionFault) → or_next a b ≡ None → (a ≡ None) × (b ≡ None)
+pub or_next-none : (a b : Option SessionFault) → or_next a b ≡ None → (a ≡ None) × (b ≡ None)
 or_next-none None b h = (refl, h)
 or_next-none (Some fault) b h = absurd (cc_none fault h) where
   cc_none : (fault : SessionFault) → Some fault ≡ None → ⊥

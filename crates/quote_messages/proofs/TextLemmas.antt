@@ -6,15 +6,12 @@ use Rattle.std.proofs.lemmas.List.{take_all, drop_all}
 use Rattle.std.specs.Char.{is_ascii_digit, is_ascii_alphanumeric}
 use Rattle.std.specs.Str.Parse.{digits_value}
 use Rattle.fix_fields.specs.Frame.{IsValue}
-use Rattle.fix_fields.specs.TextLaws.{utf8_if_all, value_if_all}
-use Rattle.std.specs.Str.{IsUtf8}
+use Rattle.fix_fields.specs.TextLaws.{value_if_all}
 use Rattle.std.proofs.lemmas.Bool.{and_parts}
 use Rattle.std.proofs.lemmas.Bool.Decides.{nat_tests}
 use Rattle.quote_messages.specs.Texts.{is_sequence_number, is_msg_type, is_point}
 
 -- digits are UTF-8
-pub digits_are_utf8 : (text : List ℕ) → list_all is_ascii_digit text ≡ true → IsUtf8 text
-digits_are_utf8 text h = utf8_if_all is_ascii_digit (λ c e. grind (arith, nat_tests)) text h
 
 digit-apart : (c : ℕ) → is_ascii_digit c ≡ true → c ≢ 1
 digit-apart c h = λ e. grind (arith, nat_tests)

@@ -1,8 +1,8 @@
 -- What the session makes of bytes that came from a firm: they are dropped, they are answered by a
 -- Reject, or they say something to the market. Each firm's messages are numbered from 1 by
 -- MsgSeqNum (34), and come in that order.
-use Rattle.std.specs.Prelude.{ℕ, ◌+◌, Bool, true, false, ◌==◌, List, Option, Some, None, Result, Ok}
-use Rattle.std.specs.Prelude.{Err, if◌then◌else◌, option_and_then}
+use Rattle.std.specs.Prelude.{ℕ, ◌+◌, ◌==◌, List, Option, Some, None, Result, Ok, Err}
+use Rattle.std.specs.Prelude.{if◌then◌else◌, option_and_then}
 use Rattle.std.specs.Str.Parse.{digits_value}
 use Rattle.fix_fields.specs.Frame.{Field, frame_of, times_of, value_of}
 use Rattle.venue_rows.specs.Texts.{text_if}
@@ -22,6 +22,7 @@ use Rattle.quote_messages.specs.declared.arrivals.Arrival.TheVariants.{Rejected,
 
 -- The MsgSeqNum (34) that is expected of a firm when so many of its messages have used up theirs.
 -- After 999,999,999 it is 1,000,000,000, which no message can bear.
+
 abbrev pub expected_number : ℕ → ℕ
 expected_number used = used + 1
 
@@ -63,13 +64,6 @@ abbrev pub framed : {Message : Type 0} → (List Field → Result Message Sessio
 framed verdict expected None = Dropped
 framed verdict expected (Some fields) =
     numbered expected fields (sequence_number fields) (verdict fields)
-
--- whether a message used up its number
-abbrev pub uses_number : {Message : Type 0} → Arrival Message → Bool
-uses_number Dropped = false
-uses_number (OutOfSequence reject) = false
-uses_number (Rejected reject) = true
-uses_number (Taken message) = true
 
 -- what becomes of bytes that came from a dealer
 unfoldable pub dealer_arrival : List ℕ → DealerRow → ℕ → List ℕ → Arrival DealerMessage

@@ -6,21 +6,22 @@ use Rattle.std.specs.List.{list_any}
 use Rattle.std.proofs.lemmas.List.{append-nil}
 use Rattle.std.proofs.lemmas.List.Elements.{All-head}
 use Rattle.std.proofs.lemmas.List.Folds.{list_any-append}
+use Rattle.std.proofs.Math.Bool.{or-false}
 use Rattle.quote_word.specs.declared.settled.Settled.{Settled}
 use Rattle.quote_word.specs.declared.settled.Settled.TheVariants.{Withdrawn, Lifted}
 use Rattle.venue_rows.specs.declared.dealer_rows.DealerRow.{DealerRow}
-use Rattle.dealer_desk.specs.DealerOutput.{DeskState, settled_words, asked_word, desk_after}
+use Rattle.dealer_desk.specs.DealerOutput.{DeskState, desk_after}
+use Rattle.dealer_desk.specs.SettledWords.{settled_words, asked_word}
 use Rattle.dealer_desk.specs.DeskLaws.{is_lifted, is_taken_back, says_lifted, says_withdrawn}
 use Rattle.dealer_desk.specs.declared.events.DealerEvent.{DealerEvent}
 use Rattle.step_replay.specs.DealerView.{DealerView, after_due, answer_to, view_after}
 use Rattle.step_replay.specs.declared.dues.Due.{Due}
 use Rattle.step_replay.specs.declared.dues.Due.TheVariants as due
-use Rattle.recorded_days.specs.DayDues.{DayDues, after_recorded, settlement_taken, lifting_learned}
+use Rattle.recorded_days.specs.DayDues.{after_recorded, settlement_taken, lifting_learned}
 use Rattle.recorded_days.proofs.DayDueLemmas.{AreOne, none_says}
 use Rattle.recorded_days.proofs.DeskLemmas.{view_of}
-use Rattle.recorded_days.proofs.DaySeenLemmas.{WithdrawnIsSaid, IsOfDay, walk_of, DaySeen, or_false}
-use Rattle.recorded_days.proofs.DaySeenLemmas.{or_true, pushed, walk_pushed, view_pushed}
-use Rattle.recorded_days.proofs.DaySeenLemmas.{lifting_seen}
+use Rattle.recorded_days.proofs.DaySeenLemmas.{WithdrawnIsSaid, IsOfDay, walk_of, DaySeen, or_true}
+use Rattle.recorded_days.proofs.DaySeenLemmas.{pushed, walk_pushed, view_pushed, lifting_seen}
 
 module _ (date : List ℕ) (row : DealerRow) where
   -- A message or a drop.
@@ -35,11 +36,6 @@ module _ (date : List ℕ) (row : DealerRow) where
 
     abbrev told : List ℕ → Option Settled → DealerView
     told lifted settlement = view_of date row (before.seen ++ put settlement ∷ []) lifted
-
-    -- the desks have the event as it came
-    abbrev came : Option Settled → DayDues → DealerEvent → Type 0
-    came settlement next now =
-        after_recorded (walk_of date row before.walked before.dues) now ≡ next
 
     not_lifted : (quote : ℕ) → word_of quote ≡ Some Withdrawn → AreOne word_of words
         → list_any (λ (one : ℕ). one == quote) before.lifted ≡ false
@@ -113,7 +109,7 @@ module _ (date : List ℕ) (row : DealerRow) where
           lifted_are = λ other. before.lifted_are other
               ∙ sym (ap (list_any (says_lifted other)) said_now
               ∙ list_any-append (says_lifted other) words ((quote, Withdrawn) ∷ [])
-              ∙ or_false (list_any (says_lifted other) words));
+              ∙ or-false (list_any (says_lifted other) words));
         }
     asking_seen (Some quote) (Some Lifted) both_are of_day recorded due_is said_now one last =
         let is : word_of quote ≡ Some Lifted =

@@ -1,28 +1,25 @@
 -- How the settlements of a desk go on event by event, and what the code puts for an event.
-use Rattle.std.proofs.Common.{◌≡◌, ℕ, ◌==◌, Bool, true, false, ◌||◌, ◌&&◌}
-use Rattle.std.proofs.Common.{List, [], ◌∷◌, ◌++◌, Option, Some}
-use Rattle.std.proofs.Common.{All, refl, sym, ap, subst, ◌∙◌, arith}
-use Rattle.std.proofs.Common.{◌⊎◌, inl, inr}
+use Rattle.std.proofs.Common.{◌≡◌, ℕ, ◌==◌, Bool, true, false, ◌&&◌, List, [], ◌∷◌, ◌++◌, Option}
+use Rattle.std.proofs.Common.{Some, All, refl, sym, ap, subst, ◌∙◌, arith, ◌⊎◌, inl, inr}
 use Rattle.std.specs.List.{list_any}
 use Rattle.std.proofs.Math.Seq.{append_snoc}
 use Rattle.std.proofs.lemmas.Bool.Decides.{nat_tests}
 use Rattle.std.proofs.lemmas.List.{append-nil}
 use Rattle.std.proofs.lemmas.List.Elements.{All-cons, All-head, All-nil, All-tail}
+use Rattle.std.proofs.lemmas.Bool.{or_from}
 use Rattle.quote_word.specs.declared.settled.Settled.{Settled}
 use Rattle.market_terms.specs.declared.asks.Ask.{Ask}
 use Rattle.market_terms.specs.declared.closes.Close.{Close}
 use Rattle.market_terms.specs.declared.rooms.RoomRef.{RoomRef}
 use Rattle.dealer_desk.specs.DealerFacts.{number_to_drop}
-use Rattle.dealer_desk.specs.DealerOutput.{DeskEvents}
-use Rattle.dealer_desk.specs.DealerOutput.{with_event}
-use Rattle.dealer_desk.specs.DealerOutput.{book_at, verdict_at, with_notice, word_asked}
+use Rattle.dealer_desk.specs.DealerDesk.{DeskEvents, with_event, book_at, verdict_at, with_notice}
+use Rattle.dealer_desk.specs.DealerOutput.{word_asked}
 use Rattle.dealer_desk.specs.declared.events.DealerEvent.{DealerEvent}
 use Rattle.dealer_desk.specs.declared.events.DealerEvent.TheVariants as event
 use Rattle.step_replay.specs.declared.dues.Due.{Due}
 use Rattle.step_replay.specs.declared.dues.Due.TheVariants as due
 use Rattle.recorded_days.specs.DayDues.{AreAnsweredFrom, DayDues, IsAnswered, after_drop, after_own}
-use Rattle.recorded_days.specs.DayDues.{after_recorded, settlement_taken}
-use Rattle.recorded_days.specs.DayDues.{lifting_learned}
+use Rattle.recorded_days.specs.DayDues.{after_recorded, settlement_taken, lifting_learned}
 
 -- Lists.
 
@@ -87,10 +84,6 @@ AreOne word_of words = All (λ (asked : ℕ × Settled). word_of asked.0 ≡ Som
 apart : (one other : ℕ) → (one ≡ other → ⊥) → (one == other) ≡ false
 apart one other differs = grind (arith, nat_tests)
 
-neither : (a b : Bool) → a ≡ false → b ≡ false → (a || b) ≡ false
-neither true b one other = cc
-neither false b one other = other
-
 -- whether an answer says the other thing of a quote's word
 abbrev says : (Settled → Bool) → ℕ → (ℕ × Settled) → Bool
 says kind quote asked = kind asked.1 && (asked.0 == quote)
@@ -118,7 +111,7 @@ module _ (word_of : ℕ → Option Settled) (quote : ℕ) (settlement : Settled)
       → list_any (says kind quote) words ≡ false
   none_says [] one = refl
   none_says (word ∷ words) one =
-      neither (says kind quote word) (list_any (says kind quote) words)
+      or_from (says kind quote word) (list_any (says kind quote) words)
       (says_not word.0 word.1 (All-head (λ (asked : ℕ × Settled). word_of asked.0 ≡ Some asked.1)
       word words one))
       (none_says words (All-tail (λ (asked : ℕ × Settled). word_of asked.0 ≡ Some asked.1)

@@ -6,15 +6,16 @@ use Rattle.std.proofs.lemmas.Bool.Decides.{nat_tests}
 use Rattle.std.proofs.lemmas.List.Sums.{fold-append}
 use Rattle.venue_rows.specs.declared.dealer_rows.DealerRow.{DealerRow}
 use Rattle.dealer_desk.specs.DealerFacts.{DealerFact, book_of}
-use Rattle.dealer_desk.specs.DealerOutput.{DeskState, after_event, settled_words, asked_by}
-use Rattle.dealer_desk.specs.DealerOutput.{desk_after}
+use Rattle.dealer_desk.specs.DealerOutput.{DeskState, after_event, desk_after}
+use Rattle.dealer_desk.specs.SettledWords.{settled_words, asked_by}
 use Rattle.dealer_desk.specs.DeskLaws.{says_lifted, says_withdrawn, withdraws}
 use Rattle.dealer_desk.specs.declared.events.DealerEvent.{DealerEvent}
 use Rattle.step_replay.specs.DealerView.{DealerView, after_due, view_after, view_at_start}
 use Rattle.step_replay.specs.declared.dues.Due.{Due}
 use Rattle.step_replay.specs.declared.dues.Due.TheVariants as due
 use Rattle.recorded_days.specs.DayDues.{DayDues, after_recorded, dues_after, dues_at_start}
-use Rattle.recorded_days.proofs.DeskLemmas.{desk_push, view_of}
+use Rattle.recorded_days.proofs.DeskLemmas.{view_of}
+use Rattle.step_replay.specs.DealerGrowth.{desk_push}
 
 -- the laws of a desk that are used: the words that are asked stand in the facts, event by event
 abbrev pub WordsGrow : Type 0
@@ -63,10 +64,6 @@ start_is_seen date row = record {
   seen_is = refl;
   lifted_are = λ quote. refl;
 }
-
-pub or_false : (b : Bool) → (b || false) ≡ b
-or_false true = refl
-or_false false = refl
 
 pub or_true : (b : Bool) → (b || (true || false)) ≡ true
 or_true true = refl

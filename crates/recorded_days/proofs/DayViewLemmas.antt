@@ -5,8 +5,9 @@ use Rattle.quote_word.specs.declared.settled.Settled.{Settled}
 use Rattle.venue_rows.specs.declared.dealer_rows.DealerRow.{DealerRow}
 use Rattle.dealer_desk.specs.DealerFacts.{book_of, number_to_drop}
 use Rattle.dealer_desk.specs.DealerRules.{dealer_verdict}
-use Rattle.dealer_desk.specs.DealerOutput.{DeskEvents, DeskState, settled_words, asked_by}
-use Rattle.dealer_desk.specs.DealerOutput.{desk_after, word_asked, book_at, verdict_at}
+use Rattle.dealer_desk.specs.DealerDesk.{DeskEvents, book_at, verdict_at}
+use Rattle.dealer_desk.specs.DealerOutput.{DeskState, desk_after, word_asked}
+use Rattle.dealer_desk.specs.SettledWords.{settled_words, asked_by}
 use Rattle.dealer_desk.specs.declared.events.DealerEvent.{DealerEvent}
 use Rattle.dealer_desk.specs.declared.events.DealerEvent.TheVariants as event
 use Rattle.step_replay.specs.DealerView.{DealerView, after_due, answer_to, dealer_view, sent_at}

@@ -1,9 +1,8 @@
 -- A dealer's desk event by event, and the dealer view at such a desk.
-use Rattle.std.proofs.Common.{◌≡◌, ℕ, List, [], ◌∷◌, ◌++◌, ap, ◌∙◌}
-use Rattle.std.proofs.lemmas.List.Sums.{fold-append}
+use Rattle.std.proofs.Common.{◌≡◌, ℕ, List, ap, ◌∙◌}
 use Rattle.venue_rows.specs.declared.dealer_rows.DealerRow.{DealerRow}
 use Rattle.dealer_desk.specs.DealerFacts.{DealerFact}
-use Rattle.dealer_desk.specs.DealerOutput.{DeskState, after_event, desk_after, no_facts}
+use Rattle.dealer_desk.specs.DealerOutput.{DeskState}
 use Rattle.dealer_desk.specs.declared.events.DealerEvent.{DealerEvent}
 use Rattle.step_replay.specs.DealerView.{DealerView}
 
@@ -22,10 +21,3 @@ pub both : (facts facts_too : List DealerFact) (sent sent_too : List (List ℕ))
     → facts ≡ facts_too → sent ≡ sent_too → desk_with facts sent ≡ desk_with facts_too sent_too
 both facts facts_too sent sent_too one other =
     ap (λ f. desk_with f sent) one ∙ ap (λ s. desk_with facts_too s) other
-
--- a desk after one event more
-pub desk_push : (date : List ℕ) (row : DealerRow) (events : List DealerEvent) (more : DealerEvent)
-    → desk_after date row (events ++ more ∷ [])
-    ≡ after_event date row (desk_after date row events) more
-unfolding desk_after
-desk_push date row events more = fold-append (after_event date row) no_facts events (more ∷ [])

@@ -8,9 +8,10 @@ use Rattle.market_terms.specs.declared.asks.Ask.{Ask}
 use Rattle.market_terms.specs.declared.closes.Close.{Close}
 use Rattle.market_terms.specs.declared.rooms.RoomRef.{RoomRef}
 use Rattle.dealer_desk.specs.DealerFacts.{Told, book_of}
-use Rattle.dealer_desk.specs.DealerOutput.{DeskEvents, DeskState, after_event, settled_words}
-use Rattle.dealer_desk.specs.DealerOutput.{closable, desk_after, event_facts, event_message}
-use Rattle.dealer_desk.specs.DealerOutput.{notice_of, sent_with}
+use Rattle.dealer_desk.specs.DealerDesk.{DeskEvents}
+use Rattle.dealer_desk.specs.DealerOutput.{DeskState, after_event, closable, desk_after}
+use Rattle.dealer_desk.specs.DealerOutput.{event_facts, event_message, notice_of, sent_with}
+use Rattle.dealer_desk.specs.SettledWords.{settled_words}
 use Rattle.dealer_desk.specs.DeskLaws.{says_lifted}
 use Rattle.dealer_desk.specs.declared.standing.StandingRequest.{StandingRequest}
 use Rattle.dealer_desk.specs.declared.events.DealerEvent.{DealerEvent}
@@ -18,8 +19,9 @@ use Rattle.dealer_desk.specs.declared.events.DealerEvent.TheVariants as event
 use Rattle.step_replay.specs.DealerView.{DealerView, after_due, no_room}
 use Rattle.step_replay.specs.declared.dues.Due.TheVariants as due
 use Rattle.recorded_days.specs.DayDues.{DayDues, after_recorded}
-use Rattle.recorded_days.proofs.DeskLemmas.{both, desk_push, view_of}
+use Rattle.recorded_days.proofs.DeskLemmas.{both, view_of}
 use Rattle.recorded_days.proofs.DaySeenLemmas.{WordsGrow, DaySeen, pushed, walk_pushed, view_pushed}
+use Rattle.step_replay.specs.DealerGrowth.{desk_push}
 
 module _ (date : List ℕ) (row : DealerRow) where
   -- A request is shown.

@@ -9,8 +9,10 @@ use Rattle.quote_word.specs.declared.settled.Settled.TheVariants.{Withdrawn, Lif
 use Rattle.venue_rows.specs.Rows.{Configuration, dealer_numbered}
 use Rattle.venue_rows.specs.declared.dealer_rows.DealerRow.{DealerRow}
 use Rattle.dealer_desk.specs.DealerFacts.{number_to_drop}
-use Rattle.dealer_desk.specs.DealerOutput.{DeskEvents, settled_words, book_at, facts_at}
-use Rattle.dealer_desk.specs.DealerOutput.{verdict_at, with_event, with_notice, word_asked}
+use Rattle.dealer_desk.specs.DealerDesk.{DeskEvents, book_at, facts_at, verdict_at, with_event}
+use Rattle.dealer_desk.specs.DealerDesk.{with_notice}
+use Rattle.dealer_desk.specs.DealerOutput.{word_asked}
+use Rattle.dealer_desk.specs.SettledWords.{settled_words}
 use Rattle.dealer_desk.specs.declared.events.DealerEvent.{DealerEvent}
 use Rattle.dealer_desk.specs.declared.events.DealerEvent.TheVariants as event
 use Rattle.step_replay.specs.declared.dues.Due.{Due}

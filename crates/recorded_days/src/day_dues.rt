@@ -3,7 +3,8 @@ ghost use Rattle.std.specs.Prelude.{◌≡◌, ℕ, List, [], ◌++◌, IfOk, On
 ghost use Rattle.std.specs.Option.{option_map};
 ghost use Rattle.quote_word.specs.declared.settled.Settled.{Settled};
 ghost use Rattle.venue_rows.specs.declared.dealer_rows.DealerRow.{DealerRow};
-ghost use Rattle.dealer_desk.specs.DealerOutput.{DeskEvents, dealer_output, with_event};
+ghost use Rattle.dealer_desk.specs.DealerDesk.{DeskEvents, with_event};
+ghost use Rattle.dealer_desk.specs.DealerOutput.{dealer_output};
 ghost use Rattle.dealer_desk.specs.declared.events.DealerEvent.{DealerEvent};
 ghost use Rattle.recorded_days.specs.DayDues as spec;
 ghost use Rattle.step_replay.specs.DealerView.{dealer_view};

@@ -1,9 +1,10 @@
 -- The earliest posted quote that bears a word, in a book that is kept best first.
-use Rattle.std.proofs.Common.{◌≡◌, ℕ, ◌+◌, ◌<◌, ◌≤◌, Bool, true, false, ◌&&◌, ◌==◌, cond, nat_lt}
-use Rattle.std.proofs.Common.{List, [], ◌∷◌, Option, Some, None, IfSome, find, fold, refl, ap, sym}
-use Rattle.std.proofs.Common.{◌∙◌, arith}
+use Rattle.std.proofs.Common.{◌≡◌, ℕ, ◌+◌, ◌<◌, ◌≤◌, Bool, true, false, ◌==◌, cond, nat_lt, List}
+use Rattle.std.proofs.Common.{[], ◌∷◌, Option, Some, None, IfSome, find, fold, refl, ap, sym, ◌∙◌}
+use Rattle.std.proofs.Common.{arith}
 use Rattle.std.specs.Option.{option_map, option_or}
 use Rattle.std.proofs.lemmas.Bool.Decides.{nat_tests}
+use Rattle.std.proofs.lemmas.Bool.{and_from, and_left, and_right}
 use Rattle.market_terms.specs.declared.asks.Side.{Side}
 use Rattle.request_room.specs.declared.book.RankedQuote.{RankedQuote}
 use Rattle.request_room.specs.Book.{is_better}
@@ -48,32 +49,22 @@ left : (w : ℕ) (found : Option RankedQuote) (one : RankedQuote) → comes_firs
     → earlier_of w found one ≡ found
 left w found one h = ap (λ b. cond b (Some one) found) h
 
-both : (a b : Bool) → a ≡ true → b ≡ true → (a && b) ≡ true
-both a b ha hb = cc
-
-first_no : (a b : Bool) → a ≡ false → (a && b) ≡ false
-first_no a b h = ap (λ c. c && b) h
-
-second_no : (a b : Bool) → b ≡ false → (a && b) ≡ false
-second_no true b h = h
-second_no false b h = refl
-
 none_bears : (w : ℕ) (one : RankedQuote) → bears w one ≡ false → (found : Option RankedQuote)
     → earlier_of w found one ≡ found
 none_bears w one h None = left w None one h
 none_bears w one h (Some first) =
-    left w (Some first) one (first_no (bears w one) (nat_lt one.posting first.posting) h)
+    left w (Some first) one (and_left (bears w one) (nat_lt one.posting first.posting) h)
 
 later_stays : (w : ℕ) (one new : RankedQuote) → one.posting < new.posting
     → earlier_of w (Some one) new ≡ Some one
 later_stays w one new before =
-    left w (Some one) new (second_no (bears w new) (nat_lt new.posting one.posting)
+    left w (Some one) new (and_right (bears w new) (nat_lt new.posting one.posting)
     (grind (arith, nat_tests)))
 
 earlier_taken : (w : ℕ) (one new : RankedQuote) → bears w one ≡ true → one.posting < new.posting
     → earlier_of w (Some new) one ≡ Some one
 earlier_taken w one new h before =
-    taken w (Some new) one (both (bears w one) (nat_lt one.posting new.posting) h
+    taken w (Some new) one (and_from (bears w one) (nat_lt one.posting new.posting) h
     (grind (arith, nat_tests)))
 
 -- the order in which two quotes that bear the word are looked at does not matter
@@ -84,9 +75,9 @@ either_order : (w : ℕ) (first new one : RankedQuote) (new_first one_first : Bo
     ≡ earlier_of w (earlier_of w (Some first) one) new
 either_order w first new one true true hn ho bn bo before =
     let by_new : earlier_of w (Some first) new ≡ Some new =
-    taken w (Some first) new (both (bears w new) (nat_lt new.posting first.posting) bn hn) in
+    taken w (Some first) new (and_from (bears w new) (nat_lt new.posting first.posting) bn hn) in
     let by_one : earlier_of w (Some first) one ≡ Some one =
-    taken w (Some first) one (both (bears w one) (nat_lt one.posting first.posting) bo ho) in
+    taken w (Some first) one (and_from (bears w one) (nat_lt one.posting first.posting) bo ho) in
     ap (λ o. earlier_of w o one) by_new ∙ earlier_taken w one new bo before
     ∙ sym (ap (λ o. earlier_of w o new) by_one ∙ later_stays w one new before)
 either_order w first new one true false hn ho bn bo before =
@@ -94,16 +85,16 @@ either_order w first new one true false hn ho bn bo before =
     absurd (grind (arith, nat_tests))
 either_order w first new one false true hn ho bn bo before =
     let by_new : earlier_of w (Some first) new ≡ Some first =
-    left w (Some first) new (second_no (bears w new) (nat_lt new.posting first.posting) hn) in
+    left w (Some first) new (and_right (bears w new) (nat_lt new.posting first.posting) hn) in
     let by_one : earlier_of w (Some first) one ≡ Some one =
-    taken w (Some first) one (both (bears w one) (nat_lt one.posting first.posting) bo ho) in
+    taken w (Some first) one (and_from (bears w one) (nat_lt one.posting first.posting) bo ho) in
     ap (λ o. earlier_of w o one) by_new ∙ by_one
     ∙ sym (ap (λ o. earlier_of w o new) by_one ∙ later_stays w one new before)
 either_order w first new one false false hn ho bn bo before =
     let by_new : earlier_of w (Some first) new ≡ Some first =
-    left w (Some first) new (second_no (bears w new) (nat_lt new.posting first.posting) hn) in
+    left w (Some first) new (and_right (bears w new) (nat_lt new.posting first.posting) hn) in
     let by_one : earlier_of w (Some first) one ≡ Some first =
-    left w (Some first) one (second_no (bears w one) (nat_lt one.posting first.posting) ho) in
+    left w (Some first) one (and_right (bears w one) (nat_lt one.posting first.posting) ho) in
     ap (λ o. earlier_of w o one) by_new ∙ by_one
     ∙ sym (ap (λ o. earlier_of w o new) by_one ∙ by_new)
 

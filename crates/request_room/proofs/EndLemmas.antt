@@ -6,6 +6,8 @@ use Rattle.std.proofs.lemmas.List.{append-nil}
 use Rattle.std.proofs.lemmas.List.Elements.{filter-append}
 use Rattle.std.proofs.lemmas.List.Folds.{fold_stays}
 use Rattle.std.proofs.lemmas.List.Sums.{fold-append}
+use Rattle.std.proofs.Math.Bool.{and-false}
+use Rattle.std.proofs.lemmas.Bool.{and_left}
 use Rattle.market_terms.specs.declared.closes.HitRefusal.{HitRefusal}
 use Rattle.market_terms.specs.declared.closes.HitRefusal.TheVariants as refusal
 use Rattle.request_room.specs.declared.ends.End.{End}
@@ -21,16 +23,9 @@ use Rattle.request_room.specs.Book.{award_of, may_expire, is_past_deadline, pass
 use Rattle.request_room.specs.Book.{quote_posted, where_so, end_by, event_facts, after_event}
 use Rattle.request_room.specs.Book.{room_after}
 
-and_false : (b : Bool) → (b && false) ≡ false
-and_false true = refl
-and_false false = refl
-
 -- what does not hold together with the end
 closed_by : (b ended : Bool) → ended ≡ true → (b && not ended) ≡ false
-closed_by b ended h = ap (λ e. b && not e) h ∙ and_false b
-
-first_closed : (is_so rest : Bool) → is_so ≡ false → (is_so && rest) ≡ false
-first_closed is_so rest h = ap (λ b. b && rest) h
+closed_by b ended h = ap (λ e. b && not e) h ∙ and-false b
 
 no_fact : (so : Bool) (fact : RoomFact) → so ≡ false → where_so so fact ≡ []
 no_fact so fact h = ap (λ b. where_so b fact) h
@@ -59,7 +54,7 @@ no_fact_more facts (event.Post dealer w price until) h =
     (closed_by (is_some (request_of facts)) (is_ended facts) h)
 no_fact_more facts (event.Unpost dealer w) h =
     no_fact (takes_quotes facts && stands (book_of facts) dealer w) (Unposted dealer w)
-    (first_closed (takes_quotes facts) (stands (book_of facts) dealer w)
+    (and_left (takes_quotes facts) (stands (book_of facts) dealer w)
     (closed_by (is_some (request_of facts)) (is_ended facts) h))
 no_fact_more facts (event.Decline dealer) h =
     no_fact (takes_quotes facts) (Noted dealer)
@@ -71,7 +66,7 @@ no_fact_more facts (event.Pass moment) h =
     no_fact (is_open facts) (Ended passed moment) (closed_by (is_ready facts) (is_ended facts) h)
 no_fact_more facts (event.Expire moment) h =
     no_fact (may_expire facts moment) (Ended expired moment)
-    (first_closed (is_open facts) (is_past_deadline (request_of facts) moment)
+    (and_left (is_open facts) (is_past_deadline (request_of facts) moment)
     (closed_by (is_ready facts) (is_ended facts) h))
 
 stays_as_it_is : (facts : List RoomFact) (event : RoomEvent) → is_ended facts ≡ true

@@ -4,6 +4,7 @@ use Rattle.std.proofs.Common.{Option, Some, None, filter, refl, ap, sym, ◌∙�
 use Rattle.std.proofs.lemmas.List.{append-nil}
 use Rattle.std.specs.List.{list_any}
 use Rattle.std.specs.Option.{option_or}
+use Rattle.std.proofs.Math.Bool.{or-false, or-true, or_assoc}
 use Rattle.request_room.specs.declared.quotes.PostedQuote.{PostedQuote}
 use Rattle.request_room.specs.declared.requests.RoomRequest.{RoomRequest}
 use Rattle.request_room.specs.declared.ends.End.{End}
@@ -11,7 +12,7 @@ use Rattle.request_room.specs.RoomFacts.{RoomFact, Opened, Readied, Posted, Unpo
 use Rattle.request_room.specs.RoomFacts.{first_said, is_readied, is_ready}
 use Rattle.request_room.specs.Book.{book_of, takes_out}
 
-or_none : {A : Type 0} (o : Option A) → option_or o None ≡ o
+pub or_none : {A : Type 0} (o : Option A) → option_or o None ≡ o
 or_none None = refl
 or_none (Some x) = refl
 
@@ -51,34 +52,22 @@ pub said_first : {A : Type 0} (says : RoomFact → Option A) (facts : List RoomF
 said_first says facts fact x before now =
     sym (said_after says facts fact ∙ ap (λ o. option_or o (says fact)) before ∙ now)
 
-or_false : (b : Bool) → (b || false) ≡ b
-or_false true = refl
-or_false false = refl
-
-or_true : (b : Bool) → (b || true) ≡ true
-or_true true = refl
-or_true false = refl
-
-either_assoc : (a b c : Bool) → ((a || b) || c) ≡ (a || (b || c))
-either_assoc true b c = refl
-either_assoc false b c = refl
-
 -- a test of any element, after one more
 pub any_after : {X : Type 0} (p : X → Bool) (xs : List X) (x : X) → list_any p (xs ++ x ∷ [])
     ≡ (list_any p xs || p x)
-any_after p [] x = or_false (p x)
+any_after p [] x = or-false (p x)
 any_after p (first ∷ later) x =
     ap (λ b. p first || b) (any_after p later x)
-    ∙ sym (either_assoc (p first) (list_any p later) (p x))
+    ∙ sym (or_assoc (p first) (list_any p later) (p x))
 
 pub ready_as_before : (facts : List RoomFact) (fact : RoomFact) → is_readied fact ≡ false
     → is_ready facts ≡ is_ready (facts ++ fact ∷ [])
 ready_as_before facts fact other =
     sym (any_after is_readied facts fact ∙ ap (λ b. is_ready facts || b) other
-    ∙ or_false (is_ready facts))
+    ∙ or-false (is_ready facts))
 
 pub ready_now : (facts : List RoomFact) → true ≡ is_ready (facts ++ Readied ∷ [])
-ready_now facts = sym (any_after is_readied facts Readied ∙ or_true (is_ready facts))
+ready_now facts = sym (any_after is_readied facts Readied ∙ or-true (is_ready facts))
 
 -- The book.
 

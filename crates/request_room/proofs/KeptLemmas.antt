@@ -32,7 +32,7 @@ and_right : (one other : Bool) → (one && other) ≡ true → other ≡ true
 and_right true other h = h
 and_right false other h = absurd (cc)
 
-none_by : {A : Type 0} (o : Option A) → is_none o ≡ true → o ≡ None
+pub none_by : {A : Type 0} (o : Option A) → is_none o ≡ true → o ≡ None
 none_by None h = refl
 none_by (Some x) h = absurd (cc)
 
@@ -52,17 +52,17 @@ adds_none : (so : Bool) (fact : RoomFact) → so ≡ false → where_so so fact 
 adds_none so fact h = ap (λ b. where_so b fact) h
 
 -- a hit that awards is taken by an open room
-refused_none : (refused : Option HitRefusal) (settlement : Option Settled) (award award' : End)
+pub refused_none : (refused : Option HitRefusal) (settlement : Option Settled) (award award' : End)
     → hit_settled refused settlement award ≡ Ok award' → refused ≡ None
 refused_none None settlement award award' h = refl
 refused_none (Some refused) settlement award award' h = absurd (cc)
 
-open_first : (is_so : Bool) (checks : List (Bool × HitRefusal))
+pub open_first : (is_so : Bool) (checks : List (Bool × HitRefusal))
     → first_refusal ((not is_so, refusal.NotOpen) ∷ checks) ≡ None → is_so ≡ true
 open_first true checks h = refl
 open_first false checks h = absurd (cc)
 
-open_if_not_refused : (facts : List RoomFact) (w moment : ℕ) → hit_refusal facts w moment ≡ None
+pub open_if_not_refused : (facts : List RoomFact) (w moment : ℕ) → hit_refusal facts w moment ≡ None
     → is_open facts ≡ true
 unfolding hit_refusal
 open_if_not_refused facts w moment h = open_first (is_open facts) (open_checks facts w moment) h

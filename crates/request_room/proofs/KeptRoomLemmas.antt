@@ -20,16 +20,12 @@ use Rattle.request_room.specs.Kept.{Keeps, KeepsRoom, Ranks, quotes_in, rank_in,
 use Rattle.request_room.proofs.RankedLists.{filter-ranked, ranked-push}
 use Rattle.request_room.proofs.KeptFacts.{kept_vacant}
 use Rattle.request_room.proofs.KeptLemmas.{kept_open, kept_ready, kept_post, kept_post_refused}
-use Rattle.request_room.proofs.KeptLemmas.{kept_unpost, kept_unpost_refused, kept_decline}
+use Rattle.request_room.proofs.KeptLemmas.{kept_unpost, kept_unpost_refused, kept_decline, none_by}
 use Rattle.request_room.proofs.KeptLemmas.{kept_pass, kept_pass_refused, kept_expire}
 use Rattle.request_room.proofs.KeptLemmas.{kept_expire_refused, kept_hit, kept_hit_refused}
 use Rattle.request_room.proofs.KeptBookLemmas.{quotes-filter, posted_left, until_later, posted_then}
 
 -- Event by event.
-
-none_by : {A : Type 0} (o : Option A) → is_none o ≡ true → o ≡ None
-none_by None h = refl
-none_by (Some x) h = absurd (cc)
 
 and_left : (one other : Bool) → (one && other) ≡ true → one ≡ true
 and_left true other h = refl

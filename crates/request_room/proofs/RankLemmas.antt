@@ -64,12 +64,6 @@ any-rank_in side p new (one ∷ others) =
           ∙ or_swap (p one) (p new) (list_any p others)
     ]
 
-or_none : (a b : Bool) → ((a || b) || false) ≡ (b || a)
-or_none true true = refl
-or_none true false = refl
-or_none false true = refl
-or_none false false = refl
-
 or_moved : (a b c : Bool) → ((a || b) || c) ≡ (b || (a || c))
 or_moved true true c = refl
 or_moved true false c = refl

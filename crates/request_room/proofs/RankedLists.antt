@@ -175,16 +175,6 @@ pub filter-ranked : (side : Side) (p : RankedQuote → Bool) (posted : List Rank
     → filter p (ranked side posted) ≡ ranked side (filter p posted)
 filter-ranked side p posted = filter-ranked_on side p [] posted tt
 
-ranked_on : (side : Side) (best posted : List RankedQuote) → IsRanked side best
-    → IsRanked side (fold (rank_in side) best posted)
-ranked_on side best [] h = h
-ranked_on side best (new ∷ later) h =
-    ranked_on side (rank_in side best new) later (ranked_with side new best h)
-
-pub ranked_is_ranked : (side : Side) (posted : List RankedQuote)
-    → IsRanked side (ranked side posted)
-ranked_is_ranked side posted = ranked_on side [] posted tt
-
 -- one posting more
 pub ranked-push : (side : Side) (posted : List RankedQuote) (new : RankedQuote)
     → ranked side (posted ++ new ∷ []) ≡ rank_in side (ranked side posted) new

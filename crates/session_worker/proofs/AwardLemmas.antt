@@ -1,11 +1,11 @@
 -- The word of a quote that won in a room is lifted.
-use Rattle.std.proofs.Common.{◌≡◌, ◌∙◌, sym, ap, subst, refl, ℕ, ◌==◌, zero, suc, Bool, true}
-use Rattle.std.proofs.Common.{false, List, [], ◌∷◌, ◌++◌, arith, All, Option, Some, None}
-use Rattle.std.proofs.Common.{slice_index_or, fold, find, if◌then◌else◌}
+use Rattle.std.proofs.Common.{◌≡◌, ◌∙◌, sym, ap, subst, refl, ℕ, ◌==◌, Bool, true, false, List, []}
+use Rattle.std.proofs.Common.{◌∷◌, ◌++◌, arith, All, Option, Some, None, slice_index_or, fold, find}
+use Rattle.std.proofs.Common.{if◌then◌else◌}
 use Rattle.std.specs.Prelude.{IfSome}
 use Rattle.std.specs.Option.{option_map, option_or}
 use Rattle.std.proofs.lemmas.Bool.Decides.{nat_tests}
-use Rattle.std.proofs.lemmas.List.Elements.{All-cons, All-nil}
+use Rattle.std.proofs.lemmas.List.Elements.{All-cons, All-nil, All-head, All-tail}
 use Rattle.market_terms.specs.declared.closes.HitRefusal.{HitRefusal}
 use Rattle.quote_word.specs.SettleLog.{SettleLog, entry_of}
 use Rattle.quote_word.specs.declared.settled.Settled.{Settled}
@@ -49,13 +49,6 @@ found_meets : {A : Type 0} (p : A → Bool) (xs : List A) (y : A) → find p xs 
 found_meets p [] y found = absurd cc
 found_meets p (x ∷ xs) y found =
     found_by p x y (find p xs) (p x) refl (found_meets p xs y) found
-
--- the first and the others of which something holds
-first_of_all : {A : Type 0} (P : A → Type 0) (x : A) (xs : List A) → All P (x ∷ xs) → P x
-first_of_all P x xs all = all zero x (omega arith)
-
-others_of_all : {A : Type 0} (P : A → Type 0) (x : A) (xs : List A) → All P (x ∷ xs) → All P xs
-others_of_all P x xs all k d below = all (suc k) d (omega (arith, below))
 
 -- a quote that wins, by its dealer and word
 abbrev winning : PostedQuote → ℕ × ℕ
@@ -103,7 +96,7 @@ event_lifted log facts (in_room.Hit w moment None) stand =
     hit_lifted log facts w moment (hit_refusal facts w moment) None (λ settled is. absurd cc)
 event_lifted log facts (in_room.Hit w moment (Some settled)) stand =
     hit_lifted log facts w moment (hit_refusal facts w moment) (Some settled)
-    (λ other is. first_of_all (StandsIn log) (w, settled) [] stand ∙ is)
+    (λ other is. All-head (StandsIn log) (w, settled) [] stand ∙ is)
 event_lifted log facts (in_room.Pass moment) stand = where_lifted log _ (Ended passed moment) tt
 event_lifted log facts (in_room.Expire moment) stand = where_lifted log _ (Ended expired moment) tt
 
@@ -114,11 +107,11 @@ events_lifted : (log : SettleLog) (facts : List RoomFact) (events : List RoomEve
 events_lifted log facts [] stand lifted = lifted
 events_lifted log facts (in_room.Hit w moment (Some settled) ∷ later) stand lifted =
     events_lifted log (after_event facts (in_room.Hit w moment (Some settled))) later
-    (others_of_all (StandsIn log) (w, settled) (answers_in later) stand)
+    (All-tail (StandsIn log) (w, settled) (answers_in later) stand)
     (more_facts log facts (event_facts facts (in_room.Hit w moment (Some settled)))
     (event_lifted log facts (in_room.Hit w moment (Some settled))
     (All-cons (StandsIn log) (w, settled) []
-    (first_of_all (StandsIn log) (w, settled) (answers_in later) stand) (All-nil (StandsIn log))))
+    (All-head (StandsIn log) (w, settled) (answers_in later) stand) (All-nil (StandsIn log))))
     lifted)
 events_lifted log facts (event ∷ later) stand lifted =
     events_lifted log (after_event facts event) later stand

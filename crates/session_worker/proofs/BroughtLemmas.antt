@@ -1,8 +1,9 @@
 -- What a lock keeps where what comes asks no word.
 use Rattle.std.proofs.Common.{◌≡◌, refl, sym, subst, ℕ, true, List, is_some, ◌&&◌}
-use Rattle.dealer_desk.specs.DealerOutput.{DeskEvents, number_in, rooms_at}
+use Rattle.dealer_desk.specs.DealerDesk.{DeskEvents, rooms_at}
+use Rattle.dealer_desk.specs.DealerOutput.{number_in}
 use Rattle.investor_desk.specs.InvestorFacts.{knows}
-use Rattle.investor_desk.specs.InvestorOutput.{DeskEvents as InvestorEvents, book_at}
+use Rattle.investor_desk.specs.InvestorDesk.{DeskEvents as InvestorEvents, book_at}
 use Rattle.investor_desk.specs.declared.events.InvestorEvent.TheVariants as at_investor
 use Rattle.market_terms.specs.declared.rooms.RoomRef.{RoomRef}
 use Rattle.quote_word.specs.Board.{BoardName, Front}

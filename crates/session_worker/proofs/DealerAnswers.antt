@@ -4,8 +4,9 @@ use Rattle.std.proofs.Common.{None, All, is_some, if◌then◌else◌}
 use Rattle.std.proofs.lemmas.List.Elements.{All-cons, All-head, All-nil, All-tail}
 use Rattle.std.specs.Option.{option_map}
 use Rattle.dealer_desk.specs.DealerFacts.{book_of}
-use Rattle.dealer_desk.specs.DealerOutput.{DeskEvents, settled_words, asked_by, asked_word}
-use Rattle.dealer_desk.specs.DealerOutput.{dealer_output, desk_after, with_event}
+use Rattle.dealer_desk.specs.DealerDesk.{DeskEvents, with_event}
+use Rattle.dealer_desk.specs.DealerOutput.{dealer_output, desk_after}
+use Rattle.dealer_desk.specs.SettledWords.{settled_words, asked_by, asked_word}
 use Rattle.dealer_desk.specs.declared.events.DealerEvent.{DealerEvent}
 use Rattle.quote_word.specs.Board.{Front, SettlesOnBoard}
 use Rattle.quote_word.specs.SettleLog.{entry_of}

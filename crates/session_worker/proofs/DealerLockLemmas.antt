@@ -4,9 +4,10 @@ use Rattle.std.proofs.Common.{map, Option, Some, None, All, if◌then◌else◌}
 use Rattle.std.proofs.lemmas.List.{map-append}
 use Rattle.std.proofs.lemmas.List.Elements.{All-append, All-nil}
 use Rattle.dealer_desk.specs.DealerFacts.{number_to_drop}
-use Rattle.dealer_desk.specs.DealerOutput.{DeskEvents, settled_words, asked_by, book_at}
-use Rattle.dealer_desk.specs.DealerOutput.{dealer_output, desk_after, facts_at, may_close}
-use Rattle.dealer_desk.specs.DealerOutput.{verdict_at, with_event, with_notice_in, word_asked}
+use Rattle.dealer_desk.specs.DealerDesk.{DeskEvents, book_at, facts_at, may_close, verdict_at}
+use Rattle.dealer_desk.specs.DealerDesk.{with_event, with_notice_in}
+use Rattle.dealer_desk.specs.DealerOutput.{dealer_output, desk_after, word_asked}
+use Rattle.dealer_desk.specs.SettledWords.{settled_words, asked_by}
 use Rattle.dealer_desk.specs.declared.events.DealerEvent.{DealerEvent}
 use Rattle.dealer_desk.specs.declared.events.DealerEvent.TheVariants as event
 use Rattle.market_terms.specs.declared.asks.Ask.{Ask}

@@ -8,6 +8,7 @@ use Rattle.std.proofs.lemmas.Iterator.Adapters.{position_from-zero}
 use Rattle.std.proofs.lemmas.List.{length-map, length-take-le}
 use Rattle.std.specs.List.{position_from}
 use Rattle.std.specs.Option.{option_map, option_or}
+use Rattle.std.proofs.lemmas.Option.{same_Some}
 use Rattle.venue_rows.specs.Rows.{Configuration}
 use Rattle.recorded_days.specs.Records.{DealerLists, InvestorLists, RecordedDay}
 use Rattle.recorded_days.specs.declared.actions.Action.{Action}
@@ -21,7 +22,7 @@ use Rattle.session_worker.specs.KeptDays.{DealersKeep, InvestorsKeep, names_by, 
 use Rattle.session_worker.specs.KeptDays.{requests_of, without_rooms}
 use Rattle.session_worker.specs.declared.faults.DayFault.{DayFault}
 use Rattle.session_worker.specs.declared.faults.DayFault.TheVariants as fault
-use Rattle.session_worker.proofs.LockLemmas.{some_is_none, some_same}
+use Rattle.session_worker.proofs.LockLemmas.{some_is_none}
 use Rattle.session_worker.proofs.RoomLemmas.{parts_read}
 
 -- what is said of the fault behind a `?` is said of the fault that it returns
@@ -154,7 +155,7 @@ place_here : (test : Bool) (i found count : ℕ) (rest : Option ℕ)
     → cond test (Some i) rest ≡ Some found → (rest ≡ Some found → found < i + 1 + count)
     → found < i + suc count
 place_here true i found count rest e behind =
-    let is : i ≡ found = some_same i found e in omega (arith, is)
+    let is : i ≡ found = same_Some i found e in omega (arith, is)
 place_here false i found count rest e behind =
     let below : found < i + 1 + count = behind e in omega (arith, below)
 
@@ -178,11 +179,11 @@ number_below : (first second : Option ℕ) (dealers investors firm : ℕ)
     → option_map number_at (option_or first (option_map (λ p. dealers + p) second)) ≡ Some firm
     → firm < dealers + investors
 number_below (Some p) second dealers investors firm one other e =
-    let is : min p 65535 ≡ firm = some_same (min p 65535) firm e in
+    let is : min p 65535 ≡ firm = same_Some (min p 65535) firm e in
     let below : p < dealers = one p refl in
     omega (arith, is, below)
 number_below None (Some p) dealers investors firm one other e =
-    let is : min (dealers + p) 65535 ≡ firm = some_same (min (dealers + p) 65535) firm e in
+    let is : min (dealers + p) 65535 ≡ firm = same_Some (min (dealers + p) 65535) firm e in
     let below : p < investors = other p refl in
     omega (arith, is, below)
 number_below None None dealers investors firm one other e =

@@ -1,12 +1,13 @@
 -- Streams that are fed piece by piece.
-use Rattle.std.proofs.Common.{◌≡◌, ℕ, List, [], ◌∷◌, ◌++◌, Result, Err, refl, sym, ap, append_assoc}
+use Rattle.std.proofs.Common.{◌≡◌, ℕ, List, [], ◌∷◌, ◌++◌, Result, Err, refl, sym, ap}
 use Rattle.std.proofs.lemmas.List.{append-nil}
 use Rattle.fix_fields.specs.Envelope.{Cutting, cut_behind}
 use Rattle.fix_fields.specs.declared.fault.StreamFault.{StreamFault}
 use Rattle.recorded_days.specs.declared.actions.Inbound.{Inbound}
-use Rattle.session_worker.specs.Inbox.{Arrivals, arrivals_behind, ended_at}
+use Rattle.session_worker.specs.Inbox.{Arrivals, ended_at}
 
 -- a fault stands for ever
+
 fault_stands : (fault : StreamFault) (piece : List ℕ) → cut_behind (Err fault) piece ≡ record { messages = []; rest = Err fault }
 unfolding cut_behind
 fault_stands fault [] = refl
@@ -25,12 +26,3 @@ rest_faulty before after fault piece is same = rw (same, is) (sym (ap (λ (cut :
 -- what came so far, before what the other pieces bring
 abbrev pub behind : List Inbound → Arrivals → Arrivals
 behind inbox later = record { messages = inbox ++ later.messages; fault = later.fault }
-
-pub piece_more : (inbox : List Inbound) (rest : Result (List ℕ) StreamFault) (piece : Inbound) (pieces : List Inbound)
-    → behind inbox (arrivals_behind rest (piece ∷ pieces))
-    ≡ behind (inbox ++ ended_at piece.moment (cut_behind rest piece.bytes).messages) (arrivals_behind (cut_behind rest piece.bytes).rest pieces)
-piece_more inbox rest piece pieces =
-    let cut = cut_behind rest piece.bytes in
-    let later = arrivals_behind cut.rest pieces in
-    ap (λ messages. let all : Arrivals = record { messages = messages; fault = later.fault } in all)
-    (sym (append_assoc inbox (ended_at piece.moment cut.messages) later.messages))

@@ -4,12 +4,15 @@ use Rattle.std.proofs.Common.{All, Some, None, length, map, slice_index_or, ◌+
 use Rattle.std.proofs.lemmas.List.{length-map, map-append}
 use Rattle.std.proofs.lemmas.List.Elements.{All-push}
 use Rattle.std.specs.Prelude.{slice_get}
+use Rattle.std.proofs.lemmas.Option.{same_Some}
 use mathlib.Core.List.{IsPrefix}
-use Rattle.dealer_desk.specs.DealerOutput.{DeskEvents, book_at, dealer_output}
+use Rattle.dealer_desk.specs.DealerDesk.{DeskEvents, book_at}
+use Rattle.dealer_desk.specs.DealerOutput.{dealer_output}
 use Rattle.dealer_desk.specs.QuoteLines.{lines_of}
 use Rattle.dealer_desk.specs.declared.events.DealerEvent.{DealerEvent}
-use Rattle.investor_desk.specs.InvestorOutput.{DeskEvents as InvestorEvents, investor_output}
-use Rattle.investor_desk.specs.InvestorOutput.{book_at as investor_book, market_for}
+use Rattle.investor_desk.specs.InvestorDesk.{DeskEvents as InvestorEvents, book_at as investor_book}
+use Rattle.investor_desk.specs.InvestorDesk.{market_for}
+use Rattle.investor_desk.specs.InvestorOutput.{investor_output}
 use Rattle.investor_desk.specs.RequestLines.{lines_of as request_lines}
 use Rattle.quote_word.specs.Board.{BoardName, Front}
 use Rattle.quote_word.specs.SettleLog.{IsLegal, SettleLog}
@@ -25,23 +28,23 @@ use Rattle.recorded_days.specs.declared.actions.Sweep.{Sweep}
 use Rattle.session_worker.specs.DayActions.{EventsAreOfActions}
 use Rattle.session_worker.specs.DayChecks.{DayRoom, came_from_dealer, came_from_investor}
 use Rattle.session_worker.specs.DayChecks.{first_unswept, first_untold}
-use Rattle.session_worker.specs.KeptDays.{DealerKeeps, DealersKeep, DealerStands}
-use Rattle.session_worker.specs.KeptDays.{DealersStand, InvestorKeeps, InvestorsKeep, KeepsDay}
-use Rattle.session_worker.specs.KeptDays.{RoomStands, RoomsStand, answers_to, names_of, rooms_in}
-use Rattle.session_worker.specs.KeptDays.{rooms_of, rooms_of_venue, without_rooms}
+use Rattle.session_worker.specs.KeptDays.{DealerKeeps, DealersKeep, DealerStands, DealersStand}
+use Rattle.session_worker.specs.KeptDays.{InvestorKeeps, InvestorsKeep, KeepsDay, RoomStands}
+use Rattle.session_worker.specs.KeptDays.{RoomsStand, answers_to, names_of, rooms_in, rooms_of}
+use Rattle.session_worker.specs.KeptDays.{rooms_of_venue, without_rooms}
 use Rattle.session_worker.specs.Locks.{KeepsDealer, StandsIn, answers_at, answers_in}
 use Rattle.session_worker.specs.ShownRequests.{first_unshown}
 use Rattle.session_worker.proofs.AwardLemmas.{awards_stand}
 use Rattle.session_worker.proofs.DealerAnswers.{SentTheirView}
 use Rattle.session_worker.proofs.DealerLockLemmas.{view_is_seen}
-use Rattle.session_worker.proofs.LockLemmas.{answers_stay, some_is_none, some_same}
+use Rattle.session_worker.proofs.LockLemmas.{answers_stay, some_is_none}
 use Rattle.session_worker.proofs.RoomNames.{each_like, inboxes_like}
 
 -- what holds of each item of a list, and of one item more behind them
 pub each_more : {X : Type 0} (P : ℕ → X → Type 0) (xs : List X) (x : X)
     → ((k : ℕ) (y : X) → slice_get xs k ≡ Some y → P k y) → P (length xs) x
     → (k : ℕ) (y : X) → slice_get (xs ++ x ∷ []) k ≡ Some y → P k y
-each_more P [] x each last zero y found = subst (P zero) (some_same x y found) last
+each_more P [] x each last zero y found = subst (P zero) (same_Some x y found) last
 each_more P [] x each last (suc k) y found = absurd (some_is_none y (sym found))
 each_more P (z ∷ xs) x each last zero y found = each zero y found
 each_more P (z ∷ xs) x each last (suc k) y found =
@@ -146,8 +149,6 @@ keeps_alike config firm x y same keeps =
       own_is = ap came_from_investor events ∙ keeps.own_is ∙ sym inbox;
     }
 
--- Answers.
-
 -- the desk of a dealer
 abbrev desk_of : List ℕ → DealerRow → List DealerEvent → DeskEvents
 desk_of date row events = record { date = date; row = row; events = events }
@@ -158,7 +159,7 @@ pub dealer_stands : (board : BoardName) (config : Configuration) (firm first pla
     → KeepsDealer board config firm first desk seen → firm ≡ place → day.events ≡ desk.events
     → DealerStands config seen.log place day
 dealer_stands board config firm first place desk seen day keeps here events row row_is =
-    let same : desk.row ≡ row = some_same desk.row row
+    let same : desk.row ≡ row = same_Some desk.row row
     (sym keeps.row_is ∙ ap (dealer_numbered config) here ∙ row_is) in
     let first_is : first ≡ first_word config (dealer_of place row) = keeps.first_is
     ∙ ap (λ n. first_word config (dealer_of n desk.row)) here

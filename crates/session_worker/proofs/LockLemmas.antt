@@ -1,30 +1,30 @@
 -- What a lock keeps through an action that asks a word at most.
-use Rattle.std.proofs.Common.{◌≡◌, refl, ◌∙◌, sym, ap, subst, ℕ, Bool, true, false, List, [], ◌∷◌, ◌++◌}
-use Rattle.std.proofs.Common.{Option, Some, None, All, slice_index_or}
+use Rattle.std.proofs.Common.{◌≡◌, refl, ◌∙◌, sym, ap, subst, ℕ, Bool, true, false, List, [], ◌∷◌}
+use Rattle.std.proofs.Common.{◌++◌, Option, Some, None, All, slice_index_or}
 use Rattle.std.proofs.lemmas.List.Elements.{All-append, All-cons, All-nil, filter_map-append}
 use Rattle.std.specs.Option.{option_map}
+use Rattle.std.proofs.lemmas.Option.{same_Some}
 use Rattle.quote_word.specs.Board.{BoardName, Front, SettlesOnBoard}
 use Rattle.quote_word.specs.BoardLaws.{board_keeps_entries}
 use Rattle.quote_word.specs.SettleLog.{entry_of}
 use Rattle.quote_word.specs.declared.settled.Settled.{Settled}
 use Rattle.quote_word.specs.declared.settled.Settled.TheVariants.{Lifted}
 use Rattle.quote_word.specs.declared.settled.Settlement.{Settlement}
-use Rattle.venue_rows.specs.Rows.{Configuration}
+use Rattle.venue_rows.specs.Rows.{Configuration, investor_numbered}
 use Rattle.venue_steps.specs.Words.{AsksAtMost, SettlesSo, settlement_in}
 use Rattle.venue_steps.specs.InvestorSteps.{where_so}
 use Rattle.venue_steps.specs.RoomSteps.{hit_word, where_done, word_asked_by}
-use Rattle.investor_desk.specs.InvestorOutput.{DeskEvents as InvestorEvents, market_for, market_of}
-use Rattle.investor_desk.specs.InvestorOutput.{no_events}
+use Rattle.investor_desk.specs.InvestorDesk.{DeskEvents as InvestorEvents, market_for, market_of}
+use Rattle.investor_desk.specs.InvestorDesk.{no_events}
 use Rattle.investor_desk.specs.declared.events.InvestorEvent.{InvestorEvent}
 use Rattle.market_terms.specs.declared.closes.HitRefusal.{HitRefusal}
 use Rattle.market_terms.specs.declared.rooms.RoomRef.{RoomRef}
 use Rattle.request_room.specs.Book.{hit_refusal, room_after, word_or}
 use Rattle.request_room.specs.declared.events.RoomEvent.{RoomEvent}
 use Rattle.request_room.specs.declared.events.RoomEvent.TheVariants as in_room
-use Rattle.venue_rows.specs.Rows.{investor_numbered}
 use Rattle.venue_rows.specs.declared.investor_rows.InvestorRow.{InvestorRow}
-use Rattle.session_worker.specs.Locks.{Answer, KeepsInvestor, KeepsRoom, StandsIn}
-use Rattle.session_worker.specs.Locks.{answered_hit, answers_in}
+use Rattle.session_worker.specs.Locks.{Answer, KeepsInvestor, KeepsRoom, StandsIn, answered_hit}
+use Rattle.session_worker.specs.Locks.{answers_in}
 
 -- what a word is, as a token has seen it
 abbrev pub entry_seen : Front → ℕ → Option Settled
@@ -84,10 +84,6 @@ told_kept config desk after may more keeps is =
 pub some_is_none : {X : Type 0} (x : X) → Some x ≡ None → ⊥
 some_is_none x is = cc
 
--- what is there is one
-pub some_same : {X : Type 0} (x y : X) → Some x ≡ Some y → x ≡ y
-some_same x y is = cc
-
 -- a desk of the investor with this number
 pub opened_with : (config : Configuration) (firm : ℕ) (desk : InvestorEvents)
     (row : Option InvestorRow) → investor_numbered config firm ≡ row
@@ -95,7 +91,7 @@ pub opened_with : (config : Configuration) (firm : ℕ) (desk : InvestorEvents)
     → KeepsInvestor config desk
 opened_with config firm desk None found is = absurd (some_is_none desk is)
 opened_with config firm desk (Some row) found is =
-    let desk_is : desk ≡ no_events (market_of config firm row) = some_same _ _ is in
+    let desk_is : desk ≡ no_events (market_of config firm row) = same_Some _ _ is in
     subst (KeepsInvestor config) (sym desk_is) (ap (option_map (market_of config firm)) found)
 
 -- a desk without an event

@@ -1,13 +1,14 @@
 -- Lists of which one grows by what the other loses.
-use Rattle.std.proofs.Common.{◌≡◌, ◌<◌, ◌≤◌, ◌∙◌, sym, ap, refl, ℕ, ◌+◌, ◌-◌, suc, List, [], ◌∷◌}
-use Rattle.std.proofs.Common.{◌++◌, length, map, take, drop, get_or, ◌⊎◌, inl, inr, append_assoc}
-use Rattle.std.proofs.Common.{arith, length-append, length-drop}
-use Rattle.std.proofs.lemmas.List.{append-nil, drop_more, map-append}
-use Rattle.std.proofs.lemmas.Grind.{common_steps, take_at_read}
+use Rattle.std.proofs.Common.{◌≡◌, ◌<◌, ◌∙◌, sym, ap, refl, ℕ, ◌+◌, ◌-◌, suc, List, [], ◌∷◌, ◌++◌}
+use Rattle.std.proofs.Common.{length, map, take, drop, get_or, ◌⊎◌, inl, inr, append_assoc, arith}
+use Rattle.std.proofs.Common.{length-append, length-drop}
+use Rattle.std.proofs.lemmas.List.{append-nil, drop_more, map-append, nil_from_length}
+use Rattle.std.proofs.lemmas.Grind.{take_at_read}
 
 -- Lists.
 
 -- a list that is cut one item further on
+
 module _ {A : Type 0} (xs : List A) (i : ℕ) where
   cut_within : (x : A) (rest : List A) → drop i xs ≡ x ∷ rest → i < length xs
   cut_within x rest is =
@@ -29,20 +30,6 @@ module _ {A : Type 0} (xs : List A) (i : ℕ) where
       let same : get_or xs i x ≡ x = cc in
       (take_at_read xs i x (cut_within x rest is)).1 ∙ ap (λ y. take i xs ++ y ∷ []) same
 
-  pub drop_past : drop i xs ≡ [] → drop (i + 1) xs ≡ []
-  drop_past is =
-      let left : length (drop i xs) ≡ length xs - i = length-drop i xs in
-      let none : length (drop i xs) ≡ 0 = ap length is in
-      let past : length xs ≤ i = omega (arith, left, none) in
-      grind (arith, common_steps)
-
-  pub take_past : drop i xs ≡ [] → take (i + 1) xs ≡ take i xs
-  take_past is =
-      let left : length (drop i xs) ≡ length xs - i = length-drop i xs in
-      let none : length (drop i xs) ≡ 0 = ap length is in
-      let past : length xs ≤ i = omega (arith, left, none) in
-      grind (arith, common_steps)
-
 -- lists of one length, of which one has ended
 pub ended_too : {A B : Type 0} (xs : List A) (ys : List B) → length xs ≡ length ys → xs ≡ []
     → ys ≡ []
@@ -52,17 +39,13 @@ ended_too xs (y ∷ ys) same is =
     let some : length ys + 1 ≡ 0 = omega (arith, none, same) in
     absurd (omega (arith, some))
 
-pub none_left : {A : Type 0} (xs : List A) → length xs ≡ 0 → xs ≡ []
-none_left [] is = refl
-none_left (x ∷ xs) is = let some : suc (length xs) ≡ 0 = is in absurd (omega (arith, some))
-
 -- two lists of one length have both ended where one has
 pub both_ended : {A B : Type 0} (xs : List A) (ys : List B) (m n : ℕ) → m ≡ length xs
     → n ≡ length ys → length ys ≡ length xs → (m ≡ 0) ⊎ (n ≡ 0) → (xs ≡ []) × (ys ≡ [])
 both_ended xs ys m n first second same (inl none) =
-    (none_left xs (sym first ∙ none), none_left ys (same ∙ sym first ∙ none))
+    (nil_from_length xs (sym first ∙ none), nil_from_length ys (same ∙ sym first ∙ none))
 both_ended xs ys m n first second same (inr none) =
-    (none_left xs (sym same ∙ sym second ∙ none), none_left ys (sym second ∙ none))
+    (nil_from_length xs (sym same ∙ sym second ∙ none), nil_from_length ys (sym second ∙ none))
 
 -- one list grows by what the other loses
 pub moved : {A B C : Type 0} (f : A → C) (h : B → C) (xs : List A) (x : A) (y : B)

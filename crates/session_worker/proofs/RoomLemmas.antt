@@ -1,11 +1,10 @@
 -- One room of a day more, and the rooms of a configuration.
-use Rattle.std.proofs.Common.{◌≡◌, ◌<◌, ◌≤◌, ◌∙◌, sym, ap, ℕ, ◌+◌, ◌-◌, zero, suc, List, [], ◌∷◌}
-use Rattle.std.proofs.Common.{◌++◌, length, map, take, drop, get_or, Some, None, append_assoc}
-use Rattle.std.proofs.Common.{arith, length-drop, true, ◌&&◌, nat_le}
+use Rattle.std.proofs.Common.{◌≡◌, ◌<◌, ◌≤◌, ◌∙◌, sym, ap, ℕ, ◌+◌, ◌-◌, List, [], ◌∷◌, ◌++◌, length}
+use Rattle.std.proofs.Common.{map, take, drop, get_or, Some, None, append_assoc, arith, true, ◌&&◌}
+use Rattle.std.proofs.Common.{nat_le}
 use Rattle.std.specs.Prelude.{if◌then◌else◌, slice_get}
 use Rattle.std.proofs.lemmas.Bool.Decides.{nat_tests}
 use Rattle.std.proofs.lemmas.List.{append-nil, take-append-drop, map-append, map_more}
-use Rattle.std.proofs.lemmas.Grind.{common_steps}
 use Rattle.market_terms.specs.declared.rooms.RoomRef.{RoomRef}
 use Rattle.venue_rows.specs.Rows.{Configuration, has_room, may_request}
 use Rattle.venue_rows.specs.declared.investor_rows.InvestorRow.{InvestorRow}
@@ -18,6 +17,7 @@ use Rattle.session_worker.proofs.MovedLists.{take_next}
 -- One room, or the rooms of one investor, more.
 
 -- a room more is named by the next number
+
 pub names_pushed : (before rooms : List DayRoom) (room : DayRoom) (investor n : ℕ)
     → names_of rooms ≡ names_of before ++ names_from investor 1 n
     → room.at ≡ record { investor = investor; n = n + 1 }
@@ -51,24 +51,6 @@ own_more own day rooms i room rest so_far is cut =
     ∙ ap (λ last. map day_in (take i rooms) ++ last ∷ []) is
     ∙ sym (map-append day_in (take i rooms) (room ∷ []))
     ∙ ap (map day_in) (sym (take_next rooms i room rest cut))
-
--- no room is left to be taken
-module _ {A : Type 0} (xs : List A) (i n : ℕ) where
-  pub take_no_more : drop i xs ≡ [] → i ≤ n → take i xs ≡ take n xs
-  take_no_more is below =
-      let left : length (drop i xs) ≡ length xs - i = length-drop i xs in
-      let none : length (drop i xs) ≡ 0 = ap length is in
-      let past : length xs ≤ i = omega (arith, left, none) in
-      let beyond : length xs ≤ n = omega (arith, past, below) in
-      grind (arith, common_steps)
-
-  pub drop_no_more : drop i xs ≡ [] → i ≤ n → drop n xs ≡ []
-  drop_no_more is below =
-      let left : length (drop i xs) ≡ length xs - i = length-drop i xs in
-      let none : length (drop i xs) ≡ 0 = ap length is in
-      let past : length xs ≤ i = omega (arith, left, none) in
-      let beyond : length xs ≤ n = omega (arith, past, below) in
-      grind (arith, common_steps)
 
 -- no names are to come
 pub names_ended : (firm : ℕ) (names all : List RoomRef) (counts : List ℕ)
@@ -109,14 +91,6 @@ parts_read f n all first later front back =
 
 le_true : (m n : ℕ) → m ≤ n → nat_le m n ≡ true
 le_true m n below = grind (arith, nat_tests)
-
--- what is read at an index of a list stands there
-pub get_there : {A : Type 0} (xs : List A) (i : ℕ) (x : A) → i < length xs
-    → x ≡ get_or xs i x → slice_get xs i ≡ Some x
-get_there [] i x below is = let never : ⊥ = omega (arith, below) in absurd never
-get_there (y ∷ xs) zero x below is = ap (λ z. Some z) (sym is)
-get_there (y ∷ xs) (suc i) x below is =
-    let inside : i < length xs = omega (arith, below) in get_there xs i x inside is
 
 -- the investor in this row has a room for each request that it may make
 pub rooms_of_row : (config : Configuration) (firm at : ℕ) (row : InvestorRow)

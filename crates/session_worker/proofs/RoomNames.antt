@@ -7,10 +7,10 @@ use Rattle.std.proofs.lemmas.List.{take_at}
 use Rattle.market_terms.specs.declared.rooms.RoomRef.{RoomRef}
 use Rattle.recorded_days.specs.Records.{InvestorLists, RoomLists}
 use Rattle.session_worker.specs.DayChecks.{DayRoom}
-use Rattle.session_worker.specs.KeptDays.{names_by, names_from, names_of, rooms_from, rooms_of}
-use Rattle.session_worker.specs.KeptDays.{without_rooms}
+use Rattle.session_worker.specs.KeptDays.{names_from, names_of, rooms_from, rooms_of, without_rooms}
 
 -- a room by its name
+
 abbrev named : ℕ → ℕ → RoomRef
 named investor n = record { investor = investor; n = n }
 
@@ -42,20 +42,6 @@ length-names investor n (suc count) =
     let same : length (names_from investor (n + 1) count) ≡ count =
     length-names investor (n + 1) count in
     omega (arith, same)
-
--- the names of one investor's rooms more
-pub names_by_more : (firm count : ℕ) (counts : List ℕ)
-    → names_by firm (counts ++ count ∷ [])
-    ≡ names_by firm counts ++ names_from (firm + length counts) 1 count
-names_by_more firm count [] =
-    let same : firm ≡ firm + 0 = omega arith in
-    append-nil (names_from firm 1 count) ∙ ap (λ k. names_from k 1 count) same
-names_by_more firm count (first ∷ counts) =
-    let same : firm + 1 + length counts ≡ firm + length (first ∷ counts) = omega arith in
-    ap (λ names. names_from firm 1 first ++ names) (names_by_more (firm + 1) count counts
-    ∙ ap (λ k. names_by (firm + 1) counts ++ names_from k 1 count) same)
-    ∙ sym (append_assoc (names_from firm 1 first) (names_by (firm + 1) counts)
-    (names_from (firm + length (first ∷ counts)) 1 count))
 
 -- the rooms of one investor more
 pub rooms_more : (firm : ℕ) (days : List InvestorLists) (day : InvestorLists)

@@ -2,7 +2,7 @@
 use Rattle.std.proofs.Common.{◌≡◌, refl, ◌∙◌, sym, ap, ℕ, Bool, true, false, ◌&&◌, ◌==◌, cond, not}
 use Rattle.std.proofs.Common.{List, [], ◌∷◌, ◌++◌, find, Option, Some, None, unwrap_or, arith}
 use Rattle.std.proofs.Common.{if◌then◌else◌, append_assoc}
-use Rattle.std.proofs.lemmas.Bool.{false≢true}
+use Rattle.std.proofs.lemmas.Bool.{and_parts}
 use Rattle.std.proofs.lemmas.Bool.Decides.{nat_tests}
 use Rattle.std.specs.BTreeMap.{BTreeMap, get, is_at}
 use Rattle.std.specs.Global.{Vec}
@@ -33,18 +33,13 @@ found_same one other =
     ∙ ap (λ b. b && is_eq (nat_cmp one.n other.n)) (number_is one.investor other.investor)
     ∙ ap (λ b. (other.investor == one.investor) && b) (number_is one.n other.n)
 
-number_same : (one other : ℕ) → (one == other) ≡ true → one ≡ other
+pub number_same : (one other : ℕ) → (one == other) ≡ true → one ≡ other
 number_same one other is = grind (arith, nat_tests, is)
-
-both_true : (a b : Bool) → (a && b) ≡ true → (a ≡ true) × (b ≡ true)
-both_true true true is = (refl, refl)
-both_true true false is = (refl, is)
-both_true false b is = absurd (false≢true is)
 
 -- rooms that are the same are equal
 is_same : (room other : RoomRef) → same_room room other ≡ true → room ≡ other
 is_same room other is =
-    let both = both_true (room.investor == other.investor) (room.n == other.n) is in
+    let both = and_parts (room.investor == other.investor) (room.n == other.n) is in
     ap (λ investor. let own : RoomRef = record { investor = investor; n = room.n } in own)
     (number_same room.investor other.investor both.0)
     ∙ ap (λ n. let own : RoomRef = record { investor = other.investor; n = n } in own)

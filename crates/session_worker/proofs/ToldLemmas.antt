@@ -1,9 +1,11 @@
 -- Closing notices that are put under their rooms one after the other.
 use Rattle.std.proofs.Common.{◌≡◌, refl, ◌∙◌, sym, ap, ℕ, ◌+◌, Bool, true, false, ◌&&◌, ◌||◌, ◌==◌}
-use Rattle.std.proofs.Common.{cond, if◌then◌else◌, List, [], ◌∷◌, count_by, Option, Some, None, arith}
+use Rattle.std.proofs.Common.{cond, if◌then◌else◌, List, [], ◌∷◌, count_by, Option, Some, None}
+use Rattle.std.proofs.Common.{arith}
 use Rattle.std.proofs.lemmas.Bool.Decides.{nat_tests}
 use Rattle.std.proofs.lemmas.List.Sums.{sum_by-cons}
 use Rattle.std.specs.List.{list_any}
+use Rattle.std.proofs.Math.Bool.{or-false}
 use Rattle.market_terms.specs.Codes.{close_code}
 use Rattle.market_terms.specs.declared.closes.Close.{Close}
 use Rattle.market_terms.specs.declared.rooms.RoomRef.{RoomRef}
@@ -35,17 +37,13 @@ none_says room close (notice ∷ later) none =
     (list_any (says room close) later) (is_of room notice) (sym (counted room notice later) ∙ none)
     (none_says room close later)
 
-pub or_false : (b : Bool) → (b || false) ≡ b
-or_false true = refl
-or_false false = refl
-
 -- the first one of a room
 pub first_told : (c : ℕ) (code any : Bool) → (c ≡ 0 → any ≡ false) → (b : Bool) → (c == 0) ≡ b
     → ((c == 0) && code) ≡ ((1 + c == 1) && (code || any))
 first_told c code any none true is =
     let zero : c ≡ 0 = grind (arith, nat_tests, is) in
     let one : (1 + c == 1) ≡ true = grind (arith, nat_tests, zero) in
-    ap (λ b. b && code) is ∙ sym (or_false code) ∙ sym (ap (λ a. code || a) (none zero))
+    ap (λ b. b && code) is ∙ sym (or-false code) ∙ sym (ap (λ a. code || a) (none zero))
     ∙ sym (ap (λ b. b && (code || any)) one)
 first_told c code any none false is =
     let more : (1 + c == 1) ≡ false = grind (arith, nat_tests, is) in

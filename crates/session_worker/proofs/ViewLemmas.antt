@@ -2,6 +2,7 @@
 use Rattle.std.proofs.Common.{◌≡◌, ◌∙◌, sym, ap, refl, ℕ, List, Option, Some, None}
 use Rattle.std.specs.Prelude.{slice_get}
 use Rattle.std.specs.Option.{option_map, option_and_then}
+use Rattle.std.proofs.lemmas.Option.{same_Some}
 use Rattle.venue_rows.specs.Rows.{Configuration, dealer_numbered}
 use Rattle.venue_rows.specs.declared.dealer_rows.DealerRow.{DealerRow}
 use Rattle.recorded_days.specs.DayDues.{day_due_list, day_dues_of}
@@ -9,7 +10,6 @@ use Rattle.step_replay.specs.DealerView.{dealer_view}
 use Rattle.recorded_days.specs.Records.{DealerLists, RecordedDay}
 use Rattle.step_replay.specs.declared.dues.Due.{Due}
 use Rattle.session_worker.specs.KeptDays.{DealerKeeps, DealersKeep, sent_on}
-use Rattle.session_worker.proofs.LockLemmas.{some_same}
 
 -- what was due by the events at a desk, where the dealer has this row
 abbrev pub dues_of : Configuration → DealerRow → DealerLists → List Due
@@ -24,7 +24,7 @@ pub view_found : (config : Configuration) (dealers : List DealerLists) (dealer :
 view_found config dealers dealer row None keep here is = refl
 view_found config dealers dealer row (Some lists) keep here is =
     let kept : DealerKeeps config dealer lists = keep dealer lists is in
-    let same : kept.row ≡ row = some_same kept.row row (sym kept.row_is ∙ here) in
+    let same : kept.row ≡ row = same_Some kept.row row (sym kept.row_is ∙ here) in
     ap Some (kept.view_is ∙ ap (λ (own : DealerRow).
     dealer_view config.date own (day_due_list config.date own lists.events)) same)
 

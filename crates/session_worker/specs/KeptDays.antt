@@ -2,11 +2,13 @@
 use Rattle.std.specs.Prelude.{◌≡◌, ℕ, ◌+◌, zero, suc, List, [], ◌∷◌, ◌++◌, length, map, slice_get}
 use Rattle.std.specs.Prelude.{All, IfSome, Option, Some, None}
 use Rattle.std.specs.Option.{option_map}
-use Rattle.dealer_desk.specs.DealerOutput.{book_at, dealer_output}
+use Rattle.dealer_desk.specs.DealerDesk.{book_at}
+use Rattle.dealer_desk.specs.DealerOutput.{dealer_output}
 use Rattle.dealer_desk.specs.QuoteLines.{lines_of}
 use Rattle.dealer_desk.specs.declared.events.DealerEvent.{DealerEvent}
-use Rattle.investor_desk.specs.InvestorOutput as at_investor
-use Rattle.investor_desk.specs.InvestorOutput.{investor_output, market_for}
+use Rattle.investor_desk.specs.InvestorDesk as at_investor
+use Rattle.investor_desk.specs.InvestorDesk.{market_for}
+use Rattle.investor_desk.specs.InvestorOutput.{investor_output}
 use Rattle.investor_desk.specs.InvestorRules.{InvestorMarket}
 use Rattle.investor_desk.specs.RequestLines as request
 use Rattle.market_terms.specs.declared.rooms.RoomRef.{RoomRef}

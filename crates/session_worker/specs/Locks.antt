@@ -3,10 +3,11 @@ use Rattle.std.specs.Prelude.{◌≡◌, ℕ, ◌-◌, nat_lt, true, List, ◌�
 use Rattle.std.specs.Prelude.{Option, Some, None, All, if◌then◌else◌}
 use Rattle.std.specs.List.{filter_map}
 use Rattle.std.specs.Option.{option_map}
-use Rattle.dealer_desk.specs.DealerOutput as dealer
-use Rattle.dealer_desk.specs.DealerOutput.{settled_words, facts_at}
-use Rattle.investor_desk.specs.InvestorOutput as investor
-use Rattle.investor_desk.specs.InvestorOutput.{market_for}
+use Rattle.dealer_desk.specs.DealerDesk as dealer
+use Rattle.dealer_desk.specs.DealerDesk.{facts_at}
+use Rattle.dealer_desk.specs.SettledWords.{settled_words}
+use Rattle.investor_desk.specs.InvestorDesk as investor
+use Rattle.investor_desk.specs.InvestorDesk.{market_for}
 use Rattle.market_terms.specs.declared.rooms.RoomRef.{RoomRef}
 use Rattle.quote_word.specs.Board.{BoardName, Front}
 use Rattle.quote_word.specs.SettleLog.{entry_of}

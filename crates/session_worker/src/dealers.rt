@@ -1,6 +1,7 @@
 //! What lies under the lock of a dealer's desk.
 ghost use Rattle.std.specs.Prelude.{◌≡◌, ◌≢◌, [], Some, None, Err, All, IfOk, IsOk, OnErr, OnOk};
-ghost use Rattle.dealer_desk.specs.DealerOutput.{book_at, dealer_output};
+ghost use Rattle.dealer_desk.specs.DealerDesk.{book_at};
+ghost use Rattle.dealer_desk.specs.DealerOutput.{dealer_output};
 ghost use Rattle.dealer_desk.specs.QuoteLines.{lines_of};
 ghost use Rattle.quote_word.specs.SettleLog.{entry_of, IsLegal};
 ghost use Rattle.session_worker.specs.DayActions.{number_at};

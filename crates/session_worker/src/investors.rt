@@ -1,7 +1,8 @@
 //! What lies under the lock of an investor's desk.
 ghost use Rattle.std.specs.Prelude.{◌≡◌, ◌≢◌, [], true, Some, None, is_some, Err, IfOk, IsOk};
 ghost use Rattle.std.specs.Prelude.{OnErr, OnOk};
-ghost use Rattle.investor_desk.specs.InvestorOutput.{book_at, investor_output, market_for};
+ghost use Rattle.investor_desk.specs.InvestorDesk.{book_at, market_for};
+ghost use Rattle.investor_desk.specs.InvestorOutput.{investor_output};
 ghost use Rattle.investor_desk.specs.RequestLines.{lines_of};
 ghost use Rattle.session_worker.specs.DayChecks.{came_from_investor};
 ghost use Rattle.session_worker.specs.KeptDays.{InvestorKeeps};

@@ -3,19 +3,21 @@ use Rattle.std.proofs.Common.{◌≡◌, ℕ, Bool, true, false, ◌&&◌, not, 
 use Rattle.std.proofs.Common.{None, option_map, is_some, fold, refl, if◌then◌else◌}
 use Rattle.std.specs.List.{list_any}
 use Rattle.std.specs.Option.{option_to_list}
+use Rattle.std.proofs.lemmas.Bool.{or_parts}
 use Rattle.fix_fields.specs.Frame.{frame_of}
 use Rattle.market_terms.specs.declared.duties.Duty.{Duty}
 use Rattle.market_terms.specs.declared.duties.Duty.TheVariants as duty
 use Rattle.quote_messages.specs.declared.requests.InvestorMessage.TheVariants as message
 use Rattle.venue_rows.specs.Rows.{Configuration, dealer_numbered}
 use Rattle.investor_desk.specs.InvestorRules.{InvestorMarket, investor_verdict}
+use Rattle.investor_desk.specs.InvestorDesk as investor_desk
 use Rattle.investor_desk.specs.InvestorOutput as investor_output
 use Rattle.investor_desk.specs.declared.verdicts.InvestorVerdict.{InvestorVerdict}
 use Rattle.investor_desk.specs.declared.verdicts.InvestorVerdict.TheVariants as verdict
 use Rattle.step_replay.specs.Actions.{Dealer, Effect, nothing, done_by, done_for, dealer_at}
-use Rattle.step_replay.specs.Actions.{received_by_dealer, received_by_investor, message_effect}
-use Rattle.step_replay.specs.Actions.{at_dealer, words_of, word_for, verdict_on, settlement_of}
-use Rattle.step_replay.specs.Actions.{left_by}
+use Rattle.step_replay.specs.Actions.{received_by_dealer, received_by_investor, at_dealer, words_of}
+use Rattle.step_replay.specs.Actions.{word_for, verdict_on, settlement_of, left_by}
+use Rattle.step_replay.specs.DutyEffects.{message_effect}
 use Rattle.dealer_desk.specs.DealerOutput.{word_asked}
 use Rattle.dealer_desk.specs.declared.events.DealerEvent.TheVariants as at_desk
 use Rattle.venue_steps.specs.Words.{has_word}
@@ -27,7 +29,6 @@ use Rattle.step_replay.specs.declared.steps.Step.{Step}
 use Rattle.step_replay.specs.declared.steps.Step.TheVariants as step
 use Rattle.silence_laws.specs.Silence.{is_hit, has_hit, says_hit, brings_hit, is_of_another}
 use Rattle.silence_laws.specs.Silence.{acts_as_another}
-use Rattle.silence_laws.proofs.FilterLemmas.{or_parts}
 use Rattle.silence_laws.proofs.LeftDuties.{quoting_plain, said_quoting}
 use Rattle.silence_laws.proofs.Quiet.{IsPlain, IsQuoting, Fits, is_plain, is_quoting}
 use Rattle.silence_laws.proofs.QuietVerdicts.{hits}
@@ -103,10 +104,10 @@ module _ (config : Configuration) (facts : List Fact) (moment : ℕ) (bytes : Li
       by_role : (b : Bool) → (not b && says_hit (frame_of bytes)) ≡ false
           → list_any is_hit (if b
           then done_by (dealer_at config firm) (received_by_dealer config facts moment bytes)
-          else done_for (investor_output.market_for config firm)
+          else done_for (investor_desk.market_for config firm)
           (received_by_investor facts moment bytes)).duties ≡ false
       by_role true is = said_none (dealer_at config firm)
-      by_role false is = asked_none is (investor_output.market_for config firm)
+      by_role false is = asked_none is (investor_desk.market_for config firm)
 
 -- The day.
 

@@ -11,6 +11,7 @@ use Rattle.venue_rows.specs.declared.dealer_rows.DealerRow.{DealerRow}
 use Rattle.dealer_desk.specs.declared.events.DealerEvent.{DealerEvent}
 use Rattle.investor_desk.specs.InvestorFacts.{InvestorBook}
 use Rattle.investor_desk.specs.InvestorRules.{InvestorMarket}
+use Rattle.investor_desk.specs.InvestorDesk as investor_desk
 use Rattle.investor_desk.specs.InvestorOutput as investor_output
 use Rattle.investor_desk.specs.declared.events.InvestorEvent.{InvestorEvent}
 use Rattle.investor_desk.specs.declared.events.InvestorEvent.TheVariants as at_investor
@@ -24,8 +25,9 @@ use Rattle.step_replay.specs.VenueFacts.{Fact, AtDealer, InRoom, of_dealer, of_r
 use Rattle.step_replay.specs.Actions.{Effect, Dealer, nothing, dealer_of, dealer_at, acting_dealer}
 use Rattle.step_replay.specs.Actions.{done_by, done_for, at_dealer, in_room, word_for, offer_of}
 use Rattle.step_replay.specs.Actions.{at_investor_of, where_known, posted_by, unposted_by}
-use Rattle.step_replay.specs.Actions.{declined_by, dropped_by, received_by_dealer, received_by_investor}
-use Rattle.step_replay.specs.Actions.{duty_effect, message_effect}
+use Rattle.step_replay.specs.Actions.{declined_by, dropped_by, received_by_dealer}
+use Rattle.step_replay.specs.Actions.{received_by_investor}
+use Rattle.step_replay.specs.DutyEffects.{duty_effect, message_effect}
 use Rattle.venue_places.specs.declared.actors.Actor.{Actor}
 use Rattle.venue_places.specs.declared.actors.Actor.TheVariants as actor
 use Rattle.silence_laws.specs.Silence.{is_another, acts_as_another}
@@ -181,7 +183,7 @@ module _ (config : Configuration) (own : ℕ) (facts : List Fact) where
       → IsUnseen own (at_investor_of config room (where_known facts room.n None more))
   came_unseen room more none =
       hushed_unseen own _
-      (hushed_for own (investor_output.market_for config room.investor) _
+      (hushed_for own (investor_desk.market_for config room.investor) _
       (λ market. known_hushed own facts market room.n None more (none market _)))
 
   -- All duties that may stand in its queue.
@@ -222,7 +224,7 @@ module _ (config : Configuration) (own : ℕ) (facts : List Fact) where
   message_unseen firm moment bytes is =
       subst (λ (b : Bool). IsUnseen own (if b
       then done_by (dealer_at config firm) (received_by_dealer config facts moment bytes)
-      else done_for (investor_output.market_for config firm)
+      else done_for (investor_desk.market_for config firm)
       (received_by_investor facts moment bytes)))
       (sym (first_part (is_some (dealer_numbered config firm)) (firm == own) is))
       (numbered_other firm is _ (said_unseen moment bytes))

@@ -14,6 +14,7 @@ use Rattle.silence_laws.proofs.Quiet.{IsPlain, stays}
 
 -- Two actions add the same, but for what is left out, and leave the same; and what the first one
 -- leaves is plain.
+
 pub record AreAlike (own : ℕ) (one other : Effect) : Type 0 where
   pub facts_are : filter (stays own) one.facts ≡ filter (stays own) other.facts
   pub duties_are : one.duties ≡ other.duties
@@ -56,11 +57,6 @@ module _ (own : ℕ) where
       → IsHushed own (if b then nothing else effect)
   hushed_unless true effect hushed = nothing_hushed
   hushed_unless false effect hushed = hushed
-
-  pub hushed_by : (found : Option Dealer) (one : Dealer → Effect)
-      → ((dealer : Dealer) → IsHushed own (one dealer)) → IsHushed own (done_by found one)
-  hushed_by None one hushed = nothing_hushed
-  hushed_by (Some dealer) one hushed = hushed dealer
 
   pub hushed_for : (found : Option InvestorMarket) (one : InvestorMarket → Effect)
       → ((market : InvestorMarket) → IsHushed own (one market)) → IsHushed own (done_for found one)

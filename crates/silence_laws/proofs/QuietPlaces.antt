@@ -10,6 +10,7 @@ use Rattle.market_terms.specs.declared.rooms.RoomRef.{RoomRef}
 use Rattle.venue_rows.specs.Rows.{Configuration}
 use Rattle.investor_desk.specs.InvestorFacts.{InvestorBook}
 use Rattle.investor_desk.specs.InvestorRules.{InvestorMarket, investor_verdict, response_to}
+use Rattle.investor_desk.specs.InvestorDesk as investor_desk
 use Rattle.investor_desk.specs.InvestorOutput as investor_output
 use Rattle.investor_desk.specs.declared.events.InvestorEvent.{InvestorEvent}
 use Rattle.investor_desk.specs.declared.events.InvestorEvent.TheVariants as at_investor
@@ -104,7 +105,7 @@ module _ (config : Configuration) (own : ℕ) (facts : List Fact) where
       → AreAlike own (at_investor_of config room (where_known facts room.n None more))
       (at_investor_of config room (where_known after room.n None more))
   came_alike room more none =
-      market_alike own (investor_output.market_for config room.investor) _ _
+      market_alike own (investor_desk.market_for config room.investor) _ _
       (λ market. hushed_alike own _ _
       (known_hushed own facts market room.n None more (none market _))
       (known_hushed own after market room.n None more (none market _)))

@@ -1,10 +1,11 @@
 -- What stands in the queues of a venue, and in those of the quiet day.
-use Rattle.std.proofs.Common.{◌≡◌, ℕ, ◌==◌, Bool, true, false, ◌||◌, not, List, [], ◌∷◌, ◌++◌, map}
+use Rattle.std.proofs.Common.{◌≡◌, ℕ, ◌==◌, Bool, true, false, ◌||◌, List, [], ◌∷◌, ◌++◌, map}
 use Rattle.std.proofs.Common.{filter, filter_map, drop, count_by, Some, None, zero, suc, refl, sym}
 use Rattle.std.proofs.Common.{ap, ◌∙◌, arith, if◌then◌else◌}
 use Rattle.std.specs.List.{list_any, cons_option}
 use Rattle.std.proofs.lemmas.Bool.Decides.{nat_tests}
 use Rattle.std.proofs.lemmas.List.Folds.{list_any-append}
+use Rattle.std.proofs.lemmas.Bool.{or_parts, not-false}
 use Rattle.market_terms.specs.declared.duties.Duty.{Duty}
 use Rattle.venue_rows.specs.Rows.{Configuration}
 use Rattle.step_replay.specs.AuditTrail.{AuditTrail, Caused, is_same_actor, duty_of, pending}
@@ -13,7 +14,7 @@ use Rattle.step_replay.specs.VenueFacts.{Fact}
 use Rattle.venue_places.specs.declared.actors.Actor.{Actor}
 use Rattle.venue_places.specs.declared.actors.Actor.TheVariants as actor
 use Rattle.silence_laws.specs.Silence.{is_another, acts_as_another, is_hit}
-use Rattle.silence_laws.proofs.FilterLemmas.{or_parts, found_kept, count_kept, every_in}
+use Rattle.silence_laws.proofs.FilterLemmas.{found_kept, count_kept, every_in}
 use Rattle.silence_laws.proofs.Quiet.{caused_stays, turn_stays, quiet, is_quoting, is_plain}
 use Rattle.silence_laws.proofs.Quiet.{IsQuoting, IsPlain, Fits}
 
@@ -58,10 +59,6 @@ no_hits by caused duties none =
 
 -- Actors.
 
-not_false : (b : Bool) → not b ≡ false → b ≡ true
-not_false true is = refl
-not_false false is = cc
-
 module _ (config : Configuration) (own : ℕ) where
   same_acts : (one other : Actor) → is_same_actor one other ≡ true
       → acts_as_another config own one ≡ acts_as_another config own other
@@ -90,14 +87,14 @@ module _ (config : Configuration) (own : ℕ) where
       → turn_stays config own other ≡ false → is_same_actor by other ≡ false
   turn_none by isnt other is =
       differs by other (λ same. true_false (acts_as_another config own other)
-      (not_false (acts_as_another config own other) is) (sym (same_acts by other same) ∙ isnt))
+      (not-false (acts_as_another config own other) is) (sym (same_acts by other same) ∙ isnt))
 
   duty_none : (by : Actor) → acts_as_another config own by ≡ false → (caused : Caused)
       → caused_stays config own caused ≡ false → duty_of by caused ≡ None
   duty_none by isnt caused is =
       ap (λ (b : Bool). if b then Some caused.duty else None)
       (differs caused.by by (λ same. true_false (acts_as_another config own caused.by)
-      (not_false (acts_as_another config own caused.by) is) (same_acts caused.by by same ∙ isnt)))
+      (not-false (acts_as_another config own caused.by) is) (same_acts caused.by by same ∙ isnt)))
 
   -- so its queue is the same in the quiet day
   pub pending_same : (by : Actor) → acts_as_another config own by ≡ false → (trail : AuditTrail)

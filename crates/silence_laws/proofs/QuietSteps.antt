@@ -9,6 +9,7 @@ use Rattle.market_terms.specs.declared.duties.Duty.TheVariants as duty
 use Rattle.market_terms.specs.declared.rooms.RoomRef.{RoomRef}
 use Rattle.venue_rows.specs.Rows.{Configuration, dealer_numbered}
 use Rattle.investor_desk.specs.InvestorRules.{InvestorMarket}
+use Rattle.investor_desk.specs.InvestorDesk as investor_desk
 use Rattle.investor_desk.specs.InvestorOutput as investor_output
 use Rattle.investor_desk.specs.declared.events.InvestorEvent.TheVariants as at_investor
 use Rattle.investor_desk.specs.declared.verdicts.InvestorVerdict.{InvestorVerdict}
@@ -17,8 +18,8 @@ use Rattle.request_room.specs.declared.events.RoomEvent.TheVariants as at_room
 use Rattle.venue_steps.specs.RoomSteps.{duties_of_open, duties_of_pass, duties_of_expire}
 use Rattle.step_replay.specs.VenueFacts.{Fact, of_room}
 use Rattle.step_replay.specs.Actions.{dealer_at, acting_dealer, done_by, done_for}
-use Rattle.step_replay.specs.Actions.{received_by_dealer, received_by_investor, duty_effect}
-use Rattle.step_replay.specs.Actions.{sweep_effect, message_effect}
+use Rattle.step_replay.specs.Actions.{received_by_dealer, received_by_investor}
+use Rattle.step_replay.specs.DutyEffects.{duty_effect, sweep_effect, message_effect}
 use Rattle.venue_places.specs.declared.actors.Actor.{Actor}
 use Rattle.silence_laws.specs.Silence.{is_another, acts_as_another, is_hit}
 use Rattle.silence_laws.proofs.Quiet.{IsPlain, stays_at_desk}
@@ -93,10 +94,10 @@ module _ (config : Configuration) (own : ℕ) (facts : List Fact) where
       (pass_left own (of_room room facts) room response moment))
       (pass_plain (of_room room facts) room response moment)
   duty_alike by (duty.Answer room response said moment) isnt plain =
-      market_alike own (investor_output.market_for config room.investor) _ _
+      market_alike own (investor_desk.market_for config room.investor) _ _
       (λ market. answered_alike config own facts room response said moment market plain)
   duty_alike by (duty.Close room moment) isnt plain =
-      market_alike own (investor_output.market_for config room.investor) _ _
+      market_alike own (investor_desk.market_for config room.investor) _ _
       (λ market. known_alike own facts market room.n (at_investor.Closed room.n moment)
       (ap (filter stays_at_desk) (investor.expired_kept market _ room.n moment)))
   duty_alike by (duty.Tell dealer room close moment) isnt plain =
@@ -137,16 +138,16 @@ module _ (config : Configuration) (own : ℕ) (facts : List Fact) where
       either : (b : Bool)
           → list_any is_hit (if b
           then done_by (dealer_at config firm) (received_by_dealer config facts moment bytes)
-          else done_for (investor_output.market_for config firm)
+          else done_for (investor_desk.market_for config firm)
           (received_by_investor facts moment bytes)).duties ≡ false
           → AreAlike own (if b
           then done_by (dealer_at config firm) (received_by_dealer config facts moment bytes)
-          else done_for (investor_output.market_for config firm)
+          else done_for (investor_desk.market_for config firm)
           (received_by_investor facts moment bytes))
           (if b
           then done_by (dealer_at config firm) (received_by_dealer config after moment bytes)
-          else done_for (investor_output.market_for config firm)
+          else done_for (investor_desk.market_for config firm)
           (received_by_investor after moment bytes))
       either true none =
           numbered_own config own firm another _ _ (said_alike config own facts moment bytes)
-      either false none = for_market (investor_output.market_for config firm) none
+      either false none = for_market (investor_desk.market_for config firm) none

@@ -9,7 +9,8 @@ use Rattle.std.proofs.lemmas.List.Elements.{filter-append}
 use Rattle.market_terms.specs.declared.duties.Duty.{Duty}
 use Rattle.venue_rows.specs.Rows.{Configuration, dealer_numbered}
 use Rattle.venue_rows.specs.declared.dealer_rows.DealerRow.{DealerRow}
-use Rattle.step_replay.specs.Actions.{Effect, duty_effect, message_effect, sweep_effect}
+use Rattle.step_replay.specs.Actions.{Effect}
+use Rattle.step_replay.specs.DutyEffects.{duty_effect, message_effect, sweep_effect}
 use Rattle.step_replay.specs.AuditTrail.{AuditTrail, Caused, no_steps, pending, with_effect}
 use Rattle.step_replay.specs.AuditTrail.{after_turn, after_step, audit_trail, due_to, sent_to}
 use Rattle.step_replay.specs.DealerTrail as dealer_trail

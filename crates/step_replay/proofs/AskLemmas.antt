@@ -12,7 +12,8 @@ use Rattle.quote_word.specs.declared.settled.Settled.{Settled}
 use Rattle.quote_word.specs.declared.settled.Settled.TheVariants as settled
 use Rattle.venue_rows.specs.Rows.{Configuration}
 use Rattle.market_terms.specs.declared.duties.Duty.{Duty}
-use Rattle.dealer_desk.specs.DealerOutput.{DeskEvents, event_facts, with_event}
+use Rattle.dealer_desk.specs.DealerDesk.{DeskEvents, with_event}
+use Rattle.dealer_desk.specs.DealerOutput.{event_facts}
 use Rattle.dealer_desk.specs.DeskLaws.{withdraws}
 use Rattle.dealer_desk.specs.declared.events.DealerEvent.{DealerEvent}
 use Rattle.venue_steps.specs.Words.{AsksAtMost, SettlesSo, settlement_in, has_word, word_to_ask}
@@ -23,8 +24,9 @@ use Rattle.step_replay.specs.Actions.{words_of}
 use Rattle.step_replay.specs.Standing.{Stands, Does}
 use Rattle.step_replay.specs.declared.floor.DealerPlace.{DealerPlace}
 use Rattle.step_replay.specs.declared.floor.Floor.{Floor}
-use Rattle.step_replay.proofs.FloorLemmas.{Found, event_stands, at_dealer_stands, idle_stands}
-use Rattle.step_replay.proofs.FloorLemmas.{unasked_stands}
+use Rattle.step_replay.proofs.FloorLemmas.{event_stands, at_dealer_stands}
+use Rattle.step_replay.proofs.FoundDealers.{Found}
+use Rattle.step_replay.proofs.UnaskedEvents.{idle_stands, unasked_stands}
 use Rattle.step_replay.proofs.LiftingLemmas.{IsDueSo}
 use Rattle.step_replay.proofs.AskedWords.{withdraws_by, answer_is, words_asked}
 

@@ -4,8 +4,8 @@ use Rattle.std.proofs.Common.{if◌then◌else◌, List, ◌++◌, map, length, 
 use Rattle.std.proofs.Common.{ap, ◌∙◌, subst, arith, eq-eqb}
 use Rattle.std.specs.List.{list_any}
 use Rattle.std.proofs.lemmas.Bool.Decides.{nat_tests}
-use Rattle.std.proofs.lemmas.List.{append-nil}
 use Rattle.std.proofs.lemmas.List.Folds.{list_any-append}
+use Rattle.std.proofs.lemmas.Option.{same_Some}
 use Rattle.quote_word.specs.PlainWords.{entry_in, settlement_of, Exchanges}
 use Rattle.quote_word.specs.PlainWordsLaws.{exchange_answers_entry, exchange_keeps_others}
 use Rattle.quote_word.specs.declared.settled.Settled.{Settled}
@@ -22,9 +22,9 @@ use Rattle.step_replay.specs.VenueFacts.{Fact, AtDealer, of_dealer}
 use Rattle.step_replay.specs.Actions.{dealer_of, word_for, quote_among, QuoteRef}
 use Rattle.step_replay.specs.RowOfWords.{word_if}
 use Rattle.step_replay.specs.Standing.{WordsStand, word_is}
-use Rattle.step_replay.specs.OwnerLemmas.{same_value, owner_among, quote_at}
-use Rattle.step_replay.specs.SeenLemmas.{facts_grown, lifted_grown}
-use Rattle.step_replay.specs.PlaceLemmas.{dealer_grown, own_trail, other_trail}
+use Rattle.step_replay.specs.OwnerLemmas.{owner_among, quote_at}
+use Rattle.step_replay.specs.DealerGrowth.{facts_grown, lifted_grown}
+use Rattle.step_replay.specs.PlaceLemmas.{dealer_grown, own_trail, other_trail, dealer_stays}
 
 -- Words of two quotes are two words.
 
@@ -39,7 +39,7 @@ pub words_apart : (config : Configuration) (number other : ℕ) (row row_too : D
 words_apart config number other row row_too quote quote_too is is_too within within_too same =
     let here = owner_among 0 config.dealers number row quote is within in
     let there = owner_among 0 config.dealers other row_too quote_too is_too within_too in
-    let equal = same_value (quote_at (0 + number) quote) (quote_at (0 + other) quote_too)
+    let equal = same_Some (quote_at (0 + number) quote) (quote_at (0 + other) quote_too)
     (sym here ∙ ap (quote_among 0 config.dealers) same ∙ there) in
     let dealers : 0 + number ≡ 0 + other = ap (λ (q : QuoteRef). q.dealer) equal in
     let dealer : number ≡ other = omega arith in
@@ -99,9 +99,8 @@ module _ (config : Configuration) (facts : List Fact) (number : ℕ) (row : Deal
     other_trail_now : (other : ℕ) → (number == other) ≡ false
         → of_dealer other now ≡ of_dealer other facts
     other_trail_now other differs =
-        dealer_grown other facts (map (AtDealer number) added)
-        ∙ ap (λ l. of_dealer other facts ++ l) (other_trail other number differs added)
-        ∙ append-nil (of_dealer other facts)
+        dealer_stays other facts (map (AtDealer number) added)
+        (other_trail other number differs added)
 
     -- what the word of a quote of the dealer is then
     word_grown : (quote : ℕ) → word_is (of_dealer number now) quote
@@ -181,7 +180,7 @@ module _ (config : Configuration) (facts : List Fact) (number : ℕ) (row : Deal
               ≡ word_is (of_dealer other now) quote
           by_quote equal true test =
               let quotes : asked ≡ quote = grind (arith, nat_tests) in
-              let rows : row ≡ row_too = same_value row row_too
+              let rows : row ≡ row_too = same_Some row row_too
               (sym is ∙ ap (dealer_numbered config) equal ∙ is_too) in
               let Goal : ℕ → DealerRow → ℕ → Type 0 = λ n r q.
               entry_in after (word_for config (dealer_of n r) q) ≡ word_is (of_dealer n now) q in

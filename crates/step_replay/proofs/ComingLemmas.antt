@@ -1,7 +1,8 @@
 -- What an action does is what comes by the market's table.
-use Rattle.std.proofs.Common.{◌≡◌, ℕ, Bool, true, false, ◌&&◌, List, map, is_some}
-use Rattle.std.proofs.Common.{Option, Some, None, option_map, option_and_then, if◌then◌else◌}
-use Rattle.std.proofs.Common.{refl, sym, ap, subst}
+use Rattle.std.proofs.Common.{◌≡◌, ℕ, Bool, true, false, ◌&&◌, List, map, is_some, Option, Some}
+use Rattle.std.proofs.Common.{None, option_map, option_and_then, if◌then◌else◌, refl, sym, ap}
+use Rattle.std.proofs.Common.{subst}
+use Rattle.std.proofs.lemmas.Option.{same_Some}
 use Rattle.market_terms.specs.declared.duties.Duty.{Duty}
 use Rattle.market_terms.specs.declared.duties.Duty.TheVariants as duty
 use Rattle.market_terms.specs.declared.rooms.ResponseRef.{ResponseRef}
@@ -9,7 +10,7 @@ use Rattle.market_terms.specs.declared.rooms.RoomRef.{RoomRef}
 use Rattle.venue_rows.specs.Rows.{Configuration, dealer_numbered, has_room, investor_numbered}
 use Rattle.venue_rows.specs.declared.dealer_rows.DealerRow.{DealerRow}
 use Rattle.venue_rows.specs.declared.investor_rows.InvestorRow.{InvestorRow}
-use Rattle.investor_desk.specs.InvestorOutput.{market_for, market_of}
+use Rattle.investor_desk.specs.InvestorDesk.{market_for, market_of}
 use Rattle.request_room.specs.Book.{event_facts}
 use Rattle.request_room.specs.declared.events.RoomEvent.{RoomEvent}
 use Rattle.venue_places.specs.Dealers.{Dealer, acting_dealer, dealer_at, dealer_of, offer_of}
@@ -27,10 +28,10 @@ use Rattle.venue_places.specs.declared.arrivals.ForInvestor.TheVariants as to_in
 use Rattle.venue_places.specs.declared.arrivals.ForRoom.{ForRoom}
 use Rattle.venue_places.specs.declared.arrivals.ForRoom.TheVariants as to_room
 use Rattle.step_replay.specs.Actions.{Effect, nothing, done_by, done_for, in_room, hit_in}
-use Rattle.step_replay.specs.Actions.{duty_effect, sweep_effect, dropped_by}
+use Rattle.step_replay.specs.Actions.{dropped_by}
+use Rattle.step_replay.specs.DutyEffects.{duty_effect, sweep_effect}
 use Rattle.step_replay.specs.Coming.{dealer_gets, investor_gets, room_gets, arrival_effect}
 use Rattle.step_replay.specs.Coming.{effect_where}
-use Rattle.step_replay.specs.OwnerLemmas.{same_value}
 use Rattle.step_replay.specs.VenueFacts.{Fact, InRoom, of_room}
 
 module _ (config : Configuration) (facts : List Fact) where
@@ -138,7 +139,7 @@ module _ (config : Configuration) (facts : List Fact) where
       by_row None found same = cc
       by_row (Some row) found same =
           subst (λ (d : Dealer). dealer_at config d.number ≡ Some d)
-          (same_value (dealer_of number row) dealer same)
+          (same_Some (dealer_of number row) dealer same)
           (ap (option_map (dealer_of number)) found)
 
   -- The table.

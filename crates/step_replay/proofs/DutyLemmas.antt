@@ -1,20 +1,21 @@
 -- An action does what comes by the market's table.
-use Rattle.std.proofs.Common.{◌≡◌, ◌≤◌, ◌<◌, ℕ, zero, suc, true, false, List, [], ◌∷◌, length}
-use Rattle.std.proofs.Common.{Option, Some, None, Result, Ok, Err, IfOk, is_some}
-use Rattle.std.proofs.Common.{refl, sym, ap, ◌∙◌, subst, arith}
+use Rattle.std.proofs.Common.{◌≡◌, ◌≤◌, ◌<◌, ℕ, false, List, [], length, Option, Some, None, Result}
+use Rattle.std.proofs.Common.{Ok, Err, IfOk, is_some, sym, ap, ◌∙◌, subst, arith}
 use Rattle.std.specs.Prelude.{slice_get}
+use Rattle.std.proofs.lemmas.Option.{slice_get_past}
 use Rattle.venue_rows.specs.Rows.{Configuration}
 use Rattle.market_terms.specs.declared.duties.Duty.{Duty}
 use Rattle.step_replay.specs.VenueFacts.{Fact}
 use Rattle.venue_places.specs.declared.arrivals.Placement.{Placement}
 use Rattle.step_replay.specs.Coming.{arrival_effect, effect_where}
-use Rattle.step_replay.specs.Actions.{Effect, message_effect, done_by, done_for}
-use Rattle.step_replay.specs.Actions.{dealer_at, received_by_dealer, received_by_investor}
-use Rattle.investor_desk.specs.InvestorOutput.{market_for}
+use Rattle.step_replay.specs.Actions.{Effect, done_by, done_for, dealer_at, received_by_dealer}
+use Rattle.step_replay.specs.Actions.{received_by_investor}
+use Rattle.step_replay.specs.DutyEffects.{message_effect}
+use Rattle.investor_desk.specs.InvestorDesk.{market_for}
 use Rattle.step_replay.specs.Standing.{ActsOnce, Does, Stands}
 use Rattle.step_replay.specs.declared.floor.Floor.{Floor}
-use Rattle.step_replay.specs.PlaceLemmas.{not_lent}
-use Rattle.step_replay.proofs.FloorLemmas.{idle_does}
+use Rattle.step_replay.proofs.FoundDealers.{idle_does}
+use Rattle.step_replay.specs.PlaceLemmas.{has_item}
 
 -- what follows where a call succeeded
 pub where_ok : {A E : Type 0} (P Q : A → Type 0) (result : Result A E) → ((x : A) → P x → Q x)
@@ -61,13 +62,6 @@ module _ (effect : Configuration → List Fact → Effect) (placed : Configurati
 
 -- A message of a firm: of a dealer where its number is that of one.
 
-get_there : {X : Type 0} (xs : List X) (i : ℕ) → i < length xs → is_some (slice_get xs i) ≡ true
-get_there [] i within = absurd (omega arith)
-get_there (x ∷ xs) zero within = refl
-get_there (x ∷ xs) (suc i) within =
-    let rest : i < length xs = omega arith in
-    get_there xs i rest
-
 pub dealer_message : (config : Configuration) (facts : List Fact) (floor after : Floor)
     (firm moment : ℕ) (bytes : List ℕ) (duties : List Duty) → Stands config facts floor
     → firm < length floor.dealers.items
@@ -78,7 +72,7 @@ unfolding message_effect
 dealer_message config facts floor after firm moment bytes duties before within does =
     let count : length floor.dealers.items ≡ length config.dealers = before.dealer_count in
     let here : firm < length config.dealers = omega arith in
-    rw (get_there config.dealers firm here) does
+    rw (has_item config.dealers firm here) does
 
 pub investor_message : (config : Configuration) (facts : List Fact) (floor after : Floor)
     (firm moment : ℕ) (bytes : List ℕ) (duties : List Duty) → Stands config facts floor
@@ -91,5 +85,5 @@ investor_message config facts floor after firm moment bytes duties before beyond
     let count : length floor.dealers.items ≡ length config.dealers = before.dealer_count in
     let here : length config.dealers ≤ firm = omega arith in
     let none : is_some (slice_get config.dealers firm) ≡ false =
-    ap is_some (not_lent config.dealers firm here) in
+    ap is_some (slice_get_past config.dealers firm here) in
     rw none does

@@ -20,7 +20,8 @@ use Rattle.step_replay.specs.StepFaults.{firms_of}
 use Rattle.step_replay.specs.VenueFacts.{Fact, of_dealer, of_investor}
 use Rattle.step_replay.specs.declared.floor.Floor.{Floor}
 use Rattle.step_replay.proofs.LiveEffects.{SendAt, own, quiet, to}
-use Rattle.step_replay.proofs.WorldLemmas.{days_stand, get_first, get_second}
+use Rattle.step_replay.proofs.WorldLemmas.{days_stand, get_second}
+use Rattle.step_replay.specs.PlaceLemmas.{get_first, has_item}
 use Rattle.step_replay.proofs.FirmMessages.{own_part, sent_both}
 
 -- What the places have of it.
@@ -62,13 +63,6 @@ investor_day_none facts number (row ∷ rows) zero beyond = absurd (omega arith)
 investor_day_none facts number (row ∷ rows) (suc i) beyond =
     let inner : length rows ≤ i = omega arith in
     investor_day_none facts (number + 1) rows i inner
-
-pub has_item : {X : Type 0} (xs : List X) (i : ℕ) → i < length xs → is_some (slice_get xs i) ≡ true
-has_item [] i within = absurd (omega arith)
-has_item (x ∷ xs) zero within = refl
-has_item (x ∷ xs) (suc i) within =
-    let inner : i < length xs = omega arith in
-    has_item xs i inner
 
 pub has_no_item : {X : Type 0} (xs : List X) (i : ℕ) → length xs ≤ i → is_some (slice_get xs i) ≡ false
 has_no_item [] i beyond = refl

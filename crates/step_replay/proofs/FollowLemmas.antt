@@ -6,7 +6,8 @@ use Rattle.std.specs.Prelude.{slice_get}
 use Rattle.market_terms.specs.declared.duties.Duty.{Duty}
 use Rattle.venue_rows.specs.Rows.{Configuration}
 use Rattle.step_replay.specs.VenueFacts.{Fact}
-use Rattle.step_replay.specs.Actions.{Effect, duty_effect, message_effect, sweep_effect, nothing}
+use Rattle.step_replay.specs.Actions.{Effect, nothing}
+use Rattle.step_replay.specs.DutyEffects.{duty_effect, message_effect, sweep_effect}
 use Rattle.market_terms.specs.declared.rooms.RoomRef.{RoomRef}
 use Rattle.std.proofs.lemmas.Bool.Decides.{nat_tests}
 use Rattle.venue_places.specs.declared.actors.Actor.TheVariants as actor

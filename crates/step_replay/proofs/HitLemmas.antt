@@ -29,18 +29,19 @@ use Rattle.step_replay.specs.Standing.{WordsStand, Stands, Does, AreOneOf}
 use Rattle.step_replay.specs.RoomPlaces.{room_place}
 use Rattle.step_replay.specs.declared.floor.InvestorPlace.{InvestorPlace}
 use Rattle.step_replay.specs.declared.floor.Floor.{Floor}
-use Rattle.step_replay.proofs.FloorLemmas.{leaving}
+use Rattle.step_replay.proofs.FoundDealers.{leaving}
 use Rattle.step_replay.proofs.RoomPlaceLemmas.{found_by_code, no_room}
-use Rattle.step_replay.proofs.RoomActionLemmas.{in_room_stands, room_push}
+use Rattle.step_replay.proofs.RoomFloor.{in_room_stands}
 use Rattle.step_replay.proofs.HitRefused.{refused_does}
 use Rattle.step_replay.proofs.HitSettled.{settled_does}
+use Rattle.venue_steps.proofs.EndLemmas.{after_more}
 
 -- the room after an event, where it takes place
 pushed : (events new : List RoomEvent) (event : RoomEvent) (b : Bool)
     → new ≡ where_done b events event
     → room_after new
     ≡ room_after events ++ (if b then event_facts (room_after events) event else [])
-pushed events new event true is = ap room_after is ∙ room_push events event
+pushed events new event true is = ap room_after is ∙ after_more events event
 pushed events new event false is = ap room_after is ∙ sym (append-nil (room_after events))
 
 module _ (config : Configuration) (facts : List Fact) (floor : Floor) (at : RoomRef)

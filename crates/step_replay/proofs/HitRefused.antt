@@ -1,33 +1,32 @@
 -- A hit in a room of a replay that refuses, and what a hit does to the room.
-use Rattle.std.proofs.Common.{◌≡◌, ℕ, ◌+◌, nat_le, nat_lt, true, ◌&&◌, if◌then◌else◌, List, []}
-use Rattle.std.proofs.Common.{◌++◌, map, length, get_or, Option, Some, None, option_map, Result, Ok}
-use Rattle.std.proofs.Common.{Err, refl, sym, ap, ◌∙◌, subst, arith}
+use Rattle.std.proofs.Common.{◌≡◌, ℕ, ◌+◌, nat_le, nat_lt, true, ◌&&◌, List, [], ◌++◌, map, length}
+use Rattle.std.proofs.Common.{get_or, Option, Some, None, Result, Ok, Err, refl, sym, ap, ◌∙◌}
+use Rattle.std.proofs.Common.{subst, arith}
 use Rattle.std.specs.Vec.{with_item}
 use Rattle.std.proofs.lemmas.List.{append-nil, append_assoc}
 use Rattle.quote_word.specs.declared.settled.Settled.{Settled}
-use Rattle.venue_rows.specs.Rows.{Configuration, dealer_numbered, has_room}
+use Rattle.venue_rows.specs.Rows.{Configuration, dealer_numbered}
 use Rattle.venue_rows.specs.declared.dealer_rows.DealerRow.{DealerRow}
 use Rattle.market_terms.specs.declared.closes.HitRefusal.{HitRefusal}
 use Rattle.market_terms.specs.declared.rooms.ResponseRef.{ResponseRef}
 use Rattle.market_terms.specs.declared.rooms.RoomRef.{RoomRef}
 use Rattle.request_room.specs.RoomFacts.{RoomFact}
-use Rattle.request_room.specs.Book.{room_after, hit_settled, award_of, word_or, end_by}
+use Rattle.request_room.specs.Book.{room_after, end_by}
 use Rattle.request_room.specs.declared.ends.End.{End}
 use Rattle.request_room.specs.declared.events.RoomEvent.{RoomEvent}
-use Rattle.venue_steps.specs.RoomSteps.{word_asked_by, hit_duties}
-use Rattle.venue_steps.specs.Words.{has_word}
+use Rattle.venue_steps.specs.RoomSteps.{hit_duties}
 use Rattle.step_replay.specs.VenueFacts.{Fact, InRoom, of_room}
-use Rattle.step_replay.specs.Actions.{Effect, QuoteRef, dealer_of, nothing, word_for, words_of}
-use Rattle.step_replay.specs.Actions.{quote_with_word, quote_asked, answer_to_hit, lifting}
+use Rattle.step_replay.specs.Actions.{Effect, QuoteRef, dealer_of, word_for, words_of}
+use Rattle.step_replay.specs.Actions.{quote_with_word, lifting}
 use Rattle.step_replay.specs.Liftings.{NotesWhere, awards}
 use Rattle.step_replay.specs.Standing.{WordsStand, Stands, Does, AreOneOf}
 use Rattle.step_replay.specs.RoomPlaces.{room_place}
 use Rattle.step_replay.specs.declared.floor.InvestorPlace.{InvestorPlace}
 use Rattle.step_replay.specs.declared.floor.Floor.{Floor}
 use Rattle.step_replay.specs.OwnerLemmas.{owned_by, has_owner, quote_at}
-use Rattle.step_replay.specs.PlaceLemmas.{room_grown}
 use Rattle.step_replay.proofs.RoomPlaceLemmas.{found_by_code}
-use Rattle.step_replay.proofs.RoomActionLemmas.{in_room_stands}
+use Rattle.step_replay.proofs.RoomFloor.{in_room_stands}
+use Rattle.step_replay.specs.PlaceLemmas.{room_stays}
 
 -- The quote that has a word of the row.
 
@@ -91,13 +90,6 @@ module _ (config : Configuration) (facts : List Fact) (floor : Floor) (at : Room
   abbrev pub floor_hit : Floor
   floor_hit = hit_floor (record floor { words = words })
 
-  -- the word that is asked and what becomes of the hit, by the check that refuses it
-  abbrev asked_by : Option HitRefusal → Option ℕ
-  asked_by refused = word_asked_by (word_or word refused)
-
-  abbrev pub outcome_by : Option HitRefusal → Option Settled → Result End HitRefusal
-  outcome_by refused settlement = hit_settled refused settlement (award_of known word)
-
   -- what a hit adds and leaves with this outcome
   abbrev pub effect_with : Result End HitRefusal → Effect
   effect_with outcome = record {
@@ -118,9 +110,7 @@ module _ (config : Configuration) (facts : List Fact) (floor : Floor) (at : Room
       let found = found_by_code config (facts ++ lifted) base at investor index old events stands
       is_there value_there events_value in
       let room_same : of_room at (facts ++ lifted) ≡ known =
-      room_grown at facts lifted
-      ∙ ap (λ l. known ++ l) (room_of_lifting at (quote_with_word config word) outcome)
-      ∙ append-nil known in
+      room_stays at facts lifted (room_of_lifting at (quote_with_word config word) outcome) in
       subst (λ (l : List Fact). Stands config l (hit_floor base))
       (append_assoc facts lifted (map (InRoom at) (end_by outcome moment)))
       (in_room_stands config (facts ++ lifted) base at investor index old events stands
@@ -150,14 +140,6 @@ module _ (config : Configuration) (facts : List Fact) (floor : Floor) (at : Room
         words_are = stand;
         owners_are = before.owners_are;
       })))
-
-  -- what a hit adds and leaves, by the check that refuses it
-  abbrev effect_by : Option HitRefusal → Effect
-  effect_by refused =
-      if has_room config at.investor at.n && has_word (words_of config) (asked_by refused)
-      then effect_with (outcome_by refused
-      (option_map (answer_to_hit facts) (quote_asked config (asked_by refused))))
-      else nothing
 
   -- a hit that refuses
   pub refused_does : (after : Floor) (why : HitRefusal)

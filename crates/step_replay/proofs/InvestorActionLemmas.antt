@@ -1,20 +1,19 @@
 -- What happens at the investors' desks of a replay does what it should, wherever the places stood.
-use Rattle.std.proofs.Common.{◌≡◌, ◌≤◌, ℕ, ◌-◌, Bool, true, false, ◌&&◌}
-use Rattle.std.proofs.Common.{List, [], ◌++◌, map, length, nat_le}
-use Rattle.std.proofs.Common.{Option, Some, None, option_map, if◌then◌else◌}
-use Rattle.std.proofs.Common.{refl, sym, ap, ◌∙◌, subst, arith}
+use Rattle.std.proofs.Common.{◌≡◌, ◌≤◌, ℕ, ◌-◌, Bool, true, false, ◌&&◌, List, [], ◌++◌, map}
+use Rattle.std.proofs.Common.{length, nat_le, Option, Some, None, option_map, if◌then◌else◌, refl}
+use Rattle.std.proofs.Common.{sym, ap, ◌∙◌, subst, arith}
 use Rattle.std.specs.Prelude.{slice_get}
 use Rattle.std.specs.Option.{option_to_list}
 use Rattle.std.specs.Vec.{with_item}
 use Rattle.std.proofs.lemmas.Bool.Decides.{nat_tests}
 use Rattle.std.proofs.lemmas.List.{append-nil}
+use Rattle.std.proofs.lemmas.Option.{same_Some}
 use Rattle.market_terms.specs.declared.duties.Duty.{Duty}
 use Rattle.venue_rows.specs.Rows.{Configuration}
 use Rattle.investor_desk.specs.InvestorFacts.{InvestorBook, book_of, knows}
 use Rattle.investor_desk.specs.InvestorRules.{InvestorMarket, investor_verdict}
-use Rattle.investor_desk.specs.InvestorOutput.{DeskEvents, DeskState, desk_after}
-use Rattle.investor_desk.specs.InvestorOutput.{with_event, book_at, verdict_duty}
-use Rattle.investor_desk.specs.InvestorOutput.{market_of, market_for}
+use Rattle.investor_desk.specs.InvestorDesk.{DeskEvents, with_event, book_at, market_of, market_for}
+use Rattle.investor_desk.specs.InvestorOutput.{DeskState, desk_after, verdict_duty}
 use Rattle.investor_desk.specs.declared.events.InvestorEvent.{InvestorEvent}
 use Rattle.investor_desk.specs.declared.events.InvestorEvent.TheVariants as event
 use Rattle.venue_steps.specs.InvestorSteps.{desk_after_own, duties_of_own, where_so, replies_to}
@@ -26,12 +25,10 @@ use Rattle.step_replay.specs.Coming.{investor_gets}
 use Rattle.venue_places.specs.Brought.{investor_with}
 use Rattle.venue_places.specs.declared.arrivals.ForInvestor.{ForInvestor}
 use Rattle.venue_places.specs.declared.arrivals.ForInvestor.TheVariants as to_investor
-use Rattle.step_replay.specs.Standing.{InvestorStands}
-use Rattle.step_replay.specs.Standing.{Stands, Does}
+use Rattle.step_replay.specs.Standing.{InvestorStands, Stands, Does}
 use Rattle.step_replay.specs.declared.floor.InvestorPlace.{InvestorPlace}
 use Rattle.step_replay.specs.declared.floor.Floor.{Floor}
-use Rattle.step_replay.specs.OwnerLemmas.{same_value}
-use Rattle.step_replay.proofs.FloorLemmas.{idle_does}
+use Rattle.step_replay.proofs.FoundDealers.{idle_does}
 use Rattle.step_replay.proofs.InvestorPlaceLemmas.{InvestorFound, investor_found, no_investor}
 use Rattle.step_replay.proofs.InvestorPlaceLemmas.{added_by, investor_event_stands}
 use Rattle.step_replay.proofs.InvestorPlaceLemmas.{at_investor_stands}
@@ -51,7 +48,7 @@ placed floor number at dealers count is = by_test (nat_le dealers number) refl i
         → Some at ≡ (if b then Some (number - dealers) else None) → Placed floor number at
     by_test true test found = record {
       behind = grind (arith, nat_tests);
-      at_is = same_value at (number - dealers) found ∙ ap (λ (d : ℕ). number - d) count;
+      at_is = same_Some at (number - dealers) found ∙ ap (λ (d : ℕ). number - d) count;
     }
     by_test false test found = absurd cc
 

@@ -1,16 +1,15 @@
 -- The investors' places at the start of a day stand where no fact stands.
-use Rattle.std.proofs.Common.{◌≡◌, ◌<◌, ◌≤◌, ℕ, zero, suc, ◌+◌, ◌-◌, nat_lt}
-use Rattle.std.proofs.Common.{Bool, true, false, ◌++◌, get_or, option_map}
-use Rattle.std.proofs.Common.{List, [], ◌∷◌, length, replicate, Option, Some, None}
-use Rattle.std.proofs.Common.{refl, sym, ap, ◌∙◌, subst, arith}
+use Rattle.std.proofs.Common.{◌≡◌, ◌<◌, ◌≤◌, ℕ, zero, suc, ◌+◌, ◌-◌, nat_lt, Bool, true, false}
+use Rattle.std.proofs.Common.{◌++◌, get_or, option_map, List, [], ◌∷◌, length, replicate, Option}
+use Rattle.std.proofs.Common.{Some, None, refl, sym, ap, ◌∙◌, subst, arith}
 use Rattle.std.specs.Prelude.{slice_get}
 use Rattle.std.proofs.lemmas.Bool.Decides.{nat_tests}
 use Rattle.std.proofs.lemmas.List.{length-append, length-replicate}
-use Rattle.std.proofs.lemmas.Option.{slice_get_read}
+use Rattle.std.proofs.lemmas.Option.{slice_get_read, same_Some}
 use Rattle.venue_rows.specs.Rows.{Configuration, investor_numbered}
 use Rattle.venue_rows.specs.declared.investor_rows.InvestorRow.{InvestorRow}
-use Rattle.investor_desk.specs.InvestorOutput.{DeskEvents, desk_after, market_of}
-use Rattle.investor_desk.specs.InvestorOutput.{market_for, no_events}
+use Rattle.investor_desk.specs.InvestorDesk.{DeskEvents, market_of, market_for, no_events}
+use Rattle.investor_desk.specs.InvestorOutput.{desk_after}
 use Rattle.investor_desk.specs.declared.events.InvestorEvent.{InvestorEvent}
 use Rattle.request_room.specs.Book.{room_after}
 use Rattle.request_room.specs.declared.events.RoomEvent.{RoomEvent}
@@ -18,9 +17,8 @@ use Rattle.step_replay.specs.Openings.{InvestorOpens, InvestorOpensIn, Investors
 use Rattle.step_replay.specs.Standing.{InvestorStands, InvestorStandsIn, RoomStandsIn}
 use Rattle.step_replay.specs.VenueFacts.{of_investor, of_room}
 use Rattle.step_replay.specs.declared.floor.InvestorPlace.{InvestorPlace}
-use Rattle.step_replay.proofs.InvestorPlaceLemmas.{numbered_at}
+use Rattle.step_replay.specs.PlaceLemmas.{numbered_at}
 use Rattle.step_replay.proofs.ListEnds.{get_before, get_last}
-use Rattle.step_replay.specs.OwnerLemmas.{same_value}
 
 vacant : (many : ℕ) (at : ℕ) → at < many
     → slice_get (replicate {A = List RoomEvent} many []) at ≡ Some []
@@ -89,7 +87,7 @@ investors_grow config at row places place within is before opens = record {
         let same : index ≡ at = grind (arith, nat_tests) in
         let here : slice_get config.investors at ≡ Some row =
         slice_get_read config.investors (length config.investors) at row refl within is in
-        let rows : row ≡ other = same_value row other
+        let rows : row ≡ other = same_Some row other
         (sym here ∙ ap (slice_get config.investors) (sym same) ∙ there) in
         let last : slice_get (places ++ place ∷ []) index ≡ Some place =
         ap (slice_get (places ++ place ∷ [])) (same ∙ sym before.count) ∙ get_last places place in
@@ -115,7 +113,7 @@ pub market_found : (config : Configuration) (firm at : ℕ) (row : InvestorRow) 
     → Some desk ≡ option_map no_events (market_for config firm)
     → desk ≡ no_events (market_of config (length config.dealers + at) row)
 market_found config firm at row desk firm_is within is found =
-    same_value desk (no_events (market_of config (length config.dealers + at) row))
+    same_Some desk (no_events (market_of config (length config.dealers + at) row))
     (found ∙ ap (λ n. option_map no_events (market_for config n)) firm_is
     ∙ ap (λ r. option_map no_events (option_map (market_of config (length config.dealers + at)) r))
     (found_row config at row within is))

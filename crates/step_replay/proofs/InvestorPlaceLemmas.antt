@@ -1,113 +1,31 @@
--- An investor's place stands where the facts have come, after what happens at its desk; its rooms and
--- all other places stay.
-use Rattle.std.proofs.Common.{◌≡◌, ◌≢◌, ◌<◌, ◌≤◌, ℕ, ◌+◌, ◌-◌, ◌==◌, Bool, true, false}
-use Rattle.std.proofs.Common.{List, [], ◌∷◌, ◌++◌, map, filter_map, length, slice_set, nat_le}
-use Rattle.std.proofs.Common.{Option, Some, None, if◌then◌else◌}
-use Rattle.std.proofs.Common.{refl, sym, ap, ◌∙◌, subst, arith}
+-- An investor's place stands where the facts have come, after what happens at its desk; its rooms
+-- and all other places stay.
+use Rattle.std.proofs.Common.{◌≡◌, ◌≢◌, ◌<◌, ◌≤◌, ℕ, ◌-◌, ◌==◌, Bool, true, false, List, ◌++◌, map}
+use Rattle.std.proofs.Common.{length, slice_set, Option, Some, None, refl, sym, ap, ◌∙◌, subst}
+use Rattle.std.proofs.Common.{arith}
 use Rattle.std.specs.Prelude.{slice_get}
 use Rattle.std.specs.Vec.{with_item}
 use Rattle.std.proofs.lemmas.Bool.Decides.{nat_tests}
-use Rattle.std.proofs.lemmas.List.{append-nil, length-set}
-use Rattle.std.proofs.lemmas.List.Elements.{filter_map-append}
-use Rattle.std.proofs.lemmas.List.Sums.{fold-append}
+use Rattle.std.proofs.lemmas.List.{length-set}
+use Rattle.std.proofs.lemmas.Option.{same_Some, slice_get_within}
 use Rattle.market_terms.specs.declared.rooms.RoomRef.{RoomRef}
 use Rattle.venue_rows.specs.Rows.{Configuration, investor_numbered}
 use Rattle.venue_rows.specs.declared.investor_rows.InvestorRow.{InvestorRow}
-use Rattle.investor_desk.specs.InvestorFacts.{InvestorFact}
-use Rattle.investor_desk.specs.InvestorRules.{InvestorMarket}
-use Rattle.investor_desk.specs.InvestorOutput.{DeskEvents, DeskState, desk_after, after_event}
-use Rattle.investor_desk.specs.InvestorOutput.{no_facts, event_facts, event_messages, moment_of}
-use Rattle.investor_desk.specs.InvestorOutput.{written_from, with_event}
-use Rattle.investor_desk.specs.InvestorOutput.{market_of}
+use Rattle.investor_desk.specs.InvestorDesk.{DeskEvents, with_event, market_of}
+use Rattle.investor_desk.specs.InvestorOutput.{DeskState, desk_after, after_event}
 use Rattle.investor_desk.specs.declared.events.InvestorEvent.{InvestorEvent}
-use Rattle.step_replay.specs.InvestorTrail.{InvestorEntry, AtDesk, Sent, fact_in, message_in}
-use Rattle.step_replay.specs.InvestorTrail.{facts_of, book_by, sent_by, entries_of}
+use Rattle.step_replay.specs.InvestorTrail.{InvestorEntry, entries_of}
 use Rattle.step_replay.specs.VenueFacts.{Fact, AtInvestor, of_dealer, of_room, of_investor}
-use Rattle.step_replay.specs.Standing.{DealerStandsIn, InvestorStands, InvestorStandsIn}
-use Rattle.step_replay.specs.Standing.{Stands, word_is}
+use Rattle.step_replay.specs.Standing.{DealerStandsIn, InvestorStands, InvestorStandsIn, Stands}
+use Rattle.step_replay.specs.Standing.{word_is}
 use Rattle.step_replay.specs.declared.floor.InvestorPlace.{InvestorPlace}
 use Rattle.step_replay.specs.declared.floor.Floor.{Floor}
-use Rattle.step_replay.specs.OwnerLemmas.{same_value}
-use Rattle.step_replay.specs.PlaceLemmas.{get_set_same, get_set_other, get_within, get_beyond}
-use Rattle.step_replay.specs.PlaceLemmas.{dealer_grown, room_grown, investor_grown}
+use Rattle.step_replay.specs.PlaceLemmas.{get_set_same, get_set_other, get_beyond, investor_grown}
 use Rattle.step_replay.specs.PlaceLemmas.{own_investor, other_investor, trail_at_investor}
-use Rattle.step_replay.specs.PlaceLemmas.{room_at_investor}
+use Rattle.step_replay.specs.PlaceLemmas.{room_at_investor, dealer_stays, investor_stays}
+use Rattle.step_replay.specs.PlaceLemmas.{room_stays, behind_dealers, numbered_at}
 use Rattle.step_replay.proofs.FloorLemmas.{room_kept, investor_kept, words_kept}
-
--- What an event adds to an investor's trail.
-
-none_of : {A Y : Type 0} (h : InvestorEntry → Option Y) (f : A → InvestorEntry)
-    → ((x : A) → h (f x) ≡ None) → (xs : List A) → filter_map h (map f xs) ≡ []
-none_of h f none [] = refl
-none_of h f none (x ∷ xs) = rw (none x) (none_of h f none xs)
-
-each_of : {A : Type 0} (h : InvestorEntry → Option A) (f : A → InvestorEntry)
-    → ((x : A) → h (f x) ≡ Some x) → (xs : List A) → filter_map h (map f xs) ≡ xs
-each_of h f each [] = refl
-each_of h f each (x ∷ xs) = rw (each x) (ap (λ l. x ∷ l) (each_of h f each xs))
-
-facts_added : (facts : List InvestorFact) (messages : List (List ℕ))
-    → filter_map fact_in (map AtDesk facts ++ map Sent messages) ≡ facts
-facts_added facts messages =
-    filter_map-append fact_in (map AtDesk facts) (map Sent messages)
-    ∙ ap (λ l. filter_map fact_in (map AtDesk facts) ++ l)
-    (none_of fact_in Sent (λ m. refl) messages)
-    ∙ append-nil (filter_map fact_in (map AtDesk facts))
-    ∙ each_of fact_in AtDesk (λ fact. refl) facts
-
-sent_added : (facts : List InvestorFact) (messages : List (List ℕ))
-    → filter_map message_in (map AtDesk facts ++ map Sent messages) ≡ messages
-sent_added facts messages =
-    filter_map-append message_in (map AtDesk facts) (map Sent messages)
-    ∙ ap (λ l. l ++ filter_map message_in (map Sent messages))
-    (none_of message_in AtDesk (λ fact. refl) facts)
-    ∙ each_of message_in Sent (λ m. refl) messages
-
-module _ (market : InvestorMarket) (trail : List InvestorEntry) (more : InvestorEvent) where
-  -- the messages that the event sends
-  abbrev messages : List (List ℕ)
-  messages = written_from market (length (sent_by trail) + 1) (moment_of more)
-      (event_messages market (book_by trail) more)
-
-  facts_grown : facts_of (trail ++ entries_of market trail more)
-      ≡ facts_of trail ++ event_facts market (book_by trail) more
-  unfolding entries_of
-  facts_grown =
-      filter_map-append fact_in trail (entries_of market trail more)
-      ∙ ap (λ l. facts_of trail ++ l)
-      (facts_added (event_facts market (book_by trail) more) messages)
-
-  sent_grown : sent_by (trail ++ entries_of market trail more) ≡ sent_by trail ++ messages
-  unfolding entries_of
-  sent_grown =
-      filter_map-append message_in trail (entries_of market trail more)
-      ∙ ap (λ l. sent_by trail ++ l)
-      (sent_added (event_facts market (book_by trail) more) messages)
-
--- a desk with these facts, whose investor was sent these messages
-abbrev desk_with : List InvestorFact → List (List ℕ) → DeskState
-desk_with facts sent = record { facts = facts; sent = sent }
-
--- a desk where a trail has come
-abbrev desk_of : List InvestorEntry → DeskState
-desk_of trail = desk_with (facts_of trail) (sent_by trail)
-
-both : (facts facts_too : List InvestorFact) (sent sent_too : List (List ℕ))
-    → facts ≡ facts_too → sent ≡ sent_too → desk_with facts sent ≡ desk_with facts_too sent_too
-both facts facts_too sent sent_too one other =
-    ap (λ f. desk_with f sent) one ∙ ap (λ s. desk_with facts_too s) other
-
--- a desk after one event more
-desk_push : (market : InvestorMarket) (events : List InvestorEvent) (more : InvestorEvent)
-    → desk_after market (events ++ more ∷ []) ≡ after_event market (desk_after market events) more
-unfolding desk_after
-desk_push market events more = fold-append (after_event market) no_facts events (more ∷ [])
-
--- a desk of a trail after one event more
-trail_push : (market : InvestorMarket) (trail : List InvestorEntry) (more : InvestorEvent)
-    → after_event market (desk_of trail) more ≡ desk_of (trail ++ entries_of market trail more)
-trail_push market trail more =
-    both _ _ _ _ (sym (facts_grown market trail more)) (sym (sent_grown market trail more))
+use Rattle.step_replay.specs.InvestorGrowth.{desk_of, desk_push, trail_push}
 
 -- The facts with what is added at an investor.
 
@@ -124,21 +42,17 @@ module _ (facts : List Fact) (number : ℕ) (added : List InvestorEntry) where
   other_now : (other : ℕ) → (number == other) ≡ false
       → of_investor other now ≡ of_investor other facts
   other_now other differs =
-      investor_grown other facts (map (AtInvestor number) added)
-      ∙ ap (λ l. of_investor other facts ++ l) (other_investor other number differs added)
-      ∙ append-nil (of_investor other facts)
+      investor_stays other facts (map (AtInvestor number) added)
+      (other_investor other number differs added)
 
   room_now : (room : RoomRef) → of_room room now ≡ of_room room facts
   room_now room =
-      room_grown room facts (map (AtInvestor number) added)
-      ∙ ap (λ l. of_room room facts ++ l) (room_at_investor room number added)
-      ∙ append-nil (of_room room facts)
+      room_stays room facts (map (AtInvestor number) added) (room_at_investor room number added)
 
   dealer_now : (other : ℕ) → of_dealer other now ≡ of_dealer other facts
   dealer_now other =
-      dealer_grown other facts (map (AtInvestor number) added)
-      ∙ ap (λ l. of_dealer other facts ++ l) (trail_at_investor other number added)
-      ∙ append-nil (of_dealer other facts)
+      dealer_stays other facts (map (AtInvestor number) added)
+      (trail_at_investor other number added)
 
 -- An investor's place after one event more.
 
@@ -181,24 +95,6 @@ pub record InvestorFound (config : Configuration) (facts : List Fact) (number : 
   pub row_is : investor_numbered config number ≡ Some row
   pub stands : InvestorStands config number row facts place
 
-pub numbered_at : (config : Configuration) (number : ℕ) → length config.dealers ≤ number
-    → investor_numbered config number
-    ≡ slice_get config.investors (number - length config.dealers)
-numbered_at config number behind =
-    let test : nat_le (length config.dealers) number ≡ true = grind (arith, nat_tests) in
-    ap (λ (b : Bool). if b then slice_get config.investors (number - length config.dealers)
-    else None) test
-
-pub behind_dealers : (config : Configuration) (number : ℕ) (row : InvestorRow)
-    → investor_numbered config number ≡ Some row → length config.dealers ≤ number
-behind_dealers config number row is = by_test (nat_le (length config.dealers) number) refl is
-  where
-    by_test : (b : Bool) → nat_le (length config.dealers) number ≡ b
-        → (if b then slice_get config.investors (number - length config.dealers) else None)
-        ≡ Some row → length config.dealers ≤ number
-    by_test true test found = grind (arith, nat_tests)
-    by_test false test found = cc
-
 pub investor_found : (config : Configuration) (facts : List Fact) (floor : Floor) (number : ℕ)
     (place : InvestorPlace) → Stands config facts floor → length config.dealers ≤ number
     → slice_get floor.investors.items (number - length config.dealers) ≡ Some place
@@ -213,7 +109,7 @@ investor_found config facts floor number place stands behind is =
         get_beyond config.investors (number - length config.dealers)
         (sym (numbered_at config number behind) ∙ none) in
         let within : number - length config.dealers < length floor.investors.items =
-        get_within floor.investors.items (number - length config.dealers) place is in
+        slice_get_within floor.investors.items (number - length config.dealers) place is in
         let count : length floor.investors.items ≡ length config.investors =
         stands.investor_count in
         absurd (omega arith)
@@ -262,9 +158,9 @@ module _ (config : Configuration) (facts : List Fact) (floor : Floor) (number : 
           (other - length config.dealers))
       by_test true test =
           let equal : number ≡ other = grind (arith, nat_tests) in
-          let rows : row ≡ row_too = same_value row row_too
+          let rows : row ≡ row_too = same_Some row row_too
           (sym is ∙ ap (investor_numbered config) equal ∙ is_too) in
-          let within = get_within floor.investors.items index old stood in
+          let within = slice_get_within floor.investors.items index old stood in
           let Own : ℕ → InvestorRow → Type 0 = λ n r.
           InvestorStandsIn config n r (now facts number added)
           (slice_get (slice_set floor.investors.items index place)

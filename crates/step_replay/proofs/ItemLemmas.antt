@@ -13,9 +13,10 @@ use Rattle.venue_rows.specs.declared.dealer_rows.DealerRow.{DealerRow}
 use Rattle.market_terms.specs.declared.asks.Ask.{Ask}
 use Rattle.market_terms.specs.declared.closes.Close.{Close}
 use Rattle.dealer_desk.specs.DealerFacts.{number_to_drop}
-use Rattle.dealer_desk.specs.DealerOutput.{DeskEvents, asked_word, book_at, desk_after}
-use Rattle.dealer_desk.specs.DealerOutput.{may_close, verdict_at, word_asked, with_event}
-use Rattle.dealer_desk.specs.DealerOutput.{with_notice}
+use Rattle.dealer_desk.specs.DealerDesk.{DeskEvents, book_at, may_close, verdict_at, with_event}
+use Rattle.dealer_desk.specs.DealerDesk.{with_notice}
+use Rattle.dealer_desk.specs.DealerOutput.{desk_after, word_asked}
+use Rattle.dealer_desk.specs.SettledWords.{asked_word}
 use Rattle.dealer_desk.specs.declared.events.DealerEvent.{DealerEvent}
 use Rattle.dealer_desk.specs.declared.events.DealerEvent.TheVariants as event
 use Rattle.step_replay.specs.declared.dues.Due.{Due}

@@ -2,6 +2,8 @@ mod AskLemmas
 mod AskedWords
 mod ComingLemmas
 mod DealerActionLemmas
+mod DealerDrops
+mod DealerMessages
 mod DoneLemmas
 mod DueListLemmas
 mod DutyLemmas
@@ -9,6 +11,7 @@ mod FirmMessages
 mod FirmSent
 mod FloorLemmas
 mod FollowLemmas
+mod FoundDealers
 mod HitLemmas
 mod HitRefused
 mod HitSettled
@@ -29,6 +32,8 @@ mod OpenRoomStands
 mod OpeningLemmas
 mod RoomActionLemmas
 mod RoomEffects
+mod RoomFloor
+mod RoomGrowth
 mod RoomOrder
 mod RoomPlaceLemmas
 mod RowLemmas
@@ -39,4 +44,5 @@ mod SweepLemmas
 mod SweptLemmas
 mod SweptRooms
 mod TurnLemmas
+mod UnaskedEvents
 mod WorldLemmas

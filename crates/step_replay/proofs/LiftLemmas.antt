@@ -1,9 +1,7 @@
 -- A lift of a quote in a replay: the words, the dealer's place and its trail.
-use Rattle.std.proofs.Common.{◌≡◌, ◌≢◌, ◌<◌, ℕ, zero, suc, ◌==◌, nat_le}
-use Rattle.std.proofs.Common.{Bool, true, false, ◌&&◌, ◌||◌, if◌then◌else◌}
-use Rattle.std.proofs.Common.{List, [], ◌∷◌, ◌++◌, length, slice_set}
-use Rattle.std.proofs.Common.{Option, Some}
-use Rattle.std.proofs.Common.{refl, sym, ap, ◌∙◌, subst, arith, eq-eqb}
+use Rattle.std.proofs.Common.{◌≡◌, ◌≢◌, ◌<◌, ℕ, zero, suc, ◌==◌, nat_le, Bool, true, false, ◌&&◌}
+use Rattle.std.proofs.Common.{◌||◌, if◌then◌else◌, List, [], ◌∷◌, ◌++◌, length, slice_set, Option}
+use Rattle.std.proofs.Common.{Some, refl, sym, ap, ◌∙◌, subst, arith, eq-eqb, ap₂}
 use Rattle.std.specs.Prelude.{slice_get}
 use Rattle.std.specs.List.{list_any}
 use Rattle.std.specs.Vec.{with_item}
@@ -11,17 +9,20 @@ use Rattle.std.proofs.lemmas.Bool.Decides.{nat_tests}
 use Rattle.std.proofs.lemmas.List.{append-nil}
 use Rattle.std.proofs.lemmas.List.Elements.{filter_map-append}
 use Rattle.std.proofs.lemmas.List.Folds.{list_any-append}
+use Rattle.std.proofs.Math.Bool.{or-false, or-true}
+use Rattle.std.proofs.lemmas.Option.{same_Some}
 use Rattle.quote_word.specs.PlainWords.{entry_in, settlement_of, Exchanges}
 use Rattle.quote_word.specs.PlainWordsLaws.{exchange_answers_entry, exchange_keeps_others}
 use Rattle.quote_word.specs.declared.settled.Settled.{Settled}
 use Rattle.quote_word.specs.declared.settled.Settled.TheVariants as settled
 use Rattle.venue_rows.specs.Rows.{Configuration, dealer_numbered}
 use Rattle.venue_rows.specs.declared.dealer_rows.DealerRow.{DealerRow}
-use Rattle.dealer_desk.specs.DealerOutput.{DeskEvents, desk_after, rooms_of}
+use Rattle.dealer_desk.specs.DealerDesk.{DeskEvents}
+use Rattle.dealer_desk.specs.DealerOutput.{desk_after, rooms_of}
 use Rattle.dealer_desk.specs.DeskLaws.{withdraws}
 use Rattle.step_replay.specs.DealerTrail.{DealerEntry, Lifted, fact_in, room_in, message_in}
-use Rattle.step_replay.specs.DealerTrail.{facts_of, rooms_by, sent_by, lifts}
-use Rattle.step_replay.specs.DealerTrail.{was_lifted, was_withdrawn}
+use Rattle.step_replay.specs.DealerTrail.{facts_of, rooms_by, sent_by, lifts, was_lifted}
+use Rattle.step_replay.specs.DealerTrail.{was_withdrawn}
 use Rattle.step_replay.specs.VenueFacts.{Fact, AtDealer, of_dealer}
 use Rattle.step_replay.specs.Actions.{dealer_of, word_for}
 use Rattle.step_replay.specs.Liftings.{Noted}
@@ -32,16 +33,15 @@ use Rattle.step_replay.specs.declared.floor.Floor.{Floor}
 use Rattle.step_replay.proofs.AskedWords.{words_apart}
 use Rattle.step_replay.proofs.FloorLemmas.{at_dealer_stands}
 use Rattle.step_replay.proofs.LiftingLemmas.{dues_after_lifting, within_after_lifting}
-use Rattle.step_replay.specs.OwnerLemmas.{same_value}
-use Rattle.step_replay.specs.PlaceLemmas.{dealer_grown, own_trail, other_trail}
-use Rattle.step_replay.specs.SeenLemmas.{both}
+use Rattle.step_replay.specs.PlaceLemmas.{dealer_grown, own_trail, other_trail, dealer_stays}
+use Rattle.step_replay.specs.DealerGrowth.{desk_with}
 
 -- Lists.
 
 pub set_same : {X : Type 0} (xs : List X) (i : ℕ) (x : X) → slice_get xs i ≡ Some x
     → slice_set xs i x ≡ xs
 set_same [] i x is = refl
-set_same (y ∷ xs) zero x is = ap (λ z. z ∷ xs) (sym (same_value y x is))
+set_same (y ∷ xs) zero x is = ap (λ z. z ∷ xs) (sym (same_Some y x is))
 set_same (y ∷ xs) (suc i) x is = ap (λ l. y ∷ l) (set_same xs i x is)
 
 -- The trail of a dealer whose quote was lifted.
@@ -54,7 +54,7 @@ lifted_trail config number row trail quote place now before noted = record {
   row_is = ap (λ (d : DeskEvents). d.row) noted.desk_is ∙ before.row_is;
   state_is = ap (λ (d : DeskEvents). desk_after config.date row d.events) noted.desk_is
       ∙ before.state_is
-      ∙ both _ _ _ _
+      ∙ ap₂ desk_with
       (sym (filter_map-append fact_in trail (Lifted quote ∷ []) ∙ append-nil (facts_of trail)))
       (sym (filter_map-append message_in trail (Lifted quote ∷ []) ∙ append-nil (sent_by trail)));
   rooms_are = ap (λ (d : DeskEvents). rooms_of d.events) noted.desk_is ∙ before.rooms_are
@@ -132,7 +132,7 @@ exchanged_stand config facts now number row quote words after wish settlement is
         ≡ word_is (of_dealer other now) quote_too
     by_quote equal true test =
         let quotes_are : quote ≡ quote_too = grind (arith, nat_tests) in
-        let rows : row ≡ row_too = same_value row row_too
+        let rows : row ≡ row_too = same_Some row row_too
         (sym is ∙ ap (dealer_numbered config) equal ∙ is_too) in
         let Goal : ℕ → DealerRow → ℕ → Type 0 = λ n r q.
         entry_in after (word_for config (dealer_of n r) q) ≡ word_is (of_dealer n now) q in
@@ -168,17 +168,6 @@ exchanged_stand config facts now number row quote words after wish settlement is
             let clash : true ≡ false = sym is_same ∙ test in
             cc
 
-or_false : (b : Bool) → (b || false) ≡ b
-or_false true = refl
-or_false false = refl
-
-or_true : (b : Bool) → (b || true) ≡ true
-or_true true = refl
-or_true false = refl
-
-if_lifted : (b : Bool) → word_if true b ≡ Some settled.Lifted
-if_lifted b = refl
-
 if_withdrawn : (lifted : Bool) → (lifted && true) ≡ false → word_if lifted true ≡ Some settled.Withdrawn
 if_withdrawn true one = cc
 if_withdrawn false one = refl
@@ -198,9 +187,8 @@ module _ (config : Configuration) (facts : List Fact) (number : ℕ) (row : Deal
   other_lifted : (other : ℕ) → (number == other) ≡ false
       → of_dealer other lifted_now ≡ of_dealer other facts
   other_lifted other differs =
-      dealer_grown other facts (AtDealer number (Lifted quote) ∷ [])
-      ∙ ap (λ l. of_dealer other facts ++ l) (other_trail other number differs (Lifted quote ∷ []))
-      ∙ append-nil (of_dealer other facts)
+      dealer_stays other facts (AtDealer number (Lifted quote) ∷ [])
+      (other_trail other number differs (Lifted quote ∷ []))
 
   -- what a word of the dealer is then
   word_lifted : (quote_too : ℕ) → word_is (of_dealer number lifted_now) quote_too
@@ -228,12 +216,12 @@ module _ (config : Configuration) (facts : List Fact) (number : ℕ) (row : Deal
       ∙ ap (λ b. word_if b (was_withdrawn (of_dealer number facts) quote))
       (ap (λ b. was_lifted (of_dealer number facts) quote || (b || false))
       (eq-eqb quote quote refl)
-      ∙ or_true (was_lifted (of_dealer number facts) quote))))
+      ∙ or-true (was_lifted (of_dealer number facts) quote))))
       (λ other quote_too differs. ap (λ l. word_is l quote_too) (other_lifted other differs))
       (λ quote_too differs. word_lifted quote_too
       ∙ ap (λ b. word_if b (was_withdrawn (of_dealer number facts) quote_too))
       (ap (λ b. was_lifted (of_dealer number facts) quote_too || (b || false)) differs
-      ∙ or_false (was_lifted (of_dealer number facts) quote_too)))
+      ∙ or-false (was_lifted (of_dealer number facts) quote_too)))
 
   -- a lift that finds it withdrawn
   pub refused_stands : (words after : List (Option Settled)) → WordsStand config facts words

@@ -1,12 +1,11 @@
 -- The due list that the code keeps, from the events of a desk and the liftings, grows as that of the
 -- dealer's trail does.
-use Rattle.std.proofs.Common.{◌≡◌, ◌≤◌, ℕ, ◌+◌, ◌-◌, nat_lt, Bool, true, false, ◌||◌}
-use Rattle.std.proofs.Common.{List, [], ◌∷◌, ◌++◌, map, filter_map, length, take, drop, get_or}
-use Rattle.std.proofs.Common.{Some, subst}
+use Rattle.std.proofs.Common.{◌≡◌, ◌≤◌, ℕ, ◌+◌, ◌-◌, nat_lt, Bool, false, List, [], ◌∷◌, ◌++◌, map}
+use Rattle.std.proofs.Common.{filter_map, length, take, drop, get_or, Some, subst, refl, sym, ap}
+use Rattle.std.proofs.Common.{◌∙◌, arith}
 use Rattle.std.specs.Prelude.{slice_get}
 use Rattle.std.specs.Vec.{with_item}
 use Rattle.std.proofs.lemmas.Option.{get_or_from_slice_get}
-use Rattle.std.proofs.Common.{refl, sym, ap, ◌∙◌, arith}
 use Rattle.std.specs.List.{list_any}
 use Rattle.std.proofs.Math.Seq.{take-length, drop-length}
 use Rattle.std.proofs.lemmas.Bool.Decides.{nat_tests}
@@ -14,8 +13,10 @@ use Rattle.std.proofs.lemmas.List.{append_assoc, map-append, drop-append-le, tak
 use Rattle.std.proofs.lemmas.List.{length-drop, length-append}
 use Rattle.std.proofs.lemmas.List.Elements.{filter_map-append}
 use Rattle.std.proofs.lemmas.List.Folds.{list_any-append}
+use Rattle.std.proofs.lemmas.Bool.{or_parts}
 use Rattle.venue_rows.specs.declared.dealer_rows.DealerRow.{DealerRow}
-use Rattle.dealer_desk.specs.DealerOutput.{DeskEvents, event_facts, with_event}
+use Rattle.dealer_desk.specs.DealerDesk.{DeskEvents, with_event}
+use Rattle.dealer_desk.specs.DealerOutput.{event_facts}
 use Rattle.dealer_desk.specs.declared.events.DealerEvent.{DealerEvent}
 use Rattle.step_replay.specs.DealerTrail.{DealerEntry, Lifted, book_by, entries_of}
 use Rattle.step_replay.specs.DueList.{due_by, due_by_fact, due_list}
@@ -26,7 +27,7 @@ use Rattle.step_replay.specs.declared.dues.Due.TheVariants as due
 use Rattle.step_replay.specs.declared.floor.DealerPlace.{DealerPlace}
 use Rattle.step_replay.specs.declared.floor.Floor.{Floor}
 use Rattle.step_replay.specs.declared.floor.Lifting.{Lifting}
-use Rattle.step_replay.specs.SeenLemmas.{due_grown}
+use Rattle.step_replay.specs.DealerGrowth.{due_grown}
 
 -- Liftings that stand behind no more events than came.
 
@@ -34,15 +35,11 @@ use Rattle.step_replay.specs.SeenLemmas.{due_grown}
 abbrev is_beyond : ℕ → Lifting → Bool
 is_beyond count lifting = nat_lt count lifting.after
 
-neither : (a b : Bool) → (a || b) ≡ false → (a ≡ false) × (b ≡ false)
-neither true b is = cc
-neither false b is = (refl, is)
-
 -- the first and the others
 within_parts : (count : ℕ) (lifting : Lifting) (later : List Lifting)
     → AreWithin count (lifting ∷ later) → (lifting.after ≤ count) × AreWithin count later
 within_parts count lifting later within =
-    let parts = neither (nat_lt count lifting.after) (list_any (is_beyond count) later) within in
+    let parts = or_parts (nat_lt count lifting.after) (list_any (is_beyond count) later) within in
     let here : nat_lt count lifting.after ≡ false = parts.0 in
     let least : lifting.after ≤ count = grind (arith, nat_tests) in
     (least, parts.1)

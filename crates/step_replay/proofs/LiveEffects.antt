@@ -1,12 +1,11 @@
 -- What a step sends, it sends to one firm.
-use Rattle.std.proofs.Common.{◌≡◌, ◌<◌, ◌≤◌, ℕ, zero, suc, ◌-◌, Bool, true, false, if◌then◌else◌, nat_lt}
-use Rattle.std.proofs.Common.{List, [], ◌∷◌, ◌++◌, length, map, filter_map}
-use Rattle.std.proofs.Common.{Option, Some, None, refl, sym, ap, ◌∙◌, subst, arith}
-use Rattle.std.specs.Prelude.{slice_get, is_some}
+use Rattle.std.proofs.Common.{◌≡◌, ◌<◌, ℕ, Bool, true, false, nat_lt, List, [], ◌∷◌, ◌++◌, length}
+use Rattle.std.proofs.Common.{map, filter_map, Option, Some, None, refl, sym, ap, ◌∙◌, subst, arith}
+use Rattle.std.specs.Prelude.{is_some, Result, Ok, Err}
 use Rattle.std.proofs.lemmas.Bool.Decides.{nat_tests}
 use Rattle.std.proofs.lemmas.List.{append-nil}
 use Rattle.std.proofs.lemmas.List.Elements.{filter_map-append}
-use Rattle.std.specs.Prelude.{Result, Ok, Err}
+use Rattle.std.proofs.lemmas.Option.{slice_get_past, slice_get_within}
 use Rattle.market_terms.specs.declared.duties.Duty.{Duty}
 use Rattle.market_terms.specs.declared.rooms.RoomRef.{RoomRef}
 use Rattle.market_terms.specs.declared.closes.HitRefusal.{HitRefusal}
@@ -18,24 +17,22 @@ use Rattle.venue_rows.specs.declared.investor_rows.InvestorRow.{InvestorRow}
 use Rattle.step_replay.specs.AuditTrail.{AuditTrail, after_step, after_turn, pending}
 use Rattle.step_replay.specs.ActionKinds.{IsAction, by_dealer, by_hit, by_investor, by_room, idle}
 use Rattle.step_replay.specs.ActionKinds.{duty_action, message_action, sweep_action}
-use Rattle.step_replay.specs.Actions.{Effect, QuoteRef, quote_with_word}
-use Rattle.step_replay.specs.Actions.{nothing}
-use Rattle.step_replay.specs.Actions.{duty_effect, message_effect, sweep_effect}
-use Rattle.step_replay.specs.Actions.{lifting}
+use Rattle.step_replay.specs.Actions.{Effect, QuoteRef, quote_with_word, nothing, lifting}
+use Rattle.step_replay.specs.DutyEffects.{duty_effect, message_effect, sweep_effect}
 use Rattle.step_replay.specs.DealerTrail as dealer_trail
 use Rattle.step_replay.specs.DealerTrail.{DealerEntry}
 use Rattle.step_replay.specs.InvestorTrail as investor_trail
 use Rattle.step_replay.specs.InvestorTrail.{InvestorEntry}
-use Rattle.step_replay.specs.LiveDays.{Sent, actor_of, is_dealer}
-use Rattle.step_replay.specs.LiveDays.{messages_in, sent_by_facts, sent_in}
+use Rattle.step_replay.specs.LiveDays.{Sent, actor_of, is_dealer, messages_in, sent_by_facts}
+use Rattle.step_replay.specs.LiveDays.{sent_in}
 use Rattle.step_replay.specs.LiveStanding.{desk_of_step, first_in, room_of_step}
 use Rattle.step_replay.specs.StepFaults.{firms_of}
 use Rattle.step_replay.specs.VenueFacts.{Fact, AtDealer, InRoom, AtInvestor, of_dealer, of_investor}
 use Rattle.venue_places.specs.declared.actors.Actor.{Actor}
 use Rattle.step_replay.specs.declared.steps.Step.{Step}
 use Rattle.step_replay.specs.declared.steps.Step.TheVariants as step
-use Rattle.step_replay.proofs.InvestorPlaceLemmas.{behind_dealers, numbered_at}
-use Rattle.step_replay.specs.PlaceLemmas.{get_within, nothing_of, own_trail, own_investor}
+use Rattle.step_replay.specs.PlaceLemmas.{behind_dealers, nothing_of, own_trail, own_investor}
+use Rattle.step_replay.specs.PlaceLemmas.{investor_within}
 use Rattle.step_replay.proofs.RoomEffects.{AreOf, action_there, nothing_there}
 
 -- a message and its firm
@@ -48,31 +45,15 @@ pub dealer_is : (config : Configuration) (firm : ℕ) (row : DealerRow)
     → dealer_numbered config firm ≡ Some row → is_dealer config firm ≡ true
 dealer_is config firm row is = rw is refl
 
-get_none : {X : Type 0} (xs : List X) (i : ℕ) → length xs ≤ i → slice_get xs i ≡ None
-get_none [] i beyond = refl
-get_none (x ∷ xs) zero beyond = absurd (omega arith)
-get_none (x ∷ xs) (suc i) beyond =
-    let inner : length xs ≤ i = omega arith in
-    get_none xs i inner
-
 pub investor_is : (config : Configuration) (firm : ℕ) (row : InvestorRow)
     → investor_numbered config firm ≡ Some row → is_dealer config firm ≡ false
 investor_is config firm row is =
-    ap is_some (get_none config.dealers firm (behind_dealers config firm row is))
+    ap is_some (slice_get_past config.dealers firm (behind_dealers config firm row is))
 
 pub dealer_within : (config : Configuration) (firm : ℕ) (row : DealerRow)
     → dealer_numbered config firm ≡ Some row → nat_lt firm (firms_of config) ≡ true
 dealer_within config firm row is =
-    let within : firm < length config.dealers = get_within config.dealers firm row is in
-    grind (arith, nat_tests)
-
-pub investor_within : (config : Configuration) (firm : ℕ) (row : InvestorRow)
-    → investor_numbered config firm ≡ Some row → nat_lt firm (firms_of config) ≡ true
-investor_within config firm row is =
-    let behind = behind_dealers config firm row is in
-    let there : firm - length config.dealers < length config.investors =
-    get_within config.investors (firm - length config.dealers) row
-    (sym (numbered_at config firm behind) ∙ is) in
+    let within : firm < length config.dealers = slice_get_within config.dealers firm row is in
     grind (arith, nat_tests)
 
 -- What one place's entries send.

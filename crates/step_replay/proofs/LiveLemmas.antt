@@ -3,7 +3,6 @@ use Rattle.std.proofs.Common.{◌≡◌, ◌<◌, ◌≤◌, ℕ, zero, suc, ◌
 use Rattle.std.proofs.Common.{length, fold, replicate, Option, Some, None, refl, sym, ap, ◌∙◌}
 use Rattle.std.proofs.Common.{subst, arith}
 use Rattle.std.specs.Prelude.{slice_get}
-use Rattle.std.specs.Option.{option_and_then}
 use Rattle.std.proofs.lemmas.Bool.Decides.{nat_tests}
 use Rattle.std.proofs.lemmas.List.{append-nil, append_assoc, length-map, replicate-append-replicate}
 use Rattle.std.proofs.lemmas.List.Concat.{flat_map-append}
@@ -37,9 +36,6 @@ use Rattle.step_replay.proofs.TurnLemmas.{index_is, queue_pending}
 use Rattle.step_replay.proofs.FirmSent.{behind_is}
 
 -- The duty that comes next.
-
-first_of_queue : (queues : List (List Duty)) (found : Option ℕ) → Option Duty
-first_of_queue queues found = option_and_then first_in (option_and_then (slice_get queues) found)
 
 pub next_is : (config : Configuration) (by : Actor) (trail : AuditTrail) (replay : Replay)
     → is_known config by ≡ true → ReplayStands config trail replay

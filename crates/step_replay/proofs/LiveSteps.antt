@@ -4,7 +4,7 @@ use Rattle.std.proofs.Common.{Option, Some, None, refl, sym, ap, ◌∙◌, subs
 use Rattle.market_terms.specs.declared.duties.Duty.{Duty}
 use Rattle.market_terms.specs.declared.rooms.RoomRef.{RoomRef}
 use Rattle.venue_rows.specs.Rows.{Configuration}
-use Rattle.step_replay.specs.Actions.{duty_effect, message_effect}
+use Rattle.step_replay.specs.DutyEffects.{duty_effect, message_effect}
 use Rattle.step_replay.specs.AuditTrail.{AuditTrail, after_step, after_turn, no_steps, pending}
 use Rattle.step_replay.specs.LiveDays.{Sent, actor_of, live_trail, messages_in}
 use Rattle.step_replay.specs.LiveStanding.{Answers, IsAt, SendsAllOf, SendsOf, VenueStands}

@@ -11,9 +11,11 @@ use Rattle.step_replay.specs.InvestorTrail as investor_trail
 use Rattle.step_replay.specs.LiveDays.{is_dealer, sent_by_facts}
 use Rattle.step_replay.specs.StepFaults.{firms_of}
 use Rattle.step_replay.specs.VenueFacts.{Fact, of_dealer, of_investor}
-use Rattle.step_replay.proofs.FirmSent.{dealer_day_count, dealer_day_get, has_item, has_no_item}
+use Rattle.step_replay.proofs.FirmSent.{dealer_day_count, dealer_day_get, has_no_item}
+use Rattle.step_replay.specs.PlaceLemmas.{has_item}
 use Rattle.step_replay.proofs.FirmSent.{investor_day_get}
-use Rattle.step_replay.proofs.WorldLemmas.{get_first, get_second}
+use Rattle.step_replay.proofs.WorldLemmas.{get_second}
+use Rattle.step_replay.specs.PlaceLemmas.{get_first}
 
 -- the messages of the day of a firm, where there is one
 abbrev pub sent_on : Option FirmDay → Option (List (List ℕ))

@@ -1,7 +1,6 @@
 -- The rooms that are opening or open, by their deadlines, as the code keeps them.
 use Rattle.std.proofs.Common.{◌≡◌, ◌<◌, ◌≤◌, ℕ, ◌==◌, Bool, true, false, ◌&&◌, ◌||◌, cond, nat_le}
-use Rattle.std.proofs.Common.{List, [], ◌∷◌}
-use Rattle.std.proofs.Common.{refl, sym, ap, ◌∙◌, subst, arith, eq-eqb}
+use Rattle.std.proofs.Common.{List, [], ◌∷◌, refl, sym, ap, ◌∙◌, subst, arith, eq-eqb}
 use Rattle.std.specs.BTreeSet.{BTreeSet, contains}
 use Rattle.std.specs.List.{AllByRecursion, list_any}
 use Rattle.std.specs.List.Sorted.{IsStrictlySortedBy}
@@ -12,10 +11,11 @@ use Rattle.std.specs.declared.cmp.Ordering.TheVariants.{Less, Equal, Greater}
 use Rattle.std.proofs.lemmas.Bool.Decides.{nat_tests}
 use Rattle.std.proofs.lemmas.Cmp.{nat_cmp_total, on_total, ranked, then_total}
 use Rattle.std.proofs.lemmas.Map.Keys.{sorted_head, sorted_tail}
+use Rattle.std.proofs.lemmas.Bool.{or_right}
 use Rattle.market_terms.specs.declared.rooms.RoomRef.{RoomRef}
 use Rattle.dealer_desk.specs.DealerOutput.{is_same_room}
-use Rattle.step_replay.specs.OpenRooms.{AreDue, Entry, IsFirst, any_due, entry_cmp}
-use Rattle.step_replay.specs.OpenRooms.{holds, is_due_in, room_cmp}
+use Rattle.step_replay.specs.OpenRooms.{AreDue, Entry, IsFirst, any_due, entry_cmp, holds}
+use Rattle.step_replay.specs.OpenRooms.{is_due_in, room_cmp}
 use Rattle.step_replay.specs.declared.open_rooms.OpenRooms.{OpenRooms}
 use Rattle.step_replay.specs.GrowthLemmas.{same_room}
 
@@ -141,10 +141,6 @@ pub record Found (moment : ℕ) (room : RoomRef) (entries : List Entry) : Type 0
 same_back : (one other : RoomRef) → is_same_room one other ≡ true → is_same_room other one ≡ true
 same_back one other same =
     subst (λ (r : RoomRef). is_same_room r one ≡ true) (same_room one other same) (own_room one)
-
-or_right : (a b : Bool) → b ≡ true → (a || b) ≡ true
-or_right true b is = refl
-or_right false b is = is
 
 second : (a b : Bool) → (a && b) ≡ true → b ≡ true
 second true b is = is

@@ -1,7 +1,6 @@
 -- The rooms that are opening or open, where the facts have come.
 use Rattle.std.proofs.Common.{◌≡◌, ℕ, Bool, true, false, List, [], ◌++◌, Option, Some, None}
 use Rattle.std.proofs.Common.{if◌then◌else◌, refl, sym, ap, ◌∙◌}
-use Rattle.std.proofs.lemmas.List.{append-nil}
 use Rattle.market_terms.specs.declared.rooms.RoomRef.{RoomRef}
 use Rattle.dealer_desk.specs.DealerOutput.{is_same_room}
 use Rattle.request_room.specs.RoomFacts.{RoomFact}
@@ -16,9 +15,9 @@ use Rattle.step_replay.specs.declared.floor.Floor.{Floor}
 use Rattle.step_replay.specs.declared.floor.InvestorPlace.{InvestorPlace}
 use Rattle.step_replay.specs.declared.open_rooms.OpenRooms.{OpenRooms}
 use Rattle.step_replay.specs.GrowthLemmas.{same_room}
-use Rattle.step_replay.specs.PlaceLemmas.{room_grown}
 use Rattle.step_replay.proofs.RoomEffects.{AreOf, is_there}
 use Rattle.step_replay.proofs.RoomPlaceLemmas.{FoundRoom}
+use Rattle.step_replay.specs.PlaceLemmas.{room_stays}
 
 -- before the first fact no room is opening or open
 pub rooms_begin : (config : Configuration) (rooms : OpenRooms) → IsEmpty rooms
@@ -58,9 +57,7 @@ module _ (config : Configuration) (facts : List Fact) where
   deadline_kept more at room are other =
       ap (λ (l : List RoomFact). if has_room config room.investor room.n then deadline_of l else
       None)
-      (room_grown room facts more
-      ∙ ap (λ (l : List RoomFact). of_room room facts ++ l) (are.elsewhere room other)
-      ∙ append-nil (of_room room facts))
+      (room_stays room facts more (are.elsewhere room other))
 
   pub rooms_kept : (more : List Fact) (rooms : OpenRooms) → RoomsStand config facts rooms
       → AreOf None more → RoomsStand config (facts ++ more) rooms

@@ -1,36 +1,35 @@
 -- The places of a venue at the start of a day stand where no fact stands.
-use Rattle.std.proofs.Common.{◌≡◌, ◌<◌, ◌≤◌, ℕ, zero, suc, ◌+◌, ◌-◌, nat_lt}
-use Rattle.std.proofs.Common.{Bool, true, false, if◌then◌else◌, List, [], ◌∷◌, ◌++◌, length, take}
-use Rattle.std.proofs.Common.{get_or, replicate, Option, Some, None, option_map, refl, sym, ap, ◌∙◌, subst, arith}
+use Rattle.std.proofs.Common.{◌≡◌, ◌<◌, ◌≤◌, ℕ, zero, suc, ◌+◌, ◌-◌, nat_lt, Bool, true, false}
+use Rattle.std.proofs.Common.{if◌then◌else◌, List, [], ◌∷◌, ◌++◌, length, take, get_or, replicate}
+use Rattle.std.proofs.Common.{Option, Some, None, option_map, refl, sym, ap, ◌∙◌, subst, arith}
 use Rattle.std.specs.Prelude.{slice_get}
 use Rattle.std.specs.List.{list_any}
 use Rattle.std.proofs.lemmas.Bool.Decides.{nat_tests}
 use Rattle.std.proofs.lemmas.List.{append-nil, append_assoc, length-replicate, length-append}
 use Rattle.std.proofs.lemmas.List.{length-take-le, take_more}
 use Rattle.std.proofs.lemmas.List.Sums.{sum_by-cons, sum_by_more}
-use Rattle.std.proofs.lemmas.Option.{slice_get_read}
+use Rattle.std.proofs.lemmas.Option.{slice_get_read, same_Some, slice_get_within}
 use Rattle.quote_word.specs.PlainWords.{entry_in}
 use Rattle.quote_word.specs.declared.settled.Settled.{Settled}
 use Rattle.venue_rows.specs.Rows.{Configuration, dealer_numbered}
 use Rattle.venue_rows.specs.declared.dealer_rows.DealerRow.{DealerRow}
+use Rattle.dealer_desk.specs.DealerDesk as dealer_desk
 use Rattle.dealer_desk.specs.DealerOutput as dealer
 use Rattle.dealer_desk.specs.DealerOutput.{desk_after}
 use Rattle.dealer_desk.specs.declared.events.DealerEvent.{DealerEvent}
 use Rattle.step_replay.specs.Actions.{QuoteRef, quote_among, quotes_of, word_for, dealer_of}
 use Rattle.step_replay.specs.Liftings.{dues_behind}
-use Rattle.step_replay.specs.Openings.{DealerOpens, DealerOpensIn, DealersOpen}
-use Rattle.step_replay.specs.Openings.{InvestorOpensIn, Opens, owners_from}
-use Rattle.step_replay.specs.Standing.{DealerStands, DealerStandsIn}
-use Rattle.step_replay.specs.Standing.{Stands, word_is}
-use Rattle.step_replay.specs.VenueFacts.{of_dealer, of_investor}
+use Rattle.step_replay.specs.Openings.{DealerOpens, DealerOpensIn, DealersOpen, InvestorOpensIn}
+use Rattle.step_replay.specs.Openings.{Opens, owners_from}
+use Rattle.step_replay.specs.Standing.{DealerStands, DealerStandsIn, Stands, word_is}
+use Rattle.step_replay.specs.VenueFacts.{of_dealer}
 use Rattle.step_replay.specs.declared.floor.DealerPlace.{DealerPlace}
 use Rattle.step_replay.specs.declared.floor.Floor.{Floor}
 use Rattle.step_replay.specs.declared.floor.Lifting.{Lifting}
 use Rattle.step_replay.proofs.InvestorOpeningLemmas.{investor_begins_in}
-use Rattle.step_replay.proofs.InvestorPlaceLemmas.{behind_dealers, numbered_at}
+use Rattle.step_replay.specs.PlaceLemmas.{numbered_at}
+use Rattle.step_replay.specs.PlaceLemmas.{behind_dealers}
 use Rattle.step_replay.proofs.ListEnds.{get_before, get_last}
-use Rattle.step_replay.specs.OwnerLemmas.{same_value}
-use Rattle.step_replay.specs.PlaceLemmas.{get_within}
 
 -- The owners of words.
 
@@ -152,7 +151,7 @@ dealers_grow config at row places place within is before opens = record {
         let same : number ≡ at = grind (arith, nat_tests) in
         let here : slice_get config.dealers at ≡ Some row =
         slice_get_read config.dealers (length config.dealers) at row refl within is in
-        let rows : row ≡ other = same_value row other
+        let rows : row ≡ other = same_Some row other
         (sym here ∙ ap (slice_get config.dealers) (sym same) ∙ there) in
         let last : slice_get (places ++ place ∷ []) number ≡ Some place =
         ap (slice_get (places ++ place ∷ [])) (same ∙ sym before.count) ∙ get_last places place in
@@ -164,19 +163,15 @@ no_trail : (number : ℕ) → of_dealer number [] ≡ []
 unfolding of_dealer
 no_trail number = refl
 
-no_market : (number : ℕ) → of_investor number [] ≡ []
-unfolding of_investor
-no_market number = refl
-
 dealer_begins : (config : Configuration) (number : ℕ) (row : DealerRow) (place : DealerPlace)
     → DealerOpens config number row place → DealerStands config number row [] place
 unfolding desk_after
 dealer_begins config number row place opens =
     let events_are : place.desk.events ≡ [] =
-    ap (λ (d : dealer.DeskEvents). d.events) opens.desk_is in
+    ap (λ (d : dealer_desk.DeskEvents). d.events) opens.desk_is in
     record {
-      date_is = ap (λ (d : dealer.DeskEvents). d.date) opens.desk_is;
-      row_is = ap (λ (d : dealer.DeskEvents). d.row) opens.desk_is;
+      date_is = ap (λ (d : dealer_desk.DeskEvents). d.date) opens.desk_is;
+      row_is = ap (λ (d : dealer_desk.DeskEvents). d.row) opens.desk_is;
       state_is = ap (λ (events : List DealerEvent). desk_after config.date row events) events_are;
       rooms_are = ap (λ (events : List DealerEvent). dealer.rooms_of events) events_are;
       first_is = opens.first_is;
@@ -214,7 +209,7 @@ all_begin config floor opens = record {
   dealer_count = opens.dealers_open.count;
   dealers_are = λ number row is.
       dealer_begins_in config number row (slice_get floor.dealers.items number)
-      (opens.dealers_open.each number row (get_within config.dealers number row is) is);
+      (opens.dealers_open.each number row (slice_get_within config.dealers number row is) is);
   investor_count = opens.investors_open.count;
   investors_are = λ number row is.
       let behind : length config.dealers ≤ number = behind_dealers config number row is in
@@ -226,7 +221,7 @@ all_begin config floor opens = record {
       (subst (λ (n : ℕ). InvestorOpensIn config n row
       (slice_get floor.investors.items (number - length config.dealers))) same
       (opens.investors_open.each (number - length config.dealers) row
-      (get_within config.investors (number - length config.dealers) row there) there));
+      (slice_get_within config.investors (number - length config.dealers) row there) there));
   word_count = ap length opens.words_open
       ∙ length-replicate (length floor.owners.items) None
       ∙ ap length opens.owners_are ∙ owners_count 0 config.dealers;

@@ -1,9 +1,7 @@
 -- Every room of a venue: in order, and none is left out.
-use Rattle.std.proofs.Common.{◌≡◌, ◌<◌, ◌≤◌, ℕ, zero, suc, ◌+◌}
-use Rattle.std.proofs.Common.{◌-◌, ◌==◌, Bool, true, false, ◌&&◌, ◌||◌}
-use Rattle.std.proofs.Common.{List, [], ◌∷◌, ◌++◌, length}
-use Rattle.std.proofs.Common.{Option, None, if◌then◌else◌, nat_le, nat_lt}
-use Rattle.std.proofs.Common.{refl, sym, ap, ◌∙◌, arith}
+use Rattle.std.proofs.Common.{◌≡◌, ◌<◌, ◌≤◌, ℕ, zero, suc, ◌+◌, ◌-◌, ◌==◌, Bool, true, false, ◌&&◌}
+use Rattle.std.proofs.Common.{◌||◌, List, [], ◌∷◌, ◌++◌, length, Option, None, if◌then◌else◌}
+use Rattle.std.proofs.Common.{nat_le, nat_lt, refl, sym, ap, ◌∙◌, arith}
 use Rattle.std.specs.Prelude.{slice_get}
 use Rattle.std.specs.List.{AllByRecursion, list_any}
 use Rattle.std.specs.List.Sorted.{IsStrictlySortedBy}
@@ -55,16 +53,6 @@ before_behind investor one first (suc more) low =
     let here : one < first + 1 = omega arith in
     let rest : one ≤ first + 1 = omega arith in
     (next_request investor one (first + 1) here, before_behind investor one (first + 1) more rest)
-
-behind_sorted : (investor first more : ℕ) → IsStrictlySortedBy room_cmp
-    (rooms_behind investor first more)
-unfolding IsStrictlySortedBy
-behind_sorted investor first zero = tt
-behind_sorted investor first (suc more) = (
-  before_behind investor (first + 1) (first + 1) more (omega arith),
-  behind_sorted investor
-      (first + 1) more,
-)
 
 before_both : (room : RoomRef) (one other : List RoomRef) → IsBefore room one → IsBefore room other
     → IsBefore room (one ++ other)

@@ -1,76 +1,22 @@
 -- Where the rooms of a replay stand.
-use Rattle.std.proofs.Common.{◌≡◌, ◌<◌, ◌≤◌, ℕ, ◌-◌, ◌==◌, Bool, true, false, ◌&&◌}
-use Rattle.std.proofs.Common.{List, ◌++◌, map, length, get_or, nat_le, nat_lt}
-use Rattle.std.proofs.Common.{Option, Some, None, if◌then◌else◌}
-use Rattle.std.proofs.Common.{refl, sym, ap, ◌∙◌, subst, arith}
+use Rattle.std.proofs.Common.{◌≡◌, ◌<◌, ◌≤◌, ℕ, ◌-◌, Bool, true, false, ◌&&◌, List, length, get_or}
+use Rattle.std.proofs.Common.{nat_le, nat_lt, Option, Some, None, if◌then◌else◌, refl, sym, ap, ◌∙◌}
+use Rattle.std.proofs.Common.{subst, arith}
 use Rattle.std.specs.Prelude.{slice_get}
 use Rattle.std.proofs.lemmas.Bool.Decides.{nat_tests}
-use Rattle.std.proofs.lemmas.List.{append-nil}
-use Rattle.venue_rows.specs.Rows.{Configuration, investor_numbered}
-use Rattle.venue_rows.specs.Rows.{has_room, may_request}
+use Rattle.std.proofs.lemmas.Option.{same_Some, slice_get_within}
+use Rattle.venue_rows.specs.Rows.{Configuration, investor_numbered, has_room, may_request}
 use Rattle.venue_rows.specs.declared.investor_rows.InvestorRow.{InvestorRow}
 use Rattle.market_terms.specs.declared.rooms.RoomRef.{RoomRef}
-use Rattle.dealer_desk.specs.DealerOutput.{is_same_room}
-use Rattle.request_room.specs.RoomFacts.{RoomFact}
 use Rattle.request_room.specs.Book.{room_after}
 use Rattle.request_room.specs.declared.events.RoomEvent.{RoomEvent}
-use Rattle.step_replay.specs.VenueFacts.{Fact, InRoom}
-use Rattle.step_replay.specs.VenueFacts.{of_dealer, of_room, of_investor}
+use Rattle.step_replay.specs.VenueFacts.{Fact, of_room}
 use Rattle.step_replay.specs.RoomPlaces.{within, room_place}
-use Rattle.step_replay.specs.Standing.{InvestorStands, InvestorStandsIn}
-use Rattle.step_replay.specs.Standing.{RoomStandsIn, Stands}
+use Rattle.step_replay.specs.Standing.{InvestorStands, InvestorStandsIn, RoomStandsIn, Stands}
 use Rattle.step_replay.specs.declared.floor.InvestorPlace.{InvestorPlace}
 use Rattle.step_replay.specs.declared.floor.Floor.{Floor}
-use Rattle.step_replay.specs.OwnerLemmas.{same_value}
-use Rattle.step_replay.specs.PlaceLemmas.{get_within, get_beyond, lent}
-use Rattle.step_replay.specs.PlaceLemmas.{dealer_grown, room_grown, investor_grown, own_room}
-use Rattle.step_replay.specs.PlaceLemmas.{other_room, trail_in_room, investor_in_room}
-
--- The facts after some more in one room.
-
-module _ (facts : List Fact) (at : RoomRef) (added : List RoomFact) where
-  -- the facts with what is added in the room
-  abbrev pub now : List Fact
-  now = facts ++ map (InRoom at) added
-
-  pub dealer_now : (number : ℕ) → of_dealer number now ≡ of_dealer number facts
-  dealer_now number =
-      dealer_grown number facts (map (InRoom at) added)
-      ∙ ap (λ l. of_dealer number facts ++ l) (trail_in_room number at added)
-      ∙ append-nil (of_dealer number facts)
-
-  pub investor_now : (number : ℕ) → of_investor number now ≡ of_investor number facts
-  investor_now number =
-      investor_grown number facts (map (InRoom at) added)
-      ∙ ap (λ l. of_investor number facts ++ l) (investor_in_room number at added)
-      ∙ append-nil (of_investor number facts)
-
-  pub own_now : of_room at now ≡ of_room at facts ++ added
-  own_now =
-      room_grown at facts (map (InRoom at) added)
-      ∙ ap (λ l. of_room at facts ++ l) (own_room at added)
-
-  pub other_now : (room : RoomRef) → is_same_room at room ≡ false
-      → of_room room now ≡ of_room room facts
-  other_now room differs =
-      room_grown room facts (map (InRoom at) added)
-      ∙ ap (λ l. of_room room facts ++ l) (other_room room at differs added)
-      ∙ append-nil (of_room room facts)
-
--- another room of the same investor, and a room of another one
-pub other_number : (at : RoomRef) (n : ℕ) → (at.n == n) ≡ false
-    → is_same_room at (record { investor = at.investor; n = n }) ≡ false
-other_number at n differs = by_test (at.investor == at.investor)
-  where
-    by_test : (b : Bool) → (b && (at.n == n)) ≡ false
-    by_test true = differs
-    by_test false = refl
-
-pub other_owner : (at : RoomRef) (investor n : ℕ) → (at.investor == investor) ≡ false
-    → is_same_room at (record { investor = investor; n = n }) ≡ false
-other_owner at investor n differs = ap (λ b. b && (at.n == n)) differs
-
--- Where a room stands.
+use Rattle.step_replay.specs.PlaceLemmas.{get_beyond, lent}
+use Rattle.step_replay.specs.PlaceLemmas.{behind_dealers}
 
 -- the place that the code found for a room
 pub record PlaceOf (floor : Floor) (at : RoomRef) (investor index : ℕ) : Type 0 where
@@ -99,7 +45,7 @@ place_of floor at investor index is =
         → (if b then Some first_place else None) ≡ Some (investor, index)
         → PlaceOf floor at investor index
     by_room place there from least true test same =
-        let pairs = same_value first_place (investor, index) same in
+        let pairs = same_Some first_place (investor, index) same in
         let one : first ≡ investor = ap (λ (p : ℕ × ℕ). p.0) pairs in
         let two : at.n - 1 ≡ index = ap (λ (p : ℕ × ℕ). p.1) pairs in
         let small : at.n - 1 < length place.rooms.items = grind (arith, nat_tests) in
@@ -133,18 +79,6 @@ place_of floor at investor index is =
         by_place from_is least_is (slice_get floor.investors.items first) refl same
     by_tests true from false least same = cc
     by_tests false from b least same = cc
-
--- an investor's number is behind those of the dealers
-pub investor_from : (config : Configuration) (number : ℕ) (row : InvestorRow)
-    → investor_numbered config number ≡ Some row → length config.dealers ≤ number
-investor_from config number row is = by_test (nat_le (length config.dealers) number) refl is
-  where
-    by_test : (b : Bool) → nat_le (length config.dealers) number ≡ b
-        → (if b then slice_get config.investors (number - length config.dealers) else None)
-        ≡ Some row
-        → length config.dealers ≤ number
-    by_test true test same = grind (arith, nat_tests)
-    by_test false test same = cc
 
 -- a room that stands where its facts have come
 pub record FoundRoom (config : Configuration) (facts : List Fact) (floor : Floor) (at : RoomRef)
@@ -192,7 +126,7 @@ room_found config facts floor at investor index old events before place there ev
         → FoundRoom config facts floor at investor index old events
     with_row row is stands =
         let inside : index < length old.rooms.items =
-        get_within old.rooms.items index events events_there in
+        slice_get_within old.rooms.items index events events_there in
         let rooms : length old.rooms.items ≡ row.requests = stands.room_count in
         let least : 1 ≤ at.n = place.least in
         let index_is : index ≡ at.n - 1 = place.index_is in
@@ -222,7 +156,7 @@ room_found config facts floor at investor index old events before place there ev
         get_beyond config.investors (at.investor - length config.dealers)
         (sym numbered ∙ none) in
         let inside : investor < length floor.investors.items =
-        get_within floor.investors.items investor old there in
+        slice_get_within floor.investors.items investor old there in
         let investors : length floor.investors.items ≡ length config.investors =
         before.investor_count in
         let is : investor ≡ at.investor - length config.dealers = investor_is in
@@ -238,7 +172,7 @@ pub investor_inside : (floor : Floor) (at : RoomRef) (investor index : ℕ)
     → Some (investor, index) ≡ room_place floor at → investor < length floor.investors.items
 investor_inside floor at investor index is =
     let place = place_of floor at investor index (sym is) in
-    get_within floor.investors.items investor place.place place.there
+    slice_get_within floor.investors.items investor place.place place.there
 
 pub investor_there : (floor : Floor) (at : RoomRef) (investor index : ℕ) (old : InvestorPlace)
     → Some (investor, index) ≡ room_place floor at
@@ -254,7 +188,7 @@ pub room_inside : (floor : Floor) (at : RoomRef) (investor index : ℕ) (old : I
 room_inside floor at investor index old is value =
     let place = place_of floor at investor index (sym is) in
     let there = investor_there floor at investor index old is value in
-    let same : place.place ≡ old = same_value place.place old (sym place.there ∙ there) in
+    let same : place.place ≡ old = same_Some place.place old (sym place.there ∙ there) in
     subst (λ (p : InvestorPlace). index < length p.rooms.items) same place.inside
 
 pub found_by_code : (config : Configuration) (facts : List Fact) (floor : Floor) (at : RoomRef)
@@ -287,7 +221,7 @@ no_room config facts floor at before none = by_row (investor_numbered config at.
     by_place row is in_day (Some place) there stands =
         let count : length floor.dealers.items ≡ length config.dealers = before.dealer_count in
         let behind : length config.dealers ≤ at.investor =
-        investor_from config at.investor row is in
+        behind_dealers config at.investor row is in
         let rooms : length place.rooms.items ≡ row.requests = stands.room_count in
         let least : 1 ≤ at.n = grind (arith, nat_tests, in_day) in
         let most : at.n ≤ row.requests = grind (arith, nat_tests, in_day) in

@@ -4,11 +4,13 @@ use Rattle.std.proofs.Common.{◌||◌, if◌then◌else◌, List, [], ◌∷◌
 use Rattle.std.proofs.Common.{IfSome, option_map, refl, sym, ap, ◌∙◌, subst, arith, eq-eqb}
 use Rattle.std.proofs.lemmas.Bool.Decides.{nat_tests}
 use Rattle.std.specs.List.{list_any}
+use Rattle.std.proofs.Math.Bool.{or-false}
 use Rattle.quote_word.specs.PlainWords.{settlement_of, entry_in}
 use Rattle.quote_word.specs.PlainWordsLaws.{exchange_answers_entry, exchange_keeps_others}
 use Rattle.quote_word.specs.declared.settled.Settled.{Settled}
 use Rattle.quote_word.specs.declared.settled.Settled.TheVariants.{Withdrawn, Lifted}
-use Rattle.dealer_desk.specs.DealerOutput.{DeskEvents, asked_by, asked_word, book_at, with_event}
+use Rattle.dealer_desk.specs.DealerDesk.{DeskEvents, book_at, with_event}
+use Rattle.dealer_desk.specs.SettledWords.{asked_by, asked_word}
 use Rattle.dealer_desk.specs.DeskLaws.{says_withdrawn}
 use Rattle.dealer_desk.specs.declared.events.DealerEvent.{DealerEvent}
 use Rattle.step_replay.specs.DealerView.{DealerView, answer_to, is_lifted, is_withdrawn_at}
@@ -19,10 +21,6 @@ use Rattle.step_replay.specs.RowOfWords.{word_if, word_of}
 
 -- Tests.
 
-or_false : (b : Bool) → (b || false) ≡ b
-or_false true = refl
-or_false false = refl
-
 pub or_true : (b here : Bool) → here ≡ true → (b || (here || false)) ≡ true
 or_true true here is = refl
 or_true false true is = refl
@@ -30,8 +28,8 @@ or_true false false is = is
 
 pub or_none : (b c here : Bool) → here ≡ false → (b || ((c && here) || false)) ≡ b
 or_none b true true is = cc
-or_none b true false is = or_false b
-or_none b false here is = or_false b
+or_none b true false is = or-false b
+or_none b false here is = or-false b
 
 -- a quote of the row by its test
 pub in_row : (quote count : ℕ) → (nat_le 1 quote && nat_le quote count) ≡ true → IsOfRow count quote
@@ -101,7 +99,7 @@ unasked grows view words more asks are quote within =
     let before = is_withdrawn_at view.desk quote in
     let none =
     ap (λ (asked : List (ℕ × Settled)). before || list_any (says_withdrawn quote) asked) asks
-    ∙ or_false before in
+    ∙ or-false before in
     are quote within
     ∙ sym (word_grows grows view more quote ∙ ap (word_if (is_lifted view quote)) none)
 

@@ -1,25 +1,26 @@
 -- A day before its first step, and its steps one after the other.
-use Rattle.std.proofs.Common.{◌≡◌, ◌<◌, ◌≤◌, ℕ, zero, suc, ◌+◌, nat_lt, true, false}
-use Rattle.std.proofs.Common.{Bool, if◌then◌else◌, List, [], ◌∷◌, ◌++◌, length, take, replicate, get_or}
-use Rattle.std.proofs.Common.{Option, Some, None, refl, sym, ap, ◌∙◌, subst, arith, fold}
+use Rattle.std.proofs.Common.{◌≡◌, ◌<◌, ℕ, zero, suc, ◌+◌, nat_lt, true, false, Bool, if◌then◌else◌}
+use Rattle.std.proofs.Common.{List, [], ◌∷◌, ◌++◌, length, take, replicate, get_or, Option, Some}
+use Rattle.std.proofs.Common.{None, refl, sym, ap, ◌∙◌, subst, arith, fold}
 use Rattle.std.specs.Prelude.{slice_get}
 use Rattle.std.proofs.lemmas.Bool.Decides.{nat_tests}
-use Rattle.std.proofs.lemmas.List.{length-replicate, take_all, take_more}
+use Rattle.std.proofs.lemmas.List.{length-replicate, take_more}
 use Rattle.std.proofs.lemmas.List.Elements.{All-cons, All-nil}
 use Rattle.std.proofs.lemmas.List.Sums.{fold-append}
-use Rattle.std.proofs.lemmas.Option.{slice_get_read}
+use Rattle.std.proofs.lemmas.Option.{slice_get_read, same_Some}
 use Rattle.market_terms.specs.declared.duties.Duty.{Duty}
 use Rattle.venue_rows.specs.Rows.{Configuration, has_room}
 use Rattle.step_replay.specs.AuditTrail.{AuditTrail, audit_trail, after_step, no_steps, pending}
 use Rattle.step_replay.specs.AuditTrail.{after_turn, with_effect}
-use Rattle.step_replay.specs.Actions.{message_effect, sweep_effect}
+use Rattle.step_replay.specs.DutyEffects.{message_effect, sweep_effect}
 use Rattle.market_terms.specs.declared.rooms.RoomRef.{RoomRef}
 use Rattle.step_replay.specs.DoneSteps.{AreKnown}
 use Rattle.step_replay.specs.Following.{ReplayStands, duties_in}
 use Rattle.step_replay.specs.Openings.{Opens}
 use Rattle.step_replay.specs.Queues.{QueueHas, QueuesStand, is_known, queue_of}
 use Rattle.step_replay.specs.Standing.{AreOneOf}
-use Rattle.step_replay.specs.StepFaults.{fault_of, fault_of_firm, first_fault_from, firms_of, or_else}
+use Rattle.step_replay.specs.StepFaults.{fault_of, fault_of_firm, first_fault_from, firms_of}
+use Rattle.step_replay.specs.StepFaults.{or_else}
 use Rattle.step_replay.specs.VenueFacts.{of_dealer}
 use Rattle.step_replay.specs.declared.faults.ReplayFault.{ReplayFault}
 use Rattle.step_replay.specs.declared.faults.ReplayFault.TheVariants as fault
@@ -29,7 +30,6 @@ use Rattle.venue_places.specs.declared.actors.Actor.TheVariants as actor
 use Rattle.step_replay.specs.declared.steps.Step.{Step}
 use Rattle.step_replay.specs.declared.steps.Step.TheVariants as step
 use Rattle.step_replay.proofs.OpeningLemmas.{all_begin}
-use Rattle.step_replay.specs.OwnerLemmas.{same_value}
 
 -- Before the first step.
 
@@ -137,7 +137,7 @@ no_fault_from : (config : Configuration) (k : ℕ) (steps : List Step) (at : ℕ
     → fault_of config 0 s ≡ None
 no_fault_from config k [] at s none is = cc
 no_fault_from config k (first ∷ steps) zero s none is =
-    any_place config k s (subst (λ f. fault_of config k f ≡ None) (same_value first s is)
+    any_place config k s (subst (λ f. fault_of config k f ≡ None) (same_Some first s is)
     (none_of (fault_of config k first) (first_fault_from config (k + 1) steps) none).0)
 no_fault_from config k (first ∷ steps) (suc at) s none is =
     no_fault_from config (k + 1) steps at s
@@ -176,8 +176,3 @@ day_more config steps at s within is =
     ap (fold (after_step config) no_steps) (take_more steps at s within
     ∙ ap (λ (found : Step). take at steps ++ found ∷ []) (sym is))
     ∙ fold-append (after_step config) no_steps (take at steps) (s ∷ [])
-
--- all steps
-pub day_whole : (config : Configuration) (steps : List Step) (at : ℕ) → length steps ≤ at
-    → audit_trail config (take at steps) ≡ audit_trail config steps
-day_whole config steps at past = ap (audit_trail config) (take_all at steps past)

@@ -1,7 +1,7 @@
 -- A sweep of a room: where the room is not due nothing happens, and else nothing in another room.
-use Rattle.std.proofs.Common.{◌≡◌, ◌≤◌, ℕ, zero, suc, Bool, true, false, ◌&&◌}
-use Rattle.std.proofs.Common.{List, [], ◌∷◌, ◌++◌, map, length, filter_map, count_by}
-use Rattle.std.proofs.Common.{Option, Some, None, if◌then◌else◌, refl, sym, ap, ◌∙◌, subst}
+use Rattle.std.proofs.Common.{◌≡◌, ◌≤◌, ℕ, zero, suc, Bool, true, false, ◌&&◌, List, [], ◌∷◌, ◌++◌}
+use Rattle.std.proofs.Common.{map, length, filter_map, count_by, Option, Some, None, if◌then◌else◌}
+use Rattle.std.proofs.Common.{refl, sym, ap, ◌∙◌, subst}
 use Rattle.std.specs.List.{AllByRecursion}
 use Rattle.std.proofs.lemmas.List.{append-nil}
 use Rattle.market_terms.specs.declared.closes.Close.{Close}
@@ -10,18 +10,17 @@ use Rattle.market_terms.specs.declared.duties.Duty.TheVariants as duty
 use Rattle.market_terms.specs.declared.rooms.RoomRef.{RoomRef}
 use Rattle.dealer_desk.specs.DealerOutput.{is_same_room}
 use Rattle.dealer_desk.specs.declared.events.DealerEvent.TheVariants as at_desk
-use Rattle.investor_desk.specs.InvestorOutput as investor_output
+use Rattle.investor_desk.specs.InvestorDesk as investor_desk
 use Rattle.investor_desk.specs.InvestorRules.{InvestorMarket}
 use Rattle.investor_desk.specs.declared.events.InvestorEvent.TheVariants as at_investor
 use Rattle.request_room.specs.Book.{event_facts, expired, may_expire, where_so}
-use Rattle.request_room.specs.RoomFacts.{RoomFact, Ended}
+use Rattle.request_room.specs.RoomFacts.{RoomFact, Ended, request_of}
 use Rattle.request_room.specs.declared.ends.End.{End}
 use Rattle.venue_rows.specs.Rows.{Configuration, has_room}
 use Rattle.venue_steps.specs.RoomSteps.{close_for, dealers_of, duties_of_expire, told_in}
-use Rattle.request_room.specs.RoomFacts.{request_of}
 use Rattle.step_replay.specs.Actions.{Dealer, Effect, at_dealer, at_market, dealer_at, done_by}
-use Rattle.step_replay.specs.Actions.{done_for}
-use Rattle.step_replay.specs.Actions.{duty_effect, nothing, sweep_effect, told_of, told_to}
+use Rattle.step_replay.specs.Actions.{done_for, nothing, told_of, told_to}
+use Rattle.step_replay.specs.DutyEffects.{duty_effect, sweep_effect}
 use Rattle.step_replay.specs.AuditTrail.{AuditTrail, Caused, after_step, after_turn, duty_of}
 use Rattle.step_replay.specs.AuditTrail.{is_same_actor, pending, with_effect}
 use Rattle.step_replay.specs.LiveStanding.{after_turns, room_of_duty}
@@ -32,11 +31,11 @@ use Rattle.step_replay.specs.declared.steps.Step.TheVariants as step
 use Rattle.step_replay.specs.declared.steps.TheConstants.{MOST_TURNS_BEHIND}
 use Rattle.step_replay.specs.GrowthLemmas.{same_room}
 use Rattle.step_replay.proofs.LiveLemmas.{idle_turns, no_turn}
-use Rattle.step_replay.specs.PlaceLemmas.{room_grown}
 use Rattle.step_replay.specs.QueueLemmas.{own_pending, own_turned}
 use Rattle.step_replay.specs.ActionKinds.{duty_action, sweep_action}
 use Rattle.step_replay.proofs.RoomEffects.{AreOf, action_there}
 use Rattle.step_replay.proofs.StartLemmas.{swept, turned}
+use Rattle.step_replay.specs.PlaceLemmas.{room_stays}
 
 -- A room that is not due.
 
@@ -113,7 +112,7 @@ module _ (config : Configuration) (facts : List Fact) (by : Actor) where
       → (duty_effect config facts by (duty.Close room moment)).duties ≡ []
   unfolding duty_effect
   none_by_close room moment =
-      none_by_investor (investor_output.market_for config room.investor) _
+      none_by_investor (investor_desk.market_for config room.investor) _
       (λ market. none_if _
       (at_market facts market (at_investor.Closed room.n moment) []) refl)
 
@@ -172,13 +171,6 @@ sweep_tells config facts room moment =
 
 -- The rooms behind turns of the clock that tell.
 
-room_kept : (room : RoomRef) (facts more : List Fact) → of_room room more ≡ []
-    → of_room room (facts ++ more) ≡ of_room room facts
-room_kept room facts more none =
-    room_grown room facts more
-    ∙ ap (λ (l : List RoomFact). of_room room facts ++ l) none
-    ∙ append-nil (of_room room facts)
-
 -- what one turn keeps
 record TellsNext (config : Configuration) (room : RoomRef) (trail : AuditTrail) : Type 0 where
   kept : of_room room (after_step config trail (step.Turn actor.Clock)).facts
@@ -204,7 +196,7 @@ turn_tells config room trail (first ∷ later) is all =
     ∙ ap (λ (l : List Duty). later ++ l) none ∙ append-nil later in
     record {
       kept = ap (λ (t : AuditTrail). of_room room t.facts) same
-          ∙ room_kept room trail.facts effect.facts
+          ∙ room_stays room trail.facts effect.facts
           (in_no_room_by config trail.facts actor.Clock first all.0 room);
       tells = subst AreTellings (sym left) all.1;
     }
@@ -262,7 +254,7 @@ other_kept config moment trail at room rests other =
     turns_tell config room MOST_TURNS_BEHIND (after_step config trail (step.Expire at moment))
     (subst AreTellings (sym left) (sweep_tells config trail.facts at moment))
     ∙ ap (λ (t : AuditTrail). of_room room t.facts) same
-    ∙ room_kept room trail.facts effect.facts
+    ∙ room_stays room trail.facts effect.facts
     ((action_there config trail.facts _ _ _ (sweep_action config trail.facts at moment)).elsewhere
     room other)
 

@@ -1,11 +1,12 @@
 -- A turn of an actor: its queue and the others, the places and the day.
 use Rattle.std.proofs.Common.{◌≡◌, ◌≢◌, ◌≤◌, ◌<◌, ℕ, zero, suc, ◌+◌, ◌-◌, ◌==◌, Bool, true, false}
 use Rattle.std.proofs.Common.{List, [], ◌∷◌, ◌++◌, map, filter_map, length, count_by, slice_set}
-use Rattle.std.proofs.Common.{Some, None, nat_lt, nat_le, if◌then◌else◌}
-use Rattle.std.proofs.Common.{refl, sym, ap, ◌∙◌, subst, arith, eq-eqb}
+use Rattle.std.proofs.Common.{Some, None, nat_lt, nat_le, if◌then◌else◌, refl, sym, ap, ◌∙◌, subst}
+use Rattle.std.proofs.Common.{arith, eq-eqb}
 use Rattle.std.specs.Prelude.{slice_get}
 use Rattle.std.proofs.lemmas.Bool.Decides.{nat_tests}
 use Rattle.std.proofs.lemmas.List.{length-set}
+use Rattle.std.proofs.lemmas.Option.{same_Some, slice_get_within}
 use Rattle.market_terms.specs.declared.duties.Duty.{Duty}
 use Rattle.venue_rows.specs.Rows.{Configuration}
 use Rattle.step_replay.specs.Actions.{Effect}
@@ -15,11 +16,10 @@ use Rattle.step_replay.specs.StepFaults.{firms_of}
 use Rattle.step_replay.specs.Following.{index_in}
 use Rattle.venue_places.specs.declared.actors.Actor.{Actor}
 use Rattle.venue_places.specs.declared.actors.Actor.TheVariants as actor
-use Rattle.step_replay.specs.OwnerLemmas.{same_value}
-use Rattle.step_replay.specs.PlaceLemmas.{get_set_same, get_set_other, get_within}
-use Rattle.step_replay.specs.QueueLemmas.{turned, own_turned, other_turned}
-use Rattle.step_replay.specs.QueueLemmas.{own_within, other_within, own_pending, other_pending}
-use Rattle.step_replay.specs.QueueLemmas.{grown_within}
+use Rattle.step_replay.specs.PlaceLemmas.{get_set_same, get_set_other}
+use Rattle.step_replay.specs.QueueLemmas.{turned, own_turned, other_turned, own_within}
+use Rattle.step_replay.specs.QueueLemmas.{other_within, own_pending, other_pending, grown_within}
+use Rattle.step_replay.specs.QueueLemmas.{same_either, one_actor}
 
 -- Actors and their queues.
 
@@ -29,14 +29,14 @@ pub index_is : (config : Configuration) (count : ℕ) (by : Actor) (index : ℕ)
 index_is config count (actor.Firm number) index are is = by_test (nat_lt (number + 1) count) is
   where
     by_test : (b : Bool) → (if b then Some number else None) ≡ Some index → index ≡ number
-    by_test true found = sym (same_value number index found)
+    by_test true found = sym (same_Some number index found)
     by_test false found = cc
 index_is config count actor.Clock index are is = by_test (nat_le 1 count) is
   where
     by_test : (b : Bool) → (if b then Some (count - 1) else None) ≡ Some index
         → index ≡ firms_of config
     by_test true found =
-        let same : count - 1 ≡ index = same_value (count - 1) index found in
+        let same : count - 1 ≡ index = same_Some (count - 1) index found in
         omega arith
     by_test false found = cc
 
@@ -59,24 +59,6 @@ queues_apart config actor.Clock (actor.Firm two) known known_too differs =
     λ same. absurd (omega arith)
 queues_apart config actor.Clock actor.Clock known known_too differs = cc
 
--- whether two actors are one is asked either way
-same_either : (by other : Actor) → is_same_actor by other ≡ false → is_same_actor other by ≡ false
-same_either (actor.Firm one) (actor.Firm two) differs =
-    let apart : one ≢ two = grind (arith, nat_tests) in
-    grind (arith, nat_tests, apart)
-same_either (actor.Firm one) actor.Clock differs = refl
-same_either actor.Clock (actor.Firm two) differs = refl
-same_either actor.Clock actor.Clock differs = differs
-
--- one actor by the test
-one_actor : (by other : Actor) → is_same_actor by other ≡ true → by ≡ other
-one_actor (actor.Firm one) (actor.Firm two) same =
-    let equal : one ≡ two = grind (arith, nat_tests) in
-    ap (λ (n : ℕ). actor.Firm n) equal
-one_actor (actor.Firm one) actor.Clock same = cc
-one_actor actor.Clock (actor.Firm two) same = cc
-one_actor actor.Clock actor.Clock same = refl
-
 -- A queue that is changed twice is changed once.
 pub set_twice : {X : Type 0} (xs : List X) (i : ℕ) (x y : X)
     → slice_set (slice_set xs i x) i y ≡ slice_set xs i y
@@ -94,7 +76,7 @@ map_set f (z ∷ xs) (suc i) x = ap (λ l. f z ∷ l) (map_set f xs i x)
 pub map_get : {X Y : Type 0} (f : X → Y) (xs : List X) (i : ℕ) (x : X) → slice_get xs i ≡ Some x
     → slice_get (map f xs) i ≡ Some (f x)
 map_get f [] i x is = cc
-map_get f (z ∷ xs) zero x is = ap (λ y. Some (f y)) (same_value z x is)
+map_get f (z ∷ xs) zero x is = ap (λ y. Some (f y)) (same_Some z x is)
 map_get f (z ∷ xs) (suc i) x is = map_get f xs i x is
 
 -- The queues after a turn.
@@ -132,7 +114,7 @@ module _ (config : Configuration) (by : Actor) (trail : AuditTrail) (effect : Ef
           (one_actor by other test)
           (subst (QueueHas (pending by (turned by trail effect)))
           (sym (ap (slice_get (slice_set queues index now)) (sym is)
-          ∙ get_set_same queues index now (get_within queues index queue there)))
+          ∙ get_set_same queues index now (slice_get_within queues index queue there)))
           (is_now ∙ sym (own_turned by trail effect duty rest had)))
       by_actor other known_too false test =
           let apart = queues_apart config by other known known_too test in
@@ -183,7 +165,7 @@ module _ (config : Configuration) (by : Actor) (trail : AuditTrail) (effect : Ef
           (one_actor by other test)
           (subst (QueueHas (pending by (with_effect by trail effect)))
           (sym (ap (slice_get (slice_set queues index now)) (sym is)
-          ∙ get_set_same queues index now (get_within queues index queue there)))
+          ∙ get_set_same queues index now (slice_get_within queues index queue there)))
           (is_now ∙ sym (own_pending by trail effect (before.done_within by)
           ∙ ap (λ (l : List Duty). l ++ effect.duties) had)))
       by_actor other known_too false test =

@@ -1,10 +1,9 @@
 -- What a venue has of the day of each firm, where its places stand.
-use Rattle.std.proofs.Common.{◌≡◌, ◌<◌, ◌≤◌, ℕ, zero, suc, ◌+◌, ◌-◌, List, [], ◌∷◌, ◌++◌, length, map}
-use Rattle.std.proofs.Common.{Option, Some, None, option_map, refl, sym, ap, ◌∙◌, subst, arith}
-use Rattle.std.proofs.Common.{append_assoc}
+use Rattle.std.proofs.Common.{◌≡◌, ◌≤◌, ℕ, zero, suc, ◌+◌, ◌-◌, List, [], ◌∷◌, ◌++◌, length, map}
+use Rattle.std.proofs.Common.{Option, Some, None, refl, sym, ap, ◌∙◌, subst, arith, append_assoc}
 use Rattle.std.specs.Prelude.{slice_get}
-use Rattle.std.proofs.lemmas.List.{length-map, map-append}
-use Rattle.std.proofs.lemmas.Option.{slice_get-map}
+use Rattle.std.proofs.lemmas.List.{map-append}
+use Rattle.std.proofs.lemmas.Simd.{map-map}
 use Rattle.venue_rows.specs.Rows.{Configuration, investor_numbered}
 use Rattle.venue_rows.specs.declared.dealer_rows.DealerRow.{DealerRow}
 use Rattle.venue_rows.specs.declared.investor_rows.InvestorRow.{InvestorRow}
@@ -16,16 +15,16 @@ use Rattle.investor_desk.specs.InvestorOutput as investor
 use Rattle.investor_desk.specs.InvestorRules.{InvestorMarket}
 use Rattle.investor_desk.specs.RequestLines as requests
 use Rattle.step_replay.specs.FirmDays.{dealer_day, dealer_days, investor_day, investor_days}
-use Rattle.market_terms.specs.DayLines.{OfDealer, OfInvestor}
 use Rattle.step_replay.specs.FirmDays.{FirmDay, firm_days}
+use Rattle.market_terms.specs.DayLines.{OfDealer, OfInvestor}
 use Rattle.step_replay.specs.FloorDays.{dealer_day_at, investor_day_at, days_of_floor}
-use Rattle.step_replay.specs.Standing.{DealerStands, DealerStandsIn, InvestorStands, InvestorStandsIn}
-use Rattle.step_replay.specs.Standing.{Stands}
+use Rattle.step_replay.specs.Standing.{DealerStands, DealerStandsIn, InvestorStands}
+use Rattle.step_replay.specs.Standing.{InvestorStandsIn, Stands}
 use Rattle.step_replay.specs.VenueFacts.{Fact, of_dealer}
 use Rattle.step_replay.specs.declared.floor.DealerPlace.{DealerPlace}
 use Rattle.step_replay.specs.declared.floor.Floor.{Floor}
 use Rattle.step_replay.specs.declared.floor.InvestorPlace.{InvestorPlace}
-use Rattle.step_replay.proofs.InvestorPlaceLemmas.{numbered_at}
+use Rattle.step_replay.specs.PlaceLemmas.{numbered_at}
 
 -- One firm.
 
@@ -139,14 +138,6 @@ days_stand config facts floor stands =
 
 -- A firm's day is read at its place.
 
-pub get_first : {X : Type 0} (xs ys : List X) (i : ℕ) → i < length xs
-    → slice_get (xs ++ ys) i ≡ slice_get xs i
-get_first [] ys i within = absurd (omega arith)
-get_first (x ∷ xs) ys zero within = refl
-get_first (x ∷ xs) ys (suc i) within =
-    let inner : i < length xs = omega arith in
-    get_first xs ys i inner
-
 pub get_second : {X : Type 0} (xs ys : List X) (i : ℕ) → length xs ≤ i
     → slice_get (xs ++ ys) i ≡ slice_get ys (i - length xs)
 get_second [] ys i beyond =
@@ -157,30 +148,6 @@ get_second (x ∷ xs) ys (suc i) beyond =
     let inner : length xs ≤ i = omega arith in
     let same : i - length xs ≡ suc i - length (x ∷ xs) = omega arith in
     get_second xs ys i inner ∙ ap (slice_get ys) same
-
-pub dealer_read : (floor : Floor) (firm : ℕ) → firm < length floor.dealers.items
-    → slice_get (days_of_floor floor) firm
-    ≡ option_map dealer_day_at (slice_get floor.dealers.items firm)
-dealer_read floor firm within =
-    let mapped : firm < length (map dealer_day_at floor.dealers.items) =
-    subst (λ n. firm < n) (sym (length-map floor.dealers.items dealer_day_at)) within in
-    get_first (map dealer_day_at floor.dealers.items)
-    (map investor_day_at floor.investors.items) firm mapped
-    ∙ slice_get-map dealer_day_at floor.dealers.items firm
-
-pub investor_read : (floor : Floor) (firm : ℕ) → length floor.dealers.items ≤ firm
-    → slice_get (days_of_floor floor) firm
-    ≡ option_map investor_day_at
-    (slice_get floor.investors.items (firm - length floor.dealers.items))
-investor_read floor firm beyond =
-    let count : length (map dealer_day_at floor.dealers.items) ≡ length floor.dealers.items =
-    length-map floor.dealers.items dealer_day_at in
-    let mapped : length (map dealer_day_at floor.dealers.items) ≤ firm =
-    subst (λ n. n ≤ firm) (sym count) beyond in
-    get_second (map dealer_day_at floor.dealers.items)
-    (map investor_day_at floor.investors.items) firm mapped
-    ∙ ap (λ n. slice_get (map investor_day_at floor.investors.items) (firm - n)) count
-    ∙ slice_get-map investor_day_at floor.investors.items (firm - length floor.dealers.items)
 
 -- What each firm was sent, taken out of its place.
 
@@ -194,11 +161,6 @@ mapped_more f g start done before now y x was is same =
     ∙ append_assoc start (map g done) (g y ∷ [])
     ∙ ap (λ l. start ++ l) (sym (map-append g done (y ∷ [])))
 
-mapped_twice : {X Y Z : Type 0} (g : Y → Z) (f : X → Y) (xs : List X)
-    → map g (map f xs) ≡ map (λ x. g (f x)) xs
-mapped_twice g f [] = refl
-mapped_twice g f (x ∷ xs) = ap (λ l. g (f x) ∷ l) (mapped_twice g f xs)
-
 sent_mapped : (dealers : List DealerPlace) (investors : List InvestorPlace)
     → map (λ (day : FirmDay). day.sent) (map dealer_day_at dealers ++ map investor_day_at investors)
     ≡ map (λ place. (dealer_day_at place).sent) dealers
@@ -207,9 +169,9 @@ sent_mapped dealers investors =
     map-append (λ (day : FirmDay). day.sent) (map dealer_day_at dealers)
     (map investor_day_at investors)
     ∙ ap (λ l. l ++ map (λ (day : FirmDay). day.sent) (map investor_day_at investors))
-    (mapped_twice (λ (day : FirmDay). day.sent) dealer_day_at dealers)
+    (map-map (λ (day : FirmDay). day.sent) dealer_day_at dealers)
     ∙ ap (λ l. map (λ place. (dealer_day_at place).sent) dealers ++ l)
-    (mapped_twice (λ (day : FirmDay). day.sent) investor_day_at investors)
+    (map-map (λ (day : FirmDay). day.sent) investor_day_at investors)
 
 -- the dealers' first, and then the investors'
 pub all_sent : {X : Type 0} (items : X → List (List ℕ)) (dealers : List DealerPlace)

@@ -16,7 +16,7 @@ use Rattle.dealer_desk.specs.DealerOutput.{closable}
 use Rattle.dealer_desk.specs.DealerRules.{dealer_verdict}
 use Rattle.dealer_desk.specs.declared.events.DealerEvent.{DealerEvent}
 use Rattle.dealer_desk.specs.declared.events.DealerEvent.TheVariants as at_desk
-use Rattle.investor_desk.specs.InvestorOutput.{market_for, market_of}
+use Rattle.investor_desk.specs.InvestorDesk.{market_for, market_of}
 use Rattle.investor_desk.specs.InvestorRules.{InvestorMarket}
 use Rattle.investor_desk.specs.declared.events.InvestorEvent.{InvestorEvent}
 use Rattle.request_room.specs.Book.{event_facts}
@@ -28,9 +28,9 @@ use Rattle.venue_places.specs.declared.actors.Actor.{Actor}
 use Rattle.venue_places.specs.declared.actors.Actor.TheVariants as actor
 use Rattle.step_replay.specs.Actions
 use Rattle.step_replay.specs.Actions.{Effect, nothing, done_by, done_for, at_dealer, at_market}
-use Rattle.step_replay.specs.Actions.{settlement_of, answer_to_hit, drop_at, duty_effect, hit_in}
-use Rattle.step_replay.specs.Actions.{hit_with, in_room, message_effect, quote_asked, sweep_effect}
-use Rattle.step_replay.specs.Actions.{told_of, where_known}
+use Rattle.step_replay.specs.Actions.{settlement_of, answer_to_hit, drop_at, hit_in, hit_with}
+use Rattle.step_replay.specs.Actions.{in_room, quote_asked, told_of, where_known}
+use Rattle.step_replay.specs.DutyEffects.{duty_effect, message_effect, sweep_effect}
 use Rattle.step_replay.specs.DealerTrail.{DealerEntry, book_by}
 use Rattle.step_replay.specs.LiveStanding.{desk_of_duty, room_of_duty}
 use Rattle.step_replay.specs.VenueFacts.{Fact, InRoom, of_dealer, of_room}

@@ -2,19 +2,18 @@
 -- to be done, in its order: a message of a firm, a duty, or a sweep. An action whose condition does
 -- not hold (a room shown before, a room that is not vacant, a word that the venue does not have)
 -- adds nothing and leaves nothing.
-use Rattle.std.specs.Prelude.{ℕ, Bool, true, ◌&&◌, List, [], ◌∷◌, ◌++◌, map}
-use Rattle.std.specs.Prelude.{Option, Some, None, is_some, if◌then◌else◌, Result, Ok}
+use Rattle.std.specs.Prelude.{ℕ, Bool, true, ◌&&◌, List, [], ◌∷◌, ◌++◌, map, Option, Some, None}
+use Rattle.std.specs.Prelude.{is_some, if◌then◌else◌, Result, Ok}
 use Rattle.std.specs.Option.{option_map, option_to_list}
 use Rattle.market_terms.specs.declared.asks.Ask.{Ask}
 use Rattle.market_terms.specs.declared.closes.Close.{Close}
 use Rattle.market_terms.specs.declared.closes.HitRefusal.{HitRefusal}
 use Rattle.market_terms.specs.declared.closes.Reply.{Reply}
 use Rattle.market_terms.specs.declared.duties.Duty.{Duty}
-use Rattle.market_terms.specs.declared.duties.Duty.TheVariants as duty
 use Rattle.market_terms.specs.declared.rooms.ResponseRef.{ResponseRef}
 use Rattle.market_terms.specs.declared.rooms.RoomRef.{RoomRef}
 use Rattle.quote_word.specs.declared.settled.Settled.{Settled}
-use Rattle.venue_rows.specs.Rows.{Configuration, dealer_numbered, has_room}
+use Rattle.venue_rows.specs.Rows.{Configuration, has_room}
 use Rattle.dealer_desk.specs.DealerFacts.{number_to_drop, quote_to_drop}
 use Rattle.dealer_desk.specs.DealerRules.{dealer_verdict}
 use Rattle.dealer_desk.specs.DealerOutput.{number_in, closable, word_asked}
@@ -24,6 +23,7 @@ use Rattle.dealer_desk.specs.declared.events.DealerEvent.{DealerEvent}
 use Rattle.dealer_desk.specs.declared.events.DealerEvent.TheVariants as at_desk
 use Rattle.investor_desk.specs.InvestorFacts.{knows}
 use Rattle.investor_desk.specs.InvestorRules.{InvestorMarket, investor_verdict}
+use Rattle.investor_desk.specs.InvestorDesk as investor_desk
 use Rattle.investor_desk.specs.InvestorOutput as investor_output
 use Rattle.investor_desk.specs.declared.events.InvestorEvent.{InvestorEvent}
 use Rattle.investor_desk.specs.declared.events.InvestorEvent.TheVariants as at_investor
@@ -34,19 +34,16 @@ use Rattle.request_room.specs.declared.events.RoomEvent.{RoomEvent}
 use Rattle.request_room.specs.declared.events.RoomEvent.TheVariants as at_room
 use Rattle.venue_steps.specs.InvestorSteps.{replies_to}
 use Rattle.venue_steps.specs.RoomSteps.{duties_of_open, duties_of_post, duties_of_unpost}
-use Rattle.venue_steps.specs.RoomSteps.{duties_of_decline, duties_of_hit, duties_of_pass}
-use Rattle.venue_steps.specs.RoomSteps.{duties_of_expire, hit_word}
+use Rattle.venue_steps.specs.RoomSteps.{duties_of_decline, duties_of_hit, hit_word}
 use Rattle.venue_steps.specs.Words.{has_word}
+use Rattle.step_replay.specs.DealerTrail.{DealerEntry, Lifted, book_by, rooms_by, answer_to_dealer}
+use Rattle.step_replay.specs.DealerTrail.{answer_to_investor, entries_of}
+use Rattle.step_replay.specs.InvestorTrail as investor_trail
+use Rattle.step_replay.specs.VenueFacts.{Fact, AtDealer, InRoom, AtInvestor, of_dealer, of_room}
+use Rattle.step_replay.specs.VenueFacts.{of_investor}
 pub use Rattle.venue_places.specs.Dealers.{Dealer, dealer_of, dealer_at, acting_dealer, QuoteRef}
 pub use Rattle.venue_places.specs.Dealers.{quotes_of, words_of, first_word, word_for, has_word_for}
 pub use Rattle.venue_places.specs.Dealers.{quote_among, quote_with_word, offer_of}
-use Rattle.venue_places.specs.declared.actors.Actor.{Actor}
-use Rattle.venue_places.specs.declared.actors.Actor.TheVariants as actor
-use Rattle.step_replay.specs.DealerTrail.{DealerEntry, Lifted, book_by, rooms_by}
-use Rattle.step_replay.specs.DealerTrail.{answer_to_dealer, answer_to_investor, entries_of}
-use Rattle.step_replay.specs.InvestorTrail as investor_trail
-use Rattle.step_replay.specs.VenueFacts.{Fact, AtDealer, InRoom, AtInvestor}
-use Rattle.step_replay.specs.VenueFacts.{of_dealer, of_room, of_investor}
 
 -- what an action adds, and what it leaves to be done
 pub record Effect : Type 0 where
@@ -272,7 +269,7 @@ done_for (Some market) action = action market
 -- what comes to the investor of a request
 abbrev pub at_investor_of : Configuration → RoomRef → (InvestorMarket → Effect) → Effect
 at_investor_of config room action =
-    done_for (investor_output.market_for config room.investor) action
+    done_for (investor_desk.market_for config room.investor) action
 
 -- the room's reply to a response
 abbrev pub answered_by : List Fact → RoomRef → ResponseRef → Reply → ℕ → InvestorMarket → Effect
@@ -281,57 +278,3 @@ answered_by facts room response reply moment market =
     then where_known facts room.n response.k (at_investor.Answered room.n response reply moment)
     market
     else nothing
-
--- All duties.
-
--- What a duty does, line by line of the market's table.
-unfoldable pub duty_effect : Configuration → List Fact → Actor → Duty → Effect
-duty_effect config facts actor (duty.Open room ask dealers moment) =
-    opened config facts room ask dealers moment
-duty_effect config facts actor (duty.Show dealer room ask moment) =
-    done_by (dealer_at config dealer) (shown_to config facts room ask moment)
-duty_effect config facts actor (duty.Ready room moment) =
-    in_room config facts room true at_room.Ready []
-duty_effect config facts actor (duty.Post room quote price valid_until moment) =
-    done_by (acting_dealer config actor) (posted_by config facts room quote price valid_until moment)
-duty_effect config facts actor (duty.Relay room offer moment) =
-    at_investor_of config room
-    (where_known facts room.n None (at_investor.QuoteCame room.n offer moment))
-duty_effect config facts actor (duty.Unpost room quote moment) =
-    done_by (acting_dealer config actor) (unposted_by config facts room quote moment)
-duty_effect config facts actor (duty.Gone room word moment) =
-    at_investor_of config room
-    (where_known facts room.n None (at_investor.QuoteGone room.n word moment))
-duty_effect config facts actor (duty.Decline room moment) =
-    done_by (acting_dealer config actor) (declined_by config facts room moment)
-duty_effect config facts actor (duty.Declined room moment) =
-    done_by (acting_dealer config actor) (λ dealer. at_investor_of config room
-    (where_known facts room.n None
-    (at_investor.DealerDeclined room.n dealer.row.name moment)))
-duty_effect config facts actor (duty.Hit room response word moment) =
-    hit_in config facts room response word moment
-duty_effect config facts actor (duty.Pass room response moment) =
-    in_room config facts room true (at_room.Pass moment)
-    (duties_of_pass (of_room room facts) room response moment)
-duty_effect config facts actor (duty.Answer room response reply moment) =
-    at_investor_of config room (answered_by facts room response reply moment)
-duty_effect config facts actor (duty.Close room moment) =
-    at_investor_of config room (where_known facts room.n None (at_investor.Closed room.n moment))
-duty_effect config facts actor (duty.Tell dealer room close moment) =
-    done_by (dealer_at config dealer) (told_to config facts room close moment)
-duty_effect config facts actor (duty.Drop last moment) =
-    done_by (acting_dealer config actor) (dropped_by config facts last moment)
-
--- What a sweep does: an open room ends where its deadline has come.
-unfoldable pub sweep_effect : Configuration → List Fact → RoomRef → ℕ → Effect
-sweep_effect config facts room moment =
-    in_room config facts room true (at_room.Expire moment)
-    (duties_of_expire (of_room room facts) room moment)
-
--- What a message of the firm with this number does at its own desk: that of a dealer or of an
--- investor.
-unfoldable pub message_effect : Configuration → List Fact → ℕ → ℕ → List ℕ → Effect
-message_effect config facts firm moment bytes =
-    if is_some (dealer_numbered config firm)
-    then done_by (dealer_at config firm) (received_by_dealer config facts moment bytes)
-    else done_for (investor_output.market_for config firm) (received_by_investor facts moment bytes)

@@ -9,7 +9,8 @@ use Rattle.venue_rows.specs.Rows.{Configuration, dealer_numbered}
 use Rattle.step_replay.specs.VenueFacts.{Fact, of_dealer, of_investor}
 use Rattle.step_replay.specs.DealerTrail as dealer_trail
 use Rattle.step_replay.specs.InvestorTrail as investor_trail
-use Rattle.step_replay.specs.Actions.{Effect, duty_effect, message_effect, sweep_effect}
+use Rattle.step_replay.specs.Actions.{Effect}
+use Rattle.step_replay.specs.DutyEffects.{duty_effect, message_effect, sweep_effect}
 use Rattle.step_replay.specs.DueList.{due_list}
 use Rattle.step_replay.specs.declared.dues.Due.{Due}
 use Rattle.venue_places.specs.declared.actors.Actor.{Actor}

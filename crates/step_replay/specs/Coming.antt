@@ -3,7 +3,7 @@
 use Rattle.std.specs.Prelude.{ℕ, true, List, [], Option, Some, None, if◌then◌else◌}
 use Rattle.market_terms.specs.declared.rooms.RoomRef.{RoomRef}
 use Rattle.venue_rows.specs.Rows.{Configuration}
-use Rattle.investor_desk.specs.InvestorOutput.{market_for}
+use Rattle.investor_desk.specs.InvestorDesk.{market_for}
 use Rattle.investor_desk.specs.InvestorRules.{InvestorMarket}
 use Rattle.investor_desk.specs.declared.events.InvestorEvent.TheVariants as at_investor
 use Rattle.request_room.specs.RoomFacts.{hears}
@@ -20,8 +20,8 @@ use Rattle.venue_places.specs.declared.arrivals.ForInvestor.TheVariants as to_in
 use Rattle.venue_places.specs.declared.arrivals.ForRoom.{ForRoom}
 use Rattle.venue_places.specs.declared.arrivals.ForRoom.TheVariants as to_room
 use Rattle.step_replay.specs.Actions.{Effect, Dealer, nothing, dealer_at, done_by, done_for}
-use Rattle.step_replay.specs.Actions.{shown_to, told_to, dropped_by, where_known, in_room}
-use Rattle.step_replay.specs.Actions.{opened, hit_in}
+use Rattle.step_replay.specs.Actions.{shown_to, told_to, dropped_by, where_known, in_room, opened}
+use Rattle.step_replay.specs.Actions.{hit_in}
 use Rattle.step_replay.specs.VenueFacts.{Fact, of_room}
 
 -- what comes to a dealer's desk

@@ -8,8 +8,9 @@ use Rattle.quote_word.specs.declared.settled.Settled.TheVariants.{Withdrawn, Lif
 use Rattle.market_terms.specs.declared.rooms.RoomRef.{RoomRef}
 use Rattle.venue_rows.specs.declared.dealer_rows.DealerRow.{DealerRow}
 use Rattle.dealer_desk.specs.DealerFacts.{number_to_drop}
-use Rattle.dealer_desk.specs.DealerOutput.{DeskEvents, dealer_output, facts_at, book_at}
-use Rattle.dealer_desk.specs.DealerOutput.{verdict_at, word_asked, with_event, with_notice}
+use Rattle.dealer_desk.specs.DealerDesk.{DeskEvents, facts_at, book_at, verdict_at, with_event}
+use Rattle.dealer_desk.specs.DealerDesk.{with_notice}
+use Rattle.dealer_desk.specs.DealerOutput.{dealer_output, word_asked}
 use Rattle.dealer_desk.specs.DeskLaws.{withdraws}
 use Rattle.dealer_desk.specs.declared.events.DealerEvent.{DealerEvent}
 use Rattle.dealer_desk.specs.declared.events.DealerEvent.TheVariants as event

@@ -1,8 +1,10 @@
 -- How the code keeps the day of each firm: names for private functions alone.
 use Rattle.std.specs.Prelude.{List, ◌++◌, map}
 use Rattle.market_terms.specs.DayLines.{OfDealer, OfInvestor}
-use Rattle.dealer_desk.specs.DealerOutput.{book_at, dealer_output}
+use Rattle.dealer_desk.specs.DealerDesk.{book_at}
+use Rattle.dealer_desk.specs.DealerOutput.{dealer_output}
 use Rattle.dealer_desk.specs.QuoteLines as quotes
+use Rattle.investor_desk.specs.InvestorDesk as investor_desk
 use Rattle.investor_desk.specs.InvestorOutput as investor
 use Rattle.investor_desk.specs.RequestLines as requests
 use Rattle.step_replay.specs.FirmDays.{FirmDay}
@@ -21,7 +23,7 @@ dealer_day_at place = record {
 abbrev pub investor_day_at : InvestorPlace → FirmDay
 investor_day_at place = record {
   sent = investor.investor_output place.desk.market place.desk.events;
-  lines = OfInvestor (requests.lines_of (investor.book_at place.desk));
+  lines = OfInvestor (requests.lines_of (investor_desk.book_at place.desk));
 }
 
 -- the days of the firms at their places

@@ -1,22 +1,23 @@
 -- What stands by some facts stands whatever comes behind them.
-use Rattle.std.proofs.Common.{◌≡◌, ℕ, zero, suc, ◌+◌, ◌==◌, Bool, true, false, ◌||◌}
-use Rattle.std.proofs.Common.{◌&&◌, List, [], ◌∷◌, ◌++◌, length, ◌⊎◌, inl, inr}
-use Rattle.std.proofs.Common.{Option, Some, None}
-use Rattle.std.proofs.Common.{refl, sym, ap, ◌∙◌, subst, arith}
+use Rattle.std.proofs.Common.{◌≡◌, ℕ, zero, suc, ◌+◌, ◌==◌, Bool, true, false, ◌||◌, ◌&&◌, List, []}
+use Rattle.std.proofs.Common.{◌∷◌, ◌++◌, length, ◌⊎◌, inl, inr, Option, Some, None, refl, sym, ap}
+use Rattle.std.proofs.Common.{◌∙◌, arith, subst}
 use Rattle.std.specs.Prelude.{slice_get}
 use Rattle.std.specs.List.{list_any}
 use Rattle.std.proofs.lemmas.Bool.Decides.{nat_tests}
 use Rattle.std.proofs.lemmas.List.Folds.{list_any-append}
+use Rattle.std.proofs.lemmas.Option.{same_Some}
 use Rattle.market_terms.specs.declared.rooms.RoomRef.{RoomRef}
 use Rattle.dealer_desk.specs.DealerOutput.{is_same_room, number_from, number_in}
-use Rattle.request_room.specs.RoomFacts.{RoomFact, first_said, request_of}
-use Rattle.request_room.specs.RoomFacts.{is_named, names, opened_for}
+use Rattle.request_room.specs.RoomFacts.{RoomFact, first_said, request_of, is_named, names}
+use Rattle.request_room.specs.RoomFacts.{opened_for}
 use Rattle.request_room.specs.declared.requests.RoomRequest.{RoomRequest}
 use Rattle.step_replay.specs.EachLemmas.{Every}
 
 -- Lists.
 
 -- an item stands in a list
+
 abbrev pub In : {A : Type 0} → A → List A → Type 0
 In x [] = ⊥
 In x (y ∷ ys) = (y ≡ x) ⊎ In x ys
@@ -46,14 +47,6 @@ any_right test xs ys is = list_any-append test xs ys ∙ rw is (or_true (list_an
     or_true : (b : Bool) → (b || true) ≡ true
     or_true true = refl
     or_true false = refl
-
--- what is found of a value
-abbrev pub some_or : {A : Type 0} → A → Option A → A
-some_or other None = other
-some_or other (Some x) = x
-
-pub some_same : {A : Type 0} (x y : A) → Some x ≡ Some y → x ≡ y
-some_same x y is = ap (some_or x) is
 
 -- Rooms at a desk.
 
@@ -122,7 +115,7 @@ AreNumbered rooms = (place : ℕ) (room : RoomRef) → slice_get rooms place ≡
 pub get_push : {A : Type 0} (xs : List A) (x y : A) (place : ℕ)
     → slice_get (xs ++ x ∷ []) place ≡ Some y
     → (slice_get xs place ≡ Some y) ⊎ ((place ≡ length xs) × (x ≡ y))
-get_push [] x y zero is = inr (refl, some_same x y is)
+get_push [] x y zero is = inr (refl, same_Some x y is)
 get_push [] x y (suc place) is = cc
 get_push (z ∷ xs) x y zero is = inl is
 get_push (z ∷ xs) x y (suc place) is = later (get_push xs x y place is)

@@ -8,7 +8,8 @@ use Rattle.step_replay.specs.DealerView.{DealerView, dealer_view, sent_at}
 use Rattle.step_replay.specs.declared.steps.Step.{Step}
 use Rattle.step_replay.specs.SeenLemmas.{Seen, own_seen, drop_seen, shown_seen, told_seen}
 use Rattle.step_replay.specs.SeenLemmas.{lifted_seen, start_seen}
-use Rattle.step_replay.specs.StepLemmas.{IsKept, kept_by_all}
+use Rattle.step_replay.specs.StepLemmas.{kept_by_all}
+use Rattle.step_replay.specs.TrailKept.{IsKept}
 
 -- the view stays at the desk of the dealer's trail
 pub seen_is_kept : (date : List ℕ) (row : DealerRow) → IsKept date row (Seen date row)

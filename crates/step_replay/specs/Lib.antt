@@ -3,15 +3,19 @@ pub mod Actions
 pub mod AuditTrail
 pub mod Coming
 pub mod Deadlines
+pub mod DealerGrowth
 pub mod DealerTrail
 pub mod DealerView
 pub mod DoneSteps
 pub mod DueList
+pub mod DutyEffects
 pub mod EachLemmas
 pub mod FirmDays
 pub mod FloorDays
 pub mod Following
 pub mod GrowthLemmas
+pub mod HitKept
+pub mod InvestorGrowth
 pub mod InvestorTrail
 pub mod IsolationLemmas
 pub mod Liftings
@@ -30,6 +34,7 @@ pub mod Standing
 pub mod StepFaults
 pub mod StepLemmas
 pub mod SteppedStanding
+pub mod TrailKept
 pub mod TrailLemmas
 pub mod VenueFacts
 pub mod VenueRooms

@@ -4,7 +4,7 @@ use Rattle.std.specs.Prelude.{Option, Some, None}
 use Rattle.venue_rows.specs.Rows.{Configuration, dealer_numbered}
 use Rattle.venue_rows.specs.declared.dealer_rows.DealerRow.{DealerRow}
 use Rattle.venue_rows.specs.declared.investor_rows.InvestorRow.{InvestorRow}
-use Rattle.investor_desk.specs.InvestorOutput.{market_of, no_events}
+use Rattle.investor_desk.specs.InvestorDesk.{market_of, no_events}
 use Rattle.step_replay.specs.Actions.{dealer_of, first_word}
 use Rattle.step_replay.specs.declared.floor.DealerPlace.{DealerPlace}
 use Rattle.step_replay.specs.declared.floor.InvestorPlace.{InvestorPlace}

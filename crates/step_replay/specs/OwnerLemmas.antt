@@ -1,23 +1,15 @@
 -- The quote that has a word is one of its dealer's day.
 use Rattle.std.proofs.Common.{◌≡◌, ◌≤◌, ℕ, zero, suc, ◌+◌, ◌-◌, Bool, true, false, ◌&&◌, nat_le}
-use Rattle.std.proofs.Common.{nat_lt}
-use Rattle.std.proofs.Common.{List, [], ◌∷◌, Option, Some, None, if◌then◌else◌, refl, ap, arith}
+use Rattle.std.proofs.Common.{nat_lt, List, [], ◌∷◌, Some, if◌then◌else◌, refl, ap, arith, sym, ◌∙◌}
+use Rattle.std.proofs.Common.{take}
 use Rattle.std.specs.Prelude.{slice_get}
 use Rattle.std.proofs.lemmas.Bool.Decides.{nat_tests}
 use Rattle.venue_rows.specs.declared.dealer_rows.DealerRow.{DealerRow}
 use Rattle.step_replay.specs.Actions.{QuoteRef, quote_among, quotes_of}
-use Rattle.std.proofs.Common.{sym, ◌∙◌, take}
 use Rattle.std.proofs.lemmas.List.Sums.{sum_by-cons}
+use Rattle.std.proofs.lemmas.Option.{same_Some}
 
 -- Small facts.
-
--- what is there, or this
-abbrev value_or : {A : Type 0} → A → Option A → A
-value_or other None = other
-value_or other (Some x) = x
-
-pub same_value : {A : Type 0} (x y : A) → Some x ≡ Some y → x ≡ y
-same_value x y is = ap (value_or x) is
 
 -- a quote of the first of some dealers
 abbrev first_quote : ℕ → ℕ → QuoteRef
@@ -36,7 +28,7 @@ least_dealer number (row ∷ rows) word hit is =
         → number ≤ hit.dealer
     by_test true later found =
         let same : number ≡ hit.dealer =
-        ap (λ (h : QuoteRef). h.dealer) (same_value (first_quote number word) hit found) in
+        ap (λ (h : QuoteRef). h.dealer) (same_Some (first_quote number word) hit found) in
         omega arith
     by_test false later found =
         let least : number + 1 ≤ hit.dealer = later found in
@@ -59,13 +51,13 @@ quote_of_day number (first ∷ rows) word hit place row is at dealer =
         → (place : ℕ) → slice_get (first ∷ rows) place ≡ Some row → hit.dealer ≡ number + place
         → (nat_le 1 hit.quote && nat_le hit.quote row.quotes) ≡ true
     by_test true test later found zero at dealer =
-        let same = ap (λ (r : DealerRow). r.quotes) (same_value first row at) in
+        let same = ap (λ (r : DealerRow). r.quotes) (same_Some first row at) in
         let quote : word + 1 ≡ hit.quote =
-        ap (λ (h : QuoteRef). h.quote) (same_value (first_quote number word) hit found) in
+        ap (λ (h : QuoteRef). h.quote) (same_Some (first_quote number word) hit found) in
         grind (arith, nat_tests)
     by_test true test later found (suc place) at dealer =
         let same : number ≡ hit.dealer =
-        ap (λ (h : QuoteRef). h.dealer) (same_value (first_quote number word) hit found) in
+        ap (λ (h : QuoteRef). h.dealer) (same_Some (first_quote number word) hit found) in
         absurd (omega arith)
     by_test false test later found zero at dealer =
         let least : number + 1 ≤ hit.dealer =
@@ -92,7 +84,7 @@ pub owner_among : (number : ℕ) (rows : List DealerRow) (place : ℕ) (row : De
 owner_among number [] place row quote at within = cc
 owner_among number (first ∷ rows) zero row quote at within =
     let rows_are : first.quotes ≡ row.quotes =
-    ap (λ (r : DealerRow). r.quotes) (same_value first row at) in
+    ap (λ (r : DealerRow). r.quotes) (same_Some first row at) in
     let least : 1 ≤ quote = grind (arith, nat_tests) in
     let most : quote ≤ row.quotes = grind (arith, nat_tests) in
     let is_first : nat_lt (0 + (quote - 1)) first.quotes ≡ true = grind (arith, nat_tests) in
@@ -160,9 +152,9 @@ owned_by number (first ∷ rows) word hit is =
         → Owned number (first ∷ rows) word hit
     by_test true test later found =
         let dealer : number ≡ hit.dealer =
-        ap (λ (h : QuoteRef). h.dealer) (same_value (first_quote number word) hit found) in
+        ap (λ (h : QuoteRef). h.dealer) (same_Some (first_quote number word) hit found) in
         let quote : word + 1 ≡ hit.quote =
-        ap (λ (h : QuoteRef). h.quote) (same_value (first_quote number word) hit found) in
+        ap (λ (h : QuoteRef). h.quote) (same_Some (first_quote number word) hit found) in
         let dealer_too : hit.dealer ≡ number + 0 = omega arith in
         let word_too : word ≡ 0 + (hit.quote - 1) = omega arith in
         record {

@@ -1,18 +1,24 @@
 -- The facts of each place after an action, and the places of a replay.
-use Rattle.std.proofs.Common.{◌≡◌, ◌≢◌, ◌<◌, ◌≤◌, ℕ, zero, suc, ◌==◌, true, false}
-use Rattle.std.proofs.Common.{List, [], ◌∷◌, ◌++◌, map, filter_map, length, slice_set, get_or}
-use Rattle.std.proofs.Common.{Option, Some, None}
-use Rattle.std.proofs.Common.{refl, sym, ap, arith, eq-eqb}
-use Rattle.std.specs.Prelude.{slice_get}
+use Rattle.std.proofs.Common.{◌≡◌, ◌≢◌, ◌<◌, ◌≤◌, ℕ, zero, suc, ◌==◌, true, false, List, [], ◌∷◌}
+use Rattle.std.proofs.Common.{◌++◌, map, filter_map, length, slice_set, get_or, Option, Some, None}
+use Rattle.std.proofs.Common.{refl, sym, ap, ◌∙◌, arith, eq-eqb, ◌-◌, Bool, nat_le, if◌then◌else◌}
+use Rattle.std.proofs.Common.{nat_lt}
+use Rattle.std.specs.Prelude.{slice_get, is_some}
+use Rattle.std.proofs.lemmas.List.{append-nil}
 use Rattle.std.proofs.lemmas.List.Elements.{filter_map-append}
 use Rattle.market_terms.specs.declared.rooms.RoomRef.{RoomRef}
 use Rattle.dealer_desk.specs.DealerOutput.{is_same_room}
 use Rattle.request_room.specs.RoomFacts.{RoomFact}
 use Rattle.step_replay.specs.DealerTrail.{DealerEntry}
 use Rattle.step_replay.specs.InvestorTrail.{InvestorEntry}
-use Rattle.step_replay.specs.VenueFacts.{Fact, AtDealer, InRoom, AtInvestor}
-use Rattle.step_replay.specs.VenueFacts.{of_dealer, of_room, of_investor}
-use Rattle.step_replay.specs.VenueFacts.{entry_at_dealer, fact_in_room, entry_at_investor}
+use Rattle.step_replay.specs.VenueFacts.{Fact, AtDealer, InRoom, AtInvestor, of_dealer, of_room}
+use Rattle.step_replay.specs.VenueFacts.{of_investor, entry_at_dealer, fact_in_room}
+use Rattle.step_replay.specs.VenueFacts.{entry_at_investor}
+use Rattle.std.proofs.lemmas.Bool.Decides.{nat_tests}
+use Rattle.venue_rows.specs.Rows.{Configuration, investor_numbered}
+use Rattle.venue_rows.specs.declared.investor_rows.InvestorRow.{InvestorRow}
+use Rattle.std.proofs.lemmas.Option.{slice_get_within}
+use Rattle.step_replay.specs.StepFaults.{firms_of}
 
 -- Lists.
 
@@ -34,20 +40,27 @@ get_set_other (y ∷ xs) (suc i) (suc j) x differs =
     let rest : j ≢ i = λ same. differs (ap suc same) in
     get_set_other xs i j x rest
 
-pub get_within : {X : Type 0} (xs : List X) (i : ℕ) (x : X) → slice_get xs i ≡ Some x
-    → i < length xs
-get_within [] i x is = cc
-get_within (y ∷ xs) zero x is = omega arith
-get_within (y ∷ xs) (suc i) x is =
-    let rest : i < length xs = get_within xs i x is in
-    omega arith
-
 pub get_beyond : {X : Type 0} (xs : List X) (i : ℕ) → slice_get xs i ≡ None → length xs ≤ i
 get_beyond [] i is = omega arith
 get_beyond (y ∷ xs) zero is = cc
 get_beyond (y ∷ xs) (suc i) is =
     let rest : length xs ≤ i = get_beyond xs i is in
     omega arith
+
+pub get_first : {X : Type 0} (xs ys : List X) (i : ℕ) → i < length xs
+    → slice_get (xs ++ ys) i ≡ slice_get xs i
+get_first [] ys i within = absurd (omega arith)
+get_first (x ∷ xs) ys zero within = refl
+get_first (x ∷ xs) ys (suc i) within =
+    let inner : i < length xs = omega arith in
+    get_first xs ys i inner
+
+pub has_item : {X : Type 0} (xs : List X) (i : ℕ) → i < length xs → is_some (slice_get xs i) ≡ true
+has_item [] i within = absurd (omega arith)
+has_item (x ∷ xs) zero within = refl
+has_item (x ∷ xs) (suc i) within =
+    let inner : i < length xs = omega arith in
+    has_item xs i inner
 
 -- The facts of a place after more facts.
 
@@ -66,14 +79,37 @@ pub investor_grown : (number : ℕ) (facts more : List Fact)
 unfolding of_investor
 investor_grown number facts more = filter_map-append (entry_at_investor number) facts more
 
+-- What adds nothing to a place leaves its facts.
+
+pub dealer_stays : (number : ℕ) (facts more : List Fact) → of_dealer number more ≡ []
+    → of_dealer number (facts ++ more) ≡ of_dealer number facts
+dealer_stays number facts more none =
+    dealer_grown number facts more
+    ∙ ap (λ l. of_dealer number facts ++ l) none
+    ∙ append-nil (of_dealer number facts)
+
+pub room_stays : (room : RoomRef) (facts more : List Fact) → of_room room more ≡ []
+    → of_room room (facts ++ more) ≡ of_room room facts
+room_stays room facts more none =
+    room_grown room facts more
+    ∙ ap (λ l. of_room room facts ++ l) none
+    ∙ append-nil (of_room room facts)
+
+pub investor_stays : (number : ℕ) (facts more : List Fact) → of_investor number more ≡ []
+    → of_investor number (facts ++ more) ≡ of_investor number facts
+investor_stays number facts more none =
+    investor_grown number facts more
+    ∙ ap (λ l. of_investor number facts ++ l) none
+    ∙ append-nil (of_investor number facts)
+
 -- Facts of one place say nothing of another.
 
-pub nothing_of : {A B : Type 0} (of : Fact → Option B) (f : A → Fact) → ((x : A) → of (f x) ≡ None)
+pub nothing_of : {X A B : Type 0} (of : X → Option B) (f : A → X) → ((x : A) → of (f x) ≡ None)
     → (xs : List A) → filter_map of (map f xs) ≡ []
 nothing_of of f none [] = refl
 nothing_of of f none (x ∷ xs) = rw (none x) (nothing_of of f none xs)
 
-everything_of : {A : Type 0} (of : Fact → Option A) (f : A → Fact) → ((x : A) → of (f x) ≡ Some x)
+pub everything_of : {X A : Type 0} (of : X → Option A) (f : A → X) → ((x : A) → of (f x) ≡ Some x)
     → (xs : List A) → filter_map of (map f xs) ≡ xs
 everything_of of f all [] = refl
 everything_of of f all (x ∷ xs) = rw (all x) (ap (λ l. x ∷ l) (everything_of of f all xs))
@@ -161,9 +197,31 @@ lent (y ∷ xs) (suc i) x within is =
     let rest : i < length xs = omega arith in
     lent xs i x rest is
 
-pub not_lent : {X : Type 0} (xs : List X) (i : ℕ) → length xs ≤ i → slice_get xs i ≡ None
-not_lent [] i beyond = refl
-not_lent (y ∷ xs) zero beyond = absurd (omega arith)
-not_lent (y ∷ xs) (suc i) beyond =
-    let rest : length xs ≤ i = omega arith in
-    not_lent xs i rest
+-- An investor's number: behind those of the dealers, and of a firm of the venue.
+
+pub behind_dealers : (config : Configuration) (number : ℕ) (row : InvestorRow)
+    → investor_numbered config number ≡ Some row → length config.dealers ≤ number
+behind_dealers config number row is = by_test (nat_le (length config.dealers) number) refl is
+  where
+    by_test : (b : Bool) → nat_le (length config.dealers) number ≡ b
+        → (if b then slice_get config.investors (number - length config.dealers) else None)
+        ≡ Some row → length config.dealers ≤ number
+    by_test true test found = grind (arith, nat_tests)
+    by_test false test found = cc
+
+pub numbered_at : (config : Configuration) (number : ℕ) → length config.dealers ≤ number
+    → investor_numbered config number
+    ≡ slice_get config.investors (number - length config.dealers)
+numbered_at config number behind =
+    let test : nat_le (length config.dealers) number ≡ true = grind (arith, nat_tests) in
+    ap (λ (b : Bool). if b then slice_get config.investors (number - length config.dealers)
+    else None) test
+
+pub investor_within : (config : Configuration) (firm : ℕ) (row : InvestorRow)
+    → investor_numbered config firm ≡ Some row → nat_lt firm (firms_of config) ≡ true
+investor_within config firm row is =
+    let behind = behind_dealers config firm row is in
+    let there : firm - length config.dealers < length config.investors =
+    slice_get_within config.investors (firm - length config.dealers) row
+    (sym (numbered_at config firm behind) ∙ is) in
+    grind (arith, nat_tests)

@@ -1,28 +1,18 @@
 -- The duties that an actor has still to do, after a step of its own and of another.
-use Rattle.std.proofs.Common.{◌≡◌, ◌≤◌, ℕ, zero, suc, ◌+◌, Bool, true, false}
-use Rattle.std.proofs.Common.{List, [], ◌∷◌, ◌++◌, map, filter_map, drop, length, count_by}
-use Rattle.std.proofs.Common.{if◌then◌else◌, cond}
-use Rattle.std.proofs.Common.{refl, ap, ◌∙◌, arith, eq-eqb}
-use Rattle.std.proofs.lemmas.List.{append-nil, length-append}
+use Rattle.std.proofs.Common.{◌≡◌, ◌≤◌, ℕ, zero, suc, ◌+◌, Bool, true, false, List, [], ◌∷◌, ◌++◌}
+use Rattle.std.proofs.Common.{map, filter_map, drop, length, count_by, if◌then◌else◌, cond, refl}
+use Rattle.std.proofs.Common.{ap, ◌∙◌, arith, eq-eqb, ◌≢◌}
+use Rattle.std.proofs.lemmas.List.{append-nil, length-append, drop-append-le}
 use Rattle.std.proofs.lemmas.List.Sums.{sum_by-append}
 use Rattle.std.proofs.lemmas.List.Elements.{filter_map-append}
 use Rattle.market_terms.specs.declared.duties.Duty.{Duty}
 use Rattle.step_replay.specs.Actions.{Effect}
-use Rattle.step_replay.specs.AuditTrail.{AuditTrail, is_same_actor, duty_of, pending}
-use Rattle.step_replay.specs.AuditTrail.{with_effect}
+use Rattle.step_replay.specs.AuditTrail.{AuditTrail, is_same_actor, duty_of, pending, with_effect}
 use Rattle.venue_places.specs.declared.actors.Actor.{Actor}
 use Rattle.venue_places.specs.declared.actors.Actor.TheVariants as actor
+use Rattle.std.proofs.lemmas.Bool.Decides.{nat_tests}
 
 -- Lists.
-
--- what is left behind so many, with more behind
-drop_before : {X : Type 0} (n : ℕ) (xs ys : List X) → n ≤ length xs
-    → drop n (xs ++ ys) ≡ drop n xs ++ ys
-drop_before zero xs ys within = refl
-drop_before (suc n) [] ys within = absurd (omega arith)
-drop_before (suc n) (x ∷ xs) ys within =
-    let rest : n ≤ length xs = omega arith in
-    drop_before n xs ys rest
 
 -- the first that is left is taken
 drop_next : {X : Type 0} (n : ℕ) (xs : List X) (x : X) (rest : List X) → drop n xs ≡ x ∷ rest
@@ -44,6 +34,24 @@ pub same_actor : (by : Actor) → is_same_actor by by ≡ true
 same_actor (actor.Firm number) = eq-eqb number number refl
 same_actor actor.Clock = refl
 
+-- one actor by the test
+pub one_actor : (by other : Actor) → is_same_actor by other ≡ true → by ≡ other
+one_actor (actor.Firm one) (actor.Firm two) same =
+    let equal : one ≡ two = grind (arith, nat_tests) in
+    ap (λ (n : ℕ). actor.Firm n) equal
+one_actor (actor.Firm one) actor.Clock same = cc
+one_actor actor.Clock (actor.Firm two) same = cc
+one_actor actor.Clock actor.Clock same = refl
+
+-- whether two actors are one is asked either way
+pub same_either : (by other : Actor) → is_same_actor by other ≡ false → is_same_actor other by ≡ false
+same_either (actor.Firm one) (actor.Firm two) differs =
+    let apart : one ≢ two = grind (arith, nat_tests) in
+    grind (arith, nat_tests, apart)
+same_either (actor.Firm one) actor.Clock differs = refl
+same_either actor.Clock (actor.Firm two) differs = refl
+same_either actor.Clock actor.Clock differs = differs
+
 -- what an actor caused is its own
 own_caused : (by : Actor) (duties : List Duty)
     → filter_map (duty_of by) (map (λ (duty : Duty). record { by = by; duty = duty }) duties) ≡ duties
@@ -59,7 +67,7 @@ other_caused by other differs (duty ∷ duties) = rw differs (other_caused by ot
 -- Turns and duties more.
 
 -- one turn more of an actor
-turn_counted : (by other : Actor) (done : List Actor) (b : Bool) → is_same_actor other by ≡ b
+pub turn_counted : (by other : Actor) (done : List Actor) (b : Bool) → is_same_actor other by ≡ b
     → count_by (is_same_actor other) (done ++ by ∷ [])
     ≡ count_by (is_same_actor other) done + (if b then 1 else 0)
 turn_counted by other done b is =
@@ -89,7 +97,7 @@ pub own_pending : (by : Actor) (trail : AuditTrail) (effect : Effect)
 own_pending by trail effect within =
     ap (drop (count_by (is_same_actor by) trail.done))
     (caused_grown by by trail effect.duties effect.duties (own_caused by effect.duties))
-    ∙ drop_before (count_by (is_same_actor by) trail.done)
+    ∙ drop-append-le (count_by (is_same_actor by) trail.done)
     (filter_map (duty_of by) trail.caused) effect.duties within
 
 -- another has what it had
@@ -119,7 +127,7 @@ own_turned by trail effect duty rest is =
     ap (λ n. drop n (filter_map (duty_of by) (turned by trail effect).caused)) counted
     ∙ ap (drop (suc done))
     (caused_grown by by trail effect.duties effect.duties (own_caused by effect.duties))
-    ∙ drop_before (suc done) caused effect.duties taken.1
+    ∙ drop-append-le (suc done) caused effect.duties taken.1
     ∙ ap (λ l. l ++ effect.duties) taken.0
   where
     one_more : (n : ℕ) → n + 1 ≡ suc n

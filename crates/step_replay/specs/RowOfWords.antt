@@ -6,7 +6,8 @@ use Rattle.std.specs.List.{list_any}
 use Rattle.quote_word.specs.PlainWords.{entry_in, settlement_of, after_exchange}
 use Rattle.quote_word.specs.declared.settled.Settled.{Settled}
 use Rattle.quote_word.specs.declared.settled.Settled.TheVariants.{Withdrawn, Lifted}
-use Rattle.dealer_desk.specs.DealerOutput.{DeskEvents, asked_by, book_at, with_event}
+use Rattle.dealer_desk.specs.DealerDesk.{DeskEvents, book_at, with_event}
+use Rattle.dealer_desk.specs.SettledWords.{asked_by}
 use Rattle.dealer_desk.specs.DeskLaws.{says_withdrawn}
 use Rattle.dealer_desk.specs.declared.events.DealerEvent.{DealerEvent}
 use Rattle.step_replay.specs.declared.dues.Due.{Due}

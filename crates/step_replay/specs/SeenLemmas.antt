@@ -1,8 +1,7 @@
 -- The dealer view of what was due to a dealer by its trail has the trail's facts and messages.
-use Rattle.std.proofs.Common.{◌≡◌, ℕ, ◌==◌, Bool, true, false, ◌||◌, ◌&&◌, not, nat_le}
-use Rattle.std.proofs.Common.{List, [], ◌∷◌, ◌++◌, filter_map}
-use Rattle.std.proofs.Common.{Option, Some, None, option_map, is_some, if◌then◌else◌}
-use Rattle.std.proofs.Common.{refl, sym, ap, ◌∙◌}
+use Rattle.std.proofs.Common.{◌≡◌, ℕ, ◌==◌, Bool, true, false, ◌||◌, ◌&&◌, not, nat_le, List, []}
+use Rattle.std.proofs.Common.{◌∷◌, ◌++◌, filter_map, Option, Some, None, option_map, is_some}
+use Rattle.std.proofs.Common.{if◌then◌else◌, refl, sym, ap, ◌∙◌, ap₂}
 use Rattle.std.specs.Option.{option_to_list}
 use Rattle.std.specs.List.{list_any}
 use Rattle.std.proofs.lemmas.List.{append-nil}
@@ -15,33 +14,26 @@ use Rattle.venue_rows.specs.declared.dealer_rows.DealerRow.{DealerRow}
 use Rattle.market_terms.specs.declared.asks.Ask.{Ask}
 use Rattle.market_terms.specs.declared.closes.Close.{Close}
 use Rattle.market_terms.specs.declared.rooms.RoomRef.{RoomRef}
-use Rattle.quote_messages.specs.declared.out_messages.OutMessage.{OutMessage}
-use Rattle.dealer_desk.specs.DealerFacts.{DealerFact, DealerBook, Quoted, Told, book_of}
-use Rattle.dealer_desk.specs.declared.accepted.AcceptedQuote.{AcceptedQuote}
-use Rattle.dealer_desk.specs.DealerFacts.{number_to_drop}
+use Rattle.dealer_desk.specs.DealerFacts.{DealerBook, Told, book_of, number_to_drop}
 use Rattle.dealer_desk.specs.DealerRules.{dealer_verdict}
 use Rattle.dealer_desk.specs.DealerOutput.{DeskState, desk_after, after_event, event_facts}
-use Rattle.dealer_desk.specs.DealerOutput.{event_message, moment_of, shown_room, sent_with}
-use Rattle.dealer_desk.specs.DealerOutput.{no_facts}
-use Rattle.dealer_desk.specs.DealerOutput.{next_message, verdict_facts, settled_facts, answer_facts}
-use Rattle.dealer_desk.specs.DealerOutput.{goes_through, word_asked, closable}
+use Rattle.dealer_desk.specs.DealerOutput.{event_message, moment_of, next_message, word_asked}
+use Rattle.dealer_desk.specs.DealerOutput.{closable}
 use Rattle.dealer_desk.specs.DeskLaws.{withdraws}
-use Rattle.dealer_desk.specs.declared.standing.Withdrawal.{Withdrawal}
 use Rattle.dealer_desk.specs.declared.standing.Withdrawal.TheVariants as by
-use Rattle.dealer_desk.specs.declared.verdicts.DealerVerdict.{DealerVerdict}
-use Rattle.dealer_desk.specs.declared.verdicts.DealerVerdict.TheVariants as verdict
 use Rattle.dealer_desk.specs.declared.events.DealerEvent.{DealerEvent}
 use Rattle.dealer_desk.specs.declared.events.DealerEvent.TheVariants as event
 use Rattle.step_replay.specs.DealerTrail.{DealerEntry, Lifted, facts_of, book_by, sent_by}
 use Rattle.step_replay.specs.DealerTrail.{was_lifted, was_withdrawn, answer_to_dealer, lifts}
-use Rattle.step_replay.specs.DealerTrail.{entries_of, message_by, fact_in, message_in}
+use Rattle.step_replay.specs.DealerTrail.{entries_of, fact_in, message_in}
 use Rattle.step_replay.specs.DueList.{due_by, due_by_fact, due_list}
 use Rattle.step_replay.specs.DealerView.{DealerView, after_due, view_after, view_at_start}
 use Rattle.step_replay.specs.DealerView.{answer_to, no_room}
 use Rattle.step_replay.specs.declared.dues.Due.{Due}
 use Rattle.step_replay.specs.declared.dues.Due.TheVariants as due
-use Rattle.step_replay.specs.DealerTrail.{room_in, rooms_by}
-use Rattle.step_replay.specs.TrailLemmas.{rooms_added, facts_added, sent_added, due_added, lifts_none}
+use Rattle.step_replay.specs.DealerGrowth.{desk_with, desk_push, sent_is, settled_undue}
+use Rattle.step_replay.specs.DealerGrowth.{verdict_undue, facts_grown, sent_grown, due_grown}
+use Rattle.step_replay.specs.DealerGrowth.{lifted_grown}
 
 -- the view at a desk with these events, where these quotes are lifted
 abbrev pub view_of : List ℕ → DealerRow → List DealerEvent → List ℕ → DealerView
@@ -60,120 +52,15 @@ pub record Seen (date : List ℕ) (row : DealerRow) (trail : List DealerEntry) :
   pub lifted_are : (quote : ℕ)
       → list_any (λ (one : ℕ). one == quote) lifted ≡ was_lifted trail quote
 
--- Small facts.
-
--- a desk with these facts, whose dealer was sent these messages
-abbrev desk_with : List DealerFact → List (List ℕ) → DeskState
-desk_with facts sent = record { facts = facts; sent = sent }
-
-pub both : (facts facts_too : List DealerFact) (sent sent_too : List (List ℕ))
-    → facts ≡ facts_too → sent ≡ sent_too → desk_with facts sent ≡ desk_with facts_too sent_too
-both facts facts_too sent sent_too one other =
-    ap (λ f. desk_with f sent) one ∙ ap (λ s. desk_with facts_too s) other
-
-or_false : (b : Bool) → (b || false) ≡ b
-or_false true = refl
-or_false false = refl
-
 map_same : {A B : Type 0} (f g : A → B) → ((x : A) → f x ≡ g x) → (o : Option A)
     → option_map f o ≡ option_map g o
 map_same f g same None = refl
 map_same f g same (Some x) = ap (λ y. Some y) (same x)
 
--- a desk after one event more
-pub desk_push : (date : List ℕ) (row : DealerRow) (events : List DealerEvent) (more : DealerEvent)
-    → desk_after date row (events ++ more ∷ [])
-    ≡ after_event date row (desk_after date row events) more
-unfolding desk_after
-desk_push date row events more = fold-append (after_event date row) no_facts events (more ∷ [])
-
--- what is sent with a message is the next of the list
-pub sent_is : (date : List ℕ) (row : DealerRow) (sent : List (List ℕ)) (moment : ℕ)
-    (message : Option OutMessage)
-    → sent_with date row sent moment message
-    ≡ sent ++ option_to_list (option_map (next_message date row sent moment) message)
-sent_is date row sent moment None = sym (append-nil sent)
-sent_is date row sent moment (Some message) = refl
-
--- Nothing of what a message decides is due by itself.
-
-answers_undue : (quote : ℕ) (how : Withdrawal) (settlement : Option Settled)
-    → filter_map due_by_fact (answer_facts quote how settlement) ≡ []
-answers_undue quote how None = refl
-answers_undue quote how (Some settled.Withdrawn) = refl
-answers_undue quote how (Some settled.Lifted) = refl
-
-pub settled_undue : (asked : Option ℕ) (how : Withdrawal) (settlement : Option Settled)
-    → filter_map due_by_fact (settled_facts asked how settlement) ≡ []
-settled_undue None how settlement = refl
-settled_undue (Some quote) how settlement = answers_undue quote how settlement
-
-kept_undue : (b : Bool) (quote : AcceptedQuote)
-    → filter_map due_by_fact (if b then Quoted quote ∷ [] else []) ≡ []
-kept_undue true quote = refl
-kept_undue false quote = refl
-
-pub verdict_undue : (v : DealerVerdict) (settlement : Option Settled)
-    → filter_map due_by_fact (verdict_facts v settlement) ≡ []
-verdict_undue (verdict.QuoteAccepted request id quote replaced) settlement =
-    filter_map-append due_by_fact (settled_facts replaced by.Replacement settlement)
-    (if goes_through replaced settlement then Quoted quote ∷ [] else [])
-    ∙ rw (settled_undue replaced by.Replacement settlement)
-    (kept_undue (goes_through replaced settlement) quote)
-verdict_undue (verdict.CancelAccepted id quote request) settlement =
-    answers_undue quote by.Cancel settlement
-verdict_undue (verdict.DeclineAccepted request number) settlement = refl
-verdict_undue other settlement = refl
-
--- One event more.
-
 module _ (date : List ℕ) (row : DealerRow) (trail : List DealerEntry) (more : DealerEvent) where
   -- the trail with the event
   abbrev grown : List DealerEntry
   grown = trail ++ entries_of date row trail more
-
-  pub facts_grown : facts_of grown ≡ facts_of trail ++ event_facts date row (book_by trail) more
-  unfolding entries_of
-  facts_grown =
-      filter_map-append fact_in trail (entries_of date row trail more)
-      ∙ ap (λ l. facts_of trail ++ l) (facts_added (event_facts date row (book_by trail) more)
-      (option_to_list (shown_room more))
-      (option_to_list (message_by date row trail more)))
-
-  pub sent_grown : sent_by grown ≡ sent_by trail ++ option_to_list (message_by date row trail more)
-  unfolding entries_of
-  sent_grown =
-      filter_map-append message_in trail (entries_of date row trail more)
-      ∙ ap (λ l. sent_by trail ++ l) (sent_added (event_facts date row (book_by trail) more)
-      (option_to_list (shown_room more))
-      (option_to_list (message_by date row trail more)))
-
-  pub rooms_grown : rooms_by grown ≡ rooms_by trail ++ option_to_list (shown_room more)
-  unfolding entries_of
-  rooms_grown =
-      filter_map-append room_in trail (entries_of date row trail more)
-      ∙ ap (λ l. rooms_by trail ++ l) (rooms_added (event_facts date row (book_by trail) more)
-      (option_to_list (shown_room more))
-      (option_to_list (message_by date row trail more)))
-
-  pub due_grown : (item : Due)
-      → filter_map due_by_fact (event_facts date row (book_by trail) more) ≡ item ∷ []
-      → due_list grown ≡ due_list trail ++ item ∷ []
-  unfolding entries_of
-  due_grown item is =
-      filter_map-append due_by trail (entries_of date row trail more)
-      ∙ ap (λ l. due_list trail ++ l) (due_added (event_facts date row (book_by trail) more)
-      (option_to_list (shown_room more))
-      (option_to_list (message_by date row trail more)) ∙ is)
-
-  pub lifted_grown : (quote : ℕ) → was_lifted grown quote ≡ was_lifted trail quote
-  unfolding entries_of
-  lifted_grown quote =
-      list_any-append (lifts quote) trail (entries_of date row trail more)
-      ∙ ap (λ b. was_lifted trail quote || b) (lifts_none (event_facts date row (book_by trail) more)
-      (option_to_list (shown_room more))
-      (option_to_list (message_by date row trail more)) quote)
-      ∙ or_false (was_lifted trail quote)
 
   -- The view has the event with another room at most.
   pub event_seen : (seen : DealerEvent) (item : Due)
@@ -188,13 +75,14 @@ module _ (date : List ℕ) (row : DealerRow) (trail : List DealerEntry) (more : 
   event_seen seen item is same_facts same_message same_moment before view = record {
     events = before.events ++ seen ∷ [];
     lifted = before.lifted;
-    view_is = ap (view_after date row) (due_grown item is)
+    view_is = ap (view_after date row) (due_grown date row trail more item is)
         ∙ fold-append after_due (view_at_start date row) (due_list trail) (item ∷ [])
         ∙ ap (λ v. after_due v item) before.view_is
         ∙ view;
     state_is = desk_push date row before.events seen
         ∙ ap (λ state. after_event date row state seen) before.state_is
-        ∙ both _ _ _ _ (ap (λ l. facts_of trail ++ l) same_facts ∙ sym facts_grown)
+        ∙ ap₂ desk_with (ap (λ l. facts_of trail ++ l) same_facts ∙ sym (facts_grown date row trail
+        more))
         (sent_is date row (sent_by trail) (moment_of seen)
         (event_message date row (book_by trail) seen)
         ∙ ap (λ m. sent_by trail ++ option_to_list
@@ -202,8 +90,8 @@ module _ (date : List ℕ) (row : DealerRow) (trail : List DealerEntry) (more : 
         ∙ ap (λ m. sent_by trail ++ option_to_list
         (option_map (next_message date row (sent_by trail) m)
         (event_message date row (book_by trail) more))) same_moment
-        ∙ sym sent_grown);
-    lifted_are = λ quote. before.lifted_are quote ∙ sym (lifted_grown quote);
+        ∙ sym (sent_grown date row trail more));
+    lifted_are = λ quote. before.lifted_are quote ∙ sym (lifted_grown date row trail more quote);
   }
 
 -- The five kinds of what is due.
@@ -304,7 +192,7 @@ module _ (date : List ℕ) (row : DealerRow) (trail : List DealerEntry) (before 
           ∙ ap (λ v. after_due v (due.Lifted quote)) before.view_is
           ∙ ap view_if counts;
       state_is = before.state_is
-          ∙ both _ _ _ _
+          ∙ ap₂ desk_with
           (sym (filter_map-append fact_in trail (Lifted quote ∷ []) ∙ append-nil (facts_of trail)))
           (sym (filter_map-append message_in trail (Lifted quote ∷ []) ∙ append-nil (sent_by trail)));
       lifted_are = λ other.

@@ -1,35 +1,22 @@
 -- A dealer's trail, event by event: its facts, what it was sent and what was due by it.
-use Rattle.std.proofs.Common.{◌≡◌, ℕ, false, List, [], ◌∷◌, ◌++◌, map}
-use Rattle.std.proofs.Common.{filter_map, Option, Some, None}
-use Rattle.std.proofs.Common.{refl, ap, ◌∙◌}
+use Rattle.std.proofs.Common.{◌≡◌, ℕ, false, List, [], ◌∷◌, ◌++◌, map, filter_map, Option, refl, ap}
+use Rattle.std.proofs.Common.{◌∙◌}
 use Rattle.std.specs.List.{list_any}
 use Rattle.std.proofs.lemmas.List.{append-nil}
 use Rattle.std.proofs.lemmas.List.Elements.{filter_map-append}
 use Rattle.std.proofs.lemmas.List.Folds.{list_any-append}
 use Rattle.market_terms.specs.declared.rooms.RoomRef.{RoomRef}
 use Rattle.dealer_desk.specs.DealerFacts.{DealerFact}
-use Rattle.step_replay.specs.DealerTrail.{DealerEntry, AtDesk, ShownIn, Sent}
-use Rattle.step_replay.specs.DealerTrail.{fact_in, message_in, room_in, lifts}
+use Rattle.step_replay.specs.DealerTrail.{DealerEntry, AtDesk, ShownIn, Sent, fact_in, message_in}
+use Rattle.step_replay.specs.DealerTrail.{room_in, lifts}
 use Rattle.step_replay.specs.DueList.{due_by, due_by_fact}
-
--- Lists.
-
--- what is found in none of some items
-none_of : {A Y : Type 0} (h : DealerEntry → Option Y) (f : A → DealerEntry)
-    → ((x : A) → h (f x) ≡ None) → (xs : List A) → filter_map h (map f xs) ≡ []
-none_of h f none [] = refl
-none_of h f none (x ∷ xs) = rw (none x) (none_of h f none xs)
+use Rattle.step_replay.specs.PlaceLemmas.{nothing_of, everything_of}
 
 -- what is found in each of some items
 all_of : {A Y : Type 0} (h : DealerEntry → Option Y) (f : A → DealerEntry) (g : A → Option Y)
     → ((x : A) → h (f x) ≡ g x) → (xs : List A) → filter_map h (map f xs) ≡ filter_map g xs
 all_of h f g each [] = refl
 all_of h f g each (x ∷ xs) = rw (each x, all_of h f g each xs) refl
-
--- each item stays
-each_stays : {Y : Type 0} (ys : List Y) → filter_map (λ (y : Y). Some y) ys ≡ ys
-each_stays [] = refl
-each_stays (y ∷ ys) = ap (λ (l : List _). y ∷ l) (each_stays ys)
 
 -- what is found in three parts
 in_parts : {Y : Type 0} (h : DealerEntry → Option Y) (a b c : List DealerEntry)
@@ -49,10 +36,9 @@ module _ (facts : List DealerFact) (rooms : List RoomRef) (messages : List (List
   facts_added =
       in_parts fact_in (map AtDesk facts) (map ShownIn rooms) (map Sent messages)
       ∙ rw (
-        all_of fact_in AtDesk (λ fact. Some fact) (λ fact. refl) facts,
-        each_stays facts,
-        none_of fact_in ShownIn (λ room. refl) rooms,
-        none_of fact_in Sent (λ m. refl) messages,
+        everything_of fact_in AtDesk (λ fact. refl) facts,
+        nothing_of fact_in ShownIn (λ room. refl) rooms,
+        nothing_of fact_in Sent (λ m. refl) messages,
       )
       (append-nil (facts ++ []) ∙ append-nil facts)
 
@@ -60,10 +46,9 @@ module _ (facts : List DealerFact) (rooms : List RoomRef) (messages : List (List
   sent_added =
       in_parts message_in (map AtDesk facts) (map ShownIn rooms) (map Sent messages)
       ∙ rw (
-        all_of message_in Sent (λ m. Some m) (λ m. refl) messages,
-        each_stays messages,
-        none_of message_in ShownIn (λ room. refl) rooms,
-        none_of message_in AtDesk (λ fact. refl) facts,
+        everything_of message_in Sent (λ m. refl) messages,
+        nothing_of message_in ShownIn (λ room. refl) rooms,
+        nothing_of message_in AtDesk (λ fact. refl) facts,
       ) refl
 
   pub due_added : filter_map due_by added ≡ filter_map due_by_fact facts
@@ -71,8 +56,8 @@ module _ (facts : List DealerFact) (rooms : List RoomRef) (messages : List (List
       in_parts due_by (map AtDesk facts) (map ShownIn rooms) (map Sent messages)
       ∙ rw (
         all_of due_by AtDesk due_by_fact (λ fact. refl) facts,
-        none_of due_by ShownIn (λ room. refl) rooms,
-        none_of due_by Sent (λ m. refl) messages,
+        nothing_of due_by ShownIn (λ room. refl) rooms,
+        nothing_of due_by Sent (λ m. refl) messages,
       )
       (append-nil (filter_map due_by_fact facts ++ []) ∙ append-nil (filter_map due_by_fact facts))
 
@@ -95,9 +80,8 @@ module _ (facts : List DealerFact) (rooms : List RoomRef) (messages : List (List
   rooms_added =
       in_parts room_in (map AtDesk facts) (map ShownIn rooms) (map Sent messages)
       ∙ rw (
-        all_of room_in ShownIn (λ room. Some room) (λ room. refl) rooms,
-        each_stays rooms,
-        none_of room_in AtDesk (λ fact. refl) facts,
-        none_of room_in Sent (λ m. refl) messages,
+        everything_of room_in ShownIn (λ room. refl) rooms,
+        nothing_of room_in AtDesk (λ fact. refl) facts,
+        nothing_of room_in Sent (λ m. refl) messages,
       )
       (append-nil rooms)

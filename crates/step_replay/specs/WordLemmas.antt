@@ -1,8 +1,7 @@
 -- No quote is both lifted and withdrawn: whoever asks its word is told what it is already.
-use Rattle.std.proofs.Common.{◌≡◌, ℕ, ◌==◌, Bool, true, false, ◌||◌, ◌&&◌}
-use Rattle.std.proofs.Common.{List, [], ◌∷◌, ◌++◌, Option, Some, None, is_some, option_map}
-use Rattle.std.proofs.Common.{if◌then◌else◌}
-use Rattle.std.proofs.Common.{refl, sym, ap, ◌∙◌, arith}
+use Rattle.std.proofs.Common.{◌≡◌, ℕ, ◌==◌, Bool, true, false, ◌||◌, ◌&&◌, List, [], ◌∷◌, ◌++◌}
+use Rattle.std.proofs.Common.{Option, Some, None, is_some, option_map, if◌then◌else◌, refl, sym, ap}
+use Rattle.std.proofs.Common.{◌∙◌, arith}
 use Rattle.std.specs.List.{list_any}
 use Rattle.std.proofs.lemmas.Bool.Decides.{nat_tests}
 use Rattle.std.proofs.lemmas.List.Folds.{list_any-append}
@@ -23,8 +22,9 @@ use Rattle.dealer_desk.specs.declared.events.DealerEvent.TheVariants as event
 use Rattle.step_replay.specs.DealerTrail.{DealerEntry, Lifted, facts_of, book_by, lifts, fact_in}
 use Rattle.step_replay.specs.DealerTrail.{was_lifted, was_withdrawn, answer_to_dealer, entries_of}
 use Rattle.step_replay.specs.Actions.{settlement_of, drop_at}
-use Rattle.step_replay.specs.SeenLemmas.{facts_grown, lifted_grown}
-use Rattle.step_replay.specs.StepLemmas.{IsKept, kept_by_all}
+use Rattle.step_replay.specs.DealerGrowth.{facts_grown, lifted_grown}
+use Rattle.step_replay.specs.StepLemmas.{kept_by_all}
+use Rattle.step_replay.specs.TrailKept.{IsKept}
 use Rattle.step_replay.specs.AuditTrail.{audit_trail}
 use Rattle.step_replay.specs.VenueFacts.{of_dealer}
 use Rattle.step_replay.specs.declared.steps.Step.{Step}
@@ -32,16 +32,13 @@ use Rattle.venue_rows.specs.Rows.{Configuration, dealer_numbered}
 use Rattle.market_terms.specs.declared.closes.Close.{Close}
 use Rattle.std.proofs.lemmas.List.{append-nil}
 use Rattle.std.proofs.lemmas.List.Elements.{filter_map-append}
+use Rattle.std.proofs.Math.Bool.{and-false}
 
 -- no quote of a trail is both
 abbrev pub IsOneOf : List DealerEntry → Type 0
 IsOneOf trail = (quote : ℕ) → (was_lifted trail quote && was_withdrawn trail quote) ≡ false
 
 -- Tests.
-
-and_false : (b : Bool) → (b && false) ≡ false
-and_false true = refl
-and_false false = refl
 
 -- both before, or withdrawn now though it is not lifted
 still_one : (lifted withdrawn now : Bool) → (lifted && withdrawn) ≡ false
@@ -151,7 +148,7 @@ lifted_one trail quote still before other =
         let equal : quote ≡ other = grind (arith, nat_tests) in
         let open_word : was_withdrawn trail other ≡ false =
         ap (was_withdrawn trail) (sym equal) ∙ still in
-        rw open_word (and_false (was_lifted trail other || true))
+        rw open_word (and-false (was_lifted trail other || true))
     by_test false test = one_more (was_lifted trail other) (was_withdrawn trail other) (before other)
 
 pub one_is_kept : (date : List ℕ) (row : DealerRow) → IsKept date row IsOneOf

@@ -3,7 +3,8 @@ ghost use Rattle.std.specs.Prelude.{◌≡◌, ◌||◌, ℕ, List, length, IfOk
 ghost use Rattle.std.specs.Option.{option_map};
 ghost use Rattle.venue_rows.specs.declared.dealer_rows.DealerRow.{DealerRow};
 ghost use Rattle.dealer_desk.specs.DealerFacts.{number_to_drop};
-ghost use Rattle.dealer_desk.specs.DealerOutput.{book_at, verdict_at, with_event, word_asked};
+ghost use Rattle.dealer_desk.specs.DealerDesk.{book_at, verdict_at, with_event};
+ghost use Rattle.dealer_desk.specs.DealerOutput.{word_asked};
 ghost use Rattle.dealer_desk.specs.declared.events.DealerEvent.{DealerEvent};
 ghost use Rattle.step_replay.specs.declared.dues.Due.{Due};
 ghost use Rattle.step_replay.specs.DealerView as spec;

@@ -1,7 +1,7 @@
 //! What a duty, a sweep and a message do in a replay.
 ghost use Rattle.std.specs.Prelude.{IfOk};
 ghost use Rattle.step_replay.specs.Standing.{Acts, ActsOnce};
-ghost use Rattle.step_replay.specs.Actions as action;
+ghost use Rattle.step_replay.specs.DutyEffects as action;
 ghost use Rattle.step_replay.specs.Coming as coming;
 
 use crate::floor::Floor;

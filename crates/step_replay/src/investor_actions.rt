@@ -1,6 +1,6 @@
 //! What happens at the investors' desks of a replay.
 ghost use Rattle.std.specs.Prelude.{◌≡◌, ◌-◌, nat_le, Some, None, IfOk, if◌then◌else◌};
-ghost use Rattle.investor_desk.specs.InvestorOutput as investor_output;
+ghost use Rattle.investor_desk.specs.InvestorDesk as investor_output;
 ghost use Rattle.step_replay.specs.Standing.{Acts};
 ghost use Rattle.step_replay.specs.Actions as action;
 ghost use Rattle.step_replay.specs.Coming as coming;

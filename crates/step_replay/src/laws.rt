@@ -7,7 +7,7 @@ ghost use Rattle.venue_rows.specs.Rows.{Configuration, dealer_numbered};
 ghost use Rattle.venue_rows.specs.declared.dealer_rows.DealerRow.{DealerRow};
 ghost use Rattle.venue_places.specs.Placed.{placed, swept};
 ghost use Rattle.venue_places.specs.declared.actors.Actor.{Actor};
-ghost use Rattle.step_replay.specs.Actions.{duty_effect, sweep_effect};
+ghost use Rattle.step_replay.specs.DutyEffects.{duty_effect, sweep_effect};
 ghost use Rattle.step_replay.specs.AuditTrail as venue;
 ghost use Rattle.step_replay.specs.Coming.{effect_where};
 ghost use Rattle.step_replay.specs.DealerView.{dealer_view};

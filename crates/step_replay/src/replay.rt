@@ -1,6 +1,6 @@
 //! A day, step by step: the places, and the queues in which duties wait for their turns.
 ghost use Rattle.std.specs.Prelude.{◌≡◌, true, None, [], length, map, replicate, IfOk, OnOk};
-ghost use Rattle.step_replay.specs.Actions.{message_effect, sweep_effect};
+ghost use Rattle.step_replay.specs.DutyEffects.{message_effect, sweep_effect};
 ghost use Rattle.step_replay.specs.AuditTrail as venue;
 ghost use Rattle.step_replay.specs.DoneSteps.{AreKnown, after_steps};
 ghost use Rattle.step_replay.specs.Following as spec;

@@ -1,15 +1,15 @@
 -- What the investors of a recorded day were sent, by their numbers.
 use Rattle.std.proofs.Common.{◌≡◌, ◌≤◌, ◌<◌, ℕ, ◌+◌, ◌-◌, nat_le, nat_lt, Bool, true, false, List}
-use Rattle.std.proofs.Common.{length, Option, Some, None, option_map, if◌then◌else◌}
-use Rattle.std.proofs.Common.{refl, sym, ap, ◌∙◌, arith}
+use Rattle.std.proofs.Common.{length, Option, Some, None, option_map, if◌then◌else◌, refl, sym, ap}
+use Rattle.std.proofs.Common.{◌∙◌, arith}
 use Rattle.std.specs.Prelude.{slice_get, option_and_then}
 use Rattle.std.proofs.lemmas.Bool.Decides.{nat_tests}
+use Rattle.std.proofs.lemmas.Option.{same_Some, slice_get_within}
 use Rattle.venue_rows.specs.Rows.{Configuration, investor_numbered}
 use Rattle.venue_rows.specs.declared.investor_rows.InvestorRow.{InvestorRow}
-use Rattle.investor_desk.specs.InvestorOutput.{investor_output, market_for, market_of}
+use Rattle.investor_desk.specs.InvestorDesk.{market_for, market_of}
+use Rattle.investor_desk.specs.InvestorOutput.{investor_output}
 use Rattle.investor_desk.specs.InvestorRules.{InvestorMarket}
-use Rattle.step_replay.specs.OwnerLemmas.{same_value}
-use Rattle.step_replay.specs.PlaceLemmas.{get_within}
 use Rattle.step_replay.specs.StepFaults.{firms_of}
 use Rattle.investor_views.specs.DeskView.{desk_view, event_dues}
 use Rattle.investor_views.specs.InvestorView.{investor_view, seen_by}
@@ -18,11 +18,9 @@ use Rattle.recorded_days.specs.Records.{InvestorLists, RecordedDay, investor_in}
 use Rattle.session_worker.specs.KeptDays.{InvestorKeeps, InvestorsKeep}
 use Rattle.threaded_views.specs.DayViews.{EventsFit, investor_dues_of, investor_sent_on}
 use Rattle.threaded_views.proofs.FitLemmas.{ComingsSend, EventsSend, event_views_are_one}
+use Rattle.step_replay.specs.PlaceLemmas.{behind_dealers}
 
 -- Tests of numbers.
-
-is_at_most : (one other : ℕ) → nat_le one other ≡ true → one ≤ other
-is_at_most one other test = grind (arith, nat_tests)
 
 is_not_below : (one other : ℕ) → other ≤ one → nat_lt one other ≡ false
 is_not_below one other behind = grind (arith, nat_tests)
@@ -36,12 +34,6 @@ row_found : (config : Configuration) (number : ℕ) (row : InvestorRow) (b : Boo
 row_found config number row true is = (refl, is)
 row_found config number row false is = absurd cc
 
-behind_dealers : (config : Configuration) (number : ℕ) (row : InvestorRow)
-    → investor_numbered config number ≡ Some row → length config.dealers ≤ number
-behind_dealers config number row is =
-    let found = row_found config number row (nat_le (length config.dealers) number) is in
-    is_at_most (length config.dealers) number found.0
-
 -- an investor is a firm of the venue
 pub is_firm : (config : Configuration) (number : ℕ) (row : InvestorRow)
     → investor_numbered config number ≡ Some row → number < firms_of config
@@ -49,7 +41,7 @@ is_firm config number row is =
     let found = row_found config number row (nat_le (length config.dealers) number) is in
     let behind : length config.dealers ≤ number = behind_dealers config number row is in
     let there : number - length config.dealers < length config.investors =
-    get_within config.investors (number - length config.dealers) row found.1 in
+    slice_get_within config.investors (number - length config.dealers) row found.1 in
     omega arith
 
 pub market_is : (config : Configuration) (number : ℕ) (row : InvestorRow)
@@ -106,7 +98,7 @@ module _ (config : Configuration) (day : RecordedDay) (investor : ℕ) (row : In
       let kept : InvestorKeeps config (length config.dealers + place) lists =
       keep place lists there in
       let same : kept.market ≡ market =
-      same_value kept.market market (sym kept.market_is ∙ ap (market_for config) place_is
+      same_Some kept.market market (sym kept.market_is ∙ ap (market_for config) place_is
       ∙ market_is config investor row is_investor) in
       kept.sent_is
       ∙ ap (λ (own : InvestorMarket). investor_output own lists.events) same

@@ -1,8 +1,8 @@
 -- What one duty of a day brings to an investor's desk fits what stands there.
 use Rattle.std.proofs.Common.{◌≡◌, ℕ, ◌==◌, ◌&&◌, Bool, true, false, List, Option, Some, None}
-use Rattle.std.proofs.Common.{is_some, option_map, if◌then◌else◌, refl, ap, subst, ◌∙◌, arith}
+use Rattle.std.proofs.Common.{is_some, option_map, if◌then◌else◌, refl, ap, subst, ◌∙◌}
 use Rattle.std.specs.Prelude.{option_and_then}
-use Rattle.std.proofs.lemmas.Bool.Decides.{nat_tests}
+use Rattle.std.proofs.lemmas.Bool.{and_from}
 use Rattle.market_terms.specs.declared.duties.Duty.{Duty}
 use Rattle.market_terms.specs.declared.duties.Duty.TheVariants as duty
 use Rattle.market_terms.specs.declared.rooms.ResponseRef.{ResponseRef}
@@ -10,7 +10,7 @@ use Rattle.market_terms.specs.declared.rooms.RoomRef.{RoomRef}
 use Rattle.venue_rows.specs.Rows.{Configuration, dealer_numbered, has_room, investor_numbered}
 use Rattle.venue_rows.specs.declared.investor_rows.InvestorRow.{InvestorRow}
 use Rattle.investor_desk.specs.InvestorFacts.{InvestorBook, knows}
-use Rattle.investor_desk.specs.InvestorOutput.{market_for, market_of}
+use Rattle.investor_desk.specs.InvestorDesk.{market_for, market_of}
 use Rattle.investor_desk.specs.InvestorRules.{InvestorMarket}
 use Rattle.venue_steps.specs.InvestorSteps.{replies_to}
 use Rattle.venue_places.specs.Dealers.{Dealer, acting_dealer, has_word_for, offer_of, word_for}
@@ -30,15 +30,13 @@ use Rattle.step_replay.specs.VenueFacts.{Fact, of_investor}
 use Rattle.venue_laws.specs.Conditions.{holds_for, is_known, is_known_to, is_met}
 use Rattle.investor_views.specs.Comings.{Coming, For, at_desk_of}
 use Rattle.threaded_views.specs.DayViews.{fits}
-use Rattle.threaded_views.proofs.FitLemmas.{both_hold, first_holds, second_holds}
+use Rattle.threaded_views.proofs.FitLemmas.{first_holds, second_holds}
+use Rattle.session_worker.proofs.SweptLemmas.{number_same}
 
 -- whether what comes to a desk with this book fits, where something comes
 abbrev pub fits_if : InvestorBook → Option Coming → Bool
 fits_if book None = true
 fits_if book (Some came) = fits book came
-
-same_number : (one other : ℕ) → (one == other) ≡ true → one ≡ other
-same_number one other same = grind (arith, nat_tests)
 
 -- One duty.
 
@@ -108,7 +106,7 @@ module _ (config : Configuration) (number : ℕ) (row : InvestorRow)
   knows_it : (room : RoomRef) (quote : Option ℕ) → is_known config facts room quote ≡ true
       → (room.investor == number) ≡ true → knows book room.n quote ≡ true
   knows_it room quote known same =
-      let here : room.investor ≡ number = same_number room.investor number same in
+      let here : room.investor ≡ number = number_same room.investor number same in
       subst (λ (found : Option InvestorMarket).
       holds_for found (is_known_to facts room.n quote) ≡ true)
       (ap (market_for config) here ∙ ap (option_map (market_of config number)) is_investor) known
@@ -128,7 +126,7 @@ module _ (config : Configuration) (number : ℕ) (row : InvestorRow)
       → (meets && is_known config facts room response.k) ≡ true
       → (room.investor == number) ≡ true → (knows book room.n response.k && meets) ≡ true
   answer_fits room response meets met same =
-      both_hold (knows book room.n response.k) meets
+      and_from (knows book room.n response.k) meets
       (knows_it room response.k
       (second_holds meets (is_known config facts room response.k) met) same)
       (first_holds meets (is_known config facts room response.k) met)

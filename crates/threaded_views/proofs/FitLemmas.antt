@@ -3,8 +3,8 @@ use Rattle.std.proofs.Common.{◌≡◌, Bool, true, false, ◌&&◌, List, [], 
 use Rattle.std.proofs.Common.{refl, sym, ap, subst, ◌∙◌}
 use Rattle.std.proofs.lemmas.List.{append-nil, append_assoc}
 use Rattle.investor_desk.specs.InvestorFacts.{knows}
-use Rattle.investor_desk.specs.InvestorOutput.{DeskEvents, book_at, investor_output, no_events}
-use Rattle.investor_desk.specs.InvestorOutput.{with_event}
+use Rattle.investor_desk.specs.InvestorDesk.{DeskEvents, book_at, no_events, with_event}
+use Rattle.investor_desk.specs.InvestorOutput.{investor_output}
 use Rattle.investor_desk.specs.InvestorRules.{InvestorMarket}
 use Rattle.investor_desk.specs.declared.events.InvestorEvent.{InvestorEvent}
 use Rattle.investor_desk.specs.declared.events.InvestorEvent.TheVariants as event
@@ -28,10 +28,6 @@ first_holds false b is = cc
 pub second_holds : (a b : Bool) → (a && b) ≡ true → b ≡ true
 second_holds true b is = is
 second_holds false b is = cc
-
-pub both_hold : (a b : Bool) → a ≡ true → b ≡ true → (a && b) ≡ true
-both_hold true b one other = other
-both_hold false b one other = cc
 
 -- What fits leaves its event.
 

@@ -5,11 +5,12 @@ use Rattle.std.proofs.Common.{Some, None, if◌then◌else◌, refl, sym, ap, su
 use Rattle.std.specs.Option.{option_to_list}
 use Rattle.std.proofs.lemmas.List.{append-nil, append_assoc}
 use Rattle.std.proofs.lemmas.List.Sums.{fold-append}
+use Rattle.std.proofs.lemmas.Bool.{and_from}
 use Rattle.market_terms.specs.declared.duties.Duty.{Duty}
 use Rattle.venue_rows.specs.Rows.{Configuration, investor_numbered}
 use Rattle.venue_rows.specs.declared.investor_rows.InvestorRow.{InvestorRow}
 use Rattle.investor_desk.specs.InvestorFacts.{InvestorBook}
-use Rattle.investor_desk.specs.InvestorOutput.{DeskEvents, book_at, market_of, no_events}
+use Rattle.investor_desk.specs.InvestorDesk.{DeskEvents, book_at, market_of, no_events}
 use Rattle.investor_desk.specs.InvestorRules.{InvestorMarket}
 use Rattle.venue_places.specs.declared.actors.Actor.{Actor}
 use Rattle.step_replay.specs.AuditTrail.{AuditTrail, after_step, audit_trail, no_steps, pending}
@@ -21,7 +22,6 @@ use Rattle.venue_laws.specs.Conditions.{is_met}
 use Rattle.investor_views.specs.Comings.{Coming, Own, after_coming, comes_by, comes_by_turn}
 use Rattle.investor_views.specs.Comings.{comings, comings_from, desk_by}
 use Rattle.threaded_views.specs.DayViews.{all_fit, fits}
-use Rattle.threaded_views.proofs.FitLemmas.{both_hold}
 use Rattle.threaded_views.proofs.DutyFits.{fits_if, duty_fits}
 
 -- All steps.
@@ -133,7 +133,7 @@ module _ (meet : DutiesMeet) (books : BooksAre) (config : Configuration) (number
       (desk_more front more ∙ ap (λ (o : Option Coming).
       fold after_coming (desk_at front) (option_to_list o)) is) behind
   next_fits front rest more (Some came) is fit behind =
-      both_hold (fits (book_at (desk_at front)) came)
+      and_from (fits (book_at (desk_at front)) came)
       (all_fit (after_coming (desk_at front) came)
       (comings_from config number (after_step config (audit_trail config front) more) rest))
       (ap (λ (b : InvestorBook). fits b came) (books config front number row is_investor) ∙ fit)

@@ -5,7 +5,7 @@ use Rattle.std.specs.Prelude.{Option, Some, None, option_and_then}
 use Rattle.std.specs.Option.{option_map}
 use Rattle.venue_rows.specs.Rows.{Configuration}
 use Rattle.investor_desk.specs.InvestorFacts.{InvestorBook, knows}
-use Rattle.investor_desk.specs.InvestorOutput.{DeskEvents, book_at, market_for, no_events}
+use Rattle.investor_desk.specs.InvestorDesk.{DeskEvents, book_at, market_for, no_events}
 use Rattle.investor_desk.specs.InvestorRules.{InvestorMarket}
 use Rattle.venue_places.specs.declared.arrivals.ForInvestor.TheVariants as to_investor
 use Rattle.venue_steps.specs.InvestorSteps.{replies_to}

@@ -1,7 +1,7 @@
 -- How a run ends by its arguments.
-use Rattle.std.proofs.Common.{◌≡◌, ◌<◌, ◌||◌, ◌⊎◌, ◌==◌, refl, sym, subst, inl, inr, ℕ, Bool, true}
+use Rattle.std.proofs.Common.{◌≡◌, ◌<◌, ◌||◌, ◌⊎◌, ◌==◌, refl, subst, inl, inr, ℕ, Bool, true}
 use Rattle.std.proofs.Common.{false, List, [], ◌∷◌, length, map, arith, Option, Some, None}
-use Rattle.std.proofs.lemmas.Bool.{false≢true}
+use Rattle.std.proofs.lemmas.Bool.{false≢true, or_right}
 use Rattle.std.specs.List.{list_any}
 use Rattle.std.specs.Prelude.{is_some, option_map}
 use Rattle.clap.specs.declared.error.Error.{Error}
@@ -14,7 +14,8 @@ use Rattle.input_lines.specs.declared.faults.ProgramFault.TheVariants.{Memory}
 use Rattle.live_runs.specs.LineForms.{LineForm, meant_form}
 use Rattle.command_arguments.specs.Arguments.{Command, arguments_fault, command_of, is_help}
 use Rattle.command_arguments.specs.Arguments.{is_mistake, may_be_help, may_be_mistake}
-use Rattle.venue_commands.specs.Runs.{EndsAsAsked, EndsBy, EndsInCommand, EndsInMemory, EndsOf, EndsTold, line_form, word_of}
+use Rattle.venue_commands.specs.Runs.{EndsAsAsked, EndsBy, EndsInCommand, EndsInMemory, EndsOf}
+use Rattle.venue_commands.specs.Runs.{EndsTold, line_form, word_of}
 use Rattle.live_runs.specs.LiveRuns.{EndsInLive, EndsOver}
 use Rattle.live_runs.specs.Written.{Streams, Written}
 use Rattle.live_runs.specs.declared.line_forms.LineForm.{LineForm as RustForm}
@@ -26,15 +27,11 @@ first_or : (a b : Bool) → (a || false) ≡ true → (a || b) ≡ true
 first_or true b h = refl
 first_or false b h = cc
 
-second_or : (a b : Bool) → b ≡ true → (a || b) ≡ true
-second_or true b h = refl
-second_or false b h = h
-
 -- what holds of a kind holds of one of the kinds that it is among
 any_among : (p : ErrorKind → Bool) (k : ErrorKind) (kinds : Kinds) → IsAmong k kinds → list_any p (k ∷ []) ≡ true → list_any p kinds ≡ true
 any_among p k [] is h = absurd is
 any_among p k (x ∷ xs) (inl e) h = first_or (p x) (list_any p xs) (subst (λ y. (p y || false) ≡ true) e h)
-any_among p k (x ∷ xs) (inr is) h = second_or (p x) (list_any p xs) (any_among p k xs is h)
+any_among p k (x ∷ xs) (inr is) h = or_right (p x) (list_any p xs) (any_among p k xs is h)
 
 -- what is told of an error is told of the arguments that it may come of
 told_of : (kinds : Kinds) (k : ErrorKind) (status : ℕ) (out err : Written) → (k ≡ OutOfMemory) ⊎ IsAmong k kinds
@@ -99,12 +96,6 @@ asked_told text (argument ∷ arguments) error status streams some is ends =
     let words = map text (argument ∷ arguments) in
     ends_by (command_of words) (arguments_fault words) status streams (lawful_arguments (text argument) (map text arguments)).1
     (told_of (arguments_fault words) (kind_of error) status streams.out streams.err is ends)
-
--- a run of a command
-pub asked_command : (words : List Text) (command : Command) (status : ℕ) (streams : Streams) → command_of words ≡ Some command
-    → EndsOf (line_form command) command status streams → EndsAsAsked words status streams
-asked_command words command status streams is ends =
-    subst (λ (asked : Option Command). EndsBy asked (arguments_fault words) status streams) (sym is) ends
 
 -- some arguments are there
 pub some_arguments : {A : Type 0} (arguments : List A) → false ≡ (length arguments == 0) → 0 < length arguments

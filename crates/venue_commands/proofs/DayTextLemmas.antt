@@ -1,10 +1,9 @@
 -- What `day` prints where it is not asked to weave, and what it tells of a day that does not agree.
-use Rattle.std.proofs.Common.{◌≡◌, ◌≢◌, ◌∙◌, ℕ, zero, suc, ◌+◌, Bool, true, false, List, [], ◌∷◌, ◌++◌}
-use Rattle.std.proofs.Common.{length, map, refl, sym, ap, subst, inl, inr, Result, Ok, Err, arith}
+use Rattle.std.proofs.Common.{◌≡◌, ◌≢◌, ◌∙◌, ℕ, zero, suc, ◌+◌, Bool, true, false, List, [], ◌∷◌}
+use Rattle.std.proofs.Common.{◌++◌, length, refl, sym, ap, subst, inl, inr, Result, Ok, Err, arith}
 use Rattle.std.proofs.Common.{length-append}
-use Rattle.std.proofs.lemmas.List.{append-nil, length-map}
-use Rattle.venue_rows.specs.Rows.{ConfigValues, Configuration, DealerValues, InvestorValues}
-use Rattle.venue_rows.specs.Rows.{dealer_values, investor_values, values_of}
+use Rattle.std.proofs.lemmas.List.{append-nil}
+use Rattle.venue_rows.specs.Rows.{ConfigValues, Configuration, values_of}
 use Rattle.recorded_days.specs.Records.{RecordedDay}
 use Rattle.recorded_days.specs.declared.actions.Inbound.{Inbound}
 use Rattle.recorded_days.specs.declared.actions.Sweep.{Sweep}
@@ -21,6 +20,7 @@ use Rattle.venue_text.specs.ArrivingDays.{arriving_in, inbox_of, inboxes_of}
 use Rattle.venue_text.specs.AskedDays.{sized}
 use Rattle.venue_text.specs.RecordText.{record_text}
 use Rattle.venue_commands.specs.ThreadedDays.{IsDay, IsDayFault, IsLast, IsRecordOf, unkept}
+use Rattle.venue_text.proofs.ArrivalLemmas.{names_count}
 
 nothing_last : (woven : Bool) (config : Configuration) (day : RecordedDay) → woven ≡ false → IsLast woven config day []
 nothing_last true config day unasked = cc
@@ -80,24 +80,6 @@ counted input day e =
     read.1 in
     counted_in parted.0 day parted.1
 
--- the firms of a configuration
-firms_counted : (config : Configuration)
-    → length (names_of_firms (values_of config)) ≡ length config.dealers + length config.investors
-firms_counted config =
-    let dealers = map dealer_values config.dealers in
-    let investors = map investor_values config.investors in
-    let first = map (λ (row : DealerValues). row.name) dealers in
-    let later = map (λ (row : InvestorValues). row.name) investors in
-    let whole : length (first ++ later) ≡ length first + length later =
-    length-append first later in
-    let some : length first ≡ length config.dealers =
-    length-map dealers (λ (row : DealerValues). row.name)
-    ∙ length-map config.dealers dealer_values in
-    let others : length later ≡ length config.investors =
-    length-map investors (λ (row : InvestorValues). row.name)
-    ∙ length-map config.investors investor_values in
-    omega (arith, whole, some, others)
-
 -- what is told of a day that does not agree
 pub day_unkept : (woven : Bool) (input : List ℕ) (config : Configuration)
     (inboxes : List (List Inbound)) (sweeps : List Sweep) (what : DayFault) (told : ProgramFault)
@@ -111,7 +93,7 @@ day_unkept woven input config inboxes sweeps what told spelled is true_of no_mem
     let arrived : ArrivingDay =
     record { config = values_of config; inboxes = inboxes; sweeps = sweeps } in
     let each : length inboxes ≡ length config.dealers + length config.investors =
-    counted input arrived spelled ∙ firms_counted config in
+    counted input arrived spelled ∙ names_count config in
     inr (inl (record {
       config = config;
       inboxes = inboxes;

@@ -25,7 +25,7 @@ use Rattle.dealer_desk.specs.declared.standing.StandingRequest.{StandingRequest}
 use Rattle.dealer_desk.specs.declared.verdicts.DealerVerdict.{DealerVerdict}
 use Rattle.dealer_desk.specs.declared.verdicts.DealerVerdict.TheVariants as verdict
 use Rattle.step_replay.specs.EachLemmas.{Every}
-use Rattle.step_replay.specs.OwnerLemmas.{same_value}
+use Rattle.std.proofs.lemmas.Option.{same_Some}
 
 -- What an accepted quote says.
 
@@ -66,7 +66,7 @@ least_number first test (Shown ask moment ∷ later) request is =
         → first ≤ request.number
     by_test true is_it found later_on =
         let same : first ≡ request.number =
-        ap (λ (r : StandingRequest). r.number) (same_value shown request found) in
+        ap (λ (r : StandingRequest). r.number) (same_Some shown request found) in
         omega arith
     by_test false is_it found later_on =
         let least : first + 1 ≤ request.number = later_on found in

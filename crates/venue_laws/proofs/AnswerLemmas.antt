@@ -31,7 +31,8 @@ use Rattle.step_replay.specs.declared.steps.Step.{Step}
 use Rattle.step_replay.specs.EachLemmas.{Each, Every, Stays, each_append, each_of}
 use Rattle.step_replay.specs.IsolationLemmas.{seen_is_kept}
 use Rattle.step_replay.specs.SeenLemmas.{Seen, start_seen}
-use Rattle.step_replay.specs.StepLemmas.{IsKept, kept_by_all}
+use Rattle.step_replay.specs.StepLemmas.{kept_by_all}
+use Rattle.step_replay.specs.TrailKept.{IsKept}
 use Rattle.venue_laws.proofs.QuietEntries.{IsAnswered, view_at, IsQuiet, is_lifting, due_keeps}
 use Rattle.venue_laws.proofs.QuietEntries.{each_quiet, silent, facts_quiet, settled_quiet}
 use Rattle.venue_laws.proofs.QuietEntries.{verdict_quiet, next_settled, next_verdict}

@@ -14,7 +14,7 @@ use Rattle.venue_rows.specs.declared.dealer_rows.DealerRow.{DealerRow}
 use Rattle.venue_rows.specs.declared.investor_rows.InvestorRow.{InvestorRow}
 use Rattle.dealer_desk.specs.DealerFacts.{number_to_drop}
 use Rattle.investor_desk.specs.InvestorFacts.{knows}
-use Rattle.investor_desk.specs.InvestorOutput.{market_of}
+use Rattle.investor_desk.specs.InvestorDesk.{market_of}
 use Rattle.request_room.specs.Book.{book_of, hit_checks, hit_refusal, quote_meant, word_or}
 use Rattle.request_room.specs.RoomFacts.{RoomFact, is_named, is_vacant}
 use Rattle.request_room.specs.declared.quotes.PostedQuote.{PostedQuote as BookQuote}
@@ -26,14 +26,14 @@ use Rattle.step_replay.specs.Actions.{Dealer, acting_dealer, dealer_of, has_word
 use Rattle.step_replay.specs.Actions.{word_for, words_of}
 use Rattle.step_replay.specs.AuditTrail.{AuditTrail}
 use Rattle.step_replay.specs.DealerTrail.{book_by}
-use Rattle.step_replay.specs.OwnerLemmas.{same_value}
+use Rattle.std.proofs.lemmas.Option.{same_Some}
+use Rattle.std.proofs.lemmas.Bool.{and_from, or_right}
 use Rattle.step_replay.specs.VenueFacts.{of_dealer, of_room}
 use Rattle.venue_laws.specs.Conditions.{has_word_asked, holds_for, is_heard, is_heard_on, is_known}
 use Rattle.venue_laws.specs.Conditions.{is_known_to, is_met, is_room, may_drop}
 use Rattle.venue_laws.proofs.AcceptedQuotes.{none_holds}
 use Rattle.venue_laws.proofs.ConditionMetOnce.{open_met, ready_met, show_met, tell_met}
 use Rattle.venue_laws.proofs.VenueHits.{posted_fact}
-use Rattle.venue_laws.proofs.ListLemmas.{both_so, or_true}
 use Rattle.venue_laws.proofs.VenueDesk.{OfRow, WordsOfDay, asks_of_day, drops_of_day, within_row}
 use Rattle.venue_laws.proofs.VenueInvariant.{ByDealer, ByNamed, DutyOk, KnownIn, VenueOk}
 use Rattle.venue_laws.proofs.VenueKnown.{RoomStands, all_known, known_named, known_opened}
@@ -47,7 +47,7 @@ word_in_rows : (rows : List DealerRow) (place : ℕ) (row : DealerRow) (quote : 
 word_in_rows [] place row quote at within = cc
 word_in_rows (first ∷ rows) zero row quote at within =
     let same : first.quotes ≡ row.quotes =
-    ap (λ (r : DealerRow). r.quotes) (same_value first row at) in
+    ap (λ (r : DealerRow). r.quotes) (same_Some first row at) in
     let sum : quotes_of (first ∷ rows) ≡ first.quotes + quotes_of rows =
     sum_by-cons (λ (r : DealerRow). r.quotes) first rows in
     let least : 1 ≤ quote = grind (arith, nat_tests) in
@@ -104,9 +104,9 @@ module _ (config : Configuration) (venue : AuditTrail) (stood : VenueOk config v
   heard : (by : Actor) (room : RoomRef) (named : ByNamed config venue.facts by room)
       → is_heard config venue.facts room (dealer_of named.who.dealer named.who.row) ≡ true
   heard by room named =
-      both_so (is_room config room) _
+      and_from (is_room config room) _
       (known_named config venue stood room named.who.dealer named.named).has
-      (or_true (is_vacant (known room)) (is_named (known room) named.who.dealer) named.named)
+      (or_right (is_vacant (known room)) (is_named (known room) named.who.dealer) named.named)
 
   heard_on : (by : Actor) (room : RoomRef) (named : ByNamed config venue.facts by room)
       (quote : ℕ) → (nat_le 1 quote && nat_le quote named.who.row.quotes) ≡ true
@@ -114,7 +114,7 @@ module _ (config : Configuration) (venue : AuditTrail) (stood : VenueOk config v
   heard_on by room named quote within =
       let own = dealer_of named.who.dealer named.who.row in
       acts by named.who (is_heard_on config venue.facts room quote)
-      (both_so (has_word_for config own quote) (is_heard config venue.facts room own)
+      (and_from (has_word_for config own quote) (is_heard config venue.facts room own)
       (word_in_rows config.dealers named.who.dealer named.who.row quote named.who.row_is within)
       (heard by room named))
 
@@ -164,17 +164,17 @@ module _ (config : Configuration) (venue : AuditTrail) (stood : VenueOk config v
   met by (duty.Decline room moment) rest fits order =
       acts by fits.who (is_heard config venue.facts room) (heard by room fits)
   met by (duty.Declined room moment) rest fits order =
-      both_so (is_some (acting_dealer config by)) (is_known config venue.facts room None)
+      and_from (is_some (acting_dealer config by)) (is_known config venue.facts room None)
       (is_acting by fits.who)
       (is_known_in room None
       (known_named config venue stood room fits.who.dealer fits.named))
   met by (duty.Hit room response word moment) rest fits order =
-      both_so (is_room config room)
+      and_from (is_room config room)
       (has_word (words_of config) (hit_word (known room) word moment))
       fits.known.has (hit_asks room word moment)
   met by (duty.Pass room response moment) rest fits order = fits.known.has
   met by (duty.Answer room response reply moment) rest fits order =
-      both_so (replies_to response.k reply) (is_known config venue.facts room response.k)
+      and_from (replies_to response.k reply) (is_known config venue.facts room response.k)
       fits.answers_it (is_known_in room response.k fits.known)
   met by (duty.Close room moment) rest fits order =
       is_known_in room None (known_opened config venue stood room fits)

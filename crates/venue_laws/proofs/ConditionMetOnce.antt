@@ -24,11 +24,13 @@ use Rattle.step_replay.specs.Actions.{Dealer, dealer_at, dealer_of}
 use Rattle.step_replay.specs.AuditTrail.{AuditTrail}
 use Rattle.step_replay.specs.DealerTrail.{AtDesk, DealerEntry, book_by, facts_of, rooms_by}
 use Rattle.step_replay.specs.EachLemmas.{Every}
-use Rattle.step_replay.specs.GrowthLemmas.{same_room, some_same}
+use Rattle.step_replay.specs.GrowthLemmas.{same_room}
+use Rattle.std.proofs.lemmas.Option.{same_Some}
+use Rattle.std.proofs.lemmas.Bool.{and_from}
 use Rattle.step_replay.specs.VenueFacts.{AtDealer, Fact, of_dealer, of_room}
 use Rattle.venue_laws.specs.Conditions.{holds_for, is_closable, is_room, is_unshown, is_untold}
 use Rattle.venue_laws.proofs.CountLemmas.{numbered_shown}
-use Rattle.venue_laws.proofs.ListLemmas.{both_so, every_take, not_both}
+use Rattle.venue_laws.proofs.ListLemmas.{every_take, not_both}
 use Rattle.venue_laws.proofs.PlainFacts.{at_dealer_all, rooms_all}
 use Rattle.venue_laws.proofs.ShownRequests.{told_or_closable}
 use Rattle.venue_laws.proofs.VenueInvariant.{ClosedIn, DutyOk, FactOk, OpensIn, ReadiesBy, ShowsIn}
@@ -133,7 +135,7 @@ module _ (config : Configuration) (venue : AuditTrail) (stood : VenueOk config v
       → list_any (begins room) (did_in venue by) ≡ false
       → (is_room config room && is_vacant (known room)) ≡ true
   open_met room ask dealers opens none =
-      both_so (is_room config room) (is_vacant (known room)) opens.known.has
+      and_from (is_room config room) (is_vacant (known room)) opens.known.has
       (by_request (request_of (known room)) refl)
     where
       vacant : (request : Option RoomRequest) (b : Bool) → request ≡ None → b ≡ false
@@ -190,7 +192,7 @@ module _ (config : Configuration) (venue : AuditTrail) (stood : VenueOk config v
       → list_any (readies room) (did_in venue by) ≡ false
       → (is_room config room && is_opening (known room)) ≡ true
   ready_met room fits none =
-      both_so (is_room config room) (is_opening (known room))
+      and_from (is_room config room) (is_opening (known room))
       (known_opened config venue stood room fits.opened).has
       (three (is_some (request_of (known room))) (is_ready (known room)) (is_ended (known room))
       fits.opened unready
@@ -225,7 +227,7 @@ module _ (config : Configuration) (venue : AuditTrail) (stood : VenueOk config v
           → TellsIn config venue.facts other dealer room how → by ≡ other
       one_actor other how fits_too =
           let same : fits.end ≡ fits_too.end =
-          some_same fits.end fits_too.end (sym fits.end_is ∙ fits_too.end_is) in
+          same_Some fits.end fits_too.end (sym fits.end_is ∙ fits_too.end_is) in
           fits.by_is ∙ ap (λ (e : End). closer e.kind room) same ∙ sym fits_too.by_is
 
       told_never : (request : ℕ) (how : Close) → number_for venue.facts dealer room ≡ Some request

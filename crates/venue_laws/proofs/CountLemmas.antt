@@ -23,9 +23,9 @@ use Rattle.step_replay.specs.DealerTrail.{fact_in, room_in, rooms_by}
 use Rattle.venue_laws.specs.Notices.{was_shown}
 use Rattle.step_replay.specs.EachLemmas.{Every}
 use Rattle.venue_laws.proofs.NoticedLemmas.{settled_each, verdict_each}
-use Rattle.step_replay.specs.SeenLemmas.{facts_grown, rooms_grown}
-use Rattle.step_replay.specs.StepLemmas.{IsKept}
-use Rattle.step_replay.specs.GrowthLemmas.{some_same}
+use Rattle.step_replay.specs.DealerGrowth.{facts_grown, rooms_grown}
+use Rattle.step_replay.specs.TrailKept.{IsKept}
+use Rattle.std.proofs.lemmas.Option.{same_Some}
 
 -- what a fact shows
 abbrev shown_in : DealerFact → Option Ask
@@ -106,7 +106,7 @@ number_within first (shown ∷ rooms) room number is =
         → (first ≤ number) × (suc number ≤ first + length (shown ∷ rooms))
     by_test true test later =
         let found : Some first ≡ Some number = rw test at is in
-        let same : first ≡ number = some_same first number found in
+        let same : first ≡ number = same_Some first number found in
         let low : first ≤ number = omega arith in
         let high : suc number ≤ first + length (shown ∷ rooms) = omega arith in
         (low, high)

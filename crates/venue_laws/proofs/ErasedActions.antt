@@ -16,7 +16,6 @@ use Rattle.dealer_desk.specs.declared.events.DealerEvent.TheVariants as at_desk
 use Rattle.investor_desk.specs.InvestorFacts.{InvestorBook, knows}
 use Rattle.investor_desk.specs.InvestorRules.{InvestorMarket}
 use Rattle.investor_desk.specs.declared.events.InvestorEvent.{InvestorEvent}
-use Rattle.request_room.specs.RoomFacts.{RoomFact}
 use Rattle.request_room.specs.Book.{event_facts}
 use Rattle.request_room.specs.declared.events.RoomEvent.{RoomEvent}
 use Rattle.step_replay.specs.DealerTrail.{DealerEntry, book_by, rooms_by, entries_of}
@@ -29,7 +28,7 @@ use Rattle.step_replay.specs.Actions.{Effect, Dealer, nothing, done_by, done_for
 use Rattle.step_replay.specs.Actions.{in_room, at_market, where_known, shown_to, told_of, told_to}
 use Rattle.venue_laws.proofs.Erasing.{erase, erase_close, erase_entry, erase_book, erase_duty}
 use Rattle.venue_laws.proofs.Erasing.{erase_room_fact, erase_investor_entry}
-use Rattle.venue_laws.proofs.ErasedLists.{filter_map_erased, map_swap, map_along, map_cond}
+use Rattle.venue_laws.proofs.ErasedLists.{filter_map_erased, map_along, map_cond}
 use Rattle.venue_laws.proofs.ErasedRules.{closable_same}
 use Rattle.venue_laws.proofs.ErasedEntries as entries
 use Rattle.venue_laws.proofs.ErasedInvestor.{knows_same}
@@ -37,6 +36,7 @@ use Rattle.venue_laws.proofs.ErasedEvents.{erase_event, event_same}
 use Rattle.venue_laws.proofs.ErasedEvents.{book_by_same as investor_book_same}
 
 -- two actions add and leave the same, but for what is erased
+
 pub record AreAlike (own : ℕ) (one other : Effect) : Type 0 where
   pub facts_are : map (erase own) one.facts ≡ map (erase own) other.facts
   pub duties_are : map erase_duty one.duties ≡ map erase_duty other.duties
@@ -151,11 +151,6 @@ module _ (config : Configuration) (own : ℕ) (facts : List Fact) where
         (erase_entry (is_own dealer.number)) (λ entry. refl) _ _ same);
     duties_are = duties;
   }
-
-  pub at_room_same : (room : RoomRef) (more : List RoomFact)
-      → map (erase own) (map (InRoom room) more) ≡ map (InRoom room) (map erase_room_fact more)
-  at_room_same room more =
-      map_swap (InRoom room) (erase own) erase_room_fact (InRoom room) (λ fact. refl) more
 
   -- in a room
   pub room_alike : (room : RoomRef) (may may_too : Bool) (one other : RoomEvent)

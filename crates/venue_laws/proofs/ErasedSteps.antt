@@ -17,6 +17,7 @@ use Rattle.dealer_desk.specs.declared.verdicts.DealerVerdict.{DealerVerdict}
 use Rattle.investor_desk.specs.InvestorFacts.{InvestorBook}
 use Rattle.investor_desk.specs.InvestorRules.{InvestorMarket, investor_verdict}
 use Rattle.investor_desk.specs.InvestorOutput as investor_output
+use Rattle.investor_desk.specs.InvestorDesk as investor_desk
 use Rattle.investor_desk.specs.declared.events.InvestorEvent.TheVariants as at_investor
 use Rattle.investor_desk.specs.declared.verdicts.InvestorVerdict.{InvestorVerdict}
 use Rattle.request_room.specs.RoomFacts.{RoomFact, hears}
@@ -35,8 +36,8 @@ use Rattle.step_replay.specs.Actions.{at_investor_of, Dealer, dealer_at, acting_
 use Rattle.step_replay.specs.Actions.{words_of, word_for, has_word_for, offer_of, settlement_of}
 use Rattle.step_replay.specs.Actions.{left_by, dealer_receives, verdict_on, received_by_dealer}
 use Rattle.step_replay.specs.Actions.{posted_by, unposted_by, declined_by, received_by_investor}
-use Rattle.step_replay.specs.Actions.{left_by_investor, duty_effect, sweep_effect, message_effect}
-use Rattle.step_replay.specs.Actions.{where_known}
+use Rattle.step_replay.specs.Actions.{left_by_investor, where_known}
+use Rattle.step_replay.specs.DutyEffects.{duty_effect, sweep_effect, message_effect}
 use Rattle.venue_places.specs.declared.actors.Actor.{Actor}
 use Rattle.venue_laws.proofs.Erasing.{erase_entry, erase_verdict, erase_duty, erase_room_fact}
 use Rattle.venue_laws.proofs.ErasedLists.{list_of}
@@ -130,7 +131,7 @@ module _ (config : Configuration) (own : ℕ) (facts : List Fact) where
       → AreAlike own (at_investor_of config room (where_known facts room.n quote more))
       (at_investor_of config room (where_known known room.n quote (erase_event more)))
   to_investor room quote more =
-      market_alike (investor_output.market_for config room.investor)
+      market_alike (investor_desk.market_for config room.investor)
       (known_alike config own facts room.n quote more)
 
   said_to_investor : (moment : ℕ) (bytes : List ℕ) (market : InvestorMarket)
@@ -181,7 +182,7 @@ module _ (config : Configuration) (own : ℕ) (facts : List Fact) where
       event_alike room true true (at_room.Pass moment) (λ l. duties_of_pass l room response moment)
       refl (ap (map erase_duty) (pass_left (of_room room facts) room response moment))
   duty_alike by (duty.Answer room response reply moment) =
-      market_alike (investor_output.market_for config room.investor) (λ market.
+      market_alike (investor_desk.market_for config room.investor) (λ market.
       if_alike (replies_to response.k reply) (replies_to response.k reply) refl
       (known_alike config own facts room.n response.k
       (at_investor.Answered room.n response reply moment) market))
@@ -274,4 +275,4 @@ module _ (config : Configuration) (own : ℕ) (facts : List Fact) where
       either_alike (is_some (dealer_numbered config firm)) _ refl
       (done_alike (dealer_at config firm)
       (λ dealer. said_alike moment bytes bytes dealer refl refl))
-      (market_alike (investor_output.market_for config firm) (said_to_investor moment bytes))
+      (market_alike (investor_desk.market_for config firm) (said_to_investor moment bytes))

@@ -3,13 +3,11 @@ use Rattle.std.proofs.Common.{◌≡◌, ℕ, Bool, true, false, List, [], ◌�
 use Rattle.std.proofs.Common.{option_map, refl, sym, ap, ◌∙◌, if◌then◌else◌}
 use Rattle.market_terms.specs.declared.rooms.RoomRef.{RoomRef}
 use Rattle.quote_word.specs.declared.settled.Settled.{Settled}
-use Rattle.quote_word.specs.declared.settled.Settled.TheVariants as settled
 use Rattle.dealer_desk.specs.DealerFacts.{Came, Quoted}
 use Rattle.dealer_desk.specs.DealerOutput.{word_asked, uses_number, verdict_facts, settled_facts}
-use Rattle.dealer_desk.specs.DealerOutput.{answer_facts, goes_through, came, verdict_message}
-use Rattle.dealer_desk.specs.DealerOutput.{verdict_duty, room_of, post_of}
+use Rattle.dealer_desk.specs.DealerOutput.{goes_through, came, verdict_message, verdict_duty}
+use Rattle.dealer_desk.specs.DealerOutput.{room_of, post_of}
 use Rattle.dealer_desk.specs.declared.accepted.AcceptedQuote.{AcceptedQuote}
-use Rattle.dealer_desk.specs.declared.standing.Withdrawal.{Withdrawal}
 use Rattle.dealer_desk.specs.declared.standing.Withdrawal.TheVariants as by
 use Rattle.dealer_desk.specs.declared.verdicts.DealerVerdict.{DealerVerdict}
 use Rattle.dealer_desk.specs.declared.verdicts.DealerVerdict.TheVariants as verdict
@@ -23,17 +21,6 @@ asked_same other = refl
 uses_same : (v : DealerVerdict) → uses_number (erase_verdict v) ≡ uses_number v
 uses_same (verdict.QuoteAccepted request id quote replaced) = refl
 uses_same other = refl
-
-answers_fact_same : (own : Bool) (quote : ℕ) (how : Withdrawal) (settlement : Option Settled)
-    → map (erase_fact own) (answer_facts quote how settlement) ≡ answer_facts quote how settlement
-answers_fact_same own quote how None = refl
-answers_fact_same own quote how (Some settled.Withdrawn) = refl
-answers_fact_same own quote how (Some settled.Lifted) = refl
-
-settled_same : (own : Bool) (asked : Option ℕ) (how : Withdrawal) (settlement : Option Settled)
-    → map (erase_fact own) (settled_facts asked how settlement) ≡ settled_facts asked how settlement
-settled_same own None how settlement = refl
-settled_same own (Some quote) how settlement = answers_fact_same own quote how settlement
 
 quoted_same : (own b : Bool) (quote : AcceptedQuote)
     → map (erase_fact own) (if b then Quoted (erase_quote quote) ∷ [] else [])

@@ -26,11 +26,12 @@ use Rattle.step_replay.specs.DealerTrail.{DealerEntry, AtDesk, Sent}
 use Rattle.step_replay.specs.InvestorTrail.{InvestorEntry, AtDesk as AtInvestorsDesk}
 use Rattle.step_replay.specs.InvestorTrail.{Sent as SentToInvestor}
 use Rattle.step_replay.specs.VenueFacts.{Fact, AtDealer, InRoom, AtInvestor}
-use Rattle.step_replay.specs.AuditTrail.{AuditTrail, Caused}
+use Rattle.step_replay.specs.AuditTrail.{Caused}
 use Rattle.step_replay.specs.declared.dues.Due.{Due}
 use Rattle.step_replay.specs.declared.dues.Due.TheVariants as due
 
 -- how a request ended for a dealer, whether or not its quote was the cover
+
 abbrev pub erase_close : Close → Close
 erase_close closes.Cover = closes.DoneAway
 erase_close other = other
@@ -142,13 +143,6 @@ erase own (AtInvestor investor entry) = AtInvestor investor (erase_investor_entr
 
 abbrev pub erase_caused : Caused → Caused
 erase_caused caused = record { by = caused.by; duty = erase_duty caused.duty }
-
-abbrev pub erase_trail : ℕ → AuditTrail → AuditTrail
-erase_trail own trail = record {
-  facts = map (erase own) trail.facts;
-  caused = map erase_caused trail.caused;
-  done = trail.done;
-}
 
 -- an item that is due
 abbrev pub erase_due : Due → Due

@@ -6,6 +6,7 @@ use Rattle.std.proofs.Common.{◌+◌, ◌<◌, ◌==◌, ◌||◌, ◌∙◌, �
 use Rattle.std.proofs.lemmas.Bool.Decides.{nat_tests}
 use Rattle.std.proofs.lemmas.List.{length-map}
 use Rattle.std.proofs.lemmas.Slice.Eq.{bytes_eq-Decides}
+use Rattle.std.proofs.lemmas.Bool.{not-false, or_right}
 use Rattle.quote_messages.specs.Arrivals.{investor_arrival}
 use Rattle.quote_messages.specs.declared.arrivals.Arrival.{Arrival}
 use Rattle.quote_messages.specs.declared.arrivals.Arrival.TheVariants as arrival
@@ -30,9 +31,10 @@ use Rattle.investor_desk.specs.InvestorFacts.{offer_named, offer_of_dealer, offe
 use Rattle.investor_desk.specs.InvestorFacts.{offers_of, open_request, request_numbered}
 use Rattle.investor_desk.specs.InvestorFacts.{request_with_id, requests_of, while_open}
 use Rattle.investor_desk.specs.InvestorOutput.{answer_facts, close_by_answer, closed_facts}
-use Rattle.investor_desk.specs.InvestorOutput.{event_facts, expiry_facts, gone_facts, market_of}
-use Rattle.investor_desk.specs.InvestorOutput.{next_offer, offer_facts, own_facts, refusal_of}
-use Rattle.investor_desk.specs.InvestorOutput.{uses_number, withdrawal_facts}
+use Rattle.investor_desk.specs.InvestorOutput.{event_facts, expiry_facts, gone_facts, next_offer}
+use Rattle.investor_desk.specs.InvestorOutput.{offer_facts, own_facts, refusal_of, uses_number}
+use Rattle.investor_desk.specs.InvestorOutput.{withdrawal_facts}
+use Rattle.investor_desk.specs.InvestorDesk.{market_of}
 use Rattle.investor_desk.specs.InvestorRules as rules
 use Rattle.investor_desk.specs.InvestorRules.{InvestorMarket, arrival_verdict, dealer_named}
 use Rattle.investor_desk.specs.InvestorRules.{dealer_numbers, hit_of, hit_verdict, investor_verdict}
@@ -49,11 +51,12 @@ use Rattle.investor_desk.specs.declared.verdicts.InvestorVerdict.TheVariants as 
 use Rattle.step_replay.specs.EachLemmas.{Every, every_weaker}
 use Rattle.venue_laws.proofs.AcceptedQuotes.{none_holds}
 use Rattle.venue_laws.proofs.KnownDesks.{DeskFit, asked_fit, offered_fit, plain_fit, shown_known}
-use Rattle.venue_laws.proofs.KnownDesks.{asked, asked_is, asked_known, found_holds}
-use Rattle.venue_laws.proofs.ListLemmas.{every_found, every_unit, found_passes, get_some, is_so}
-use Rattle.venue_laws.proofs.ListLemmas.{or_true, position_within}
+use Rattle.venue_laws.proofs.KnownDesks.{asked, asked_is, asked_known}
+use Rattle.venue_laws.proofs.ListLemmas.{found_holds, every_found, every_unit, found_passes}
+use Rattle.venue_laws.proofs.ListLemmas.{position_within}
 use Rattle.venue_laws.proofs.VenueInvariant.{IsDealer}
 use Rattle.venue_laws.proofs.VenueParts.{BearsGrid}
+use Rattle.step_replay.specs.PlaceLemmas.{has_item}
 
 -- What a verdict says.
 
@@ -92,7 +95,7 @@ requests_asked (Asked request ∷ facts) = (
   ap (λ b. b || asked facts request.number) (eq-eqb request.number request.number refl),
   every_weaker (λ (own : StandingRequest). asked facts own.request.number ≡ true)
       (λ (own : StandingRequest). asked (Asked request ∷ facts) own.request.number ≡ true)
-      (λ own is. or_true (request.number == own.request.number) _ is)
+      (λ own is. or_right (request.number == own.request.number) _ is)
       (requests_of facts) (requests_asked facts),
 )
 requests_asked (fact ∷ facts) = requests_asked facts
@@ -112,7 +115,7 @@ module _ (config : Configuration) (firm : ℕ) (row : InvestorRow) (may : ℕ �
       (λ name dealer found trivial.
       let within : dealer < length market.dealers =
       position_within (λ own. same_text own name) market.dealers dealer found in
-      get_some config.dealers dealer
+      has_item config.dealers dealer
       (subst (λ (n : ℕ). dealer < n)
       (length-map config.dealers (λ (d : DealerRow). d.name)) within))
       names (every_unit names)
@@ -137,7 +140,7 @@ module _ (config : Configuration) (firm : ℕ) (row : InvestorRow) (may : ℕ �
         record {
           number_is = refl;
           within = of_day (length (requests_of facts)) checks.1.1.1.1.1.1.1.1.0;
-          distinct = is_so (are_distinct (dealer_numbers market request.dealers))
+          distinct = not-false (are_distinct (dealer_numbers market request.dealers))
               checks.1.1.1.1.1.0;
           are_dealers = are_dealers request.dealers;
           bears = ap (option_map (λ (b : BondRow). b.grid)) (found_again request.bond bond found);

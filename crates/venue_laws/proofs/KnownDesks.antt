@@ -10,38 +10,14 @@ use Rattle.investor_desk.specs.InvestorFacts.{request_numbered, offer_numbered, 
 use Rattle.investor_desk.specs.InvestorFacts.{was_shown_on, Came}
 use Rattle.investor_desk.specs.declared.standing.ShownOffer.{ShownOffer}
 use Rattle.step_replay.specs.EachLemmas.{Every, every_both, every_weaker}
-use Rattle.step_replay.specs.GrowthLemmas.{any_left, some_same}
-use Rattle.venue_laws.proofs.ListLemmas.{both_so, both_true, not_both}
+use Rattle.step_replay.specs.GrowthLemmas.{any_left}
+use Rattle.std.proofs.lemmas.Option.{same_Some}
+use Rattle.venue_laws.proofs.ListLemmas.{not_both, find_grown, found_holds}
 use Rattle.std.proofs.lemmas.Bool.Decides.{nat_tests}
 use Rattle.std.proofs.lemmas.List.{append-nil}
 use Rattle.std.proofs.lemmas.List.Folds.{list_any-append}
+use Rattle.std.proofs.lemmas.Bool.{and_parts, and_from}
 use Rattle.investor_desk.specs.declared.standing.AcceptedRequest.{AcceptedRequest}
-
--- Lists.
-
-pub find_grown : {A : Type 0} (test : A → Bool) (xs ys : List A) (x : A)
-    → find test xs ≡ Some x → find test (xs ++ ys) ≡ Some x
-find_grown test [] ys x is = cc
-find_grown test (y ∷ xs) ys x is =
-    by_test (test y) refl (λ found. find_grown test xs ys x found)
-  where
-    by_test : (b : Bool) → test y ≡ b
-        → (find test xs ≡ Some x → find test (xs ++ ys) ≡ Some x)
-        → find test (y ∷ xs ++ ys) ≡ Some x
-    by_test true is_it later = rw is_it (rw is_it at is)
-    by_test false is_it later = rw is_it (later (rw is_it at is))
-
--- what is found is one of the list
-pub found_holds : {A : Type 0} (P : A → Type 0) (test : A → Bool) (xs : List A) (x : A)
-    → find test xs ≡ Some x → Every P xs → P x
-found_holds P test [] x is all = cc
-found_holds P test (y ∷ xs) x is all =
-    by_test (test y) refl is (λ found. found_holds P test xs x found all.1)
-  where
-    by_test : (b : Bool) → test y ≡ b → cond b (Some y) (find test xs) ≡ Some x
-        → (find test xs ≡ Some x → P x) → P x
-    by_test true is_it found later = subst P (some_same y x found) all.0
-    by_test false is_it found later = later found
 
 -- Requests.
 
@@ -116,9 +92,9 @@ module _ (facts more : List InvestorFact) (number : ℕ) where
   pub knows_grown : (quote : Option ℕ) → knows (book_of facts) number quote ≡ true
       → knows (book_of (facts ++ more)) number quote ≡ true
   knows_grown quote is =
-      let parts = both_true (is_some (request_numbered (book_of facts) number))
+      let parts = and_parts (is_some (request_numbered (book_of facts) number))
       (knows_quote (book_of facts) number quote) is in
-      both_so (is_some (request_numbered (book_of (facts ++ more)) number))
+      and_from (is_some (request_numbered (book_of (facts ++ more)) number))
       (knows_quote (book_of (facts ++ more)) number quote)
       (asked_is number (facts ++ more)
       ∙ asked_grown (sym (asked_is number facts) ∙ parts.0))
@@ -128,14 +104,14 @@ module _ (facts more : List InvestorFact) (number : ℕ) where
 pub asked_known : (facts : List InvestorFact) (number : ℕ) → asked facts number ≡ true
     → knows (book_of facts) number None ≡ true
 asked_known facts number is =
-    both_so (is_some (request_numbered (book_of facts) number)) true
+    and_from (is_some (request_numbered (book_of facts) number)) true
     (asked_is number facts ∙ is) refl
 
 pub known_asked : (facts : List InvestorFact) (number : ℕ) (quote : Option ℕ)
     → knows (book_of facts) number quote ≡ true → asked facts number ≡ true
 known_asked facts number quote is =
     sym (asked_is number facts)
-    ∙ (both_true (is_some (request_numbered (book_of facts) number))
+    ∙ (and_parts (is_some (request_numbered (book_of facts) number))
     (knows_quote (book_of facts) number quote) is).0
 
 -- Numbers.
@@ -175,7 +151,7 @@ counted_found first (other ∷ offers) test shown all is =
         → (find test offers ≡ Some shown → Numbered (first + 1) offers shown)
         → Numbered first (other ∷ offers) shown
     by_test true is_it found later =
-        let same : other ≡ shown = some_same other shown found in
+        let same : other ≡ shown = same_Some other shown found in
         let number : other.number ≡ shown.number = ap (λ (o : ShownOffer). o.number) same in
         let least : first ≤ shown.number = omega arith in
         record {
@@ -209,7 +185,7 @@ pub shown_known : (may : ℕ → Bool) (facts : List InvestorFact) → DeskFit m
     → knows (book_of facts) shown.request (Some shown.number) ≡ true
 unfolding offer_numbered
 shown_known may facts fit test shown is =
-    both_so (is_some (request_numbered (book_of facts) shown.request))
+    and_from (is_some (request_numbered (book_of facts) shown.request))
     (knows_quote (book_of facts) shown.request (Some shown.number))
     (asked_is shown.request facts
     ∙ found_holds (λ (s : ShownOffer). asked facts s.request ≡ true) test (offers_of facts) shown is

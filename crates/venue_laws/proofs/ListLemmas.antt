@@ -1,37 +1,16 @@
 -- Tests, options and lists: what the lemmas on a venue take of them.
 use Rattle.std.proofs.Common.{Bool, IfSome, List, None, Option, Some, [], ap, arith, cond, eq-eqb}
 use Rattle.std.proofs.Common.{false, filter_map, find, inl, inr, is_none, is_some, length, map}
-use Rattle.std.proofs.Common.{nat_lt, not, position, refl, suc, sym, take, true, zero, ℕ, ◌&&◌}
-use Rattle.std.proofs.Common.{◌++◌, ◌<◌, ◌==◌, ◌||◌, ◌∙◌, ◌∷◌, ◌≡◌}
+use Rattle.std.proofs.Common.{nat_lt, position, refl, suc, sym, take, true, zero, ℕ, ◌++◌, ◌<◌}
+use Rattle.std.proofs.Common.{◌==◌, ◌||◌, ◌∙◌, ◌∷◌, ◌≡◌, subst}
 use Rattle.std.proofs.lemmas.Bool.Decides.{nat_tests}
 use Rattle.std.specs.List.{list_any, position_or_len}
-use Rattle.std.specs.Prelude.{slice_get}
 use Rattle.step_replay.specs.EachLemmas.{Every}
-use Rattle.step_replay.specs.GrowthLemmas.{In, some_same}
+use Rattle.step_replay.specs.GrowthLemmas.{In}
+use Rattle.std.proofs.lemmas.Option.{same_Some}
+use Rattle.std.proofs.lemmas.Bool.{or_right}
 
 -- Tests.
-
-pub both_true : (b c : Bool) → (b && c) ≡ true → (b ≡ true) × (c ≡ true)
-both_true true true is = (refl, refl)
-both_true true false is = cc
-both_true false c is = cc
-
-pub both_so : (b c : Bool) → b ≡ true → c ≡ true → (b && c) ≡ true
-both_so true true is also = refl
-both_so true false is also = cc
-both_so false c is also = cc
-
-pub not_so : (b : Bool) → not b ≡ true → b ≡ false
-not_so true is = cc
-not_so false is = refl
-
-pub is_so : (b : Bool) → not b ≡ false → b ≡ true
-is_so true is = refl
-is_so false is = cc
-
-pub or_true : (b c : Bool) → c ≡ true → (b || c) ≡ true
-or_true true c is = refl
-or_true false c is = is
 
 pub not_both : {A : Type 0} (b : Bool) → b ≡ true → b ≡ false → A
 not_both true is never = cc
@@ -109,7 +88,7 @@ named_in dealer (other ∷ dealers) (inl is) =
     let same : (other == dealer) ≡ true = eq-eqb other dealer is in
     rw same refl
 named_in dealer (other ∷ dealers) (inr is) =
-    or_true (other == dealer) _ (named_in dealer dealers is)
+    or_right (other == dealer) _ (named_in dealer dealers is)
 
 pub in_named : (dealer : ℕ) (dealers : List ℕ)
     → list_any (λ (named : ℕ). named == dealer) dealers ≡ true → In dealer dealers
@@ -126,13 +105,6 @@ in_named dealer (other ∷ dealers) is =
         inl same
     by_test false test found later = inr (later found)
 
-pub get_some : {A : Type 0} (xs : List A) (i : ℕ) → i < length xs → is_some (slice_get xs i) ≡ true
-get_some [] i within = absurd (omega arith)
-get_some (x ∷ xs) zero within = refl
-get_some (x ∷ xs) (suc i) within =
-    let rest : i < length xs = omega arith in
-    get_some xs i rest
-
 pub position_within : {A : Type 0} (test : A → Bool) (xs : List A) (i : ℕ)
     → position test xs ≡ Some i → i < length xs
 position_within test xs i is =
@@ -141,7 +113,7 @@ position_within test xs i is =
     by_test : (b : Bool) → nat_lt (position_or_len test xs) (length xs) ≡ b
         → cond b (Some (position_or_len test xs)) None ≡ Some i → i < length xs
     by_test true within found =
-        let same : position_or_len test xs ≡ i = some_same (position_or_len test xs) i found in
+        let same : position_or_len test xs ≡ i = same_Some (position_or_len test xs) i found in
         grind (arith, nat_tests)
     by_test false within found = cc
 
@@ -166,3 +138,27 @@ first_of_every {X} P test (x ∷ xs) all = by_test (test x) (first_of_every P te
     by_test : (b : Bool) → IfSome (find test xs) P → IfSome (cond b (Some x) (find test xs)) P
     by_test true later = all.0
     by_test false later = later
+
+pub find_grown : {A : Type 0} (test : A → Bool) (xs ys : List A) (x : A)
+    → find test xs ≡ Some x → find test (xs ++ ys) ≡ Some x
+find_grown test [] ys x is = cc
+find_grown test (y ∷ xs) ys x is =
+    by_test (test y) refl (λ found. find_grown test xs ys x found)
+  where
+    by_test : (b : Bool) → test y ≡ b
+        → (find test xs ≡ Some x → find test (xs ++ ys) ≡ Some x)
+        → find test (y ∷ xs ++ ys) ≡ Some x
+    by_test true is_it later = rw is_it (rw is_it at is)
+    by_test false is_it later = rw is_it (later (rw is_it at is))
+
+-- what is found is one of the list
+pub found_holds : {A : Type 0} (P : A → Type 0) (test : A → Bool) (xs : List A) (x : A)
+    → find test xs ≡ Some x → Every P xs → P x
+found_holds P test [] x is all = cc
+found_holds P test (y ∷ xs) x is all =
+    by_test (test y) refl is (λ found. found_holds P test xs x found all.1)
+  where
+    by_test : (b : Bool) → test y ≡ b → cond b (Some y) (find test xs) ≡ Some x
+        → (find test xs ≡ Some x → P x) → P x
+    by_test true is_it found later = subst P (same_Some y x found) all.0
+    by_test false is_it found later = later found

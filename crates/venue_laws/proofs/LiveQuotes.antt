@@ -25,10 +25,11 @@ use Rattle.step_replay.specs.DealerTrail.{DealerEntry, Sent, book_by, facts_of, 
 use Rattle.step_replay.specs.DealerTrail.{was_lifted, was_withdrawn}
 use Rattle.venue_laws.specs.Notices.{NamesLiftedQuote, next_sent}
 use Rattle.step_replay.specs.VenueFacts.{Fact, of_dealer}
-use Rattle.step_replay.specs.GrowthLemmas.{In, some_same}
+use Rattle.step_replay.specs.GrowthLemmas.{In}
+use Rattle.std.proofs.lemmas.Option.{same_Some}
+use Rattle.std.proofs.lemmas.Bool.{or_parts}
 use Rattle.venue_laws.proofs.VenueInvariant.{DeskOk}
 use Rattle.venue_laws.proofs.VenueParts.{LiftedIn, number_for}
-use Rattle.venue_laws.proofs.ShownRequests.{none_left}
 
 -- The quotes of a dealer on one request: at most one is live.
 abbrev pub LoneQuotes : Type 0
@@ -57,7 +58,7 @@ stands_in own (fact ∷ facts) (inl is) =
     record {
       later = facts;
       stands = inl refl;
-      within = λ test none. (none_left (test (Quoted own)) (list_any test facts) none).1;
+      within = λ test none. (or_parts (test (Quoted own)) (list_any test facts) none).1;
     }
 stands_in own (fact ∷ facts) (inr is) =
     let further = stands_in own facts is in
@@ -65,7 +66,7 @@ stands_in own (fact ∷ facts) (inr is) =
       later = further.later;
       stands = standings_more fact facts (standing_quote own further.later) further.stands;
       within = λ test none. further.within test
-          (none_left (test fact) (list_any test facts) none).1;
+          (or_parts (test fact) (list_any test facts) none).1;
     }
 
 -- a quote that is neither withdrawn nor closed has not ended
@@ -74,10 +75,10 @@ not_ended : (own : AcceptedQuote) (facts : List DealerFact)
     → first_said (ends own) facts ≡ None
 not_ended own [] still untold = refl
 not_ended own (Withdrawn quote how ∷ facts) still untold =
-    let parts = none_left (quote == own.number) (list_any (withdraws own.number) facts) still in
+    let parts = or_parts (quote == own.number) (list_any (withdraws own.number) facts) still in
     rw (parts.0) (not_ended own facts parts.1 untold)
 not_ended own (Told request close moment ∷ facts) still untold =
-    let parts = none_left (request == own.request) (list_any (tells own.request) facts) untold in
+    let parts = or_parts (request == own.request) (list_any (tells own.request) facts) untold in
     rw (parts.0) (not_ended own facts still parts.1)
 not_ended own (fact ∷ facts) still untold = not_ended own facts still untold
 
@@ -151,7 +152,7 @@ module _ (lone : LoneQuotes) (config : Configuration) (facts : List Fact) (deale
       own = hit.quoted.own
 
       request_is : own.request ≡ request
-      request_is = some_same own.request request (sym hit.quoted.request_is ∙ is)
+      request_is = same_Some own.request request (sym hit.quoted.request_is ∙ is)
 
       stands : StandsIn own (facts_of trail)
       stands = stands_in own (facts_of trail) hit.quoted.quoted
@@ -193,7 +194,7 @@ module _ (lone : LoneQuotes) (config : Configuration) (facts : List Fact) (deale
       of_one : (other : StandingRequest) (b : Bool) → other.is_told ≡ b
           → (if b then None else Some other) ≡ Some found → other ≡ found
       of_one other true told closes_it = cc
-      of_one other false told closes_it = some_same other found closes_it
+      of_one other false told closes_it = same_Some other found closes_it
 
       of_found : (requests : List StandingRequest)
           → untold (find same requests) ≡ Some found → found.number ≡ request

@@ -22,14 +22,15 @@ use Rattle.venue_laws.specs.Notices.{was_shown}
 use Rattle.step_replay.specs.VenueFacts.{of_dealer}
 use Rattle.step_replay.specs.declared.steps.Step.{Step}
 use Rattle.step_replay.specs.EachLemmas.{Each, Every, each_of, every_both}
-use Rattle.step_replay.specs.SeenLemmas.{facts_grown}
-use Rattle.step_replay.specs.StepLemmas.{IsKept, kept_by_all}
+use Rattle.step_replay.specs.DealerGrowth.{facts_grown}
+use Rattle.step_replay.specs.StepLemmas.{kept_by_all}
+use Rattle.step_replay.specs.TrailKept.{IsKept}
 use Rattle.venue_laws.proofs.ShownRequests.{closable_shown}
 use Rattle.venue_laws.proofs.NoticedLemmas.{told_in, told_by, IsAfterShown, Noticed, none_filtered}
 use Rattle.venue_laws.proofs.NoticedLemmas.{noticed_more, each_silent, rest_silent, facts_tell_none}
 use Rattle.venue_laws.proofs.NoticedLemmas.{settled_silent, verdict_silent}
 use Rattle.venue_laws.proofs.ListLemmas.{every_mapped}
-use Rattle.step_replay.specs.GrowthLemmas.{some_same}
+use Rattle.std.proofs.lemmas.Option.{same_Some}
 
 -- Events.
 
@@ -71,7 +72,7 @@ module _ (date : List ℕ) (row : DealerRow) where
       (λ other is. by_number other (request == other) refl is)
       (λ other. few other (request == other) refl)
       (subst (Each IsAfterShown trail) (sym entries_are) (
-        λ other is. ap (was_shown trail) (sym (some_same request other is))
+        λ other is. ap (was_shown trail) (sym (same_Some request other is))
             ∙ closable_shown trail request may,
         each_silent (trail ++ AtDesk (Told request close moment) ∷ []) (map Sent messages)
             (rest_silent [] messages),

@@ -21,9 +21,10 @@ use Rattle.venue_laws.proofs.ListLemmas.{every_map}
 use Rattle.std.proofs.lemmas.List.{append-nil}
 use Rattle.std.proofs.lemmas.List.Elements.{filter-append}
 use Rattle.std.proofs.lemmas.List.Folds.{list_any-append}
+use Rattle.std.proofs.lemmas.Bool.{or_parts}
 use Rattle.venue_laws.specs.Notices.{was_shown, notices_of}
-use Rattle.venue_laws.proofs.ShownRequests.{found, found_grown, StillUntold, none_left}
-use Rattle.venue_laws.proofs.ShownRequests.{still_untold, closable_shown}
+use Rattle.venue_laws.proofs.ShownRequests.{found, found_grown, StillUntold, still_untold}
+use Rattle.venue_laws.proofs.ShownRequests.{closable_shown}
 
 -- Notices.
 
@@ -56,7 +57,7 @@ pub none_filtered : (request : ℕ) (facts : List DealerFact) → list_any (tell
     → filter (tells request) facts ≡ []
 none_filtered request [] none = refl
 none_filtered request (fact ∷ facts) none =
-    let parts = none_left (tells request fact) (list_any (tells request) facts) none in
+    let parts = or_parts (tells request fact) (list_any (tells request) facts) none in
     rw (parts.0) (none_filtered request facts parts.1)
 
 module _ (trail added : List DealerEntry) (more : List DealerFact)

@@ -19,7 +19,8 @@ use Rattle.venue_places.specs.declared.actors.Actor.{Actor}
 use Rattle.step_replay.specs.DealerTrail.{AtDesk, DealerEntry, Lifted, Sent, ShownIn, room_in}
 use Rattle.step_replay.specs.DealerTrail.{rooms_by}
 use Rattle.step_replay.specs.EachLemmas.{Each, Every, every_both, every_weaker}
-use Rattle.step_replay.specs.GrowthLemmas.{AreNumbered, same_room, some_same}
+use Rattle.step_replay.specs.GrowthLemmas.{AreNumbered, same_room}
+use Rattle.std.proofs.lemmas.Option.{same_Some}
 use Rattle.step_replay.specs.VenueFacts.{AtDealer, AtInvestor, Fact, InRoom, entry_at_dealer}
 use Rattle.step_replay.specs.VenueFacts.{fact_in_room, of_dealer, of_room}
 use Rattle.venue_laws.proofs.ListLemmas.{every_found, every_map, every_mapped}
@@ -43,7 +44,7 @@ in_room_all P room some every =
             → (if b then Some fact else None) ≡ Some found → P (InRoom room found)
         by_test true same here =
             subst (λ (r : RoomRef). P (InRoom r found)) (same_room other room same)
-            (subst (λ (f : RoomFact). P (InRoom other f)) (some_same fact found here) stands)
+            (subst (λ (f : RoomFact). P (InRoom other f)) (same_Some fact found here) stands)
         by_test false same here = cc
     each (AtDealer dealer entry) found is stands = cc
     each (AtInvestor investor entry) found is stands = cc
@@ -64,7 +65,7 @@ at_dealer_all P dealer some every =
         by_test true test here =
             let same : other ≡ dealer = grind (arith, nat_tests) in
             subst (λ (d : ℕ). P (AtDealer d found)) same
-            (subst (λ (e : DealerEntry). P (AtDealer other e)) (some_same entry found here) stands)
+            (subst (λ (e : DealerEntry). P (AtDealer other e)) (same_Some entry found here) stands)
         by_test false test here = cc
     each (InRoom room fact) found is stands = cc
     each (AtInvestor investor entry) found is stands = cc
@@ -75,7 +76,7 @@ pub rooms_all : (P : DealerEntry → Type 0) (Q : RoomRef → Type 0)
 rooms_all P Q weaker trail every = every_found P Q room_in each trail every
   where
     each : (entry : DealerEntry) (room : RoomRef) → room_in entry ≡ Some room → P entry → Q room
-    each (ShownIn other) room is stands = subst Q (some_same other room is) (weaker other stands)
+    each (ShownIn other) room is stands = subst Q (same_Some other room is) (weaker other stands)
     each (AtDesk fact) room is stands = cc
     each (Lifted quote) room is stands = cc
     each (Sent message) room is stands = cc

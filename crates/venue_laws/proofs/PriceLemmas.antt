@@ -10,8 +10,8 @@ use Rattle.venue_rows.specs.Rows.{Configuration, dealer_numbered}
 use Rattle.venue_rows.specs.declared.dealer_rows.DealerRow.{DealerRow}
 use Rattle.step_replay.specs.DealerTrail.{book_by}
 use Rattle.step_replay.specs.VenueFacts.{Fact, of_dealer}
-use Rattle.step_replay.specs.Actions.{Effect, dealer_of, received_by_dealer, duty_effect}
-use Rattle.step_replay.specs.Actions.{message_effect, sweep_effect}
+use Rattle.step_replay.specs.Actions.{Effect, dealer_of, received_by_dealer}
+use Rattle.step_replay.specs.DutyEffects.{duty_effect, message_effect, sweep_effect}
 use Rattle.step_replay.specs.AuditTrail.{AuditTrail, Caused, no_steps, duty_of, is_same_actor}
 use Rattle.step_replay.specs.AuditTrail.{pending, with_effect, after_turn, after_step, audit_trail}
 use Rattle.venue_laws.specs.PriceAlike.{DiffersInPrices, IsPricedByAnother, IsPriceAlike}

@@ -10,8 +10,8 @@ use Rattle.fix_fields.specs.Frame.{Field, frame_of, value_of, times_of}
 use Rattle.quote_messages.specs.Arrivals.{sequence_number, reject_of, out_of_sequence, in_sequence}
 use Rattle.quote_messages.specs.Arrivals.{numbered, dealer_arrival}
 use Rattle.quote_messages.specs.ValueForms.{AnId}
-use Rattle.quote_messages.specs.SessionLines.{text_at, required, first_fault, unless_fault, or_next}
-use Rattle.quote_messages.specs.SessionLines.{at_tag, occurrence_fault, tag_fault}
+use Rattle.quote_messages.specs.SessionLines.{text_at, required, first_fault, unless_fault, at_tag}
+use Rattle.quote_messages.specs.SessionLines.{occurrence_fault, tag_fault}
 use Rattle.quote_messages.specs.SessionChecks.{header_lines, types_of, verdict_by, quote_lines}
 use Rattle.quote_messages.specs.SessionChecks.{quote_of, cancel_lines, cancel_of, decline_lines}
 use Rattle.quote_messages.specs.SessionChecks.{decline_of, dealer_tables, dealer_session_verdict}
@@ -38,13 +38,9 @@ use Rattle.venue_laws.proofs.VenueParts.{BearsGrid}
 use Rattle.venue_laws.proofs.PricedFields.{AreValues, value_same, times_same, price_value}
 use Rattle.venue_laws.proofs.PricedFields.{header_same, quote_same, cancel_same, decline_same}
 use Rattle.venue_laws.proofs.PricedQuotes.{Reading, AreReadings, verdict_alike}
+use Rattle.quote_messages.proofs.GroupLemmas.{or_next-none}
 
 -- What a message without a fault of its session names: a bond.
-
-or_none : (one other : Option SessionFault) → or_next one other ≡ None
-    → (one ≡ None) × (other ≡ None)
-or_none None other none = (refl, none)
-or_none (Some fault) other none = cc
 
 stands : (date : List ℕ) (tag : ℕ) (fields : List Field) → required tag AnId date fields ≡ None
     → (text : List ℕ) × (value_of tag fields ≡ Some text)
@@ -62,7 +58,7 @@ stands date tag fields fine = by_value (value_of tag fields) refl fine
 names_bond : (date : List ℕ) (fields : List Field) → first_fault quote_lines date fields ≡ None
     → (text : List ℕ) × (value_of 48 fields ≡ Some text)
 names_bond date fields fine =
-    stands date 48 fields (or_none _ _ (or_none _ _ (or_none _ _ fine).1).1).0
+    stands date 48 fields (or_next-none _ _ (or_next-none _ _ (or_next-none _ _ fine).1).1).0
 
 module _ (config : Configuration) (date : List ℕ) (row : DealerRow) (book : DealerBook)
     (moment : ℕ)

@@ -26,7 +26,7 @@ use Rattle.step_replay.specs.declared.dues.Due.{Due}
 use Rattle.step_replay.specs.declared.dues.Due.TheVariants as due
 use Rattle.step_replay.specs.EachLemmas.{Each, Every, every_both}
 use Rattle.venue_laws.proofs.ListLemmas.{every_map}
-use Rattle.step_replay.specs.GrowthLemmas.{some_same}
+use Rattle.std.proofs.lemmas.Option.{same_Some}
 
 module _ (date : List ℕ) (row : DealerRow) where
   -- the words that an entry asks are answered behind it as the view says, and so is the word that
@@ -155,7 +155,7 @@ module _ (date : List ℕ) (row : DealerRow) where
         view = λ before. undue_keeps before entry undue;
         answers = λ other said told.
             let pairs : Some (quote, given) ≡ Some (other, said) = sym says ∙ told in
-            let pair = some_same (quote, given) (other, said) pairs in
+            let pair = same_Some (quote, given) (other, said) pairs in
             let same : quote ≡ other = ap (λ (p : ℕ × Settled). p.0) pair in
             let given_is : given ≡ said = ap (λ (p : ℕ × Settled). p.1) pair in
             sym given_is ∙ is ∙ answer_is quote
@@ -219,7 +219,7 @@ module _ (date : List ℕ) (row : DealerRow) where
       next_settled None how more rooms messages quote is = cc
       next_settled (Some asked) how more rooms messages quote is =
           next_is asked how (settlement asked) more rooms messages
-          ∙ ap (λ (q : ℕ). Some (q, settlement q)) (some_same asked quote is)
+          ∙ ap (λ (q : ℕ). Some (q, settlement q)) (same_Some asked quote is)
 
       pub next_verdict : (v : DealerVerdict) (rooms : List RoomRef) (messages : List (List ℕ))
           (quote : ℕ) → word_asked v ≡ Some quote

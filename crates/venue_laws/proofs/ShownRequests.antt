@@ -1,17 +1,17 @@
 -- The requests that some facts show, and which of them may still be told to be closed.
-use Rattle.std.proofs.Common.{◌≡◌, ℕ, ◌+◌, ◌==◌, Bool, true, false, ◌||◌, List, [], ◌∷◌, ◌++◌, find}
+use Rattle.std.proofs.Common.{◌≡◌, ℕ, ◌+◌, ◌==◌, Bool, true, false, List, [], ◌∷◌, ◌++◌, find}
 use Rattle.std.proofs.Common.{Option, Some, None, is_some, if◌then◌else◌, cond, refl, sym, ap, ◌∙◌}
 use Rattle.std.proofs.Common.{arith}
 use Rattle.std.specs.List.{list_any}
 use Rattle.std.proofs.lemmas.Bool.Decides.{nat_tests}
 use Rattle.std.proofs.lemmas.List.Folds.{list_any-append}
+use Rattle.std.proofs.lemmas.Bool.{or_right, or_parts}
 use Rattle.dealer_desk.specs.DealerFacts.{DealerFact, Shown, tells, request_numbered, requests_from}
 use Rattle.dealer_desk.specs.DealerFacts.{standing_request}
 use Rattle.dealer_desk.specs.DealerOutput.{closable, untold}
 use Rattle.dealer_desk.specs.declared.standing.StandingRequest.{StandingRequest}
 use Rattle.step_replay.specs.DealerTrail.{DealerEntry, book_by, facts_of}
 use Rattle.venue_laws.specs.Notices.{was_shown}
-use Rattle.venue_laws.proofs.ListLemmas.{or_true}
 
 -- Requests.
 
@@ -43,10 +43,6 @@ pub record StillUntold (number first : ℕ) (facts more : List DealerFact) : Typ
   pub silent : list_any (tells number) more ≡ false
   pub before : is_some (untold (found number first facts)) ≡ true
 
-pub none_left : (b c : Bool) → (b || c) ≡ false → (b ≡ false) × (c ≡ false)
-none_left true c is = cc
-none_left false c is = (refl, is)
-
 is_untold : (b : Bool) (request : StandingRequest)
     → is_some (if b then None else Some request) ≡ true → b ≡ false
 is_untold true request is = cc
@@ -76,7 +72,7 @@ still_untold number first (Shown ask moment ∷ later) more is unclosed =
         let none : list_any (tells first) (later ++ more) ≡ false =
         is_untold _ grown (ap (λ (o : Option StandingRequest). is_some (untold o)) (sym request)
         ∙ unclosed) in
-        let parts = none_left _ _ (sym (list_any-append (tells first) later more) ∙ none) in
+        let parts = or_parts _ _ (sym (list_any-append (tells first) later more) ∙ none) in
         record {
           silent = ap (λ (n : ℕ). list_any (tells n) more) (sym same) ∙ parts.1;
           before = ap (λ (b : Bool). is_some (untold (cond b
@@ -140,7 +136,7 @@ told_already number first (Shown ask moment ∷ later) is closed =
     by_test false test again told is_told =
         again (rw test at is) (rw test at closed)
 told_already number first (fact ∷ later) is closed =
-    or_true (tells number fact) _ (told_already number first later is closed)
+    or_right (tells number fact) _ (told_already number first later is closed)
 
 pub told_or_closable : (trail : List DealerEntry) (request : ℕ) → was_shown trail request ≡ true
     → is_some (closable (book_by trail) request) ≡ false

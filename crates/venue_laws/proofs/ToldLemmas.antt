@@ -18,7 +18,8 @@ use Rattle.venue_places.specs.declared.actors.Actor.{Actor}
 use Rattle.step_replay.specs.AuditTrail.{AuditTrail, Caused, is_same_actor, pending}
 use Rattle.step_replay.specs.DealerTrail.{AtDesk, DealerEntry, facts_of, rooms_by}
 use Rattle.step_replay.specs.EachLemmas.{Every}
-use Rattle.step_replay.specs.GrowthLemmas.{In, all_in, some_same}
+use Rattle.step_replay.specs.GrowthLemmas.{In, all_in}
+use Rattle.std.proofs.lemmas.Option.{same_Some}
 use Rattle.step_replay.specs.QueueLemmas.{same_actor}
 use Rattle.step_replay.specs.VenueFacts.{AtDealer, of_dealer, of_room}
 use Rattle.venue_laws.specs.Notices.{IsToldOnce}
@@ -142,7 +143,7 @@ module _ (config : Configuration) (venue : AuditTrail) (stood : VenueOk config v
       one_number 1 (rooms_by (of_dealer dealer venue.facts)) closed.room room
       was_told.request closed.request_is was_told.request_is in
       let ends : closed.end ≡ end =
-      some_same closed.end end (sym closed.end_is
+      same_Some closed.end end (sym closed.end_is
       ∙ ap (λ (r : RoomRef). end_of (of_room r venue.facts)) rooms ∙ end_is) in
       closed.close_is ∙ ap (λ (e : End). close_for e dealer) ends
 

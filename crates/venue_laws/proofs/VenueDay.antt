@@ -4,29 +4,30 @@ use Rattle.std.proofs.Common.{Bool, List, None, Option, Some, eq-eqb, false, if�
 use Rattle.std.proofs.Common.{option_map, refl, subst, sym, true, ℕ, ◌&&◌, ◌==◌, ◌≡◌, [], arith}
 use Rattle.std.proofs.Common.{fold, ◌++◌, ◌∷◌, ◌≤◌}
 use Rattle.std.specs.List.{list_any}
+use Rattle.std.proofs.lemmas.Bool.{and_from}
 use Rattle.market_terms.specs.declared.duties.Duty.{Duty}
 use Rattle.market_terms.specs.declared.duties.Duty.TheVariants as duty
 use Rattle.market_terms.specs.declared.rooms.RoomRef.{RoomRef}
 use Rattle.venue_rows.specs.Rows.{dealer_numbered, Configuration, has_room}
 use Rattle.venue_rows.specs.declared.dealer_rows.DealerRow.{DealerRow}
 use Rattle.dealer_desk.specs.DealerOutput.{is_same_room}
-use Rattle.investor_desk.specs.InvestorOutput.{market_for}
+use Rattle.investor_desk.specs.InvestorDesk.{market_for}
 use Rattle.investor_desk.specs.declared.events.InvestorEvent.{InvestorEvent}
 use Rattle.venue_steps.specs.InvestorSteps.{replies_to}
 use Rattle.venue_steps.specs.RoomSteps.{hit_word}
 use Rattle.venue_places.specs.declared.actors.Actor.TheVariants as actor
 use Rattle.step_replay.specs.Actions.{Dealer, Effect, answer_to_hit, dealer_at, dealer_of, done_by}
-use Rattle.step_replay.specs.Actions.{done_for, duty_effect, message_effect, quote_asked}
-use Rattle.step_replay.specs.Actions.{received_by_dealer, received_by_investor, shown_to, told_to}
-use Rattle.step_replay.specs.Actions.{where_known, sweep_effect}
+use Rattle.step_replay.specs.Actions.{done_for, quote_asked, received_by_dealer}
+use Rattle.step_replay.specs.Actions.{received_by_investor, shown_to, told_to, where_known}
+use Rattle.step_replay.specs.DutyEffects.{duty_effect, message_effect, sweep_effect}
 use Rattle.step_replay.specs.DealerTrail.{DealerEntry}
 use Rattle.step_replay.specs.EachLemmas.{Every}
 use Rattle.step_replay.specs.IsolationLemmas.{seen_is_kept}
 use Rattle.step_replay.specs.SeenLemmas.{Seen, start_seen}
-use Rattle.step_replay.specs.StepLemmas.{IsKept, duty_keeps, message_keeps, sweep_keeps}
+use Rattle.step_replay.specs.StepLemmas.{duty_keeps, message_keeps, sweep_keeps}
+use Rattle.step_replay.specs.TrailKept.{IsKept}
 use Rattle.step_replay.specs.WordLemmas.{IsOneOf, one_is_kept}
 use Rattle.venue_laws.proofs.CountLemmas.{AreCounted, counted_is_kept}
-use Rattle.venue_laws.proofs.ListLemmas.{both_so}
 use Rattle.venue_laws.proofs.LiveQuotes.{LoneQuotes}
 use Rattle.venue_laws.proofs.NoticeLemmas.{noticed_is_kept, start_noticed}
 use Rattle.venue_laws.proofs.NoticedLemmas.{Noticed}
@@ -91,7 +92,7 @@ module _ (lone : LoneQuotes) (words : WordsOfDay) (h : Here) where
     pair_self : (dealer : ℕ) (room : RoomRef)
         → ((dealer == dealer) && is_same_room room room) ≡ true
     pair_self dealer room =
-        both_so (dealer == dealer) (is_same_room room room) (eq-eqb dealer dealer refl)
+        and_from (dealer == dealer) (is_same_room room room) (eq-eqb dealer dealer refl)
         (room_self room)
 
     -- an action of a dealer that is the venue's

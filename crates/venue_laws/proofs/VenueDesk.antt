@@ -13,10 +13,10 @@ use Rattle.venue_rows.specs.Rows.{dealer_numbered}
 use Rattle.venue_rows.specs.declared.dealer_rows.DealerRow.{DealerRow}
 use Rattle.dealer_desk.specs.DealerFacts.{Came, DealerFact, Dropped, Quoted, book_of}
 use Rattle.dealer_desk.specs.DealerFacts.{number_to_drop, quote_to_drop}
-use Rattle.dealer_desk.specs.DealerOutput.{DeskEvents, DeskState, event_facts, goes_through}
-use Rattle.dealer_desk.specs.DealerOutput.{is_withdrawn, post_of, room_of, settled_facts}
-use Rattle.dealer_desk.specs.DealerOutput.{unpost_dropped, uses_number, verdict_at, verdict_duty}
-use Rattle.dealer_desk.specs.DealerOutput.{book_at, verdict_facts, word_asked}
+use Rattle.dealer_desk.specs.DealerOutput.{DeskState, event_facts, goes_through, is_withdrawn}
+use Rattle.dealer_desk.specs.DealerOutput.{post_of, room_of, settled_facts, unpost_dropped}
+use Rattle.dealer_desk.specs.DealerOutput.{uses_number, verdict_duty, verdict_facts, word_asked}
+use Rattle.dealer_desk.specs.DealerDesk.{DeskEvents, verdict_at, book_at}
 use Rattle.dealer_desk.specs.DealerRules.{dealer_verdict}
 use Rattle.dealer_desk.specs.declared.accepted.AcceptedQuote.{AcceptedQuote}
 use Rattle.dealer_desk.specs.declared.events.DealerEvent.{DealerEvent}
@@ -32,7 +32,8 @@ use Rattle.step_replay.specs.Actions.{left_by_drop, received_by_dealer, settleme
 use Rattle.step_replay.specs.DealerTrail.{AtDesk, DealerEntry, Sent, book_by, entries_of, facts_of}
 use Rattle.step_replay.specs.DealerTrail.{message_by, rooms_by}
 use Rattle.step_replay.specs.EachLemmas.{Every, every_both}
-use Rattle.step_replay.specs.GrowthLemmas.{In, in_right, some_same}
+use Rattle.step_replay.specs.GrowthLemmas.{In, in_right}
+use Rattle.std.proofs.lemmas.Option.{same_Some}
 use Rattle.step_replay.specs.PlaceLemmas.{own_trail}
 use Rattle.step_replay.specs.SeenLemmas.{Seen}
 use Rattle.step_replay.specs.TrailLemmas.{facts_added}
@@ -87,7 +88,7 @@ module _ (words : WordsOfDay) (date : List ℕ) (row : DealerRow) (trail : List 
 slice_holds : {A : Type 0} (P : A → Type 0) (xs : List A) (place : ℕ) (x : A)
     → slice_get xs place ≡ Some x → Every P xs → P x
 slice_holds P [] place x is all = cc
-slice_holds P (y ∷ xs) zero x is all = subst P (some_same y x is) all.0
+slice_holds P (y ∷ xs) zero x is all = subst P (same_Some y x is) all.0
 slice_holds P (y ∷ xs) (suc place) x is all = slice_holds P xs place x is all.1
 
 -- What the dealer's desk leaves.

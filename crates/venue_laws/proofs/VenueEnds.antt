@@ -3,6 +3,7 @@ use Rattle.std.proofs.Common.{Bool, Err, List, None, Ok, Option, Result, Some, [
 use Rattle.std.proofs.Common.{if◌then◌else◌, inr, is_some, map, not, refl, sym, true, ℕ, ◌&&◌, ◌++◌}
 use Rattle.std.proofs.Common.{◌==◌, ◌||◌, ◌∙◌, ◌∷◌, ◌≡◌}
 use Rattle.std.proofs.lemmas.List.Folds.{list_any-append}
+use Rattle.std.proofs.lemmas.Bool.{and_parts, not-true}
 use Rattle.market_terms.specs.Dealers.{are_distinct}
 use Rattle.market_terms.specs.declared.closes.Close.TheVariants as closes
 use Rattle.market_terms.specs.declared.closes.HitRefusal.{HitRefusal}
@@ -22,13 +23,13 @@ use Rattle.venue_steps.specs.InvestorSteps.{replies_to}
 use Rattle.venue_steps.specs.RoomSteps.{close_for, dealers_of, duties_of_expire, duties_of_pass}
 use Rattle.venue_steps.specs.RoomSteps.{reply_to_pass, told_in}
 use Rattle.venue_places.specs.declared.actors.Actor.TheVariants as actor
-use Rattle.step_replay.specs.Actions.{QuoteRef, in_room, lifting, sweep_effect}
+use Rattle.step_replay.specs.Actions.{QuoteRef, in_room, lifting}
+use Rattle.step_replay.specs.DutyEffects.{sweep_effect}
 use Rattle.step_replay.specs.EachLemmas.{Each, Every, every_both}
 use Rattle.step_replay.specs.GrowthLemmas.{In, in_right, said_after, same_room}
 use Rattle.step_replay.specs.PlaceLemmas.{investor_grown, investor_in_room, own_room, room_grown}
 use Rattle.step_replay.specs.VenueFacts.{Fact, InRoom, of_investor, of_room}
-use Rattle.venue_laws.proofs.ListLemmas.{both_true, every_map, in_map, in_named, named_in}
-use Rattle.venue_laws.proofs.ListLemmas.{none_some, not_so}
+use Rattle.venue_laws.proofs.ListLemmas.{every_map, in_map, in_named, named_in, none_some}
 use Rattle.venue_laws.proofs.PlainFacts.{AreQuiet, free_order, is_free, is_quiet}
 use Rattle.venue_laws.proofs.VenueGrowth.{known_stays, named_already, named_later, opened_stays}
 use Rattle.venue_laws.proofs.VenueGrowth.{ready_grown, request_grown}
@@ -132,10 +133,10 @@ module _ (h : Here) (room : RoomRef) where
     listed = dealers_of (request_of (known h room))
 
     parts : (is_ready (known h room) ≡ true) × (not (is_ended (known h room)) ≡ true)
-    parts = both_true (is_ready (known h room)) (not (is_ended (known h room))) is
+    parts = and_parts (is_ready (known h room)) (not (is_ended (known h room))) is
 
     no_end : end_of (known h room) ≡ None
-    no_end = none_some (end_of (known h room)) (not_so (is_ended (known h room)) parts.1)
+    no_end = none_some (end_of (known h room)) (not-true (is_ended (known h room)) parts.1)
 
     ready : ReadyIn h.config h.venue.facts h.venue.caused (did_in h.venue) room
     ready = ready_in h.config h.venue h.stood room parts.0
@@ -263,9 +264,9 @@ module _ (h : Here) (room : RoomRef) where
       })
       by_test false is = room_brings h room [] [] tt tt tt
       by_test true is =
-          let was_open = (both_true (is_open (known h room))
+          let was_open = (and_parts (is_open (known h room))
           (is_past_deadline (request_of (known h room)) moment) is).0 in
-          let stood = ready_in h.config h.venue h.stood room (both_true (is_ready (known h room))
+          let stood = ready_in h.config h.venue h.stood room (and_parts (is_ready (known h room))
           (not (is_ended (known h room))) was_open).0 in
           ended_brings expired moment (duty.Close room moment) None was_open by_is refl
           (opened_stays h.venue.facts (ended_facts expired moment None) room

@@ -16,7 +16,9 @@ use Rattle.request_room.specs.declared.ends.End.{End}
 use Rattle.request_room.specs.declared.quotes.PostedQuote.{PostedQuote as BookQuote}
 use Rattle.venue_steps.specs.RoomSteps.{is_winner, is_cover, close_for, told_of_hit}
 use Rattle.step_replay.specs.EachLemmas.{Every}
-use Rattle.step_replay.specs.GrowthLemmas.{some_same, any_right}
+use Rattle.step_replay.specs.GrowthLemmas.{any_right}
+use Rattle.std.proofs.lemmas.Option.{same_Some}
+use Rattle.std.proofs.lemmas.Bool.{not-false}
 use Rattle.market_terms.specs.declared.duties.Duty.{Duty}
 use Rattle.market_terms.specs.declared.duties.Duty.TheVariants as duty
 use Rattle.market_terms.specs.declared.rooms.ResponseRef.{ResponseRef}
@@ -28,7 +30,6 @@ use Rattle.step_replay.specs.OwnerLemmas.{owner_among, quote_at}
 use Rattle.step_replay.specs.PlaceLemmas.{dealer_grown, own_trail}
 use Rattle.step_replay.specs.VenueFacts.{AtDealer, Fact, InRoom, of_dealer}
 use Rattle.venue_laws.proofs.AcceptedQuotes.{none_holds}
-use Rattle.venue_laws.proofs.ListLemmas.{is_so}
 use Rattle.venue_laws.proofs.VenueEnds.{ended_brings, left_brings, none_lifted}
 use Rattle.venue_laws.proofs.VenueGrowth.{known_stays, quoted_grown}
 use Rattle.venue_laws.proofs.VenueInvariant.{HitsIn}
@@ -89,7 +90,7 @@ posted_fact P word (Posted other ∷ facts) quote is every =
         → (find means (book_of facts) ≡ Some quote → (quote.word ≡ word) × P (Posted quote))
         → (quote.word ≡ word) × P (Posted quote)
     by_test true test found later =
-        let same : other ≡ quote = some_same other quote found in
+        let same : other ≡ quote = same_Some other quote found in
         let words : other.word ≡ word = grind (arith, nat_tests) in (
           ap (λ (q : BookQuote). q.word) (sym same) ∙ words,
           subst (λ (q : BookQuote). P (Posted q)) same every.0,
@@ -208,7 +209,7 @@ module _ (h : Here) (room : RoomRef) where
 
       opened_yet : hit_refusal (known h room) word moment ≡ None → is_open (known h room) ≡ true
       opened_yet none =
-          is_so (is_open (known h room))
+          not-false (is_open (known h room))
           (none_holds (hit_checks (known h room) word moment) none).0
 
       by_outcome : (outcome : Result End HitRefusal)

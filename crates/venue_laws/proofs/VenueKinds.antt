@@ -23,7 +23,7 @@ use Rattle.step_replay.specs.EachLemmas.{Each, Every, every_weaker}
 use Rattle.step_replay.specs.GrowthLemmas.{AreNumbered}
 use Rattle.step_replay.specs.InvestorTrail as investor_trail
 use Rattle.step_replay.specs.InvestorTrail.{InvestorEntry}
-use Rattle.step_replay.specs.OwnerLemmas.{same_value}
+use Rattle.std.proofs.lemmas.Option.{same_Some}
 use Rattle.step_replay.specs.PlaceLemmas.{investor_at_dealer, investor_in_room, other_trail}
 use Rattle.step_replay.specs.PlaceLemmas.{own_trail}
 use Rattle.step_replay.specs.VenueFacts.{AtDealer, Fact, InRoom, of_dealer, of_investor, of_room}
@@ -184,7 +184,7 @@ module _ (h : Here) where
           → Each (NamesLifted h.config.date row_too) (trail_of other) (of_dealer other added)
       names_at other row_too is_too true test =
           let same : dealer ≡ other = grind (arith, nat_tests) in
-          let rows : row ≡ row_too = same_value row row_too
+          let rows : row ≡ row_too = same_Some row row_too
           (sym own ∙ ap (dealer_numbered h.config) same ∙ is_too) in
           subst (λ (d : ℕ). Each (NamesLifted h.config.date row_too) (trail_of d)
           (of_dealer d added)) same

@@ -22,7 +22,8 @@ use Rattle.step_replay.specs.AuditTrail.{AuditTrail, pending}
 use Rattle.step_replay.specs.DealerTrail.{AtDesk, DealerEntry, Lifted, Sent, ShownIn, book_by}
 use Rattle.step_replay.specs.DealerTrail.{fact_in, facts_of}
 use Rattle.step_replay.specs.EachLemmas.{Every, each_of}
-use Rattle.step_replay.specs.GrowthLemmas.{all_in, names_some, same_room, some_same}
+use Rattle.step_replay.specs.GrowthLemmas.{all_in, names_some, same_room}
+use Rattle.std.proofs.lemmas.Option.{same_Some}
 use Rattle.step_replay.specs.VenueFacts.{AtDealer, Fact, of_dealer, of_room}
 use Rattle.venue_laws.proofs.CountLemmas.{number_within}
 use Rattle.venue_laws.proofs.ListLemmas.{at_split, every_found, in_named, some_of}
@@ -39,14 +40,14 @@ ended_fact : (P : RoomFact → Type 0) (end : End) (facts : List RoomFact)
     → first_said ended_as facts ≡ Some end → Every P facts → (moment : ℕ) × P (Ended end moment)
 ended_fact P end [] is every = cc
 ended_fact P end (Ended other moment ∷ facts) is every =
-    (moment, subst (λ (e : End). P (Ended e moment)) (some_same other end is) every.0)
+    (moment, subst (λ (e : End). P (Ended e moment)) (same_Some other end is) every.0)
 ended_fact P end (fact ∷ facts) is every = ended_fact P end facts is every.1
 
 opened_fact : (P : RoomFact → Type 0) (request : RoomRequest) (facts : List RoomFact)
     → first_said opened_for facts ≡ Some request → Every P facts → P (Opened request)
 opened_fact P request [] is every = cc
 opened_fact P request (Opened other ∷ facts) is every =
-    subst (λ (r : RoomRequest). P (Opened r)) (some_same other request is) every.0
+    subst (λ (r : RoomRequest). P (Opened r)) (same_Some other request is) every.0
 opened_fact P request (fact ∷ facts) is every = opened_fact P request facts is every.1
 
 ready_fact : (P : RoomFact → Type 0) (facts : List RoomFact) → list_any is_readied facts ≡ true
@@ -75,7 +76,7 @@ one_number first (shown ∷ rooms) one other number is also =
     never : (room : RoomRef) → Some first ≡ Some number
         → number_from (first + 1) rooms room ≡ Some number → {A : Type 0} → A
     never room here later =
-        let same : first ≡ number = some_same first number here in
+        let same : first ≡ number = same_Some first number here in
         let beyond : first + 1 ≤ number = (number_within (first + 1) rooms room number later).0 in
         absurd (omega arith)
 
@@ -205,7 +206,7 @@ module _ (config : Configuration) (venue : AuditTrail) (stood : VenueOk config v
       each : (entry : DealerEntry) (fact : DealerFact) → fact_in entry ≡ Some fact → Stands entry
           → DeskBears config fact
       each (AtDesk one) fact is stands =
-          subst (DeskBears config) (some_same one fact is) (by_fact one stands)
+          subst (DeskBears config) (same_Some one fact is) (by_fact one stands)
       each (ShownIn room) fact is stands = cc
       each (Lifted quote) fact is stands = cc
       each (Sent message) fact is stands = cc

@@ -12,8 +12,9 @@ use Rattle.venue_rows.specs.Rows.{has_room, investor_numbered, may_request}
 use Rattle.venue_rows.specs.declared.investor_rows.InvestorRow.{InvestorRow}
 use Rattle.dealer_desk.specs.DealerOutput.{is_same_room}
 use Rattle.investor_desk.specs.InvestorFacts.{InvestorFact, book_of, knows, requests_of}
-use Rattle.investor_desk.specs.InvestorOutput.{event_facts, event_messages, market_for, market_of}
-use Rattle.investor_desk.specs.InvestorOutput.{moment_of, own_facts, verdict_duty, written_from}
+use Rattle.investor_desk.specs.InvestorOutput.{event_facts, event_messages, moment_of, own_facts}
+use Rattle.investor_desk.specs.InvestorOutput.{verdict_duty, written_from}
+use Rattle.investor_desk.specs.InvestorDesk.{market_for, market_of}
 use Rattle.investor_desk.specs.InvestorRules.{InvestorMarket, investor_verdict}
 use Rattle.investor_desk.specs.declared.events.InvestorEvent.{InvestorEvent}
 use Rattle.investor_desk.specs.declared.events.InvestorEvent.TheVariants as at_investor

@@ -5,6 +5,7 @@ use Rattle.std.proofs.Common.{◌++◌, ◌==◌, ◌||◌, ◌∙◌, ◌∷◌
 use Rattle.std.proofs.lemmas.Bool.Decides.{nat_tests}
 use Rattle.std.proofs.lemmas.List.Folds.{list_any-append}
 use Rattle.std.specs.List.{list_any}
+use Rattle.std.proofs.lemmas.Bool.{and_parts, not-true}
 use Rattle.market_terms.specs.Dealers.{are_distinct}
 use Rattle.market_terms.specs.declared.asks.Ask.{Ask}
 use Rattle.market_terms.specs.declared.duties.Duty.{Duty}
@@ -22,7 +23,7 @@ use Rattle.step_replay.specs.Actions.{opened, Effect, in_room}
 use Rattle.step_replay.specs.EachLemmas.{Each, Every, each_append, every_both}
 use Rattle.step_replay.specs.GrowthLemmas.{In, any_right, said_after, same_room}
 use Rattle.step_replay.specs.VenueFacts.{Fact, InRoom, of_room}
-use Rattle.venue_laws.proofs.ListLemmas.{both_true, every_map, named_in, none_is, not_both, not_so}
+use Rattle.venue_laws.proofs.ListLemmas.{every_map, named_in, none_is, not_both}
 use Rattle.venue_laws.proofs.VenueGrowth.{known_stays, named_already, request_grown, shown_grown}
 use Rattle.venue_laws.proofs.VenueInvariant.{DutyOk, OpensIn}
 use Rattle.venue_laws.proofs.VenueKinds.{Brings, DutyThen, Here, Now, in_room_brings, known}
@@ -71,9 +72,9 @@ module _ (facts : List Fact) (make : ℕ → Duty) (test : ℕ → Duty → Bool
       → Each (InOrder facts) front (map make dealers)
   each_once front [] distinct clear = tt
   each_once front (dealer ∷ dealers) distinct clear =
-      let parts = both_true (not (list_any (λ (named : ℕ). named == dealer) dealers))
+      let parts = and_parts (not (list_any (λ (named : ℕ). named == dealer) dealers))
       (are_distinct dealers) distinct in
-      let apart = not_so (list_any (λ (named : ℕ). named == dealer) dealers) parts.0 in (
+      let apart = not-true (list_any (λ (named : ℕ). named == dealer) dealers) parts.0 in (
         once front dealer (map make dealers) (clear dealer (inl refl)),
         each_once (front ++ make dealer ∷ []) dealers parts.1
             (λ other is.
@@ -190,7 +191,7 @@ module _ (h : Here) (room : RoomRef) where
       by_test : (b : Bool) → is_vacant (known h room) ≡ b → Brings h (effect b)
       by_test true vacant =
           where_vacant (none_is (request_of (known h room))
-          (both_true (is_none (request_of (known h room))) (not (is_ended (known h room)))
+          (and_parts (is_none (request_of (known h room))) (not (is_ended (known h room)))
           vacant).0)
       by_test false vacant = room_brings h room [] [] tt tt tt
 

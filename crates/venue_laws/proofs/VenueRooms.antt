@@ -18,10 +18,10 @@ use Rattle.venue_places.specs.declared.actors.Actor.TheVariants as actor
 use Rattle.step_replay.specs.Actions.{dealer_of, declined_by, has_word_for, offer_of, posted_by}
 use Rattle.step_replay.specs.Actions.{unposted_by, word_for}
 use Rattle.step_replay.specs.EachLemmas.{Every}
-use Rattle.step_replay.specs.OwnerLemmas.{same_value}
+use Rattle.std.proofs.lemmas.Option.{same_Some}
+use Rattle.std.proofs.lemmas.Bool.{and_parts}
 use Rattle.step_replay.specs.PlaceLemmas.{own_room, room_grown}
 use Rattle.step_replay.specs.VenueFacts.{Fact, InRoom, of_room}
-use Rattle.venue_laws.proofs.ListLemmas.{both_true}
 use Rattle.venue_laws.proofs.PlainFacts.{fine_ok, fine_order, is_free}
 use Rattle.venue_laws.proofs.VenueGrowth.{named_stays, opened_stays, quoted_grown}
 use Rattle.venue_laws.proofs.VenueInvariant.{ByNamed, PostsIn}
@@ -50,7 +50,7 @@ module _ (h : Here) (room : RoomRef) where
       → IsOpened (Now h (map (InRoom room) added)) room
   opened_then added takes =
       opened_stays h.venue.facts (map (InRoom room) added) room
-      (both_true (is_some (request_of (known h room))) (not (is_ended (known h room))) takes).0
+      (and_parts (is_some (request_of (known h room))) (not (is_ended (known h room))) takes).0
 
   -- a fact that may be added, and a duty that may follow
   may_bring : (b c : Bool) (fact : RoomFact) (left : Duty) → is_free left ≡ true
@@ -90,7 +90,7 @@ module _ (h : Here) (room : RoomRef) where
         let posted = quote_posted dealer word price valid_until in
         let added = map (InRoom room) (Posted posted ∷ []) in
         let same : posts.named.who.dealer ≡ dealer = cc (by_is, posts.named.who.by_is) in
-        let rows : posts.named.who.row ≡ row = same_value posts.named.who.row row
+        let rows : posts.named.who.row ≡ row = same_Some posts.named.who.row row
         (sym posts.named.who.row_is ∙ ap (dealer_numbered h.config) same ∙ is) in
         in_room_brings h room (has_word_for h.config own quote && hears (known h room) dealer)
         (at_room.Post dealer word price valid_until)
@@ -108,7 +108,7 @@ module _ (h : Here) (room : RoomRef) where
               (subst (λ (d : ℕ). QuotedIn h.venue.facts d room quote) same posts.quoted);
         })
         (λ more so. opened_then more
-        (both_true (hears (known h room) dealer) (takes_quotes (known h room)) so).1))
+        (and_parts (hears (known h room) dealer) (takes_quotes (known h room)) so).1))
 
     pub unposted_brings : (quote moment : ℕ)
         → Brings h (unposted_by h.config h.venue.facts room quote moment (dealer_of dealer row))
@@ -121,8 +121,8 @@ module _ (h : Here) (room : RoomRef) where
         (at_room.Unpost dealer word) (duties_of_unpost (known h room) room dealer word moment)
         (may_bring may _ (Unposted dealer word) _ refl tt
         (λ more so. opened_then more
-        (both_true (takes_quotes (known h room)) (stands (book_of (known h room)) dealer word)
-        (both_true (hears (known h room) dealer) may so).1).0))
+        (and_parts (takes_quotes (known h room)) (stands (book_of (known h room)) dealer word)
+        (and_parts (hears (known h room) dealer) may so).1).0))
 
     pub declined_brings : (moment : ℕ) → ByNamed h.config h.venue.facts h.by room
         → Brings h (declined_by h.config h.venue.facts room moment (dealer_of dealer row))

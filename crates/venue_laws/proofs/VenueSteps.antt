@@ -28,9 +28,10 @@ use Rattle.venue_laws.proofs.NoticedLemmas.{Noticed}
 use Rattle.venue_laws.proofs.VenueGrowth.{done_stays, duty_stays, fact_stays, order_stays}
 use Rattle.venue_laws.proofs.VenueInvariant.{DeskOk, DutyOk, FactOk, MarketOk, QueueOk, VenueOk}
 use Rattle.venue_laws.proofs.VenueParts.{DoneOk, InOrder, NamesLifted, did_in, duties_by}
-use Rattle.venue_laws.proofs.VenueTurns.{actors_are, did_grows, left_by, left_parts, other_left}
-use Rattle.venue_laws.proofs.VenueTurns.{other_turn, own_left, own_turn, pending_next, turns_grow}
-use Rattle.venue_laws.proofs.VenueTurns.{turns_of, venue_with}
+use Rattle.venue_laws.proofs.VenueTurns.{did_grows, left_by, left_parts, other_left, other_turn}
+use Rattle.venue_laws.proofs.VenueTurns.{own_left, own_turn, pending_next, turns_grow, turns_of}
+use Rattle.venue_laws.proofs.VenueTurns.{venue_with}
+use Rattle.step_replay.specs.QueueLemmas.{one_actor}
 
 -- what every event at a desk keeps
 abbrev pub Basic : List ℕ → DealerRow → List DealerEntry → Type 0
@@ -204,7 +205,7 @@ module _ (config : Configuration) (venue : AuditTrail) (before : VenueOk config 
         by_test : (other : Actor) (b : Bool) → is_same_actor by other ≡ b
             → QueueOk config after other
         by_test other true same =
-            subst (QueueOk config after) (actors_are by other same) (own_queue within all)
+            subst (QueueOk config after) (one_actor by other same) (own_queue within all)
         by_test other false differs = other_queue other differs (counted other differs)
 
   old_done : Every (DoneOk now) (did_in venue by)

@@ -2,19 +2,18 @@
 use Rattle.std.proofs.Common.{Bool, List, None, Some, [], ap, arith, cond, count_by, drop, false}
 use Rattle.std.proofs.Common.{if◌then◌else◌, length, map, refl, subst, suc, take, true, zero, ℕ}
 use Rattle.std.proofs.Common.{◌++◌, ◌+◌, ◌||◌, ◌∙◌, ◌∷◌, ◌≡◌, ◌≤◌}
-use Rattle.std.proofs.lemmas.Bool.Decides.{nat_tests}
 use Rattle.std.proofs.lemmas.List.Elements.{filter_map-append}
 use Rattle.std.proofs.lemmas.List.Sums.{sum_by-append}
 use Rattle.std.specs.List.{list_any}
 use Rattle.market_terms.specs.declared.duties.Duty.{Duty}
 use Rattle.venue_places.specs.declared.actors.Actor.{Actor}
-use Rattle.venue_places.specs.declared.actors.Actor.TheVariants as actor
 use Rattle.step_replay.specs.Actions.{Effect}
 use Rattle.step_replay.specs.AuditTrail.{AuditTrail, Caused, duty_of, is_same_actor, pending}
 use Rattle.step_replay.specs.EachLemmas.{Every}
-use Rattle.step_replay.specs.GrowthLemmas.{any_right, some_same}
+use Rattle.step_replay.specs.GrowthLemmas.{any_right}
+use Rattle.std.proofs.lemmas.Option.{same_Some}
 use Rattle.step_replay.specs.OpenRooms.{holds}
-use Rattle.step_replay.specs.QueueLemmas.{same_actor}
+use Rattle.step_replay.specs.QueueLemmas.{same_actor, one_actor, same_either}
 use Rattle.venue_laws.proofs.ListLemmas.{every_found}
 use Rattle.venue_laws.proofs.VenueParts.{Grows, did_in, duties_by}
 
@@ -61,21 +60,6 @@ any_take test (suc n) (suc m) (x ∷ xs) ys within is =
 
 -- Actors.
 
-pub actors_are : (one other : Actor) → is_same_actor one other ≡ true → one ≡ other
-actors_are (actor.Firm one) (actor.Firm other) is =
-    let same : one ≡ other = grind (arith, nat_tests) in
-    ap actor.Firm same
-actors_are (actor.Firm one) actor.Clock is = cc
-actors_are actor.Clock (actor.Firm other) is = cc
-actors_are actor.Clock actor.Clock is = refl
-
-actors_turned : (one other : Actor) → is_same_actor one other ≡ false
-    → is_same_actor other one ≡ false
-actors_turned (actor.Firm one) (actor.Firm other) is = grind (arith, nat_tests)
-actors_turned (actor.Firm one) actor.Clock is = refl
-actors_turned actor.Clock (actor.Firm other) is = refl
-actors_turned actor.Clock actor.Clock is = is
-
 -- how many turns an actor had
 abbrev pub turns_of : Actor → List Actor → ℕ
 turns_of other done = count_by (is_same_actor other) done
@@ -102,7 +86,7 @@ pub other_turn : (by other : Actor) (done : List Actor) → is_same_actor by oth
     → turns_of other (done ++ by ∷ []) ≡ turns_of other done
 other_turn by other done differs =
     let more : turns_of other (done ++ by ∷ []) ≡ turns_of other done + 0 =
-    turn_more by other done false (actors_turned by other differs) in
+    turn_more by other done false (same_either by other differs) in
     omega arith
 
 pub turns_grow : (by other : Actor) (done : List Actor)
@@ -124,8 +108,8 @@ duties_hold P by caused every =
     by_test : (one : Caused) (left : Duty) → P one.by one.duty → (b : Bool)
         → is_same_actor one.by by ≡ b → (if b then Some one.duty else None) ≡ Some left → P by left
     by_test one left stands true same found =
-        subst (λ (a : Actor). P a left) (actors_are one.by by same)
-        (subst (P one.by) (some_same one.duty left found) stands)
+        subst (λ (a : Actor). P a left) (one_actor one.by by same)
+        (subst (P one.by) (same_Some one.duty left found) stands)
     by_test one left stands false same found = cc
 
 -- duties as an actor left them

@@ -6,7 +6,8 @@ use Rattle.quote_word.specs.declared.settled.Settled.{Settled}
 use Rattle.venue_rows.specs.declared.dealer_rows.DealerRow.{DealerRow}
 use Rattle.dealer_desk.specs.DealerFacts.{DealerFact, Came, Dropped, DealerBook, number_to_drop}
 use Rattle.dealer_desk.specs.DealerRules.{dealer_verdict}
-use Rattle.dealer_desk.specs.DealerOutput.{word_asked, settled_word}
+use Rattle.dealer_desk.specs.DealerOutput.{word_asked}
+use Rattle.dealer_desk.specs.SettledWords.{settled_word}
 use Rattle.step_replay.specs.DealerTrail.{DealerEntry, AtDesk, book_by}
 use Rattle.step_replay.specs.DealerView.{answer_to, view_after}
 use Rattle.step_replay.specs.DueList.{due_list}

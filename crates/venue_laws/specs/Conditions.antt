@@ -12,7 +12,7 @@ use Rattle.venue_rows.specs.Rows.{Configuration, has_room}
 use Rattle.dealer_desk.specs.DealerFacts.{number_to_drop}
 use Rattle.dealer_desk.specs.DealerOutput.{closable, number_in, word_asked}
 use Rattle.investor_desk.specs.InvestorFacts.{knows}
-use Rattle.investor_desk.specs.InvestorOutput.{market_for}
+use Rattle.investor_desk.specs.InvestorDesk.{market_for}
 use Rattle.investor_desk.specs.InvestorRules.{InvestorMarket}
 use Rattle.request_room.specs.RoomFacts.{hears, is_opening, is_vacant}
 use Rattle.venue_steps.specs.InvestorSteps.{replies_to}

@@ -1,9 +1,10 @@
 -- What a thing brought to a place does, where it asks no word: the place afterwards and the duties
 -- that follow, line by line of what may come. They are those of the steps.
 use Rattle.std.specs.Prelude.{true, List, []}
-use Rattle.dealer_desk.specs.DealerOutput as dealer
-use Rattle.dealer_desk.specs.DealerOutput.{number_in, rooms_at, with_notice_in}
-use Rattle.investor_desk.specs.InvestorOutput as investor
+use Rattle.dealer_desk.specs.DealerDesk as dealer
+use Rattle.dealer_desk.specs.DealerDesk.{rooms_at, with_notice_in}
+use Rattle.dealer_desk.specs.DealerOutput.{number_in}
+use Rattle.investor_desk.specs.InvestorDesk as investor
 use Rattle.market_terms.specs.declared.duties.Duty.{Duty}
 use Rattle.market_terms.specs.declared.rooms.RoomRef.{RoomRef}
 use Rattle.request_room.specs.Book.{room_after}

@@ -7,7 +7,7 @@ use Rattle.std.proofs.lemmas.List.{length-map}
 use Rattle.std.proofs.lemmas.Iterator.Adapters.{position_from-zero}
 
 -- where a test passes in front, and where it passes nowhere there
-found_more : (test : Bool) (i k : ℕ) (rest all : Option ℕ) → cond test (Some i) rest ≡ Some k → (rest ≡ Some k → all ≡ Some k) → cond test (Some i) all ≡ Some k
+pub found_more : (test : Bool) (i k : ℕ) (rest all : Option ℕ) → cond test (Some i) rest ≡ Some k → (rest ≡ Some k → all ≡ Some k) → cond test (Some i) all ≡ Some k
 found_more true i k rest all e then = e
 found_more false i k rest all e then = then e
 
@@ -16,7 +16,7 @@ found_in_front p i k [] ys e = cc
 found_in_front p i k (x ∷ xs) ys e =
     found_more (p x) i k (position_from p (i + 1) xs) (position_from p (i + 1) (xs ++ ys)) e (found_in_front p (i + 1) k xs ys)
 
-none_more : (test : Bool) (i : ℕ) (rest all behind : Option ℕ) → cond test (Some i) rest ≡ None → (rest ≡ None → all ≡ behind) → cond test (Some i) all ≡ behind
+pub none_more : (test : Bool) (i : ℕ) (rest all behind : Option ℕ) → cond test (Some i) rest ≡ None → (rest ≡ None → all ≡ behind) → cond test (Some i) all ≡ behind
 none_more true i rest all behind e then = cc
 none_more false i rest all behind e then = then e
 
@@ -32,7 +32,7 @@ found_mapped p f i [] = refl
 found_mapped p f i (x ∷ xs) = ap (λ rest. cond (p (f x)) (Some i) rest) (found_mapped p f (i + 1) xs)
 
 -- a list that begins at another number
-shifted : (test : Bool) (n i : ℕ) (there here : Option ℕ) → there ≡ option_map (λ k. n + k) here → cond test (Some (n + i)) there ≡ option_map (λ k. n + k) (cond test (Some i) here)
+pub shifted : (test : Bool) (n i : ℕ) (there here : Option ℕ) → there ≡ option_map (λ k. n + k) here → cond test (Some (n + i)) there ≡ option_map (λ k. n + k) (cond test (Some i) here)
 shifted true n i there here e = refl
 shifted false n i there here e = e
 

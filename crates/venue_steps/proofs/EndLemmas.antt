@@ -1,13 +1,12 @@
 -- Who is told where a step has just ended a room.
 use Rattle.std.proofs.Common.{◌≡◌, ℕ, Bool, true, false, not, cond, List, [], ◌∷◌, ◌++◌, Option}
-use Rattle.std.proofs.Common.{Some, None, is_some, unwrap_or, refl, sym, ap, ◌∙◌}
+use Rattle.std.proofs.Common.{Some, None, is_some, refl, sym, ap, ◌∙◌}
 use Rattle.std.specs.Prelude.{Result, Ok, Err}
 use Rattle.std.specs.Option.{option_or}
 use Rattle.std.proofs.lemmas.Bool.{and_parts, not-true}
 use Rattle.std.proofs.lemmas.List.Sums.{fold-append}
-use Rattle.market_terms.specs.Checks.{first_refusal}
+use Rattle.std.proofs.lemmas.Option.{cond_some}
 use Rattle.market_terms.specs.declared.closes.HitRefusal.{HitRefusal}
-use Rattle.market_terms.specs.declared.closes.HitRefusal.TheVariants.{NotOpen}
 use Rattle.market_terms.specs.declared.closes.Reply.{Reply}
 use Rattle.market_terms.specs.declared.duties.Duty.{Duty}
 use Rattle.market_terms.specs.declared.duties.Duty.TheVariants as duty
@@ -17,14 +16,16 @@ use Rattle.quote_word.specs.declared.settled.Settled.{Settled}
 use Rattle.request_room.specs.RoomFacts.{RoomFact, Ended, first_said, ended_as, opened_for, end_of}
 use Rattle.request_room.specs.RoomFacts.{request_of, is_ended, is_open, is_ready}
 use Rattle.request_room.specs.Book.{after_event, event_facts, room_after, passed, expired}
-use Rattle.request_room.specs.Book.{may_expire, is_past_deadline, hit_outcome, hit_settled}
-use Rattle.request_room.specs.Book.{hit_refusal, open_checks, award_of, reply_of}
+use Rattle.request_room.specs.Book.{may_expire, is_past_deadline, hit_outcome, hit_refusal}
+use Rattle.request_room.specs.Book.{award_of, reply_of}
 use Rattle.request_room.specs.declared.ends.End.{End}
 use Rattle.request_room.specs.declared.events.RoomEvent.{RoomEvent}
 use Rattle.request_room.specs.declared.events.RoomEvent.TheVariants as event
 use Rattle.venue_steps.specs.RoomSteps.{told_in, told_of_end, told_by, told_of_hit, told_to_each}
 use Rattle.venue_steps.specs.RoomSteps.{dealers_of, is_award, reply_to_pass, duties_of_pass}
 use Rattle.venue_steps.specs.RoomSteps.{duties_of_expire, hit_duties, duties_of_hit}
+use Rattle.request_room.proofs.FactLemmas.{or_none}
+use Rattle.request_room.proofs.KeptLemmas.{refused_none, open_if_not_refused}
 
 -- what some facts say first, after one more
 or_assoc : {A : Type 0} (x y z : Option A) → option_or x (option_or y z) ≡ option_or (option_or x y) z
@@ -37,10 +38,6 @@ said_after says [] fact = refl
 said_after says (first ∷ later) fact =
     ap (option_or (says first)) (said_after says later fact)
     ∙ or_assoc (says first) (first_said says later) (option_or (says fact) None)
-
-or_none : {A : Type 0} (x : Option A) → option_or x None ≡ x
-or_none (Some x) = refl
-or_none None = refl
 
 -- a room that has not ended, and now ends so
 or_unended : (was : Option End) (end : End) → is_some was ≡ false → option_or was (Some end) ≡ Some end
@@ -65,7 +62,7 @@ told_then facts end ended at moment stays =
     ∙ ap (λ asked. told_to_each at end (dealers_of asked) moment) (asks_same facts end ended)
 
 -- the facts after one event more
-after_more : (events : List RoomEvent) (more : RoomEvent)
+pub after_more : (events : List RoomEvent) (more : RoomEvent)
     → room_after (events ++ more ∷ []) ≡ room_after events ++ event_facts (room_after events) more
 unfolding room_after
 after_more events more = fold-append after_event [] events (more ∷ [])
@@ -132,22 +129,6 @@ passed_duties events new at response moment stays items is more are =
 
 -- Hits.
 
--- the first check that does not refuse
-open_if : (stays : Bool) (others : List (Bool × HitRefusal)) → first_refusal ((not stays, NotOpen) ∷ others) ≡ None → stays ≡ true
-open_if true others none = refl
-open_if false others none = absurd (cc)
-
--- a hit that no check refuses comes to an open room
-open_at_hit : (facts : List RoomFact) (word moment : ℕ) → hit_refusal facts word moment ≡ None → is_open facts ≡ true
-unfolding hit_refusal
-open_at_hit facts word moment none = open_if (is_open facts) (open_checks facts word moment) none
-
--- an award was refused by no check
-no_refusal : (refused : Option HitRefusal) (settlement : Option Settled) (award end : End)
-    → hit_settled refused settlement award ≡ Ok end → refused ≡ None
-no_refusal None settlement award end is = refl
-no_refusal (Some refused) settlement award end is = absurd (cc)
-
 hit_adds : (facts : List RoomFact) (word moment : ℕ) (settlement : Option Settled) (end : End)
     → hit_outcome facts word moment settlement ≡ Ok end
     → event_facts facts (event.Hit word moment settlement) ≡ Ended end moment ∷ []
@@ -161,15 +142,10 @@ hit_told : (events new : List RoomEvent) (at : RoomRef) (word moment : ℕ) (set
 hit_told events new at word moment settlement (Err refused) is more = refl
 hit_told events new at word moment settlement (Ok award) is more =
     let facts = room_after events in
-    let none = no_refusal (hit_refusal facts word moment) settlement (award_of facts word) award is in
+    let none = refused_none (hit_refusal facts word moment) settlement (award_of facts word) award is in
     ap (λ (es : List RoomEvent). told_of_end (room_after es) at moment) more
     ∙ told_after events (event.Hit word moment settlement) award moment at moment (hit_adds facts word moment settlement award is)
-    (not_ended facts (open_at_hit facts word moment none))
-
--- the word was there, and was answered so
-was_asked : (has : Bool) (given settlement : Option Settled) → cond has (Some given) None ≡ Some settlement → (has ≡ true) × (given ≡ settlement)
-was_asked true given settlement is = (refl, ap (λ (o : Option (Option Settled)). unwrap_or o given) is)
-was_asked false given settlement is = absurd (cc)
+    (not_ended facts (open_if_not_refused facts word moment none))
 
 pub hit_duties_are : (events new : List RoomEvent) (at : RoomRef) (response : ResponseRef) (word moment : ℕ) (has : Bool) (given settlement : Option Settled) (said : Reply) (items : List Duty)
     → cond has (Some given) None ≡ Some settlement
@@ -180,7 +156,7 @@ pub hit_duties_are : (events new : List RoomEvent) (at : RoomRef) (response : Re
 hit_duties_are events new at response word moment has given settlement said items asked says more are =
     let facts = room_after events in
     let outcome = hit_outcome facts word moment settlement in
-    let was = was_asked has given settlement asked in
+    let was = cond_some has given settlement asked in
     are
     ∙ ap (λ (s : Reply). duty.Answer at response s moment ∷ cond (is_award s) (told_of_end (room_after new) at moment) []) says
     ∙ ap (λ (ds : List Duty). duty.Answer at response (reply_of outcome) moment ∷ ds) (hit_told events new at word moment settlement outcome refl more)

@@ -7,7 +7,7 @@ use Rattle.market_terms.specs.declared.duties.Duty.{Duty}
 use Rattle.market_terms.specs.declared.rooms.RoomRef.{RoomRef}
 use Rattle.quote_word.specs.declared.settled.Settled.{Settled}
 use Rattle.dealer_desk.specs.DealerFacts.{number_to_drop, quote_to_drop}
-use Rattle.dealer_desk.specs.DealerOutput.{DeskEvents, book_at, rooms_at, verdict_at, with_event}
+use Rattle.dealer_desk.specs.DealerDesk.{DeskEvents, book_at, rooms_at, verdict_at, with_event}
 use Rattle.dealer_desk.specs.DealerOutput.{word_asked, verdict_duty, number_in, unpost_dropped}
 use Rattle.dealer_desk.specs.DealerOutput.{further_drop}
 use Rattle.dealer_desk.specs.declared.events.DealerEvent.TheVariants as event

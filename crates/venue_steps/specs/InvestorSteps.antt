@@ -10,8 +10,8 @@ use Rattle.market_terms.specs.declared.duties.Duty.{Duty}
 use Rattle.market_terms.specs.declared.rooms.Offer.{Offer}
 use Rattle.market_terms.specs.declared.rooms.ResponseRef.{ResponseRef}
 use Rattle.investor_desk.specs.InvestorFacts.{knows}
-use Rattle.investor_desk.specs.InvestorOutput.{DeskEvents, book_at, verdict_at, verdict_duty}
-use Rattle.investor_desk.specs.InvestorOutput.{with_event}
+use Rattle.investor_desk.specs.InvestorDesk.{DeskEvents, book_at, verdict_at, with_event}
+use Rattle.investor_desk.specs.InvestorOutput.{verdict_duty}
 use Rattle.investor_desk.specs.declared.events.InvestorEvent.{InvestorEvent}
 use Rattle.investor_desk.specs.declared.events.InvestorEvent.TheVariants as event
 

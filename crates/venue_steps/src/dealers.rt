@@ -1,8 +1,9 @@
 //! The steps at a dealer's desk.
-ghost use Rattle.std.specs.Prelude.{◌≡◌, ◌<◌, ◌≤◌, ◌+◌, [], ◌++◌, IfOk, OnOk, OnErr};
-ghost use Rattle.std.specs.Prelude.{vec_len, vec_capacity};
+ghost use Rattle.std.specs.Prelude.{◌≡◌, ◌<◌, ◌≤◌, ◌+◌, [], ◌++◌, IfOk, OnOk, OnErr, vec_len};
+ghost use Rattle.std.specs.Prelude.{vec_capacity};
 ghost use Rattle.std.specs.Option.{option_to_list};
-ghost use Rattle.dealer_desk.specs.DealerOutput.{number_in, rooms_at, with_notice_in};
+ghost use Rattle.dealer_desk.specs.DealerDesk.{rooms_at, with_notice_in};
+ghost use Rattle.dealer_desk.specs.DealerOutput.{number_in};
 ghost use Rattle.venue_steps.specs.DealerSteps as spec;
 ghost use Rattle.venue_steps.specs.Words.{AsksAtMost, settlement_in, has_word, word_to_ask};
 

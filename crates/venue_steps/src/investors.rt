@@ -1,7 +1,7 @@
 //! The steps at an investor's desk.
 ghost use Rattle.std.specs.Prelude.{◌≡◌, ◌&&◌, [], IfOk, OnOk, OnErr};
 ghost use Rattle.investor_desk.specs.InvestorFacts.{knows};
-ghost use Rattle.investor_desk.specs.InvestorOutput.{book_at};
+ghost use Rattle.investor_desk.specs.InvestorDesk.{book_at};
 ghost use Rattle.venue_steps.specs.InvestorSteps as spec;
 
 use crate::Duties;

@@ -1,6 +1,6 @@
 -- Days on threads: their lines, and what a record has of each firm.
-use Rattle.std.proofs.Common.{◌≡◌, ℕ, zero, suc, ◌+◌, add-one, Bool, true, false, if◌then◌else◌, List, [], ◌∷◌, ◌++◌, map, refl, ap, ◌∙◌}
-use Rattle.std.proofs.Common.{Result, Ok, Err, length}
+use Rattle.std.proofs.Common.{◌≡◌, ℕ, zero, suc, ◌+◌, Bool, true, false, if◌then◌else◌, List, []}
+use Rattle.std.proofs.Common.{◌∷◌, ◌++◌, map, refl, ap, ◌∙◌, Result, Ok, Err, length}
 use Rattle.std.specs.Prelude.{slice_get}
 use Rattle.std.specs.Option.{option_map}
 use Rattle.venue_rows.specs.Rows.{ConfigValues, Configuration, values_of}
@@ -8,7 +8,7 @@ use Rattle.std.proofs.lemmas.List.{length-append, length-map}
 use Rattle.step_replay.specs.FirmDays.{FirmDay}
 use Rattle.recorded_days.specs.Records.{FirmLists}
 use Rattle.step_replay.specs.declared.steps.Step.{Step}
-use Rattle.venue_text.specs.ArrivingDays.{arrival_of_line, arrivals_from, inbox_of, inboxes_of, is_of_turns}
+use Rattle.venue_text.specs.ArrivingDays.{arrival_of_line, arrivals_from, is_of_turns}
 use Rattle.input_lines.specs.DueText.{Lines}
 use Rattle.venue_text.specs.RecordText.{recorded_day}
 use Rattle.input_lines.specs.ResultSteps.{◌>>=◌}
@@ -39,15 +39,6 @@ module _ (config : ConfigValues) (heard : Heard) (k : ℕ) (text : List ℕ) (re
   -- a line of turns
   pub turns_end : is_of_turns text ≡ true → behind_steps done (arrivals_from config heard ((k, text) ∷ rest)) ≡ Err (Form k)
   turns_end turns = ap (λ (b : Bool). with_rest (if b then Err (Form k) else steps_of_line config heard k text)) turns
-
-  -- a line at fault
-  pub fault_ends : (fault : ProgramFault) → is_of_turns text ≡ false → steps_of_line config heard k text ≡ Err fault
-      → behind_steps done (arrivals_from config heard ((k, text) ∷ rest)) ≡ Err fault
-  fault_ends fault no_turns is = ap with_rest (arrival_is (Err fault) no_turns is)
-
--- the inbox of a firm more
-pub inboxes_more : (steps : List Step) (firms : ℕ) → inboxes_of steps (firms + 1) ≡ inboxes_of steps firms ++ inbox_of steps firms ∷ []
-inboxes_more steps firms = ap (inboxes_of steps) (add-one firms)
 
 -- what a record has of a firm's messages
 pub recorded_sent : (firms : List FirmLists) (n : ℕ)

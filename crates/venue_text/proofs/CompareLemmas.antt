@@ -1,16 +1,13 @@
 -- Where two lists differ first.
-use Rattle.std.proofs.Common.{◌≡◌, ◌≢◌, ℕ, ◌+◌, ◌≤◌, List, [], ◌∷◌, ◌++◌, length, take}
-use Rattle.std.proofs.Common.{zero, suc, sym, ap, ◌∙◌, refl, arith, Bool, Option, Some, None}
+use Rattle.std.proofs.Common.{◌≡◌, ℕ, ◌+◌, ◌≤◌, List, [], ◌∷◌, ◌++◌, length, take, zero, suc, sym}
+use Rattle.std.proofs.Common.{ap, ◌∙◌, refl, arith, Bool, Option, Some, None}
 use Rattle.std.specs.Prelude.{slice_get, IsTrue, ◌↔◌}
-use Rattle.std.proofs.Common.{false}
-use Rattle.venue_rows.specs.Rows.{dealer_numbered}
-use Rattle.venue_rows.specs.declared.dealer_rows.DealerRow.{DealerRow}
-use Rattle.venue_text.specs.CompareText.{Run, HaveSameRow}
 use Rattle.venue_text.specs.ReplayText.{one_at}
 use Rattle.venue_text.proofs.DayLemmas.{take_more, one_at_some, one_at_none}
 
 -- the same at a place, as lists of one item or none
-same_one : {A : Type 0} (one other : List A) (place : ℕ) (item : Option A) → slice_get one place ≡ item → slice_get other place ≡ item
+
+pub same_one : {A : Type 0} (one other : List A) (place : ℕ) (item : Option A) → slice_get one place ≡ item → slice_get other place ≡ item
     → one_at place one ≡ one_at place other
 same_one one other place None is there = one_at_none one place is ∙ sym (one_at_none other place there)
 same_one one other place (Some x) is there = one_at_some one place x is ∙ sym (one_at_some other place x there)
@@ -24,7 +21,7 @@ same_more one other place before there =
     ∙ ap (λ xs. take place other ++ xs) (same_one one other place (slice_get other place) there refl)
     ∙ sym (take_more other place)
 
-take_whole : {A : Type 0} (xs : List A) (n : ℕ) → length xs ≤ n → take n xs ≡ xs
+pub take_whole : {A : Type 0} (xs : List A) (n : ℕ) → length xs ≤ n → take n xs ≡ xs
 take_whole [] zero long = refl
 take_whole [] (suc n) long = refl
 take_whole (x ∷ xs) zero long = absurd (omega arith)
@@ -42,20 +39,3 @@ pub same_found : {A : Type 0} (one other : List A) (place : ℕ) (x y : A) (test
     → IsTrue test ↔ (slice_get one place ≡ slice_get other place)
 same_found one other place x y test is there same =
     (λ t. sym is ∙ ap (λ v. Some v) (same.0 t) ∙ there, λ e. same.1 (let equal : x ≡ y = cc in equal))
-
--- whether two rows that may be there are one
-pub same_rows : (one other : Option DealerRow) (row there : DealerRow) (test : Bool) → Some row ≡ one → Some there ≡ other
-    → IsTrue test ↔ (row ≡ there) → IsTrue test ↔ (one ≡ other)
-same_rows one other row there test is there_is same = (
-  λ t. sym is ∙ ap (λ v. Some v) (same.0 t) ∙ there_is,
-  λ rows. same.1 (let equal : row ≡ there = cc in equal),
-)
-
--- rows of runs of one date
-pub row_alone : (one other : Run) (test : Bool) → one.config.date ≡ other.config.date
-    → IsTrue test ↔ (dealer_numbered one.config one.dealer ≡ dealer_numbered other.config other.dealer) → IsTrue test ↔ HaveSameRow one other
-row_alone one other test dates same = (λ t. (dates, same.0 t), λ have. same.1 have.1)
-
--- runs of two dates have not the same row
-pub another_date : (one other : Run) → one.config.date ≢ other.config.date → IsTrue false ↔ HaveSameRow one other
-another_date one other apart = (λ t. cc, λ have. absurd (apart have.0))

@@ -1,6 +1,7 @@
 -- Lists one item at a time: firms with their days, and words behind spaces.
-use Rattle.std.proofs.Common.{◌≡◌, ◌<◌, ◌≤◌, ℕ, ◌+◌, List, [], ◌∷◌, ◌++◌, length, map, take}
-use Rattle.std.proofs.Common.{zero, suc, add-one, get_or, sym, subst, ap, ◌∙◌, refl, append_assoc, Option, Some, None}
+use Rattle.std.proofs.Common.{◌≡◌, ◌<◌, ◌≤◌, ℕ, ◌+◌, List, [], ◌∷◌, ◌++◌, length, map, take, zero}
+use Rattle.std.proofs.Common.{suc, add-one, get_or, sym, subst, ap, ◌∙◌, refl, append_assoc, Option}
+use Rattle.std.proofs.Common.{Some, None, Bool}
 use Rattle.std.proofs.lemmas.List.{append-nil, length-append, length-map}
 use Rattle.std.proofs.lemmas.Option.{slice_get-map, slice_get_past, slice_get_read}
 use Rattle.std.proofs.lemmas.Grind.{flat_map-append}
@@ -9,7 +10,6 @@ use Rattle.venue_rows.specs.declared.dealer_rows.DealerRow.{DealerRow}
 use Rattle.venue_rows.specs.declared.investor_rows.InvestorRow.{InvestorRow}
 use Rattle.std.specs.Prelude.{slice_get}
 use Rattle.std.specs.List.{flat_map, zip, join_with_byte}
-use Rattle.std.proofs.Common.{Bool}
 use Rattle.std.specs.Option.{option_map}
 use Rattle.step_replay.specs.FirmDays.{FirmDay}
 use Rattle.venue_text.specs.MessageLines.{line_of, messages_text}
@@ -17,7 +17,7 @@ use Rattle.venue_text.specs.ReplayText.{one_at, days_text, firm_text, list_text,
 use Rattle.venue_text.specs.DueCommand.{part_line}
 use Rattle.venue_text.specs.DueCuts.{parts_behind}
 
-take_suc : {A : Type 0} (xs : List A) (n : ℕ) → take (suc n) xs ≡ take n xs ++ one_at n xs
+pub take_suc : {A : Type 0} (xs : List A) (n : ℕ) → take (suc n) xs ≡ take n xs ++ one_at n xs
 take_suc [] zero = refl
 take_suc [] (suc n) = refl
 take_suc (x ∷ xs) zero = refl

@@ -1,7 +1,7 @@
 -- What `live` prints of one firm is what is printed of the firm at the end of the same day.
-use Rattle.std.proofs.Common.{◌≡◌, ◌<◌, ℕ, zero, suc, ◌==◌, Bool, true, false, nat_lt, List, [], ◌∷◌}
-use Rattle.std.proofs.Common.{◌++◌, length, drop, fold, map, Option, Some, None, Result, Ok, Err, refl, sym, ap}
-use Rattle.std.proofs.Common.{◌∙◌, arith, inl, inr}
+use Rattle.std.proofs.Common.{◌≡◌, ◌<◌, ℕ, zero, suc, ◌==◌, Bool, true, false, nat_lt, List, []}
+use Rattle.std.proofs.Common.{◌∷◌, ◌++◌, length, drop, fold, map, Option, Some, None, Result, Ok}
+use Rattle.std.proofs.Common.{Err, refl, sym, ap, ◌∙◌, arith, inl, inr}
 use Rattle.std.specs.Prelude.{slice_get}
 use Rattle.std.specs.List.{flat_map}
 use Rattle.std.specs.Option.{option_map, option_to_list}
@@ -151,7 +151,7 @@ part_named frames config firm name named (sent ∷ later) =
 
 -- The firm that a name names.
 
-asked_firm_is : (found : Option ℕ) (firm : ℕ) → asked found ≡ Ok firm → found ≡ Some firm
+pub asked_firm_is : (found : Option ℕ) (firm : ℕ) → asked found ≡ Ok firm → found ≡ Some firm
 asked_firm_is None firm is = cc
 asked_firm_is (Some found) firm is = cc
 

@@ -1,25 +1,22 @@
 -- A day that comes line by line, and what is printed of it at its end.
-use Rattle.std.proofs.Common.{◌≡◌, ◌<◌, ◌++◌, ◌∷◌, [], ℕ, zero, suc, true, List, length, map, Option}
-use Rattle.std.proofs.Common.{Some, None, Result, Ok, Err, IsSome, is_some, refl, sym, ap, subst, ◌∙◌}
-use Rattle.std.proofs.Common.{arith}
-use Rattle.std.specs.Prelude.{slice_get}
+use Rattle.std.proofs.Common.{◌≡◌, ◌<◌, ◌++◌, ℕ, List, length, map, Option, Some, Result, Ok, Err}
+use Rattle.std.proofs.Common.{IsSome, refl, sym, ap, subst, ◌∙◌, arith}
 use Rattle.std.specs.Option.{option_to_list}
 use Rattle.std.proofs.lemmas.Iterator.Adapters.{position_from-zero}
 use Rattle.std.proofs.lemmas.List.{length-map}
-use Rattle.venue_rows.specs.Rows.{ConfigValues, Configuration, DealerValues, dealer_numbered}
-use Rattle.venue_rows.specs.Rows.{dealer_values, values_of}
+use Rattle.venue_rows.specs.Rows.{Configuration, DealerValues, dealer_numbered, dealer_values}
+use Rattle.venue_rows.specs.Rows.{values_of}
 use Rattle.venue_rows.specs.Texts.{same_text}
 use Rattle.step_replay.specs.LiveDays.{Sent}
 use Rattle.step_replay.specs.LiveStanding.{IsAt}
 use Rattle.step_replay.specs.declared.steps.Step.{Step}
 use Rattle.venue_text.specs.AskedDays.{dealer_by}
-use Rattle.venue_text.specs.KeptDays.{Keeps, KeepsMore, OpensKept, Wanted, asked_in, asked_venue}
-use Rattle.venue_text.specs.KeptDays.{dues, kept_text, text_if, text_of_asked}
+use Rattle.venue_text.specs.KeptDays.{Keeps, KeepsMore, OpensKept, Wanted, asked_in, dues}
+use Rattle.venue_text.specs.KeptDays.{kept_text, text_if, text_of_asked}
 use Rattle.venue_text.specs.LiveAnswers.{Goes, Opens, Sends}
 use Rattle.venue_text.specs.LiveLines.{Taken}
 use Rattle.input_lines.specs.ResultSteps.{◌>>=◌}
-use Rattle.input_lines.specs.StepLines.{asked, dealer_named}
-use Rattle.input_lines.specs.VenueParts.{venue_of}
+use Rattle.input_lines.specs.StepLines.{dealer_named}
 use Rattle.input_lines.specs.declared.faults.ProgramFault.{ProgramFault}
 use Rattle.venue_text.specs.declared.kept_days.Asked.{Asked}
 use Rattle.venue_text.specs.declared.kept_days.Asked.TheVariants as by_number
@@ -28,8 +25,11 @@ use Rattle.venue_text.specs.declared.live_form.LiveForm.{LiveForm}
 use Rattle.venue_text.specs.declared.live_lines.LiveDay.{LiveDay}
 use Rattle.input_lines.specs.FirmLemmas.{found_within}
 use Rattle.venue_text.proofs.LiveLemmas.{faults_told}
+use Rattle.venue_text.proofs.FirmLineLemmas.{asked_firm_is}
+use Rattle.step_replay.specs.PlaceLemmas.{has_item}
 
 -- a day goes on in its own form, whichever that is
+
 own_form : (form : LiveForm) (config : Configuration) (taken : Taken) (day : LiveDay)
     → Goes form config taken day → Goes day.form config taken day
 own_form form config taken day goes = record {
@@ -52,19 +52,6 @@ opened wanted form text kept opens names = record {
         (sym opens.goes.config_is) ∙ sym names;
   };
 }
-
--- the fault of a configuration, or of the name that is asked for in its venue
-pub no_venue : (wanted : Wanted) (text : List ℕ) (fault : ProgramFault) → venue_of text ≡ Err fault
-    → asked_venue wanted text ≡ Err fault
-no_venue wanted text fault is = ap (λ (r : Result ConfigValues ProgramFault). r >>= asked_in wanted) is
-
-pub not_asked : (wanted : Wanted) (form : LiveForm) (text : List ℕ) (day : LiveDay)
-    (fault : ProgramFault) → Opens form text day
-    → Err fault ≡ asked_in wanted (values_of day.config) → asked_venue wanted text ≡ Err fault
-not_asked wanted form text day fault opens is =
-    ap (λ (r : Result ConfigValues ProgramFault). r >>= asked_in wanted) opens.spelled
-    ∙ ap (λ (config : Configuration). asked_in wanted (values_of config)) (sym opens.goes.config_is)
-    ∙ sym is
 
 -- a line more
 pub kept_more : (wanted : Wanted) (config : Configuration) (taken : Taken) (k : ℕ) (line : List ℕ)
@@ -99,26 +86,17 @@ text_kept wanted config taken kept has text is printed keeps =
 
 -- The dealer of whom due text is wanted.
 
-asked_is_named : (found : Option ℕ) (number : ℕ) → asked found ≡ Ok number → found ≡ Some number
-asked_is_named None number is = cc
-asked_is_named (Some found) number is = cc
-
-item_at : {A : Type 0} (xs : List A) (n : ℕ) → n < length xs → is_some (slice_get xs n) ≡ true
-item_at [] n within = absurd (omega arith)
-item_at (x ∷ xs) zero within = refl
-item_at (x ∷ xs) (suc n) within = item_at xs n (omega arith)
-
 -- it is one of the venue
 pub dealer_is_known : (config : Configuration) (name : List ℕ) (dealer : ℕ)
     → dealer_by name (values_of config) ≡ Ok dealer → IsSome (dealer_numbered config dealer)
 dealer_is_known config name dealer is =
     let test = λ (row : DealerValues). same_text row.name name in
     let rows = map dealer_values config.dealers in
-    let found = asked_is_named (dealer_named (values_of config) name) dealer is in
+    let found = asked_firm_is (dealer_named (values_of config) name) dealer is in
     let below = found_within test 0 dealer rows (sym (position_from-zero test rows) ∙ found) in
     let many = length-map config.dealers dealer_values in
     let within : dealer < length config.dealers = omega (arith, below, many) in
-    item_at config.dealers dealer within
+    has_item config.dealers dealer within
 
 -- and it is the one that the day has
 dealer_of : (found : Result ℕ ProgramFault) (has : Asked)

@@ -6,7 +6,7 @@ use Rattle.std.proofs.lemmas.List.Concat.{flat_map-append}
 use Rattle.std.proofs.lemmas.List.Elements.{filter_map-append}
 use Rattle.market_terms.specs.declared.duties.Duty.{Duty}
 use Rattle.venue_rows.specs.Rows.{Configuration}
-use Rattle.step_replay.specs.Actions.{duty_effect, message_effect, sweep_effect}
+use Rattle.step_replay.specs.DutyEffects.{duty_effect, message_effect, sweep_effect}
 use Rattle.step_replay.specs.AuditTrail.{AuditTrail, after_step, after_turn, audit_trail, no_steps, pending}
 use Rattle.step_replay.specs.LiveDays.{Sent, live_messages, live_steps, messages_in, sent_in, with_turns}
 use Rattle.step_replay.specs.VenueFacts.{Fact}

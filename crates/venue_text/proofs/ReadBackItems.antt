@@ -1,8 +1,7 @@
 -- Each item of what was due, written as a line and read again.
-use Rattle.std.proofs.Common.{◌≡◌, ℕ, ◌/◌, ◌%◌, ◌<◌, ◌==◌, ◌||◌, not, Bool, true, false}
-use Rattle.std.proofs.Common.{cond, List, [], ◌∷◌, ◌++◌, length, map, codes, decimal}
-use Rattle.std.proofs.Common.{slice_index, Option, Some, Ok, refl, ap, ◌∙◌, arith, inl, inr}
-use Rattle.std.proofs.Common.{zero, suc}
+use Rattle.std.proofs.Common.{◌≡◌, ℕ, ◌/◌, ◌%◌, ◌<◌, ◌==◌, ◌||◌, not, Bool, true, false, cond, List}
+use Rattle.std.proofs.Common.{[], ◌∷◌, ◌++◌, length, map, codes, decimal, slice_index, Option, Some}
+use Rattle.std.proofs.Common.{Ok, refl, ap, ◌∙◌, arith, inl, inr, zero, suc}
 use Rattle.std.specs.List.{list_all, list_any}
 use Rattle.std.specs.Result.{result_ok}
 use Rattle.std.proofs.lemmas.Bool.{and_parts, cases_Bool, or_parts}
@@ -22,14 +21,13 @@ use Rattle.input_lines.specs.Lines.{behind_part, first_part, time_of}
 use Rattle.input_lines.specs.OptionSteps.{◌>>=◌}
 use Rattle.venue_text.specs.ReadBack.{ReadsAs, is_in_line, is_in_part, is_short}
 use Rattle.input_lines.specs.SayLine.{hexed_of, received_of, soh_for_bar, with_bar}
-use Rattle.venue_text.specs.WrittenDues.{bytes_line, due_line, hex_line}
-use Rattle.venue_text.specs.WrittenDues.{is_unsayable, own_line}
-use Rattle.venue_text.proofs.ReadBackParts.{all_append, all_more, behind_is, decimal_in_part, first_is}
-use Rattle.venue_text.proofs.ReadBackParts.{in_line, short_back, time_in_part}
+use Rattle.venue_text.specs.WrittenDues.{bytes_line, due_line, hex_line, is_unsayable, own_line}
+use Rattle.venue_text.proofs.ReadBackParts.{all_append, all_more, behind_is, decimal_in_part}
+use Rattle.venue_text.proofs.ReadBackParts.{first_is, in_line, short_back, time_in_part}
 
 -- Numbers.
 
-short_word : (n : ℕ) → is_short n ≡ true → list_all is_in_part (decimal n) ≡ true
+pub short_word : (n : ℕ) → is_short n ≡ true → list_all is_in_part (decimal n) ≡ true
 short_word n short =
     let below : n < 1000000000 = grind (arith, nat_tests) in
     decimal_in_part n (omega arith)

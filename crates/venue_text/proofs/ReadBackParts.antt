@@ -1,14 +1,16 @@
 -- Parts of lines that are written: where they end, and what they are read as.
-use Rattle.std.proofs.Common.{◌≡◌, ℕ, ◌+◌, ◌/◌, ◌%◌, ◌^◌, ◌<◌, ◌≤◌, ◌==◌, ◌&&◌, ◌||◌, not, Bool, true, false}
-use Rattle.std.proofs.Common.{cond, nat_le, nat_lt, List, [], ◌∷◌, ◌++◌, length, decimal}
-use Rattle.std.proofs.Common.{Some, None, Ok, refl, sym, ap, ap₂, ◌∙◌, arith, inl, inr, rules}
+use Rattle.std.proofs.Common.{◌≡◌, ℕ, ◌+◌, ◌/◌, ◌%◌, ◌^◌, ◌<◌, ◌≤◌, ◌==◌, ◌&&◌, ◌||◌, not, Bool}
+use Rattle.std.proofs.Common.{true, false, cond, nat_le, nat_lt, List, [], ◌∷◌, ◌++◌, length}
+use Rattle.std.proofs.Common.{decimal, Some, None, Ok, refl, sym, ap, ap₂, ◌∙◌, arith, inl, inr}
+use Rattle.std.proofs.Common.{rules}
 use Rattle.std.specs.Char.{is_ascii_digit, is_ascii_uppercase}
 use Rattle.std.specs.List.{list_all}
 use Rattle.std.specs.Result.{result_ok}
 use Rattle.std.specs.Str.Parse.{digits_value}
-use Rattle.std.proofs.lemmas.Bool.{and_parts, cases_Bool}
+use Rattle.std.proofs.lemmas.Bool.{and_parts, cases_Bool, not-true}
 use Rattle.std.proofs.lemmas.Bool.Decides.{nat_tests}
-use Rattle.std.proofs.lemmas.Fmt.{decimal_nonempty, digits_decimal, digits_value-decimal, length-decimal-le}
+use Rattle.std.proofs.lemmas.Fmt.{decimal_nonempty, digits_decimal, digits_value-decimal}
+use Rattle.std.proofs.lemmas.Fmt.{length-decimal-le}
 use Rattle.std.proofs.lemmas.List.{append_assoc}
 use Rattle.std.proofs.lemmas.Str.Parse.{IsNumeralModel, numerals_by_value}
 use Rattle.fix_fields.specs.Frame.{three_digits}
@@ -46,16 +48,12 @@ part_in_line c is = (and_parts (not (c == 32)) (not (c == 10)) is).1
 pub in_line : (text : List ℕ) → list_all is_in_part text ≡ true → list_all is_in_line text ≡ true
 in_line text all = all_weaker is_in_part is_in_line part_in_line text all
 
-not_true : (b : Bool) → not b ≡ true → b ≡ false
-not_true true is = cc
-not_true false is = refl
-
 -- no space is in a part
 no_space : (c : ℕ) → is_in_part c ≡ true → (c == 32) ≡ false
-no_space c is = not_true (c == 32) (and_parts (not (c == 32)) (not (c == 10)) is).0
+no_space c is = not-true (c == 32) (and_parts (not (c == 32)) (not (c == 10)) is).0
 
 no_feed : (c : ℕ) → is_in_line c ≡ true → (c == 10) ≡ false
-no_feed c is = not_true (c == 10) is
+no_feed c is = not-true (c == 10) is
 
 -- A part, and what stands behind it.
 
@@ -168,7 +166,7 @@ bond_in_part bond is =
 
 -- Times of day.
 
-glyph : (d : ℕ) → is_in_part (48 + d) ≡ true
+pub glyph : (d : ℕ) → is_in_part (48 + d) ≡ true
 glyph d = grind (arith, nat_tests)
 
 two_in_part : (n : ℕ) → list_all is_in_part (two_digits n) ≡ true

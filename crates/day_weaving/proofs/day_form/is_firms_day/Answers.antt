@@ -1,5 +1,6 @@
 use Rattle.std.proofs.Common.{◌≡◌, arith, length, sym, ◌∙◌}
-use Rattle.day_weaving.proofs.DayFormLemmas.{desk_swept, firm_sweeps, not_false, other_inbox}
+use Rattle.std.proofs.lemmas.Bool.{not-false}
+use Rattle.day_weaving.proofs.DayFormLemmas.{desk_swept, firm_sweeps, other_inbox}
 use Rattle.day_weaving.proofs.day_form.is_firms_day.Goals as goal
 
 pub returns-then-messages_in-inbox-clause-no : goal.returns-then-messages_in-inbox-clause-no
@@ -16,4 +17,4 @@ returns-then-sweeps_any-clause-no c told config =
 pub returns-clause-no : goal.returns-clause-no
 returns-clause-no c told config =
     desk_swept config c.args.day.now c.args.firm c.in-Some-desk_order.order.now
-    c.in-Some-desk_order.ensures (sym c.is_swept.ensures ∙ not_false c.is_swept.result told)
+    c.in-Some-desk_order.ensures (sym c.is_swept.ensures ∙ not-false c.is_swept.result told)

@@ -1,8 +1,8 @@
 use Rattle.std.proofs.Common.{sym, ◌∙◌}
 use Rattle.std.specs.List.{list_any}
 use Rattle.std.proofs.lemmas.Option.{IfSome_then}
+use Rattle.std.proofs.lemmas.Bool.{not-true}
 use Rattle.day_weaving.specs.DayForm.{AreMisnamed, IsMalformed, Misnamed, takes_message}
-use Rattle.day_weaving.proofs.DayFormLemmas.{not_true}
 use Rattle.day_weaving.proofs.NumberedLemmas.{none_then}
 use Rattle.day_weaving.proofs.day_form.well_formed_places.Goals as goal
 
@@ -13,7 +13,7 @@ returns-clause-yes c =
       record {
         firms = c.has_firms_of.ensures.yes c.if-not-has_firms_of.false;
         days = c.are_firms_days.ensures.yes c.if-not-are_firms_days.false;
-        clock = not_true (list_any takes_message c.args.day.now.clock)
+        clock = not-true (list_any takes_message c.args.day.now.clock)
             (sym c.has_no_message_of_clock.ensures ∙ c.if-not-has_no_message_of_clock.false);
         named = told.0;
       },

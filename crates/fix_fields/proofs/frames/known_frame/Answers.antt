@@ -2,8 +2,8 @@ use Rattle.std.proofs.Common.{◌≡◌, ◌-◌, ◌<◌, Some, length, take, d
 use Rattle.std.proofs.lemmas.List.{take_rest, length-drop}
 use Rattle.fix_fields.specs.Frame.{fields_of, frame_of}
 use Rattle.fix_fields.specs.Scan.{IsBodyText}
-use Rattle.fix_fields.proofs.FieldLemmas.{place_of}
-use Rattle.fix_fields.proofs.FrameLemmas.{has_body, behind_cut}
+use Rattle.fix_fields.proofs.PlaceLemmas.{place_of}
+use Rattle.fix_fields.proofs.FrameParts.{has_body, behind_cut}
 use Rattle.fix_fields.proofs.frames.known_frame.Goals as goal
 
 pub slice_bounds-rest-count : goal.slice_bounds-rest-count

@@ -1,9 +1,9 @@
 use Rattle.std.proofs.Common.{◌≡◌, true, false, sym, ap, ◌∙◌, subst, rules, sum, ◌%◌}
 use Rattle.std.proofs.lemmas.Bool.{false≢true}
 use Rattle.fix_fields.specs.Frame.{IsFrame}
-use Rattle.fix_fields.proofs.FieldLemmas.{text_of_fields, AreBody-lawful, is_body_text}
+use Rattle.fix_fields.proofs.FieldsText.{text_of_fields, AreBody-lawful, is_body_text}
 use Rattle.fix_fields.proofs.CutLemmas.{cut_once, body_fits, front_of_cut}
-use Rattle.fix_fields.proofs.FrameLemmas.{frame_of_parts, cut_of_fields, cut_of_end, sum_of_frame}
+use Rattle.fix_fields.proofs.FrameParts.{frame_of_parts, cut_of_fields, cut_of_end, sum_of_frame}
 use Rattle.fix_fields.proofs.frames.read.Goals as goal
 
 pub returns-then-not-is_body : goal.returns-then-not-is_body

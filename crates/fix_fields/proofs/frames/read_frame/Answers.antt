@@ -1,5 +1,5 @@
 use Rattle.fix_fields.proofs.FrameLemmas.{reads_frame, is_frame_read, reads_fault, is_fault_read}
-use Rattle.fix_fields.proofs.FrameLemmas.{reads_exactly}
+use Rattle.fix_fields.proofs.FrameParts.{reads_exactly}
 use Rattle.fix_fields.proofs.frames.read_frame.Goals as goal
 
 pub returns-clause-read : goal.returns-clause-read

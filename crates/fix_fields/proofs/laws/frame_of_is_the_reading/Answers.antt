@@ -1,5 +1,5 @@
 use Rattle.fix_fields.specs.Frame.{fields_len}
-use Rattle.fix_fields.proofs.FrameLemmas.{frame_of-frame, is_frame_of}
+use Rattle.fix_fields.proofs.FrameParts.{frame_of-frame, is_frame_of}
 use Rattle.fix_fields.proofs.WriterLemmas.{is_frame_text}
 use Rattle.fix_fields.proofs.laws.frame_of_is_the_reading.Goals as goal
 

@@ -1,6 +1,6 @@
 use Rattle.std.proofs.Common.{inl, refl}
 use Rattle.fix_fields.specs.UtcTimestamp.{timestamp_text}
-use Rattle.fix_fields.proofs.ClockLemmas.{timestamp_once, is_own, moment_of-own}
+use Rattle.fix_fields.proofs.MomentLemmas.{timestamp_once, is_own, moment_of-own}
 use Rattle.fix_fields.proofs.laws.moment_of_is_the_reading.Goals as goal
 
 pub returns-clause-one : goal.returns-clause-one

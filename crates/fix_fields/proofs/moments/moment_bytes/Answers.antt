@@ -2,7 +2,8 @@ use Rattle.std.proofs.Common.{sym, ap, ◌∙◌, subst, arith, rules, length, r
 use Rattle.std.specs.Str.{IsUtf8}
 use Rattle.fix_fields.specs.TimeOfDay.{time_text}
 use Rattle.fix_fields.specs.UtcTimestamp.{IsDate, timestamp_text, moment_of}
-use Rattle.fix_fields.proofs.ClockLemmas.{written_behind, timestamp_utf8, moment_of-own}
+use Rattle.fix_fields.proofs.MomentLemmas.{moment_of-own}
+use Rattle.fix_fields.proofs.WrittenClock.{written_behind, timestamp_utf8}
 use Rattle.fix_fields.proofs.moments.moment_bytes.Goals as goal
 
 pub returns-clause-text : goal.returns-clause-text

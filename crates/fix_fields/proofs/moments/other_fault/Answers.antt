@@ -1,8 +1,8 @@
 use Rattle.std.proofs.Common.{take, drop, ◌∙◌, sym, subst}
 use Rattle.fix_fields.specs.UtcTimestamp.{IsDate}
 use Rattle.fix_fields.specs.Clock.{IsClock}
-use Rattle.fix_fields.proofs.ClockLemmas.{clock_of, timestamp_of, moment_of-other}
-use Rattle.fix_fields.proofs.ClockLemmas.{moment_of-other_day}
+use Rattle.fix_fields.proofs.MomentLemmas.{clock_of, timestamp_of, moment_of-other}
+use Rattle.fix_fields.proofs.MomentLemmas.{moment_of-other_day}
 use Rattle.fix_fields.proofs.moments.other_fault.Goals as goal
 
 pub returns-in_default : goal.returns-in_default

@@ -1,6 +1,6 @@
 use Rattle.std.proofs.Common.{sym, ◌∙◌}
-use Rattle.fix_fields.proofs.ClockLemmas.{moment_of-other, moment_of-own, moment_of-other_day}
-use Rattle.fix_fields.proofs.ClockLemmas.{is_own, is_form, is_other_day}
+use Rattle.fix_fields.proofs.MomentLemmas.{moment_of-other, moment_of-own, moment_of-other_day}
+use Rattle.fix_fields.proofs.MomentLemmas.{is_own, is_form, is_other_day}
 use Rattle.fix_fields.proofs.moments.read_moment.Goals as goal
 
 pub returns-clause-read : goal.returns-clause-read

@@ -1,6 +1,6 @@
 use Rattle.std.proofs.Common.{◌∙◌, ap, refl}
 use Rattle.fix_fields.specs.TimeOfDay as time
-use Rattle.fix_fields.proofs.ClockLemmas.{written}
+use Rattle.fix_fields.proofs.WrittenClock.{written}
 use Rattle.fix_fields.proofs.moments.time_bytes.Goals as goal
 
 pub returns : goal.returns

@@ -1,7 +1,7 @@
 use Rattle.std.proofs.Common.{◌≡◌, sym, ap, ◌∙◌, ◌∷◌, ◌++◌, subst, arith, rules}
 use Rattle.std.specs.Str.{IsUtf8}
 use Rattle.fix_fields.specs.TimeOfDay as time
-use Rattle.fix_fields.proofs.ClockLemmas.{dated, time_utf8}
+use Rattle.fix_fields.proofs.WrittenClock.{dated, time_utf8}
 use Rattle.fix_fields.proofs.moments.time_text.Goals as goal
 
 pub unreachable-requires : goal.unreachable-requires

@@ -1,6 +1,7 @@
 use Rattle.std.proofs.Common.{◌+◌, drop, ap, ◌∙◌}
 use Rattle.std.proofs.lemmas.List.{take_rest}
-use Rattle.fix_fields.proofs.FieldLemmas.{IsFieldAt, place_of}
+use Rattle.fix_fields.proofs.FieldLemmas.{IsFieldAt}
+use Rattle.fix_fields.proofs.PlaceLemmas.{place_of}
 use Rattle.fix_fields.proofs.LawfulLemmas.{lawful_parts, lawful_field_at}
 use Rattle.fix_fields.proofs.scan.first_field.Goals as goal
 

@@ -2,8 +2,8 @@ use Rattle.std.proofs.Common.{◌≡◌, true, false, drop, sym, ◌∙◌, rule
 use Rattle.std.proofs.lemmas.Bool.{false≢true}
 use Rattle.std.proofs.lemmas.Bool.Decides.{Decides-eqb}
 use Rattle.std.proofs.lemmas.Slice.Eq.{starts_is}
-use Rattle.fix_fields.proofs.FieldLemmas.{msg_type_text, fields_of_body, body_begins}
-use Rattle.fix_fields.proofs.FieldLemmas.{body_from_fields}
+use Rattle.fix_fields.proofs.FieldsText.{msg_type_text, fields_of_body, body_begins}
+use Rattle.fix_fields.proofs.FieldsText.{body_from_fields}
 use Rattle.fix_fields.proofs.scan.is_body.Goals as goal
 
 pub returns-then-not-starts_with : goal.returns-then-not-starts_with

@@ -1,6 +1,7 @@
 use Rattle.std.proofs.Common.{◌≡◌, ◌+◌, ◌<◌, length, drop, ap, ◌∙◌, arith, inl, inr, refl}
 use Rattle.std.proofs.lemmas.List.{take_rest}
-use Rattle.fix_fields.proofs.FieldLemmas.{HasParts, parts_of, field_at, place_of}
+use Rattle.fix_fields.proofs.FieldLemmas.{HasParts, parts_of, field_at}
+use Rattle.fix_fields.proofs.PlaceLemmas.{place_of}
 use Rattle.fix_fields.proofs.scan.split_field.Goals as goal
 
 pub returns-then-digits-eq0 : goal.returns-then-digits-eq0

@@ -2,7 +2,7 @@ use Rattle.std.proofs.Common.{◌≡◌, ◌+◌, ◌<◌, ◌≤◌, length, sy
 use Rattle.std.proofs.lemmas.Bool.Decides.{nat_tests}
 use Rattle.std.proofs.lemmas.List.{take_rest}
 use Rattle.fix_fields.proofs.BlockLemmas.{none_in_block, place_in_block}
-use Rattle.fix_fields.proofs.FieldLemmas.{place_of, place_from}
+use Rattle.fix_fields.proofs.PlaceLemmas.{place_of, place_from}
 use Rattle.fix_fields.proofs.scan.value_len.Goals as goal
 
 pub returns-then-before-ne-BLOCK-clause-place : goal.returns-then-before-ne-BLOCK-clause-place

@@ -1,7 +1,7 @@
 use Rattle.std.proofs.Common.{◌≡◌, ◌==◌, length, ap, sym, ◌∙◌}
 use Rattle.fix_fields.specs.Frame as spec
-use Rattle.fix_fields.proofs.FieldLemmas.{value_by_place}
-use Rattle.fix_fields.proofs.FrameLemmas.{value_decides}
+use Rattle.fix_fields.proofs.PlaceLemmas.{value_by_place}
+use Rattle.fix_fields.proofs.FrameTests.{value_decides}
 use Rattle.fix_fields.proofs.writer.is_value.Goals as goal
 
 exactly : (c : goal.After-value_len) → (c.value_len.result == length c.args.value.now) ≡ spec.is_value c.args.value.now

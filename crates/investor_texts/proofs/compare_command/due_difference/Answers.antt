@@ -1,7 +1,7 @@
 use Rattle.std.proofs.Common.{length, arith}
 use Rattle.std.proofs.Math.Nat.{le-max_left, le-max_right}
-use Rattle.investor_texts.proofs.CompareLemmas.{same_more, same_all}
 use Rattle.investor_texts.proofs.compare_command.due_difference.Goals as goal
+use Rattle.venue_text.proofs.CompareLemmas.{same_more, same_all}
 
 pub loop-place-preserved : goal.loop-place-preserved
 loop-place-preserved c =

@@ -2,9 +2,10 @@ use Rattle.std.proofs.Common.{◌≡◌, length, false, nat_lt, arith}
 use Rattle.std.proofs.lemmas.Bool.Decides.{nat_tests}
 use Rattle.input_lines.specs.declared.lines.TheConstants.{MOST_INPUT}
 use Rattle.investor_texts.specs.DueCommand.{investor_by}
-use Rattle.investor_texts.proofs.AskedLemmas.{row_there, two_days_are}
+use Rattle.investor_texts.proofs.AskedLemmas.{row_there}
 use Rattle.investor_texts.proofs.CompareLemmas.{run_of, run_is}
 use Rattle.investor_texts.proofs.compare_command.investor_compare_text.Goals as goal
+use Rattle.venue_text.proofs.AskedLemmas.{two_days_are}
 
 pub returns-clause-ok : goal.returns-clause-ok
 returns-clause-ok c =

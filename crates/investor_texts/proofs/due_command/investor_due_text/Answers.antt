@@ -2,8 +2,8 @@ use Rattle.std.proofs.Common.{◌≡◌, length, false, nat_lt, arith}
 use Rattle.std.proofs.lemmas.Bool.Decides.{nat_tests}
 use Rattle.input_lines.specs.declared.lines.TheConstants.{MOST_INPUT}
 use Rattle.investor_texts.specs.DueCommand.{investor_by}
-use Rattle.investor_texts.proofs.AskedLemmas.{one_day_is}
 use Rattle.investor_texts.proofs.due_command.investor_due_text.Goals as goal
+use Rattle.venue_text.proofs.AskedLemmas.{one_day_is}
 
 pub returns-clause-ok : goal.returns-clause-ok
 returns-clause-ok c =

@@ -1,6 +1,6 @@
 use Rattle.std.proofs.Common.{◌<◌, ◌^◌, lit<, arith}
-use Rattle.investor_texts.proofs.NumberLemmas.{number_is_small}
 use Rattle.investor_texts.proofs.investor_lines.read_bond.Goals as goal
+use Rattle.input_lines.proofs.TagLemmas.{number_is_small}
 
 pub overflow_cast-steps : goal.overflow_cast-steps
 overflow_cast-steps c =

@@ -1,6 +1,6 @@
 use Rattle.std.proofs.Common.{◌<◌, ◌^◌, lit<, arith}
-use Rattle.investor_texts.proofs.NumberLemmas.{number_is_small}
 use Rattle.investor_texts.proofs.item_lines.read_request.Goals as goal
+use Rattle.input_lines.proofs.TagLemmas.{number_is_small}
 
 pub overflow_cast-result : goal.overflow_cast-result
 overflow_cast-result c =

@@ -3,7 +3,7 @@ use Rattle.std.proofs.Math.Nat.{le-max_left, le-max_right}
 use Rattle.std.proofs.lemmas.List.{length-map}
 use Rattle.venue_rows.specs.declared.dealer_rows.DealerRow.{DealerRow}
 use Rattle.investor_texts.specs.DealerNames.{names_of}
-use Rattle.investor_texts.proofs.CompareLemmas.{same_more, same_all}
+use Rattle.venue_text.proofs.CompareLemmas.{same_more, same_all}
 use Rattle.investor_texts.proofs.MarketLemmas.{apart_by_name, is_one, same_name}
 use Rattle.investor_texts.proofs.same_market.are_same_names.Goals as goal
 

@@ -1,4 +1,4 @@
-use Rattle.investor_desk.specs.InvestorOutput.{market_of}
+use Rattle.investor_desk.specs.InvestorDesk.{market_of}
 use Rattle.step_replay.specs.AuditTrail.{audit_trail}
 use Rattle.investor_views.specs.Comings.{comings, desk_by}
 use Rattle.investor_views.proofs.DayLemmas.{day_stands}

@@ -1,7 +1,7 @@
 use Rattle.std.proofs.Common.{◌∙◌, Some, ap}
 use Rattle.step_replay.specs.LiveDays.{live_steps}
-use Rattle.investor_views.proofs.DayLemmas.{investor_within}
 use Rattle.investor_views.proofs.laws.investors_are_given_their_view.Goals as goal
+use Rattle.step_replay.specs.PlaceLemmas.{investor_within}
 
 pub returns-clause-days : goal.returns-clause-days
 returns-clause-days c config steps investor row is =

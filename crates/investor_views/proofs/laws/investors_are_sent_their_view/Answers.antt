@@ -1,5 +1,5 @@
 use Rattle.std.proofs.Common.{◌∙◌, Option, ap, option_map, sym}
-use Rattle.investor_desk.specs.InvestorOutput.{market_of}
+use Rattle.investor_desk.specs.InvestorDesk.{market_of}
 use Rattle.investor_views.specs.Comings.{comings}
 use Rattle.investor_views.specs.InvestorDues.{dues_where}
 use Rattle.investor_views.specs.InvestorView.{investor_view, seen_by}

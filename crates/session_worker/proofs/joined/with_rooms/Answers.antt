@@ -1,12 +1,13 @@
-use Rattle.std.proofs.Common.{◌≡◌, ◌∙◌, ◌+◌, [], ◌∷◌, ◌++◌, inl, inr, refl, sym, ap}
-use Rattle.std.proofs.Common.{length, arith, length-append}
+use Rattle.std.proofs.Common.{◌≡◌, ◌∙◌, ◌+◌, [], ◌∷◌, ◌++◌, inl, inr, refl, sym, ap, length, arith}
+use Rattle.std.proofs.Common.{length-append}
 use Rattle.std.specs.Iterator.Adapters.{zip_first, zip_second}
 use Rattle.std.specs.Slice.Iter.{iter_rest}
 use Rattle.std.specs.Vec.Iter.{into_iter_items}
+use Rattle.std.proofs.lemmas.List.{nil_from_length}
 use Rattle.recorded_days.specs.Records.{InvestorLists}
 use Rattle.session_worker.specs.KeptDays.{names_by, names_from, names_of, requests_of, rooms_of}
 use Rattle.session_worker.specs.KeptDays.{without_rooms}
-use Rattle.session_worker.proofs.MovedLists.{both_shorter, ended_too, moved, none_left}
+use Rattle.session_worker.proofs.MovedLists.{both_shorter, ended_too, moved}
 use Rattle.session_worker.proofs.RoomLemmas.{no_rooms}
 use Rattle.session_worker.proofs.RoomNames.{names_left, rooms_put}
 use Rattle.session_worker.proofs.joined.with_rooms.Goals as goal
@@ -69,8 +70,8 @@ returns-clause-rooms c =
     let ended : iter_rest second ≡ [] = elim c.in-None.ensures.steps [
       | inl end ↦ ended_too (into_iter_items first) (iter_rest second)
           (sym c.loop-day.invariant.paired)
-          (none_left (into_iter_items first) (sym c.loop-day.day-iterator.a.rest.ok.0 ∙ end.1.0))
-      | inr end ↦ none_left (iter_rest second) end.1.0
+          (nil_from_length (into_iter_items first) (sym c.loop-day.day-iterator.a.rest.ok.0 ∙ end.1.0))
+      | inr end ↦ nil_from_length (iter_rest second) end.1.0
     ] in
     no_rooms (length c.args.config.now.dealers) (length c.loop-day.whole.items)
     (rooms_of (length c.args.config.now.dealers) c.loop-day.whole.items)

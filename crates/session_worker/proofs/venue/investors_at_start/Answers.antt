@@ -1,8 +1,9 @@
 use Rattle.std.proofs.Common.{◌≡◌, ◌<◌, ◌+◌, ℕ, true, subst, length, get_or, Some, arith, rules}
 use Rattle.std.specs.Prelude.{slice_get}
 use Rattle.venue_rows.specs.Rows.{Configuration, has_room}
-use Rattle.session_worker.proofs.RoomLemmas.{counts_more, get_there, rooms_of_row}
+use Rattle.session_worker.proofs.RoomLemmas.{counts_more, rooms_of_row}
 use Rattle.session_worker.proofs.venue.investors_at_start.Goals as goal
+use Rattle.step_replay.specs.PlaceLemmas.{lent}
 
 -- the rooms of the investor in this row
 pub vacant_rooms-requires-clause-rooms : goal.vacant_rooms-requires-clause-rooms
@@ -14,7 +15,7 @@ vacant_rooms-requires-clause-rooms g c =
     let at : row ≡ get_or config.investors c.loop-row.row-index row = search rules in
     let below : c.loop-row.row-index < length config.investors = search rules in
     let found : slice_get config.investors c.loop-row.row-index ≡ Some row =
-    get_there config.investors c.loop-row.row-index row below at in
+    lent config.investors c.loop-row.row-index row below at in
     subst (λ (own : Configuration). (index : ℕ) → index < row.requests
     → has_room own c.loop-row.firm (index + 1) ≡ true) c.requires.config
     (rooms_of_row config c.loop-row.firm c.loop-row.row-index row firm found)

@@ -1,6 +1,6 @@
 use Rattle.std.proofs.Common.{◌∙◌, ap, subst, sym}
 use Rattle.market_terms.specs.declared.asks.Ask.{Ask}
-use Rattle.dealer_desk.specs.DealerOutput.{with_event}
+use Rattle.dealer_desk.specs.DealerDesk.{with_event}
 use Rattle.dealer_desk.specs.declared.events.DealerEvent.TheVariants as event
 use Rattle.step_replay.specs.DealerView.{no_room}
 use Rattle.step_replay.specs.declared.dues.Due.{Due}

@@ -1,7 +1,8 @@
 use Rattle.std.proofs.Common.{Bool, ◌||◌, ◌∙◌, ap, sym}
 use Rattle.std.proofs.lemmas.List.Folds.{list_any-append}
 use Rattle.std.specs.List.{list_any}
-use Rattle.dealer_desk.specs.DealerOutput.{settled_words, asked_by, book_at, facts_at, with_event}
+use Rattle.dealer_desk.specs.DealerDesk.{book_at, facts_at, with_event}
+use Rattle.dealer_desk.specs.SettledWords.{settled_words, asked_by}
 use Rattle.dealer_desk.specs.DeskLaws.{says_withdrawn}
 use Rattle.step_replay.specs.RowOfWords.{withdraws_by}
 use Rattle.step_replay.proofs.dealer_view.quotes_are_withdrawn_event_by_event.Goals as goal

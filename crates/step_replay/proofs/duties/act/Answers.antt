@@ -1,4 +1,4 @@
-use Rattle.step_replay.specs.Actions.{duty_effect}
+use Rattle.step_replay.specs.DutyEffects.{duty_effect}
 use Rattle.venue_places.specs.Placed.{placed}
 use Rattle.step_replay.proofs.ComingLemmas.{duty_comes}
 use Rattle.step_replay.proofs.DutyLemmas.{nothing_comes, something_comes}

@@ -1,4 +1,4 @@
-use Rattle.step_replay.specs.Actions.{sweep_effect}
+use Rattle.step_replay.specs.DutyEffects.{sweep_effect}
 use Rattle.venue_places.specs.Placed.{swept}
 use Rattle.step_replay.proofs.ComingLemmas.{sweep_comes}
 use Rattle.step_replay.proofs.DutyLemmas.{nothing_comes, something_comes}

@@ -1,4 +1,4 @@
-use Rattle.fix_fields.proofs.ClockLemmas.{date_exact}
+use Rattle.fix_fields.proofs.DateLemmas.{date_exact}
 use Rattle.fix_fields.proofs.dates.Date.new.Goals as goal
 
 pub returns-clause-exact : goal.returns-clause-exact

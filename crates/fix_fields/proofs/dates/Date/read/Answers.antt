@@ -1,6 +1,6 @@
 use Rattle.std.proofs.Common.{sym, subst, rules}
 use Rattle.fix_fields.specs.UtcTimestamp.{IsDate}
-use Rattle.fix_fields.proofs.ClockLemmas.{date_read}
+use Rattle.fix_fields.proofs.DateLemmas.{date_read}
 use Rattle.fix_fields.proofs.dates.Date.read.Goals as goal
 
 is : (c : goal.After-copy-2-1) → IsDate c.args.digits.now

@@ -1,6 +1,6 @@
 use Rattle.std.proofs.Common.{◌≡◌, ◌∷◌, length, sym, ap, ◌∙◌, rules}
 use Rattle.fix_fields.specs.Frame.{fields_of}
-use Rattle.fix_fields.proofs.FieldLemmas.{one_first, rest_is_fields}
+use Rattle.fix_fields.proofs.FieldsText.{one_first, rest_is_fields}
 use Rattle.fix_fields.proofs.LawfulLemmas.{begins_with, none_in}
 use Rattle.fix_fields.proofs.frames.FieldsIterator.next.Goals as goal
 

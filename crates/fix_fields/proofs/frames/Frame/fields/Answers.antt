@@ -1,6 +1,6 @@
 use Rattle.std.proofs.Common.{length, arith, ap}
 use Rattle.fix_fields.specs.Frame.{fields_of}
-use Rattle.fix_fields.proofs.FieldLemmas.{few_fields}
+use Rattle.fix_fields.proofs.FieldsText.{few_fields}
 use Rattle.fix_fields.proofs.frames.Frame.fields.Goals as goal
 
 pub returns-clause-few : goal.returns-clause-few

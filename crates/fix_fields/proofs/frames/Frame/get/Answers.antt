@@ -1,6 +1,6 @@
 use Rattle.std.proofs.Common.{◌≡◌, Some, sym, ap, ◌∙◌, arith}
 use Rattle.fix_fields.specs.Frame.{value_of}
-use Rattle.fix_fields.proofs.FieldLemmas.{value_in, value_here, AreBody-lawful}
+use Rattle.fix_fields.proofs.FieldsText.{value_in, value_here, AreBody-lawful}
 use Rattle.fix_fields.proofs.frames.Frame.get.Goals as goal
 
 first : (c : goal.Then-found-tag) → value_of c.args.tag c.args.self.now ≡ Some c.in-Some.value.now

@@ -3,7 +3,7 @@ use Rattle.std.proofs.lemmas.Result.{IfOk-weaker}
 use Rattle.fix_fields.specs.Frame.{fields_of, frame_text, frame_of, IsFrame}
 use Rattle.fix_fields.specs.Scan.{text_around}
 use Rattle.fix_fields.proofs.WriterLemmas.{frame_text-body, is_frame_text}
-use Rattle.fix_fields.proofs.FrameLemmas.{frame_of-frame}
+use Rattle.fix_fields.proofs.FrameParts.{frame_of-frame}
 use Rattle.fix_fields.proofs.writer.FrameWriter.finish.Goals as goal
 
 text_is : (c : goal.After-drop-self-inside) (bytes : List ℕ) → bytes ≡ text_around c.as_slice.result.now → bytes ≡ frame_text c.args.self

@@ -1,8 +1,8 @@
 use Rattle.std.proofs.Common.{◌∙◌, ℕ, ◌+◌, ap, length, refl, sym}
 use Rattle.input_lines.specs.StepLines.{nothing_heard}
 use Rattle.investor_texts.proofs.AskedLemmas.{row_there}
-use Rattle.investor_texts.proofs.LineLemmas.{names_count}
 use Rattle.investor_texts.proofs.line_days.InvestorDay.open.Goals as goal
+use Rattle.venue_text.proofs.ArrivalLemmas.{names_count}
 
 pub returns-clause-ok : goal.returns-clause-ok
 returns-clause-ok c =

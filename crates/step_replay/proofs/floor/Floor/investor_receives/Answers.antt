@@ -1,9 +1,10 @@
 use Rattle.std.proofs.Common.{◌≡◌, ◌<◌, [], arith, length, rules}
 use Rattle.std.proofs.lemmas.Bool.Decides.{nat_tests}
+use Rattle.std.proofs.lemmas.Option.{slice_get_past}
 use Rattle.step_replay.specs.Actions.{received_by_investor}
 use Rattle.venue_steps.specs.InvestorSteps.{duties_of_own}
-use Rattle.step_replay.specs.PlaceLemmas.{lent, not_lent}
-use Rattle.step_replay.proofs.FloorLemmas.{leaving}
+use Rattle.step_replay.specs.PlaceLemmas.{lent}
+use Rattle.step_replay.proofs.FoundDealers.{leaving}
 use Rattle.step_replay.proofs.InvestorActionLemmas.{said_does, no_investor_does, placed}
 use Rattle.step_replay.proofs.floor.Floor.investor_receives.Goals as goal
 
@@ -16,7 +17,7 @@ returns-in_default-get_mut c config facts stands =
     c.nothing-in_default-get_mut.ensures
     (no_investor_does config facts c.args.self.now c.args.firm c.in-Some.at
     (received_by_investor facts c.args.moment c.args.bytes.now) stands is
-    (not_lent c.args.self.now.investors.items c.in-Some.at
+    (slice_get_past c.args.self.now.investors.items c.in-Some.at
     c.in_default-get_mut.ensures.item.3))
 
 pub returns : goal.returns

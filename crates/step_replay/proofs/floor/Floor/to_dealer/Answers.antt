@@ -1,8 +1,9 @@
 use Rattle.std.proofs.Common.{◌<◌, [], arith, length}
 use Rattle.std.proofs.lemmas.Bool.Decides.{nat_tests}
+use Rattle.std.proofs.lemmas.Option.{slice_get_past}
 use Rattle.step_replay.specs.Coming.{dealer_gets}
-use Rattle.step_replay.specs.PlaceLemmas.{lent, not_lent}
-use Rattle.step_replay.proofs.FloorLemmas.{by_number, leaving, no_dealer_does}
+use Rattle.step_replay.specs.PlaceLemmas.{lent}
+use Rattle.step_replay.proofs.FoundDealers.{by_number, leaving, no_dealer_does}
 use Rattle.step_replay.proofs.DealerActionLemmas.{dealer_does}
 use Rattle.step_replay.proofs.floor.Floor.to_dealer.Goals as goal
 
@@ -12,7 +13,7 @@ returns-in_default c config facts stands =
     leaving config facts _ _ c.nothing.result.items [] c.nothing.ensures
     (by_number config facts c.from.result c.args.dealer action _ [] c.from.ensures
     (no_dealer_does config facts c.args.self.now c.from.result action stands
-    (not_lent c.args.self.now.dealers.items c.from.result c.in_default.ensures.item.3)))
+    (slice_get_past c.args.self.now.dealers.items c.from.result c.in_default.ensures.item.3)))
 
 pub returns : goal.returns
 returns c config facts stands =

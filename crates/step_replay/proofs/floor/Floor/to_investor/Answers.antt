@@ -1,8 +1,9 @@
 use Rattle.std.proofs.Common.{◌≡◌, ◌<◌, [], arith, length, rules}
 use Rattle.std.proofs.lemmas.Bool.Decides.{nat_tests}
+use Rattle.std.proofs.lemmas.Option.{slice_get_past}
 use Rattle.step_replay.specs.Coming.{investor_gets}
-use Rattle.step_replay.specs.PlaceLemmas.{lent, not_lent}
-use Rattle.step_replay.proofs.FloorLemmas.{leaving}
+use Rattle.step_replay.specs.PlaceLemmas.{lent}
+use Rattle.step_replay.proofs.FoundDealers.{leaving}
 use Rattle.step_replay.proofs.InvestorActionLemmas.{investor_does, no_investor_does, placed}
 use Rattle.step_replay.proofs.floor.Floor.to_investor.Goals as goal
 
@@ -15,7 +16,7 @@ returns-in_default-get_mut c config facts stands =
     c.nothing-in_default-get_mut.ensures
     (no_investor_does config facts c.args.self.now c.args.firm c.in-Some.at
     (investor_gets facts c.args.what) stands is
-    (not_lent c.args.self.now.investors.items c.in-Some.at
+    (slice_get_past c.args.self.now.investors.items c.in-Some.at
     c.in_default-get_mut.ensures.item.3))
 
 pub returns : goal.returns

@@ -1,5 +1,5 @@
 use Rattle.std.proofs.Common.{◌≡◌, None, refl, sym, subst}
-use Rattle.step_replay.specs.Actions.{message_effect}
+use Rattle.step_replay.specs.DutyEffects.{message_effect}
 use Rattle.step_replay.specs.AuditTrail.{after_step, with_effect}
 use Rattle.step_replay.specs.Following.{ReplayStands}
 use Rattle.step_replay.specs.StepFaults.{fault_of}

@@ -1,6 +1,6 @@
 use Rattle.std.proofs.Common.{◌<◌, length, map, slice_set, arith, refl, ap, ◌∙◌}
 use Rattle.std.proofs.lemmas.Bool.Decides.{nat_tests}
-use Rattle.step_replay.specs.Actions.{sweep_effect}
+use Rattle.step_replay.specs.DutyEffects.{sweep_effect}
 use Rattle.venue_places.specs.declared.actors.Actor.TheVariants as actor
 use Rattle.step_replay.specs.PlaceLemmas.{lent}
 use Rattle.step_replay.proofs.TurnLemmas.{map_set, map_get}

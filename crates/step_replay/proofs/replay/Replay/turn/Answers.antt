@@ -1,6 +1,6 @@
 use Rattle.std.proofs.Common.{◌<◌, ◌++◌, length, map, slice_set, arith, sym, ap, refl, ◌∙◌}
 use Rattle.std.proofs.lemmas.Bool.Decides.{nat_tests}
-use Rattle.step_replay.specs.OwnerLemmas.{same_value}
+use Rattle.std.proofs.lemmas.Option.{same_Some}
 use Rattle.step_replay.specs.PlaceLemmas.{lent, get_set_same}
 use Rattle.step_replay.proofs.TurnLemmas.{map_set, map_get, set_twice}
 use Rattle.step_replay.proofs.FollowLemmas.{full_turn, idle_turn, found_here, none_left}
@@ -35,7 +35,7 @@ returns c config trail known before =
     grind (arith, nat_tests, c.in-Some-get_mut-2.ensures.item.0) in
     let there_too = lent (slice_set queues index popped) index second within_too
     c.in-Some-get_mut-2.ensures.item.1 in
-    let same = same_value popped second (sym (get_set_same queues index popped within) ∙ there_too) in
+    let same = same_Some popped second (sym (get_set_same queues index popped within) ∙ there_too) in
     full_turn config c.args.by trail c.args.self.now _ c.act.new.floor index c.in-Some-pop_front.duty
     queue.items popped.items left known before
     (found_here c.args.self.now c.args.by index c.in-Some.ensures)
