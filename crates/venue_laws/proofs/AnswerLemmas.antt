@@ -69,9 +69,7 @@ module _ (date : List ℕ) (row : DealerRow) where
     dealer_answer : (quote : ℕ) → answer_to_dealer trail quote
         ≡ (if list_any (λ (one : ℕ). one == quote) seen.lifted
         then settled.Lifted else settled.Withdrawn)
-    dealer_answer quote =
-        ap (λ (b : Bool). if b then settled.Lifted else settled.Withdrawn)
-        (sym (seen.lifted_are quote))
+    dealer_answer quote = rw (seen.lifted_are quote) refl
 
     lifted_is : (view_at date row trail).lifted ≡ seen.lifted
     lifted_is = ap (λ (view : DealerView). view.lifted) seen.view_is

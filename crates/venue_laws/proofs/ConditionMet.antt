@@ -1,7 +1,7 @@
 -- A duty that is left meets the test of its action, by what stands in a venue.
 use Rattle.std.proofs.Common.{Bool, IfSome, List, None, Option, Some, [], ap, arith, false, is_none}
 use Rattle.std.proofs.Common.{is_some, nat_le, nat_lt, option_map, refl, subst, suc, sym, take}
-use Rattle.std.proofs.Common.{true, zero, ℕ, ◌&&◌, ◌+◌, ◌-◌, ◌∙◌, ◌∷◌, ◌≡◌, ◌≤◌}
+use Rattle.std.proofs.Common.{true, zero, ℕ, ◌&&◌, ◌+◌, ◌-◌, ◌∙◌, ◌∷◌, ◌≡◌}
 use Rattle.std.proofs.lemmas.Bool.Decides.{nat_tests}
 use Rattle.std.proofs.lemmas.List.Sums.{sum_by-cons}
 use Rattle.std.specs.Prelude.{slice_get}
@@ -11,10 +11,8 @@ use Rattle.market_terms.specs.declared.duties.Duty.TheVariants as duty
 use Rattle.market_terms.specs.declared.rooms.RoomRef.{RoomRef}
 use Rattle.venue_rows.specs.Rows.{Configuration, dealer_numbered}
 use Rattle.venue_rows.specs.declared.dealer_rows.DealerRow.{DealerRow}
-use Rattle.venue_rows.specs.declared.investor_rows.InvestorRow.{InvestorRow}
 use Rattle.dealer_desk.specs.DealerFacts.{number_to_drop}
 use Rattle.investor_desk.specs.InvestorFacts.{knows}
-use Rattle.investor_desk.specs.InvestorDesk.{market_of}
 use Rattle.request_room.specs.Book.{book_of, hit_checks, hit_refusal, quote_meant, word_or}
 use Rattle.request_room.specs.RoomFacts.{RoomFact, is_named, is_vacant}
 use Rattle.request_room.specs.declared.quotes.PostedQuote.{PostedQuote as BookQuote}
@@ -30,7 +28,7 @@ use Rattle.std.proofs.lemmas.Option.{same_Some}
 use Rattle.std.proofs.lemmas.Bool.{and_from, or_right}
 use Rattle.step_replay.specs.VenueFacts.{of_dealer, of_room}
 use Rattle.venue_laws.specs.Conditions.{has_word_asked, holds_for, is_heard, is_heard_on, is_known}
-use Rattle.venue_laws.specs.Conditions.{is_known_to, is_met, is_room, may_drop}
+use Rattle.venue_laws.specs.Conditions.{is_met, is_room, may_drop}
 use Rattle.venue_laws.proofs.AcceptedQuotes.{none_holds}
 use Rattle.venue_laws.proofs.ConditionMetOnce.{open_met, ready_met, show_met, tell_met}
 use Rattle.venue_laws.proofs.VenueHits.{posted_fact}
@@ -50,11 +48,7 @@ word_in_rows (first ∷ rows) zero row quote at within =
     ap (λ (r : DealerRow). r.quotes) (same_Some first row at) in
     let sum : quotes_of (first ∷ rows) ≡ first.quotes + quotes_of rows =
     sum_by-cons (λ (r : DealerRow). r.quotes) first rows in
-    let least : 1 ≤ quote = grind (arith, nat_tests) in
-    let most : quote ≤ row.quotes = grind (arith, nat_tests) in
-    let less : nat_lt (0 + (quote - 1)) (first.quotes + quotes_of rows) ≡ true =
-    grind (arith, nat_tests) in
-    subst (λ (n : ℕ). nat_lt (0 + (quote - 1)) n ≡ true) (sym sum) less
+    rw sum (grind (arith, nat_tests))
 word_in_rows (first ∷ rows) (suc place) row quote at within =
     let front = quotes_of (take place rows) in
     let sum : quotes_of (first ∷ rows) ≡ first.quotes + quotes_of rows =
@@ -63,11 +57,7 @@ word_in_rows (first ∷ rows) (suc place) row quote at within =
     sum_by-cons (λ (r : DealerRow). r.quotes) first (take place rows) in
     let later : nat_lt (front + (quote - 1)) (quotes_of rows) ≡ true =
     word_in_rows rows place row quote at within in
-    let less : nat_lt (first.quotes + front + (quote - 1)) (first.quotes + quotes_of rows) ≡ true =
-    grind (arith, nat_tests) in
-    subst (λ (n : ℕ). nat_lt (quotes_of (first ∷ take place rows) + (quote - 1)) n ≡ true) (sym sum)
-    (subst (λ (n : ℕ). nat_lt (n + (quote - 1)) (first.quotes + quotes_of rows) ≡ true)
-    (sym sum_front) less)
+    rw (sum, sum_front) (grind (arith, nat_tests))
 
 has_asked : (config : Configuration) (dealer : ℕ) (row : DealerRow)
     → dealer_numbered config dealer ≡ Some row → (asked : Option ℕ) → IfSome asked (OfRow row)
@@ -83,23 +73,15 @@ module _ (config : Configuration) (venue : AuditTrail) (stood : VenueOk config v
 
   pub is_known_in : (room : RoomRef) (quote : Option ℕ) → KnownIn config venue.facts room quote
       → is_known config venue.facts room quote ≡ true
-  is_known_in room quote knows =
-      ap (λ (r : Option InvestorRow). holds_for (option_map (market_of config room.investor) r)
-      (is_known_to venue.facts room.n quote)) knows.row_is ∙ knows.knows_is
+  is_known_in room quote knows = rw knows.row_is knows.knows_is
 
   acts : (by : Actor) (who : ByDealer config by) (test : Dealer → Bool)
       → test (dealer_of who.dealer who.row) ≡ true
       → holds_for (acting_dealer config by) test ≡ true
-  acts by who test is =
-      ap (λ (a : Actor). holds_for (acting_dealer config a) test) who.by_is
-      ∙ ap (λ (r : Option DealerRow). holds_for (option_map (dealer_of who.dealer) r) test)
-      who.row_is
-      ∙ is
+  acts by who test is = rw (who.by_is, who.row_is) is
 
   is_acting : (by : Actor) → ByDealer config by → is_some (acting_dealer config by) ≡ true
-  is_acting by who =
-      ap (λ (a : Actor). is_some (acting_dealer config a)) who.by_is
-      ∙ ap (λ (r : Option DealerRow). is_some (option_map (dealer_of who.dealer) r)) who.row_is
+  is_acting by who = rw (who.by_is, who.row_is) refl
 
   heard : (by : Actor) (room : RoomRef) (named : ByNamed config venue.facts by room)
       → is_heard config venue.facts room (dealer_of named.who.dealer named.who.row) ≡ true

@@ -237,8 +237,7 @@ module _ (config : Configuration) (venue : AuditTrail) (stood : VenueOk config v
           let same : told.room ≡ room =
           one_number 1 (rooms_by trail) told.room room request told.request_is found in
           let done : list_any (tells_it dealer room) (did_in venue told.by) ≡ true =
-          subst (λ (r : RoomRef). list_any (tells_it dealer r) (did_in venue told.by) ≡ true) same
-          told.done in
+          rw same at told.done in
           let fits_too = tells_by config venue.facts told.by dealer room (did_in venue told.by)
           (every_take (DutyOk config venue.facts told.by) (turns_of told.by venue.done)
           (duties_by told.by venue.caused)

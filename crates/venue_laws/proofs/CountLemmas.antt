@@ -47,15 +47,15 @@ module _ (date : List ℕ) (row : DealerRow) where
       ≡ length (filter_map shown_in (event_facts date row (book_by trail) more))
       → AreCounted (trail ++ entries_of date row trail more)
   event_counted trail more before as_many =
-      ap length (rooms_grown date row trail more)
-      ∙ length-append (rooms_by trail) (option_to_list (shown_room more))
-      ∙ ap (λ n. n + length (option_to_list (shown_room more))) before
-      ∙ ap (λ n. length (filter_map shown_in (facts_of trail)) + n) as_many
-      ∙ sym (length-append (filter_map shown_in (facts_of trail))
-      (filter_map shown_in (event_facts date row (book_by trail) more)))
-      ∙ ap length (sym (filter_map-append shown_in (facts_of trail)
-      (event_facts date row (book_by trail) more)))
-      ∙ ap (λ l. length (filter_map shown_in l)) (sym (facts_grown date row trail more))
+      rw (
+        rooms_grown date row trail more,
+        facts_grown date row trail more,
+        filter_map-append,
+        length-append,
+        length-append,
+        before,
+        as_many,
+      ) refl
 
   none_counted : (facts : List DealerFact) → Every (λ fact. shown_in fact ≡ None) facts
       → 0 ≡ length (filter_map shown_in facts)

@@ -200,8 +200,7 @@ module _ (config : Configuration) (own : ℕ) (facts : List Fact) where
   pub rooms_known : (dealer : ℕ)
       → rooms_by (of_dealer dealer erased) ≡ rooms_by (of_dealer dealer facts)
   rooms_known dealer =
-      ap (λ (l : List DealerEntry). rooms_by l) (dealer_same dealer)
-      ∙ entries.rooms_same (is_own dealer) (of_dealer dealer facts)
+      rw (dealer_same dealer) (entries.rooms_same (is_own dealer) (of_dealer dealer facts))
 
   pub book_known : (dealer : ℕ)
       → book_by (of_dealer dealer erased) ≡ erase_book (book_by (of_dealer dealer facts))

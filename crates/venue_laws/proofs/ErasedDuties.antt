@@ -11,7 +11,7 @@ use Rattle.market_terms.specs.declared.rooms.ResponseRef.{ResponseRef}
 use Rattle.market_terms.specs.declared.rooms.RoomRef.{RoomRef}
 use Rattle.quote_word.specs.declared.settled.Settled.{Settled}
 use Rattle.request_room.specs.RoomFacts.{RoomFact, request_of, takes_quotes, hears}
-use Rattle.request_room.specs.Book.{hit_outcome, reply_of}
+use Rattle.request_room.specs.Book.{hit_outcome}
 use Rattle.request_room.specs.declared.ends.End.{End}
 use Rattle.request_room.specs.declared.ends.EndKind.{EndKind}
 use Rattle.request_room.specs.declared.ends.EndKind.TheVariants as ends
@@ -57,8 +57,7 @@ hit_left : (facts : List RoomFact) (at : RoomRef) (response : ResponseRef) (mome
     → map erase_duty (hit_duties facts at response moment outcome)
     ≡ map erase_duty (hit_duties facts at response moment (erase_outcome outcome))
 hit_left facts at response moment (Ok award) =
-    ap (λ (l : List Duty). duty.Answer at response (reply_of (Ok award)) moment ∷ l)
-    (told_each at award moment (dealers_of (request_of facts)))
+    rw (told_each at award moment (dealers_of (request_of facts))) refl
 hit_left facts at response moment (Err refused) = refl
 
 -- What each step in a room leaves.
@@ -110,9 +109,7 @@ module _ (facts : List RoomFact) (at : RoomRef) where
 
   outcome_left : (response : ResponseRef) (moment : ℕ) (outcome : Result End HitRefusal)
       → hit_duties facts at response moment outcome ≡ hit_duties erased at response moment outcome
-  outcome_left response moment (Ok award) =
-      ap (λ (l : List Duty). duty.Answer at response (reply_of (Ok award)) moment ∷ l)
-      (told_same award moment)
+  outcome_left response moment (Ok award) = rw (told_same award moment) refl
   outcome_left response moment (Err refused) = refl
 
   pub hit_duties_same : (response : ResponseRef) (word moment : ℕ) (settlement : Option Settled)

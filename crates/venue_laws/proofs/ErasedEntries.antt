@@ -1,7 +1,6 @@
 -- The trail of a dealer without prices, and what an event adds to it.
 use Rattle.std.proofs.Common.{◌≡◌, ℕ, Bool, true, false, List, [], ◌∷◌, ◌++◌, map, Option, Some}
 use Rattle.std.proofs.Common.{None, option_map, is_some, refl, sym, ap, ◌∙◌, if◌then◌else◌}
-use Rattle.std.specs.List.{list_any}
 use Rattle.std.specs.Option.{option_to_list}
 use Rattle.std.proofs.lemmas.List.{map-append}
 use Rattle.market_terms.specs.declared.asks.Ask.{Ask}
@@ -81,9 +80,8 @@ module _ (own : Bool) (trail : List DealerEntry) where
 
   was_withdrawn_same : (quote : ℕ) → was_withdrawn erased quote ≡ was_withdrawn trail quote
   was_withdrawn_same quote =
-      ap (list_any (withdraws quote)) facts_same
-      ∙ any_erased (erase_fact own) (withdraws quote) (withdraws quote)
-      (withdraws_same own quote) (facts_of trail)
+      rw facts_same
+      (any_erased _ (withdraws quote) (withdraws quote) (withdraws_same own quote) (facts_of trail))
 
   pub answer_same : (quote : ℕ) → answer_to_dealer erased quote ≡ answer_to_dealer trail quote
   answer_same quote =

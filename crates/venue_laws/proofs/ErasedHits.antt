@@ -17,7 +17,6 @@ use Rattle.dealer_desk.specs.declared.standing.StandingQuote.{StandingQuote}
 use Rattle.dealer_desk.specs.declared.events.DealerEvent.TheVariants as at_desk
 use Rattle.venue_steps.specs.Words.{has_word}
 use Rattle.step_replay.specs.DealerTrail.{DealerEntry, AtDesk, Sent, book_by, rooms_by, entries_of}
-use Rattle.step_replay.specs.DealerTrail.{answer_to_investor}
 use Rattle.step_replay.specs.VenueFacts.{Fact, of_dealer, InRoom, of_room}
 use Rattle.step_replay.specs.Actions.{Dealer, words_of, word_for, answer_to_drop, drop_at}
 use Rattle.step_replay.specs.Actions.{left_by_drop, dropped_by, QuoteRef, quote_with_word}
@@ -233,16 +232,13 @@ module _ (config : Configuration) (own : ℕ) (facts : List Fact) (room : RoomRe
 
   asked_known : hit_word there word moment ≡ hit_word here word moment
   asked_known =
-      ap (λ (l : List RoomFact). hit_word l word moment) there_is
-      ∙ hit_word_same here word moment
+      rw there_is (hit_word_same here word moment)
 
   answer_same : (hit : QuoteRef)
       → answer_to_hit (erased config own facts) hit ≡ answer_to_hit facts hit
   answer_same hit =
-      ap (λ (l : List DealerEntry). answer_to_investor l hit.quote)
-      (dealer_same config own facts hit.dealer)
-      ∙ entries.hit_answer_same (is_own config own facts hit.dealer) (of_dealer hit.dealer facts)
-      hit.quote
+      rw (dealer_same config own facts hit.dealer) (entries.hit_answer_same
+      (is_own config own facts hit.dealer) (of_dealer hit.dealer facts) hit.quote)
 
   answers_same : (found : Option QuoteRef)
       → option_map (answer_to_hit (erased config own facts)) found

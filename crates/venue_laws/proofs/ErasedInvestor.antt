@@ -1,6 +1,6 @@
 -- The desk of an investor without prices: no price goes into its verdicts, nor into what it is sent
 -- but as the price that is shown.
-use Rattle.std.proofs.Common.{◌≡◌, ℕ, ◌==◌, Bool, true, false, ◌&&◌, not, cond, List, [], ◌∷◌, map}
+use Rattle.std.proofs.Common.{◌≡◌, ℕ, ◌==◌, Bool, true, false, ◌&&◌, not, List, [], ◌∷◌, map}
 use Rattle.std.proofs.Common.{Option, Some, None, option_map, is_some, refl, ap, ◌∙◌, if◌then◌else◌}
 use Rattle.std.proofs.lemmas.List.{length-map}
 use Rattle.quote_messages.specs.declared.arrivals.Arrival.{Arrival}
@@ -124,8 +124,7 @@ while_same : (found : Option StandingRequest)
     → while_open (option_map erase_request found) ≡ option_map erase_request (while_open found)
 while_same None = refl
 while_same (Some own) =
-    ap (λ (b : Bool). cond b (Some (erase_request own)) None) (open_same own)
-    ∙ map_cond erase_request (is_open own) own None
+    rw (open_same own) (map_cond erase_request (is_open own) own None)
 
 pub dealers_offer : (own : StandingRequest) (dealer : List ℕ)
     → offer_of_dealer (erase_request own) dealer
@@ -161,9 +160,7 @@ module _ (book : InvestorBook) where
   pub open_numbered : (number : ℕ)
       → open_request (erase_investor_book book) number
       ≡ option_map erase_request (open_request book number)
-  open_numbered number =
-      ap (λ (o : Option StandingRequest). while_open o) (numbered number)
-      ∙ while_same (request_numbered book number)
+  open_numbered number = rw (numbered number) (while_same (request_numbered book number))
 
   named : (name : List ℕ)
       → offer_named (erase_investor_book book) name
@@ -200,8 +197,7 @@ module _ (book : InvestorBook) where
       → knows_quote (erase_investor_book book) number quote ≡ knows_quote book number quote
   knows_quote_same number None = refl
   knows_quote_same number (Some quote) =
-      ap (λ (o : Option ShownOffer). was_shown_on number o) (offered quote)
-      ∙ was_shown_same number (offer_numbered book quote)
+      rw (offered quote) (was_shown_same number (offer_numbered book quote))
 
   is_numbered : (number : ℕ)
       → is_some (request_numbered (erase_investor_book book) number)

@@ -84,8 +84,7 @@ map_along e f g same xs ys alike =
 pub append_along : {X Y : Type 0} (e : X → Y) (xs ys xs' ys' : List X) → map e xs ≡ map e xs'
     → map e ys ≡ map e ys' → map e (xs ++ ys) ≡ map e (xs' ++ ys')
 append_along e xs ys xs' ys' first second =
-    map-append e xs ys ∙ ap (λ l. l ++ map e ys) first ∙ ap (λ l. map e xs' ++ l) second
-    ∙ sym (map-append e xs' ys')
+    rw (map-append e xs ys, map-append e xs' ys', first, second) refl
 
 fold_erased : {X Y : Type 0} (e : X → Y) (f : X → ℕ) (g : Y → ℕ) → ((x : X) → g (e x) ≡ f x)
     → (a : ℕ) (xs : List X)

@@ -27,8 +27,7 @@ use Rattle.venue_steps.specs.InvestorSteps.{replies_to}
 use Rattle.venue_steps.specs.RoomSteps.{duties_of_open, duties_of_post, duties_of_unpost}
 use Rattle.venue_steps.specs.RoomSteps.{duties_of_decline, duties_of_pass, duties_of_expire}
 use Rattle.venue_steps.specs.Words.{has_word}
-use Rattle.step_replay.specs.DealerTrail.{DealerEntry, book_by, rooms_by, answer_to_dealer}
-use Rattle.step_replay.specs.DealerTrail.{entries_of}
+use Rattle.step_replay.specs.DealerTrail.{DealerEntry, book_by, rooms_by, entries_of}
 use Rattle.step_replay.specs.InvestorTrail as investor_trail
 use Rattle.step_replay.specs.InvestorTrail.{InvestorEntry}
 use Rattle.step_replay.specs.VenueFacts.{Fact, of_dealer, of_room, of_investor}
@@ -69,15 +68,12 @@ module _ (config : Configuration) (own : ℕ) (facts : List Fact) where
   same_there : (room : RoomRef) (left : List RoomFact → List Duty) (one : List Duty)
       → one ≡ map erase_duty (left (map erase_room_fact (of_room room facts)))
       → one ≡ map erase_duty (left (of_room room known))
-  same_there room left one same =
-      same ∙ ap (λ (l : List RoomFact). map erase_duty (left l))
-      (sym (room_same config own facts room))
+  same_there room left one same = rw (room_same config own facts room) same
 
   heard_same : (room : RoomRef) (dealer : ℕ) (may : Bool)
       → (may && hears (of_room room facts) dealer) ≡ (may && hears (of_room room known) dealer)
   heard_same room dealer may =
-      sym (ap (λ (l : List RoomFact). may && hears l dealer) (room_same config own facts room)
-      ∙ ap (λ (b : Bool). may && b) (hears_same (of_room room facts) dealer))
+      rw (room_same config own facts room, hears_same (of_room room facts) dealer) refl
 
   -- an event in a room, where it leaves the same
   event_alike : (room : RoomRef) (may may_too : Bool) (event : RoomEvent)
@@ -229,22 +225,18 @@ module _ (config : Configuration) (own : ℕ) (facts : List Fact) where
 
     answer_is : settlement_of trail v ≡ settlement_of after w
     answer_is =
-        ap (option_map (answer_to_dealer trail)) (verdicts.asked_alike v w alike)
-        ∙ sym (ap (λ (l : List DealerEntry). option_map (answer_to_dealer l) (word_asked w))
-        (dealer_same config own facts dealer.number)
-        ∙ entries.answers_same (is_own config own facts dealer.number) trail (word_asked w))
+        rw (verdicts.asked_alike v w alike, dealer_same config own facts dealer.number)
+        (sym (entries.answers_same (is_own config own facts dealer.number) trail (word_asked w)))
 
     left_is : map erase_duty (left_by trail moment v) ≡ map erase_duty (left_by after moment w)
     left_is =
-        list_of erase_duty _
-        ∙ ap (λ (d : Option Duty). option_to_list d)
-        (verdicts.duty_alike v w alike (rooms_by trail) moment (settlement_of trail v)
-        ∙ ap (λ (settlement : Option Settled). option_map erase_duty
-        (dealer_output.verdict_duty (rooms_by trail) moment w settlement)) answer_is
-        ∙ ap (λ (rooms : List RoomRef). option_map erase_duty
-        (dealer_output.verdict_duty rooms moment w (settlement_of after w)))
-        (sym (rooms_known config own facts dealer.number)))
-        ∙ sym (list_of erase_duty _)
+        rw (
+          list_of,
+          list_of,
+          rooms_known config own facts dealer.number,
+          ← answer_is,
+          verdicts.duty_alike v w alike (rooms_by trail) moment (settlement_of trail v),
+        ) refl
 
     pub said_alike : AreAlike own (received_by_dealer config facts moment bytes dealer)
         (received_by_dealer config known moment others dealer)

@@ -3,7 +3,7 @@ use Rattle.std.proofs.Common.{◌≡◌, ℕ, Bool, true, false, List, [], ◌�
 use Rattle.std.proofs.Common.{option_map, refl, sym, ap, ◌∙◌, if◌then◌else◌}
 use Rattle.market_terms.specs.declared.rooms.RoomRef.{RoomRef}
 use Rattle.quote_word.specs.declared.settled.Settled.{Settled}
-use Rattle.dealer_desk.specs.DealerFacts.{Came, Quoted}
+use Rattle.dealer_desk.specs.DealerFacts.{Quoted}
 use Rattle.dealer_desk.specs.DealerOutput.{word_asked, uses_number, verdict_facts, settled_facts}
 use Rattle.dealer_desk.specs.DealerOutput.{goes_through, came, verdict_message, verdict_duty}
 use Rattle.dealer_desk.specs.DealerOutput.{room_of, post_of}
@@ -66,32 +66,22 @@ module _ (v w : DealerVerdict) (alike : erase_verdict v ≡ erase_verdict w) whe
       → option_map erase_duty (verdict_duty rooms moment v settlement)
       ≡ option_map erase_duty (verdict_duty rooms moment w settlement)
   duty_alike rooms moment settlement =
-      sym (verdict_duty_same rooms moment v settlement)
-      ∙ ap (λ (u : DealerVerdict). option_map erase_duty (verdict_duty rooms moment u settlement)) alike
-      ∙ verdict_duty_same rooms moment w settlement
+      rw (← verdict_duty_same rooms moment v settlement, alike)
+      (verdict_duty_same rooms moment w settlement)
 
   pub message_alike : (settlement : Option Settled) → verdict_message v settlement ≡ verdict_message w settlement
   message_alike settlement =
-      sym (message_same v settlement) ∙ ap (λ (u : DealerVerdict). verdict_message u settlement) alike
-      ∙ message_same w settlement
+      rw (← message_same v settlement, alike) (message_same w settlement)
 
   facts_alike : (own : Bool) (settlement : Option Settled)
       → map (erase_fact own) (verdict_facts v settlement)
       ≡ map (erase_fact own) (verdict_facts w settlement)
   facts_alike own settlement =
-      sym (verdict_facts_same own v settlement)
-      ∙ ap (λ (u : DealerVerdict). map (erase_fact own) (verdict_facts u settlement)) alike
-      ∙ verdict_facts_same own w settlement
+      rw (← verdict_facts_same own v settlement, alike) (verdict_facts_same own w settlement)
 
   pub came_alike : (own : Bool) (moment : ℕ) (bytes others : List ℕ) (settlement : Option Settled)
       → (if own then bytes else []) ≡ (if own then others else [])
       → map (erase_fact own) (came moment bytes v settlement)
       ≡ map (erase_fact own) (came moment others w settlement)
   came_alike own moment bytes others settlement same =
-      ap (λ (kept : List ℕ). Came moment kept (uses_number v)
-      ∷ map (erase_fact own) (verdict_facts v settlement)) same
-      ∙ ap (λ (used : Bool). Came moment (if own then others else []) used
-      ∷ map (erase_fact own) (verdict_facts v settlement))
-      (sym (uses_same v) ∙ ap uses_number alike ∙ uses_same w)
-      ∙ ap (λ l. Came moment (if own then others else []) (uses_number w) ∷ l)
-      (facts_alike own settlement)
+      rw (same, ← uses_same v, alike, uses_same w, facts_alike own settlement) refl

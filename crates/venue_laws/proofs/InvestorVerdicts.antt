@@ -1,8 +1,8 @@
 -- What a verdict of an investor's desk says, and what comes to the desk brings of what stands of
 -- its requests and quotes.
 use Rattle.std.proofs.Common.{Bool, List, None, Option, Some, [], ap, arith, eq-eqb, false, is_some}
-use Rattle.std.proofs.Common.{length, nat_le, option_map, refl, subst, sym, true, ℕ, ◌&&◌, ◌++◌}
-use Rattle.std.proofs.Common.{◌+◌, ◌<◌, ◌==◌, ◌||◌, ◌∙◌, ◌∷◌, ◌≡◌}
+use Rattle.std.proofs.Common.{length, nat_le, option_map, refl, sym, true, ℕ, ◌&&◌, ◌++◌, ◌+◌, ◌<◌}
+use Rattle.std.proofs.Common.{◌==◌, ◌||◌, ◌∙◌, ◌∷◌, ◌≡◌}
 use Rattle.std.proofs.lemmas.Bool.Decides.{nat_tests}
 use Rattle.std.proofs.lemmas.List.{length-map}
 use Rattle.std.proofs.lemmas.Slice.Eq.{bytes_eq-Decides}
@@ -23,7 +23,6 @@ use Rattle.market_terms.specs.declared.rooms.ResponseRef.{ResponseRef}
 use Rattle.venue_rows.specs.Rows.{Configuration, bond_with_id}
 use Rattle.venue_rows.specs.Texts.{same_text}
 use Rattle.venue_rows.specs.declared.bond_rows.BondRow.{BondRow}
-use Rattle.venue_rows.specs.declared.dealer_rows.DealerRow.{DealerRow}
 use Rattle.venue_rows.specs.declared.investor_rows.InvestorRow.{InvestorRow}
 use Rattle.investor_desk.specs.InvestorFacts.{Asked, Came, InvestorBook, InvestorFact}
 use Rattle.investor_desk.specs.InvestorFacts.{StandingRequest, book_of, expected_number, knows}
@@ -115,9 +114,7 @@ module _ (config : Configuration) (firm : ℕ) (row : InvestorRow) (may : ℕ �
       (λ name dealer found trivial.
       let within : dealer < length market.dealers =
       position_within (λ own. same_text own name) market.dealers dealer found in
-      has_item config.dealers dealer
-      (subst (λ (n : ℕ). dealer < n)
-      (length-map config.dealers (λ (d : DealerRow). d.name)) within))
+      has_item config.dealers dealer (rw length-map at within))
       names (every_unit names)
 
   -- the bond that is found by its identifier is found by the identifier that it has

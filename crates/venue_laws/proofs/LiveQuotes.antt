@@ -12,8 +12,8 @@ use Rattle.venue_rows.specs.declared.dealer_rows.DealerRow.{DealerRow}
 use Rattle.dealer_desk.specs.DealerFacts.{DealerFact, Quoted, Told, Withdrawn, book_of, ends}
 use Rattle.dealer_desk.specs.DealerFacts.{first_said, is_live_on, live_quote_on, request_numbered}
 use Rattle.dealer_desk.specs.DealerFacts.{standing_quote, standings, tells}
-use Rattle.dealer_desk.specs.DealerOutput.{DeskState, closable, desk_after, event_message}
-use Rattle.dealer_desk.specs.DealerOutput.{next_message, notice_of, quoted_price, untold}
+use Rattle.dealer_desk.specs.DealerOutput.{closable, desk_after, event_message, next_message}
+use Rattle.dealer_desk.specs.DealerOutput.{notice_of, quoted_price, untold}
 use Rattle.dealer_desk.specs.DeskLaws.{withdraws}
 use Rattle.dealer_desk.specs.declared.accepted.AcceptedQuote.{AcceptedQuote}
 use Rattle.dealer_desk.specs.declared.events.DealerEvent.{DealerEvent}
@@ -178,9 +178,7 @@ module _ (lone : LoneQuotes) (config : Configuration) (facts : List Fact) (deale
           ∙ eq-eqb own.request request request_is
 
       few : length (filter (is_live_on request) (standings (facts_of trail))) ≤ 1
-      few = subst (λ (state : DeskState).
-          length (filter (is_live_on request) (book_of state.facts).quotes) ≤ 1)
-          desk.seen.state_is (lone config.date row desk.seen.events request)
+      few = rw desk.seen.state_is at (lone config.date row desk.seen.events request)
 
   -- the request that may be closed
   number_is : (request : ℕ) (found : StandingRequest)

@@ -1,7 +1,7 @@
 -- What is kept of notices in a trail of a dealer, and what entries that tell nothing keep of it.
 use Rattle.std.proofs.Common.{◌≡◌, ℕ, Bool, true, false, List, [], ◌∷◌, ◌++◌, map, Option, Some}
 use Rattle.std.proofs.Common.{None, if◌then◌else◌, refl, sym, ◌∙◌, ◌≤◌, ◌||◌, filter, length}
-use Rattle.std.proofs.Common.{is_some, ap, subst}
+use Rattle.std.proofs.Common.{is_some, ap}
 use Rattle.std.specs.List.{list_any}
 use Rattle.market_terms.specs.declared.rooms.RoomRef.{RoomRef}
 use Rattle.quote_word.specs.declared.settled.Settled.{Settled}
@@ -94,9 +94,7 @@ module _ (trail added : List DealerEntry) (more : List DealerFact)
 
     told_grown : (request : ℕ) → tell request (facts_of (trail ++ added))
         ≡ (tell request (facts_of trail) || tell request more)
-    told_grown request =
-        ap (list_any (tells request)) grown
-        ∙ list_any-append (tells request) (facts_of trail) more
+    told_grown request = rw (grown, list_any-append) refl
 
     shown_more : (request : ℕ) (was now : Bool) → tell request (facts_of trail) ≡ was
         → tell request more ≡ now → (was || now) ≡ true
@@ -147,11 +145,7 @@ module _ (trail added : List DealerEntry) (more : List DealerFact)
       shown = λ request told.
           shown_more request _ _ refl refl (sym (told_grown request) ∙ told);
       closed = λ request unclosed. told_grown request ∙ closed_more request unclosed _ refl;
-      once = λ request.
-          subst (λ (facts : List DealerFact). length facts ≤ 1)
-          (sym (ap (filter (tells request)) grown
-          ∙ filter-append (tells request) (facts_of trail) more))
-          (once_more request _ refl);
+      once = λ request. rw (grown, filter-append) (once_more request _ refl);
     }
 
 -- What tells nothing.

@@ -42,8 +42,7 @@ module _ (bond : Option BondRow) where
   tags_same [] (y ∷ ys) alike = elim alike [ ]
   tags_same (x ∷ xs) [] alike = elim alike [ ]
   tags_same (x ∷ xs) (y ∷ ys) alike =
-      ap (λ (tag : ℕ). tag ∷ map (λ (field : Field). field.0) xs) (tag_same x y alike.0)
-      ∙ ap (λ (tags : List ℕ). y.0 ∷ tags) (tags_same xs ys alike.1)
+      rw (tag_same x y alike.0, tags_same xs ys alike.1) refl
 
   pub times_same : (one other : List Field) → AllZip (IsOneOrPriced bond) one other → (tag : ℕ)
       → times_of tag one ≡ times_of tag other

@@ -76,10 +76,8 @@ other_same : (grid : ℕ) (asked other priced : Reading) → AreReadings grid ot
     → is_lawful grid asked other ≡ is_lawful grid asked priced
 other_same grid asked other priced (inl same) = ap (λ (r : Reading). is_lawful grid asked r) same
 other_same grid asked other priced (inr prices) =
-    ap (λ (r : Reading). is_lawful grid asked r) prices.one_is
-    ∙ ap (λ (o : Option ℕ). is_some (if_on_grid grid o))
-    (lone_some asked (Ok prices.price) (Ok prices.priced))
-    ∙ sym (ap (λ (r : Reading). is_lawful grid asked r) prices.other_is)
+    rw (prices.one_is, prices.other_is) (ap (λ (o : Option ℕ). is_some (if_on_grid grid o))
+    (lone_some asked (Ok prices.price) (Ok prices.priced)))
 
 lawful_same : (grid : ℕ) (asked asked_too other other_too : Reading)
     → AreReadings grid asked asked_too → AreReadings grid other other_too
@@ -128,9 +126,7 @@ module _ (quote : Quote) (bid offer : Reading) where
         → erase_verdict (quote_on row book moment quote request)
         ≡ erase_verdict (quote_on row book moment priced request)
     on_request request same =
-        answer_same request (quote_refusal row book moment quote request)
-        ∙ ap (λ (r : Option QuoteRejectReason).
-        erase_verdict (quote_answer book moment priced request r)) same
+        rw same (answer_same request (quote_refusal row book moment priced request))
 
     -- where each request bears the grid of its bond, and the prices are on the grid of the bond
     -- that the quote names

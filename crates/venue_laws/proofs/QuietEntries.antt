@@ -230,8 +230,5 @@ module _ (date : List ℕ) (row : DealerRow) where
           (if goes_through replaced (option_map settlement replaced) then Quoted own ∷ [] else [])
           rooms messages quote is
       next_verdict (verdict.CancelAccepted id own request) rooms messages quote is =
-          ap (λ (facts : List DealerFact).
-          next_settlement (map AtDesk facts ++ map ShownIn rooms ++ map Sent messages))
-          (sym (append-nil (answer_facts own by.Cancel (Some (settlement own)))))
-          ∙ next_settled (Some own) by.Cancel [] rooms messages quote is
+          rw append-nil at (next_settled (Some own) by.Cancel [] rooms messages quote is)
       next_verdict other rooms messages quote is = cc

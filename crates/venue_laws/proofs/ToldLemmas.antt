@@ -97,8 +97,7 @@ in_duties : (by : Actor) (left : Duty) (caused : List Caused)
     → In (record { by = by; duty = left }) caused → In left (duties_by by caused)
 in_duties by left [] is = absurd is
 in_duties by left (one ∷ caused) (inl is) =
-    subst (λ (c : Caused). In left (duties_by by (c ∷ caused))) (sym is)
-    (rw (same_actor by) (inl refl))
+    rw (is, same_actor by) (inl refl)
 in_duties by left (one ∷ caused) (inr is) =
     by_test (is_same_actor one.by by) refl (in_duties by left caused is)
   where

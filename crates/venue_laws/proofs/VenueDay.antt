@@ -1,8 +1,8 @@
 -- What every duty, message and sweep brings, line by line of the market's table. So what stands in
 -- a venue stands after every list of steps.
 use Rattle.std.proofs.Common.{Bool, List, None, Option, Some, eq-eqb, false, if◌then◌else◌, is_some}
-use Rattle.std.proofs.Common.{option_map, refl, subst, sym, true, ℕ, ◌&&◌, ◌==◌, ◌≡◌, [], arith}
-use Rattle.std.proofs.Common.{fold, ◌++◌, ◌∷◌, ◌≤◌}
+use Rattle.std.proofs.Common.{option_map, refl, true, ℕ, ◌&&◌, ◌==◌, ◌≡◌, [], arith, fold, ◌++◌}
+use Rattle.std.proofs.Common.{◌∷◌, ◌≤◌}
 use Rattle.std.specs.List.{list_any}
 use Rattle.std.proofs.lemmas.Bool.{and_from}
 use Rattle.market_terms.specs.declared.duties.Duty.{Duty}
@@ -102,9 +102,7 @@ module _ (lone : LoneQuotes) (words : WordsOfDay) (h : Here) where
         → Does h left (action (dealer_of dealer row)))
         → Does h left (done_by (dealer_at h.config dealer) action)
     there dealer left action found does =
-        subst (λ (o : Option DealerRow).
-        Does h left (done_by (option_map (dealer_of dealer) o) action))
-        (sym found.1) (does found.0 found.1)
+        rw found.1 (does found.0 found.1)
 
     pub turn_does : (left : Duty) → DutyOk h.config h.venue.facts h.by left
         → InOrder h.venue.facts front left rest

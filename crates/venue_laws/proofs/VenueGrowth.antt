@@ -17,7 +17,7 @@ use Rattle.venue_places.specs.declared.actors.Actor.{Actor}
 use Rattle.venue_places.specs.declared.actors.Actor.TheVariants as actor
 use Rattle.step_replay.specs.AuditTrail.{Caused}
 use Rattle.step_replay.specs.DealerTrail.{AtDesk, DealerEntry, ShownIn, fact_in, facts_of, lifts}
-use Rattle.step_replay.specs.DealerTrail.{room_in, rooms_by, was_lifted}
+use Rattle.step_replay.specs.DealerTrail.{was_lifted}
 use Rattle.step_replay.specs.GrowthLemmas.{In, any_left, in_left, named_before, named_grown}
 use Rattle.step_replay.specs.GrowthLemmas.{number_grown, said_grown}
 use Rattle.step_replay.specs.InvestorTrail as investor_trail
@@ -36,12 +36,7 @@ module _ (facts more : List Fact) where
       → number_for facts dealer room ≡ Some number
       → number_for (facts ++ more) dealer room ≡ Some number
   number_for_grown dealer room number is =
-      rw (
-        dealer_grown dealer facts more,
-        filter_map-append room_in (of_dealer dealer facts) (of_dealer dealer more),
-      )
-      (number_grown 1 (rooms_by (of_dealer dealer facts)) (rooms_by (of_dealer dealer more)) room
-      number is)
+      rw (dealer_grown dealer facts more, filter_map-append) (number_grown 1 _ _ room number is)
 
   pub shown_grown : (dealer : ℕ) (room : RoomRef) → is_some (number_for facts dealer room) ≡ true
       → is_some (number_for (facts ++ more) dealer room) ≡ true
@@ -85,10 +80,8 @@ module _ (facts more : List Fact) where
       → is_named (of_room room (facts ++ more)) dealer ≡ true
       → is_named (of_room room facts) dealer ≡ true
   named_already room request dealer is named =
-      named_before (of_room room facts) (of_room room more)
-      request dealer is
-      (ap (λ (known : List RoomFact). is_named known dealer) (sym (room_grown room facts more))
-      ∙ named)
+      named_before (of_room room facts) (of_room room more) request dealer is
+      (rw (room_grown room facts more) at named)
 
   pub facts_later : (dealer : ℕ) → facts_of (of_dealer dealer (facts ++ more))
       ≡ facts_of (of_dealer dealer facts) ++ facts_of (of_dealer dealer more)

@@ -57,11 +57,7 @@ facts_added : (facts : List InvestorFact) (messages : List (List ℕ))
     → investor_trail.facts_of (map investor_trail.AtDesk facts ++ map investor_trail.Sent messages)
     ≡ facts
 facts_added facts messages =
-    filter_map-append investor_trail.fact_in (map investor_trail.AtDesk facts)
-    (map investor_trail.Sent messages)
-    ∙ ap (λ l. l ++ investor_trail.facts_of (map investor_trail.Sent messages)) (facts_in facts)
-    ∙ ap (λ l. facts ++ l) (none_in messages)
-    ∙ append-nil facts
+    rw (filter_map-append, facts_in facts, none_in messages, append-nil) refl
 
 module _ (h : Here) where
   pub investor_brings : (firm : ℕ) (action : InvestorMarket → Effect)

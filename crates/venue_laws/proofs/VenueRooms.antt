@@ -33,8 +33,7 @@ module _ (h : Here) (room : RoomRef) where
   pub room_now : (added : List RoomFact)
       → of_room room (Now h (map (InRoom room) added)) ≡ known h room ++ added
   room_now added =
-      room_grown room h.venue.facts (map (InRoom room) added)
-      ∙ ap (λ l. known h room ++ l) (own_room room added)
+      rw (room_grown room h.venue.facts (map (InRoom room) added), own_room room added) refl
 
   -- a duty that was done is done by the investor of the room
   abbrev pub DidBy : (Duty → Bool) → Type 0

@@ -46,8 +46,10 @@ module _ (h : Here) (dealer : ℕ) (row : DealerRow)
   trail_with : (entries : List DealerEntry)
       → of_dealer dealer (Now h (map (AtDealer dealer) entries)) ≡ own ++ entries
   trail_with entries =
-      dealer_grown dealer h.venue.facts (map (AtDealer dealer) entries)
-      ∙ ap (λ l. own ++ l) (own_trail dealer entries)
+      rw (
+        dealer_grown dealer h.venue.facts (map (AtDealer dealer) entries),
+        own_trail dealer entries,
+      ) refl
 
   pub shown_brings : (ask : Ask) → ShowsIn h.config h.venue.facts h.by dealer room ask
       → list_any (shows dealer room) (h.did h.by) ≡ true

@@ -12,7 +12,7 @@ use Rattle.dealer_desk.specs.DealerFacts.{Told}
 use Rattle.venue_places.specs.declared.actors.Actor.{Actor}
 use Rattle.step_replay.specs.Actions.{Effect}
 use Rattle.step_replay.specs.AuditTrail.{AuditTrail, Caused, is_same_actor, pending, with_effect}
-use Rattle.step_replay.specs.DealerTrail.{AtDesk, DealerEntry, message_in, room_in, rooms_by}
+use Rattle.step_replay.specs.DealerTrail.{AtDesk, DealerEntry, message_in, rooms_by}
 use Rattle.step_replay.specs.EachLemmas.{Each, Every, Stays, each_append, each_weaker, every_both}
 use Rattle.step_replay.specs.EachLemmas.{every_weaker}
 use Rattle.step_replay.specs.GrowthLemmas.{AreNumbered}
@@ -115,13 +115,9 @@ module _ (config : Configuration) (venue : AuditTrail) (before : VenueOk config 
           one_of = kept.1.0;
           noticed = kept.1.1.0;
           counted = kept.1.1.1;
-          numbered = subst AreNumbered
-              (sym (ap rooms_by (dealer_grown dealer venue.facts effect.facts)
-              ∙ filter_map-append room_in (of_dealer dealer venue.facts)
-              (of_dealer dealer effect.facts)))
+          numbered = rw (dealer_grown dealer venue.facts effect.facts, filter_map-append)
               (brings.numbered dealer row is);
-          names = subst (Each (NamesLifted config.date row) [])
-              (sym (dealer_grown dealer venue.facts effect.facts))
+          names = rw (dealer_grown dealer venue.facts effect.facts)
               (each_append (NamesLifted config.date row) (names_after config.date row) []
               (of_dealer dealer venue.facts) (of_dealer dealer effect.facts) stood.names
               (brings.names dealer row is));

@@ -152,9 +152,8 @@ module _ (venue : AuditTrail) (by : Actor) (effect : Effect) where
       → (test : Duty → Bool) → list_any test (take n (duties_by other venue.caused)) ≡ true
       → list_any test (did_in (venue_with venue by effect done) other) ≡ true
   did_more done other n within test is =
-      ap (λ (l : List Duty). list_any test (take (turns_of other done) l)) (left_parts other)
-      ∙ any_take test n (turns_of other done) (duties_by other venue.caused)
-      (duties_by other (left_by by effect.duties)) within is
+      rw (left_parts other) (any_take test n (turns_of other done) (duties_by other venue.caused)
+      (duties_by other (left_by by effect.duties)) within is)
 
   pub did_grows : (done : List Actor)
       → ((other : Actor) → turns_of other venue.done ≤ turns_of other done)
