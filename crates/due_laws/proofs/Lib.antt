@@ -1,0 +1,12 @@
+mod HeaderLines
+mod ReadAgain
+mod RoomCounts
+mod SayableActions
+mod SayableDays
+mod SayableDuties
+mod SayableEffects
+mod SayableTrails
+mod SayableVerdicts
+mod SpelledMessages
+mod SpelledSteps
+mod TraderNames

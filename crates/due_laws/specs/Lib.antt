@@ -1,0 +1,2 @@
+pub mod ReadDays
+pub mod SpelledDays
