@@ -2,13 +2,13 @@
 use Rattle.std.proofs.Common.{◌≡◌, ◌≢◌, ◌<◌, ◌≤◌, ℕ, suc, ◌+◌, ◌-◌, ◌==◌, ◌||◌, ◌&&◌, not, Bool, true}
 use Rattle.std.proofs.Common.{false, nat_lt, cond, List, [], ◌∷◌, ◌++◌, length, Option, Some, None}
 use Rattle.std.proofs.Common.{slice_index, AllPairs, if◌then◌else◌, refl, sym, ap, ap₂, ◌∙◌, arith}
-use Rattle.std.proofs.Common.{zero-lt-suc}
+use Rattle.std.proofs.Common.{get_or, slice_get, take, zero, zero-lt-suc}
 use Rattle.std.specs.List.{AllByRecursion, join_with_byte, list_all, list_any}
 use Rattle.std.proofs.lemmas.Bool.{and_from, and_parts, not-true}
 use Rattle.std.proofs.lemmas.Bool.Decides.{nat_tests}
 use Rattle.std.proofs.lemmas.List.{append-nil, append_assoc, length-append}
 use Rattle.std.proofs.lemmas.List.Elements.{recursion_from_All}
-use Rattle.std.proofs.lemmas.List.Folds.{list_any-append}
+use Rattle.std.proofs.lemmas.List.Folds.{list_all_more, list_any-append}
 use Rattle.std.proofs.lemmas.Slice.Eq.{bytes_eq-Decides}
 use Rattle.venue_rows.specs.Texts.{is_among, is_name, same_text}
 use Rattle.step_replay.specs.EachLemmas.{Every}
@@ -194,3 +194,22 @@ names_back name names is few pairs =
             let none : n ≡ 0 = grind (arith, nat_tests) in
             absurd (omega arith)
         by_test false test = refl
+
+-- A trader more that has a name.
+
+text_at : (texts : List (List ℕ)) (i : ℕ) → i < length texts
+    → slice_get texts i ≡ Some (get_or texts i [])
+text_at [] i within = absurd (omega arith)
+text_at (text ∷ texts) zero within = refl
+text_at (text ∷ texts) (suc i) within =
+    let inner : i < length texts = omega arith in
+    text_at texts i inner
+
+pub named_more : (names : List (List ℕ)) (i : ℕ) → i < length names
+    → list_all is_name (take i names) ≡ true
+    → ((name : List ℕ) → slice_get names i ≡ Some name → is_name name ≡ true)
+    → list_all is_name (take (i + 1) names) ≡ true
+named_more names i within before named =
+    list_all_more is_name names i [] within
+    ∙ and_from (list_all is_name (take i names)) (is_name (get_or names i [])) before
+    (named (get_or names i []) (text_at names i within))

@@ -37,8 +37,9 @@ pub fn alone_prints_what_replay_prints(venue: &VenueConfig, dealer: u16, dues: &
     what_is_due_can_be_said();
     dealers_are_given_their_view();
     rows_are_their_values();
-    what_was_due_is_read_back(venue.date(), dues);
-    date_is_tested(venue.date());
+    let date = venue.date();
+    what_was_due_is_read_back(date, dues);
+    date_is_tested(date);
     let _ = venue.dealers();
     let Some(row) = venue.dealer(dealer) else {
         return;
