@@ -22,7 +22,7 @@ use Rattle.step_replay.specs.FirmDays.{FirmDay}
 use Rattle.step_replay.specs.PlaceLemmas.{get_first}
 use Rattle.step_replay.specs.declared.dues.Due.{Due}
 use Rattle.step_replay.specs.declared.steps.Step.{Step}
-use Rattle.input_lines.specs.DueText.{Lines, Spelled, due_text_of}
+use Rattle.input_lines.specs.DueText.{Spelled, due_text_of}
 use Rattle.input_lines.specs.declared.faults.ProgramFault.{ProgramFault}
 use Rattle.venue_text.specs.AloneText.{IsPrinted}
 use Rattle.venue_text.specs.DueCommand.{due_text}
@@ -143,16 +143,16 @@ row_names config limits dealer row is traders = record {
 }
 
 -- the due text of a dealer's day is read again
-pub day_read : (config : Configuration) → KeepsLimits config → (dealer : ℕ) (lines : Lines)
-    (steps : List Step) (row : DealerRow) (dues : List Due)
-    → WasDue config dealer lines steps row dues → (found : DealerRow)
+pub day_read : (config : Configuration) → KeepsLimits config → (dealer : ℕ) (row : DealerRow)
+    (steps : List Step) (dues : List Due)
+    → WasDue config dealer row steps dues → (found : DealerRow)
     → Some found ≡ dealer_numbered config dealer → list_all is_name found.traders ≡ true
     → (date : List ℕ) → date ≡ config.date → IsDate date → is_date date ≡ true
     → list_all is_sayable (due_to dealer (audit_trail config steps)) ≡ true
     → (list_all is_sayable dues ≡ true → IsReadBack date dues)
     → due_text_of (due_text config.date row dues)
     ≡ Ok (record { date = config.date; row = dealer_values row; dues = dues })
-day_read config limits dealer lines steps row dues was found there traders date dates is_one tested
+day_read config limits dealer row steps dues was found there traders date dates is_one tested
     sayable back =
     let same : found ≡ row = same_Some found row (there ∙ was.row_is) in
     read_again config.date row dues

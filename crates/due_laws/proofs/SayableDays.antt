@@ -20,7 +20,7 @@ use Rattle.step_replay.specs.VenueFacts.{Fact, of_dealer}
 use Rattle.step_replay.specs.declared.steps.Step.{Step}
 use Rattle.step_replay.specs.declared.steps.Step.TheVariants as step
 use Rattle.venue_text.specs.ReadBack.{is_sayable}
-use Rattle.due_laws.specs.SpelledDays.{has_bytes}
+use Rattle.due_laws.specs.SaidSteps.{has_bytes}
 use Rattle.due_laws.proofs.SayableActions.{duty_fits, message_fits, sweep_fits}
 use Rattle.due_laws.proofs.SayableDuties.{DutyFits}
 use Rattle.due_laws.proofs.SayableEffects.{AcceptsFew, EffectFits}

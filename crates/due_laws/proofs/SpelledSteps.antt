@@ -1,15 +1,17 @@
 -- Each message that the lines of a day spell has a byte.
 use Rattle.std.proofs.Common.{◌≡◌, ℕ, zero, suc, Bool, true, false, List, [], ◌∷◌, ◌++◌, length, map}
-use Rattle.std.proofs.Common.{replicate, Result, Ok, Err, IfOk, if◌then◌else◌, refl, subst}
+use Rattle.std.proofs.Common.{replicate, Result, Ok, Err, IfOk, if◌then◌else◌, refl, sym, subst}
 use Rattle.std.specs.List.{list_all}
 use Rattle.std.specs.Prelude.{slice_get}
-use Rattle.std.proofs.lemmas.Bool.{and_from}
+use Rattle.std.proofs.lemmas.Bool.{and_from, and_parts}
 use Rattle.fix_fields.specs.Envelope.{envelopes_of}
 use Rattle.market_terms.specs.declared.rooms.RoomRef.{RoomRef}
 use Rattle.venue_rows.specs.Rows.{ConfigValues}
 use Rattle.quote_messages.specs.Texts.{number_of}
 use Rattle.venue_places.specs.declared.actors.Actor.{Actor}
 use Rattle.step_replay.specs.EachLemmas.{Every, every_both}
+use Rattle.step_replay.specs.LiveDays.{actor_of, live_steps, with_turns}
+use Rattle.step_replay.specs.declared.steps.TheConstants.{MOST_TURNS_BEHIND}
 use Rattle.step_replay.specs.declared.steps.Step.{Step}
 use Rattle.step_replay.specs.declared.steps.Step.TheVariants as step
 use Rattle.input_lines.specs.DueText.{Lines, at_line}
@@ -23,7 +25,7 @@ use Rattle.input_lines.specs.StepLines.{of_known, part_at, piece_steps, said_ste
 use Rattle.input_lines.specs.StepLines.{steps_from, steps_of, steps_of_line, sweeps_at, turn_steps}
 use Rattle.input_lines.specs.StepLines.{turns_of, unbroken, venue_rooms}
 use Rattle.input_lines.specs.declared.faults.ProgramFault.{ProgramFault}
-use Rattle.due_laws.specs.SpelledDays.{has_bytes}
+use Rattle.due_laws.specs.SaidSteps.{has_bytes}
 use Rattle.due_laws.proofs.SpelledMessages.{Came, HasByte, any_ok, cut_has, has_some, hexed_has}
 use Rattle.due_laws.proofs.SpelledMessages.{line_ok, received_has, said_has, then_ok}
 
@@ -156,8 +158,39 @@ are_said config lines steps is =
     subst (λ (read : Result (List Step) ProgramFault). IfOk read (Every Said)) is
     (all_spell config lines (nothing_heard (length (names_of_firms config))))
 
+-- The same as one test of all steps.
+
 pub all_have_bytes : (steps : List Step) → Every (λ s. has_bytes s ≡ true) steps
     → list_all has_bytes steps ≡ true
 all_have_bytes [] said = refl
 all_have_bytes (step ∷ steps) said =
     and_from (has_bytes step) (list_all has_bytes steps) said.0 (all_have_bytes steps said.1)
+
+pub each_has_bytes : (steps : List Step) → list_all has_bytes steps ≡ true
+    → Every (λ s. has_bytes s ≡ true) steps
+each_has_bytes [] said = tt
+each_has_bytes (step ∷ steps) said =
+    let parts = and_parts (has_bytes step) (list_all has_bytes steps) said in
+    (parts.0, each_has_bytes steps parts.1)
+
+-- Steps that come one by one, each with the turns behind it.
+
+turns : ℕ → Actor → List Step
+turns n by = replicate n (step.Turn by)
+
+all_turns_said : (n : ℕ) (by : Actor) → Every Said (turns n by)
+unfolding turns
+all_turns_said n by = turns_said n by
+
+turns_behind : (s : Step) → with_turns s ≡ s ∷ turns MOST_TURNS_BEHIND (actor_of s)
+unfolding with_turns turns
+turns_behind s = refl
+
+pub live_said : (steps : List Step) → Every (λ s. has_bytes s ≡ true) steps
+    → Every (λ s. has_bytes s ≡ true) (live_steps steps)
+live_said [] said = tt
+live_said (step ∷ steps) said =
+    every_both Said (with_turns step) (live_steps steps)
+    (subst (Every Said) (sym (turns_behind step))
+    (said.0, all_turns_said MOST_TURNS_BEHIND (actor_of step)))
+    (live_said steps said.1)

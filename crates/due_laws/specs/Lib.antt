@@ -1,2 +1,2 @@
 pub mod ReadDays
-pub mod SpelledDays
+pub mod SaidSteps

@@ -5,8 +5,8 @@
 //! be said. Of a day that lines spell each list can:
 //!
 //! - [`messages_have_bytes`]: no line spells a message without a byte.
-//! - [`what_is_due_can_be_said`]: each message that is due has a byte, each investor that asks has
-//!   the name of a firm, and no request and no quote has a number of more than nine digits.
+//! - [`what_is_due_can_be_said`]: where each message has a byte, each investor that asks has the
+//!   name of a firm, and no request and no quote has a number of more than nine digits.
 //! - [`alone_prints_what_replay_prints`]: the text that `due` prints of a dealer is read as its
 //!   date, its row and what was due to it, and `alone` makes of it what `replay` prints of the
 //!   dealer's day.

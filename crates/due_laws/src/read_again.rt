@@ -1,5 +1,5 @@
 //! A law: `alone` makes of what `due` prints what `replay` prints.
-ghost use Rattle.std.specs.Prelude.{◌≡◌, ℕ, List, Bool, IsTrue, Ok, Some, true, slice_get};
+ghost use Rattle.std.specs.Prelude.{◌≡◌, ℕ, Bool, List, Ok, Some, true, slice_get};
 ghost use Rattle.std.specs.List.{list_all};
 ghost use Rattle.fix_fields.specs.UtcTimestamp.{IsDate, is_date};
 ghost use Rattle.venue_rows.specs.Rows.{dealer_values};
@@ -8,7 +8,7 @@ ghost use Rattle.venue_rows.specs.declared.dealer_rows.DealerRow.{DealerRow};
 ghost use Rattle.step_replay.specs.AuditTrail.{audit_trail};
 ghost use Rattle.step_replay.specs.FirmDays.{firm_days};
 ghost use Rattle.step_replay.specs.declared.steps.Step.{Step};
-ghost use Rattle.input_lines.specs.DueText.{Lines, due_text_of};
+ghost use Rattle.input_lines.specs.DueText.{due_text_of};
 ghost use Rattle.venue_text.specs.AloneText.{IsPrinted};
 ghost use Rattle.venue_text.specs.DueCommand.{due_text};
 ghost use Rattle.venue_text.specs.ReplayText.{days_text, named_days};
@@ -20,16 +20,17 @@ use step_replay::{Due, dealers_are_given_their_view};
 use venue_rows::{Traders, VenueConfig, rows_are_their_values};
 use venue_text::what_was_due_is_read_back;
 
-/// A law: where `dues` was due to a dealer on a day that lines spell, the text that `due` prints of
-/// it is read as its date, the dealer's row and the same list, and what `alone` prints for that
-/// text is what `replay` prints of the dealer for the day. It does nothing.
+/// A law: where `dues` was due to a dealer on a day whose messages have bytes, as all have that
+/// lines spell, the text that `due` prints of it is read as the date, the dealer's row and the same
+/// list, and what `alone` prints for that text is what `replay` prints of the dealer for the day.
+/// It does nothing.
 pub fn alone_prints_what_replay_prints(venue: &VenueConfig, dealer: u16, dues: &[Due])
-    ensures read { (lines : Lines) (steps : List Step) (row : DealerRow)
-        → spec.WasDue venue.now dealer lines steps row dues.now
+    ensures read { (row : DealerRow) (steps : List Step)
+        → spec.WasDue venue.now dealer row steps dues.now
         → due_text_of (due_text venue.now.date row dues.now)
         ≡ Ok (record { date = venue.now.date; row = dealer_values row; dues = dues.now }) }
-    ensures printed { (lines : Lines) (steps : List Step) (row : DealerRow) (with_frames : Bool)
-        (text : List ℕ) → spec.WasDue venue.now dealer lines steps row dues.now
+    ensures printed { (row : DealerRow) (steps : List Step) (with_frames : Bool) (text : List ℕ)
+        → spec.WasDue venue.now dealer row steps dues.now
         → IsPrinted with_frames (due_text venue.now.date row dues.now) text
         → text ≡ days_text with_frames (Some dealer)
         (named_days venue.now (firm_days venue.now (audit_trail venue.now steps).facts)) }
