@@ -1,12 +1,14 @@
 -- Each message that the lines of a day spell has a byte.
 use Rattle.std.proofs.Common.{◌≡◌, ℕ, zero, suc, Bool, true, false, List, [], ◌∷◌, ◌++◌, length, map}
-use Rattle.std.proofs.Common.{replicate, Result, Ok, Err, IfOk, if◌then◌else◌, refl, sym, subst}
+use Rattle.std.proofs.Common.{replicate, Result, Ok, Err, IfOk, codes, if◌then◌else◌, refl}
+use Rattle.std.proofs.Common.{sym, subst}
 use Rattle.std.specs.List.{list_all}
 use Rattle.std.specs.Prelude.{slice_get}
 use Rattle.std.proofs.lemmas.Bool.{and_from, and_parts}
 use Rattle.fix_fields.specs.Envelope.{envelopes_of}
 use Rattle.market_terms.specs.declared.rooms.RoomRef.{RoomRef}
 use Rattle.venue_rows.specs.Rows.{ConfigValues}
+use Rattle.venue_rows.specs.Texts.{same_text}
 use Rattle.quote_messages.specs.Texts.{number_of}
 use Rattle.venue_places.specs.declared.actors.Actor.{Actor}
 use Rattle.step_replay.specs.EachLemmas.{Every, every_both}
@@ -135,13 +137,20 @@ either_spells false one other first second = second
 keyword_spells : (config : ConfigValues) (heard : Heard) (k : ℕ) (keyword text : List ℕ)
     → Spells (steps_behind config heard k keyword text)
 keyword_spells config heard k keyword text =
-    either_spells _ _ _ (say_spells config heard k text)
-    (either_spells _ _ _ (in_spells config heard k text)
-    (either_spells _ _ _ (hex_spells config heard k text)
-    (either_spells _ _ _ (turn_spells config heard k text)
-    (either_spells _ _ _ (expire_spells config heard k text)
-    (either_spells _ _ _ (clock_spells config heard k text)
-    (either_spells _ _ _ (piece_spells config heard k text) tt))))))
+    either_spells (same_text keyword (codes "say")) (said_step config heard k text) _
+    (say_spells config heard k text)
+    (either_spells (same_text keyword (codes "in")) (in_step config heard k text) _
+    (in_spells config heard k text)
+    (either_spells (same_text keyword (codes "hex")) (hex_step config heard k text) _
+    (hex_spells config heard k text)
+    (either_spells (same_text keyword (codes "turn")) (turn_steps config heard k text) _
+    (turn_spells config heard k text)
+    (either_spells (same_text keyword (codes "expire")) (expire_step config heard k text) _
+    (expire_spells config heard k text)
+    (either_spells (same_text keyword (codes "clock")) (clock_steps config heard k text) _
+    (clock_spells config heard k text)
+    (either_spells (same_text keyword (codes "piece")) (piece_steps config heard k text) _
+    (piece_spells config heard k text) tt))))))
 
 all_spell : (config : ConfigValues) (lines : Lines) (heard : Heard)
     → IfOk (steps_from config heard lines) (Every Said)

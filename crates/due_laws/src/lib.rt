@@ -1,4 +1,5 @@
-//! Laws of due text: that it can say every day of a dealer, and that what is read of it is that day.
+//! Laws of due text: that it can say every day of a dealer, and that what is read of it is that
+//! day.
 //!
 //! Due text can't say every value of its types, so the law by which it is read back
 //! ([`what_was_due_is_read_back`](venue_text::what_was_due_is_read_back)) supposes that a list can

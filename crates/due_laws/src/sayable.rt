@@ -12,8 +12,9 @@ ghost use Rattle.due_laws.specs.SaidSteps.{has_bytes};
 
 use dealer_desk::limits_are_kept;
 
-/// A law: each message that lines spell has a byte, be it said field by field, byte by byte or digit
-/// by digit, or cut out of pieces; and turns that come behind steps bring none. It does nothing.
+/// A law: each message that lines spell has a byte, be it said field by field, byte by byte or
+/// digit by digit, or cut out of pieces; and turns that come behind steps bring none. It does
+/// nothing.
 pub fn messages_have_bytes()
     ensures lines { (config : ConfigValues) (lines : Lines) (steps : List Step)
         → steps_of config lines ≡ Ok steps → list_all has_bytes steps ≡ true }
