@@ -50,8 +50,8 @@ pub fn alone_prints_what_replay_prints(venue: &VenueConfig, dealer: u16, dues: &
 
 /// A date is one by the test of its digits.
 fn date_is_tested(date: &Date)
-    ensures date { IsDate date.now }
-    ensures test { is_date date.now ≡ true }
+    ensures dated { IsDate date.now }
+    ensures tested { is_date date.now ≡ true }
 {
     let _ = Date::new(date.digits().as_slice());
 }

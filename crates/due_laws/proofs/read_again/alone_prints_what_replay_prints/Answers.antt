@@ -20,7 +20,7 @@ returns-clause-read c row steps was =
     let limits = c.dealers.ensures.limits in
     day_read c.args.venue.now limits c.args.dealer row steps c.args.dues.now was
     c.in-Some.row.now c.in-Some.ensures c.traders_are_named.ensures c.date-date.result.now
-    c.date-date.ensures c.date_is_tested.ensures.date c.date_is_tested.ensures.test
+    c.date-date.ensures c.date_is_tested.ensures.dated c.date_is_tested.ensures.tested
     (c.what_is_due_can_be_said.ensures.steps c.args.venue.now steps c.args.dealer limits was.said)
     c.what_was_due_is_read_back.ensures.text
 
@@ -31,7 +31,7 @@ returns-clause-printed c row steps with_frames text was printed =
     let limits = c.dealers.ensures.limits in
     let read = day_read config limits dealer row steps c.args.dues.now was
     c.in-Some.row.now c.in-Some.ensures c.traders_are_named.ensures c.date-date.result.now
-    c.date-date.ensures c.date_is_tested.ensures.date c.date_is_tested.ensures.test
+    c.date-date.ensures c.date_is_tested.ensures.dated c.date_is_tested.ensures.tested
     (c.what_is_due_can_be_said.ensures.steps config steps dealer limits was.said)
     c.what_was_due_is_read_back.ensures.text in
     printed_again c.rows_are_their_values.ensures config
