@@ -1,12 +1,12 @@
 mod HeaderLines
 mod ReadAgain
-mod RoomCounts
+pub mod RoomCounts
 mod SayableActions
 mod SayableDays
 mod SayableDuties
-mod SayableEffects
+pub mod SayableEffects
 mod SayableTrails
 mod SayableVerdicts
 mod SpelledMessages
-mod SpelledSteps
+pub mod SpelledSteps
 mod TraderNames

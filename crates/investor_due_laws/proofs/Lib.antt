@@ -1,0 +1,11 @@
+mod DealerNames
+mod NumberedActions
+mod NumberedCounts
+mod NumberedDays
+mod NumberedDesks
+mod NumberedDuties
+mod NumberedEffects
+mod NumberedMessages
+mod OfferCounts
+mod SayableDues
+mod SayableItems

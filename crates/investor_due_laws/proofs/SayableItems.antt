@@ -1,0 +1,168 @@
+-- What comes to an investor's desk can be said.
+use Rattle.std.proofs.Common.{◌≡◌, ◌<◌, ◌≤◌, ℕ, zero, suc, ◌==◌, ◌&&◌, not, Bool, true, false, nat_le}
+use Rattle.std.proofs.Common.{List, [], ◌∷◌, ◌++◌, length, fold, IfSome, Option, Some, None, IsTrue}
+use Rattle.std.proofs.Common.{option_and_then, option_map, if◌then◌else◌, refl, sym, ap, ◌∙◌, subst}
+use Rattle.std.proofs.Common.{arith}
+use Rattle.std.specs.List.{AllByRecursion, list_all}
+use Rattle.std.specs.Option.{option_to_list}
+use Rattle.std.specs.Prelude.{slice_get}
+use Rattle.std.proofs.lemmas.Bool.{and_from}
+use Rattle.std.proofs.lemmas.Bool.Decides.{nat_tests}
+use Rattle.std.proofs.lemmas.List.{append-nil, append_assoc}
+use Rattle.std.proofs.lemmas.List.Elements.{recursion_from_All}
+use Rattle.std.proofs.lemmas.List.Sums.{fold-append}
+use Rattle.std.proofs.lemmas.Option.{same_Some}
+use Rattle.market_terms.specs.declared.duties.Duty.{Duty}
+use Rattle.market_terms.specs.declared.duties.Duty.TheVariants as duty
+use Rattle.market_terms.specs.declared.rooms.RoomRef.{RoomRef}
+use Rattle.venue_rows.specs.Rows.{Configuration, KeepsLimits, dealer_numbered, firm_names}
+use Rattle.venue_rows.specs.Rows.{investor_numbered, may_request}
+use Rattle.venue_rows.specs.Texts.{is_firm_name}
+use Rattle.venue_rows.specs.declared.dealer_rows.DealerRow.{DealerRow}
+use Rattle.venue_rows.specs.declared.investor_rows.InvestorRow.{InvestorRow}
+use Rattle.investor_desk.specs.InvestorDesk.{DeskEvents, book_at, market_of, no_events}
+use Rattle.investor_desk.specs.InvestorFacts.{InvestorBook, book_of}
+use Rattle.venue_places.specs.Dealers.{Dealer, acting_dealer, dealer_of, has_word_for}
+use Rattle.venue_places.specs.Placed.{declined, placed}
+use Rattle.venue_places.specs.declared.actors.Actor.{Actor}
+use Rattle.venue_places.specs.declared.actors.Actor.TheVariants as actor
+use Rattle.venue_places.specs.declared.arrivals.ForInvestor.{ForInvestor}
+use Rattle.venue_places.specs.declared.arrivals.ForInvestor.TheVariants as to_investor
+use Rattle.venue_places.specs.declared.arrivals.Placement.{Placement}
+use Rattle.venue_places.specs.declared.arrivals.Placement.TheVariants as arrival
+use Rattle.step_replay.specs.EachLemmas.{Every}
+use Rattle.step_replay.specs.VenueFacts.{Fact}
+use Rattle.investor_views.specs.Comings.{Coming, For, Own, at_desk_of}
+use Rattle.investor_views.specs.InvestorDues.{due_by, number_of, quote_meant}
+use Rattle.investor_texts.specs.ReadBack.{is_sayable, is_short_if}
+use Rattle.venue_text.specs.ReadBack.{is_short}
+use Rattle.due_laws.proofs.RoomCounts.{HasRoom}
+use Rattle.investor_due_laws.proofs.DealerNames.{name_at}
+use Rattle.investor_due_laws.proofs.NumberedDesks.{FactNumbers, meant_short}
+use Rattle.investor_due_laws.proofs.NumberedDuties.{DutyNumbers}
+use Rattle.investor_due_laws.proofs.NumberedEffects.{desk_facts}
+
+-- Numbers and names.
+
+request_short : (found : Option InvestorRow) (n : ℕ) → may_request found n ≡ true
+    → is_short n ≡ true
+request_short None n may = cc
+request_short (Some row) n may =
+    let within : (nat_le 1 n && nat_le n row.requests) ≡ true = may in
+    let most : row.requests ≤ 1024 = row.requests_to in
+    let few : n ≤ row.requests = grind (arith, nat_tests) in
+    let low : n < 1000000000 = omega arith in
+    grind (arith, nat_tests)
+
+room_short : (config : Configuration) (room : RoomRef) → HasRoom config room
+    → is_short room.n ≡ true
+room_short config room has = request_short (investor_numbered config room.investor) room.n has
+
+abbrev Named : List ℕ → Type 0
+Named name = IsTrue (is_firm_name name)
+
+all_at : (texts : List (List ℕ)) (place : ℕ) (text : List ℕ) → slice_get texts place ≡ Some text
+    → AllByRecursion Named texts → is_firm_name text ≡ true
+all_at [] place text at each = cc
+all_at (first ∷ texts) zero text at each = subst Named (same_Some first text at) each.0
+all_at (first ∷ texts) (suc place) text at each = all_at texts place text at each.1
+
+dealer_named : (config : Configuration) → KeepsLimits config → (dealer : ℕ) (row : DealerRow)
+    → dealer_numbered config dealer ≡ Some row → is_firm_name row.name ≡ true
+dealer_named config limits dealer row is =
+    all_at (firm_names config) dealer row.name (name_at config dealer row is)
+    (recursion_from_All Named (firm_names config) limits.firms_named)
+
+-- What a duty brings, line by line of the table.
+
+module _ (config : Configuration) (limits : KeepsLimits config) (facts : List Fact)
+    (investor : ℕ) (numbers : Every (FactNumbers config.dealers) (desk_facts facts investor)) where
+  abbrev book : InvestorBook
+  book = book_of (desk_facts facts investor)
+
+  abbrev Said : Coming → Type 0
+  Said coming = is_sayable (due_by book coming) ≡ true
+
+  -- what comes to the desk can be said
+  abbrev pub Comes : Option Placement → Type 0
+  Comes found = IfSome (at_desk_of investor found) Said
+
+  to_room : (b : Bool) (what : Placement) → at_desk_of investor (Some what) ≡ None
+      → Comes (if b then Some what else None)
+  to_room true what none =
+      subst (λ (o : Option Coming). IfSome o Said) (sym none) tt
+  to_room false what none = tt
+
+  to_desk : (b : Bool) (firm : ℕ) (what : ForInvestor) → Said (For what)
+      → Comes (if b then Some (arrival.Investor firm what) else None)
+  to_desk true firm what said = by_test (firm == investor)
+    where
+      by_test : (c : Bool) → IfSome (if c then Some (For what) else None) Said
+      by_test true = said
+      by_test false = tt
+  to_desk false firm what said = tt
+
+  acting : (by : Actor) (act : Dealer → Option Placement)
+      → ((number : ℕ) (row : DealerRow) → dealer_numbered config number ≡ Some row
+      → Comes (act (dealer_of number row)))
+      → Comes (option_and_then act (acting_dealer config by))
+  acting (actor.Firm number) act each = by_row (dealer_numbered config number) refl
+    where
+      by_row : (found : Option DealerRow) → dealer_numbered config number ≡ found
+          → Comes (option_and_then act (option_map (dealer_of number) found))
+      by_row None is = tt
+      by_row (Some row) is = each number row is
+  acting actor.Clock act each = tt
+
+  where_worded : (b : Bool) (found : Option Placement) → Comes found
+      → Comes (if b then found else None)
+  where_worded true found comes = comes
+  where_worded false found comes = tt
+
+  pub duty_said : (by : Actor) (left : Duty) → DutyNumbers config by left
+      → Comes (placed config by left)
+  unfolding placed due_by
+  duty_said by (duty.Open room ask dealers moment) says = to_room _ (arrival.Room room _) refl
+  duty_said by (duty.Show dealer room ask moment) says = to_room _ (arrival.Dealer dealer _) refl
+  duty_said by (duty.Ready room moment) says = to_room _ (arrival.Room room _) refl
+  duty_said by (duty.Post room quote price valid_until moment) says =
+      acting by _ (λ number row is.
+      where_worded (has_word_for config (dealer_of number row) quote) _
+      (to_room _ (arrival.Room room _) refl))
+  duty_said by (duty.Relay room offer moment) says =
+      to_desk _ room.investor (to_investor.Relay room.n offer moment)
+      (and_from (is_short room.n) (is_firm_name offer.dealer) (room_short config room says.0)
+      (ap is_firm_name says.1.name_is
+      ∙ dealer_named config limits says.1.dealer says.1.row says.1.row_is))
+  duty_said by (duty.Unpost room quote moment) says =
+      acting by _ (λ number row is.
+      where_worded (has_word_for config (dealer_of number row) quote) _
+      (to_room _ (arrival.Room room _) refl))
+  duty_said by (duty.Gone room word moment) says =
+      to_desk _ room.investor (to_investor.Gone room.n word moment)
+      (and_from (is_short room.n) (is_short (number_of (quote_meant book room.n word)))
+      (room_short config room says)
+      (meant_short config.dealers (desk_facts facts investor) numbers room.n word))
+  duty_said by (duty.Decline room moment) says =
+      acting by _ (λ number row is. to_room _ (arrival.Room room _) refl)
+  duty_said by (duty.Declined room moment) says =
+      acting by (declined config room moment) (λ number row is.
+      to_desk _ room.investor (to_investor.Declined room.n row.name moment)
+      (and_from (is_short room.n) (is_firm_name row.name) (room_short config room says)
+      (dealer_named config limits number row is)))
+  duty_said by (duty.Hit room response word moment) says =
+      to_room _ (arrival.Hit room response word moment) refl
+  duty_said by (duty.Pass room response moment) says = to_room _ (arrival.Room room _) refl
+  duty_said by (duty.Answer room response reply moment) says =
+      to_desk _ room.investor (to_investor.Answer room.n response reply moment)
+      (and_from (is_short room.n) (is_short_if response.k) (room_short config room says.0) says.1)
+  duty_said by (duty.Close room moment) says =
+      to_desk _ room.investor (to_investor.Close room.n moment) (room_short config room says)
+  duty_said by (duty.Tell dealer room close moment) says =
+      to_room _ (arrival.Dealer dealer _) refl
+  duty_said by (duty.Drop last moment) says = acting by _ (λ number row is. tt)
+
+  pub own_said : (moment : ℕ) (bytes : List ℕ) → not (length bytes == 0) ≡ true
+      → Said (Own moment bytes)
+  unfolding due_by
+  own_said moment bytes has = has
