@@ -36,7 +36,7 @@ use Rattle.due_laws.proofs.HeaderLines.{RowNames, date_words, header_back, row_w
 
 -- Tests of what a configuration has.
 
-pub date_tested : (found : Option (List ℕ)) (digits : List ℕ) → IsDate digits
+date_tested : (found : Option (List ℕ)) (digits : List ℕ) → IsDate digits
     → SomeIff found (IsDate digits) digits
     → found ≡ (if is_date digits then Some digits else None) → is_date digits ≡ true
 date_tested None digits is read exact = absurd (read is)
@@ -45,6 +45,12 @@ date_tested (Some date) digits is read exact = by_test (is_date digits) exact
     by_test : (b : Bool) → Some date ≡ (if b then Some digits else None) → b ≡ true
     by_test true found = refl
     by_test false found = cc
+
+pub own_tested : (found : Option (List ℕ)) (digits own : List ℕ) → digits ≡ own → IsDate own
+    → SomeIff found (IsDate digits) digits
+    → found ≡ (if is_date digits then Some digits else None) → is_date own ≡ true
+own_tested found digits own same is read exact =
+    ap is_date (sym same) ∙ date_tested found digits (subst IsDate (sym same) is) read exact
 
 -- nothing is there, and something is
 pub none_there : {A X : Type 0} (found : Option X) (x : X) → None ≡ found → found ≡ Some x → A
