@@ -1,17 +1,16 @@
 -- The lines of a date and of a dealer, written and read again.
-use Rattle.std.proofs.Common.{◌≡◌, ◌≢◌, ◌<◌, ◌≤◌, ℕ, ◌/◌, ◌%◌, ◌+◌, ◌&&◌, not, Bool, true, cond}
+use Rattle.std.proofs.Common.{◌≡◌, ◌≢◌, ◌≤◌, ℕ, ◌/◌, ◌%◌, ◌+◌, ◌&&◌, not, Bool, true, cond}
 use Rattle.std.proofs.Common.{nat_le, List, [], ◌∷◌, ◌++◌, length, codes, decimal, Option, Some, None}
 use Rattle.std.proofs.Common.{AllPairs, refl, sym, ap, ap₂, ◌∙◌, subst, arith}
 use Rattle.std.specs.List.{join_with_byte, list_all}
 use Rattle.std.proofs.lemmas.Bool.{and_parts}
 use Rattle.std.proofs.lemmas.Bool.Decides.{nat_tests}
 use Rattle.std.proofs.lemmas.Fmt.{length-decimal-le}
-use Rattle.std.proofs.lemmas.List.{append_assoc}
 use Rattle.fix_fields.specs.UtcTimestamp.{IsDate, date_text, four_digits, is_date, two_digits}
 use Rattle.venue_rows.specs.Rows.{AreTraders, DealerValues, dealer_values}
 use Rattle.venue_rows.specs.Texts.{is_among, is_firm_name, is_name, reserved_names, text_if}
 use Rattle.venue_rows.specs.declared.dealer_rows.DealerRow.{DealerRow}
-use Rattle.input_lines.specs.DueLines.{date_of, exposure_of, quotes_of, row_of, row_values, traders_of}
+use Rattle.input_lines.specs.DueLines.{date_of, exposure_of, quotes_of, row_values, traders_of}
 use Rattle.input_lines.specs.DueLines.{within}
 use Rattle.input_lines.specs.Lines.{behind_part, first_part}
 use Rattle.input_lines.specs.OptionSteps.{◌>>=◌}

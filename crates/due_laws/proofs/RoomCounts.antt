@@ -1,5 +1,5 @@
 -- No list of different rooms of a venue is longer than that of all its rooms.
-use Rattle.std.proofs.Common.{◌≡◌, ◌<◌, ◌≤◌, ℕ, zero, suc, ◌+◌, ◌-◌, ◌==◌, ◌⊎◌, inl, inr, Bool, true}
+use Rattle.std.proofs.Common.{◌≡◌, ◌<◌, ◌≤◌, ℕ, zero, suc, ◌+◌, ◌-◌, ◌==◌, inl, inr, Bool, true}
 use Rattle.std.proofs.Common.{false, ◌&&◌, nat_le, List, [], ◌∷◌, ◌++◌, length, sum_by, Option, Some}
 use Rattle.std.proofs.Common.{None, if◌then◌else◌, refl, sym, ap, ◌∙◌, subst, arith, eq-eqb}
 use Rattle.std.specs.Prelude.{slice_get}
@@ -170,7 +170,7 @@ in_venue config room has =
         let most : room.n ≤ row.requests = grind (arith, nat_tests) in
         let low : length config.dealers ≤ room.investor = grind (arith, nat_tests) in
         let number : length config.dealers + (room.investor - length config.dealers)
-            ≡ room.investor = omega arith in
+        ≡ room.investor = omega arith in
         subst (λ (i : ℕ). In (room_at i room.n) (rooms_of config)) number
         (in_from (length config.dealers) config.investors (room.investor - length config.dealers)
         room.n row at least most)
@@ -207,7 +207,7 @@ pub few_rooms : (config : Configuration) → KeepsLimits config → (rooms : Lis
     → AreApart rooms → Every (HasRoom config) rooms → length rooms ≤ 4096
 few_rooms config limits rooms apart has =
     let many : length (rooms_of config)
-        ≡ sum_by (λ (row : InvestorRow). row.requests) config.investors =
+    ≡ sum_by (λ (row : InvestorRow). row.requests) config.investors =
     many_from (length config.dealers) config.investors in
     let most : sum_by (λ (row : InvestorRow). row.requests) config.investors ≤ 4096 =
     limits.requests_most in

@@ -1,15 +1,12 @@
 -- Every duty, message and sweep, line by line of the market's table, brings dues that can be said.
-use Rattle.std.proofs.Common.{◌≡◌, ◌<◌, ◌≤◌, ℕ, ◌==◌, Bool, true, false, ◌&&◌, not, List, [], ◌∷◌}
+use Rattle.std.proofs.Common.{◌≡◌, ◌≤◌, ℕ, ◌==◌, Bool, true, false, ◌&&◌, not, List, []}
 use Rattle.std.proofs.Common.{◌++◌, length, option_map, option_to_list, Option, Some, None, is_some}
-use Rattle.std.proofs.Common.{if◌then◌else◌, refl, sym, ap, ◌∙◌, subst, arith}
-use Rattle.std.proofs.lemmas.Bool.Decides.{nat_tests}
+use Rattle.std.proofs.Common.{if◌then◌else◌, refl, subst, arith}
 use Rattle.market_terms.specs.declared.asks.Ask.{Ask}
 use Rattle.market_terms.specs.declared.closes.Close.{Close}
 use Rattle.market_terms.specs.declared.duties.Duty.{Duty}
 use Rattle.market_terms.specs.declared.duties.Duty.TheVariants as duty
-use Rattle.market_terms.specs.declared.rooms.ResponseRef.{ResponseRef}
 use Rattle.market_terms.specs.declared.rooms.RoomRef.{RoomRef}
-use Rattle.quote_word.specs.declared.settled.Settled.{Settled}
 use Rattle.venue_rows.specs.Rows.{Configuration, KeepsLimits, dealer_numbered, has_room}
 use Rattle.venue_rows.specs.Rows.{investor_numbered}
 use Rattle.venue_rows.specs.Texts.{is_firm_name}
@@ -32,12 +29,12 @@ use Rattle.venue_places.specs.Dealers.{Dealer, dealer_at, dealer_of, has_word_fo
 use Rattle.venue_places.specs.Dealers.{word_for, words_of}
 use Rattle.venue_places.specs.declared.actors.Actor.{Actor}
 use Rattle.step_replay.specs.Actions.{Effect, answer_to_drop, answer_to_hit, answered_by, at_dealer}
-use Rattle.step_replay.specs.Actions.{at_market, declined_by, done_by, done_for, dropped_by, drop_at}
+use Rattle.step_replay.specs.Actions.{declined_by, done_by, done_for, dropped_by, drop_at}
 use Rattle.step_replay.specs.Actions.{hit_with, left_by, left_by_drop, left_by_investor, nothing}
 use Rattle.step_replay.specs.Actions.{posted_by, quote_asked, received_by_dealer}
 use Rattle.step_replay.specs.Actions.{received_by_investor, settlement_of, shown_to, told_of, told_to}
 use Rattle.step_replay.specs.Actions.{unposted_by, verdict_on, where_known}
-use Rattle.step_replay.specs.DealerTrail.{DealerEntry, book_by, entries_of, facts_of, rooms_by}
+use Rattle.step_replay.specs.DealerTrail.{DealerEntry, book_by, entries_of, rooms_by}
 use Rattle.step_replay.specs.DutyEffects.{duty_effect, message_effect, sweep_effect}
 use Rattle.step_replay.specs.EachLemmas.{every_both}
 use Rattle.step_replay.specs.InvestorTrail as investor_trail

@@ -1,32 +1,26 @@
 -- What each action of the venue brings: dues that can be said, and duties that bring no other.
-use Rattle.std.proofs.Common.{◌≡◌, ◌<◌, ◌≤◌, ℕ, ◌==◌, Bool, true, false, ◌&&◌, not, nat_le, List, []}
-use Rattle.std.proofs.Common.{◌∷◌, ◌++◌, length, map, option_map, option_to_list, Option, Some, None}
-use Rattle.std.proofs.Common.{is_some, Result, Ok, Err, if◌then◌else◌, refl, sym, ap, ◌∙◌, subst}
+use Rattle.std.proofs.Common.{◌≡◌, ◌≤◌, ℕ, ◌==◌, Bool, true, false, ◌&&◌, nat_le, List, []}
+use Rattle.std.proofs.Common.{◌∷◌, ◌++◌, map, option_map, Option, Some, None}
+use Rattle.std.proofs.Common.{Result, Ok, Err, if◌then◌else◌, refl, sym, ap, ◌∙◌, subst}
 use Rattle.std.proofs.Common.{arith}
 use Rattle.std.proofs.lemmas.Bool.{and_parts}
 use Rattle.std.proofs.lemmas.Bool.Decides.{nat_tests}
 use Rattle.std.proofs.lemmas.List.{append-nil, append_assoc}
-use Rattle.market_terms.specs.declared.asks.Ask.{Ask}
-use Rattle.market_terms.specs.declared.closes.Close.{Close}
 use Rattle.market_terms.specs.declared.closes.HitRefusal.{HitRefusal}
 use Rattle.market_terms.specs.declared.duties.Duty.{Duty}
-use Rattle.market_terms.specs.declared.duties.Duty.TheVariants as duty
 use Rattle.market_terms.specs.declared.rooms.ResponseRef.{ResponseRef}
 use Rattle.market_terms.specs.declared.rooms.RoomRef.{RoomRef}
 use Rattle.quote_word.specs.declared.settled.Settled.{Settled}
-use Rattle.venue_rows.specs.Rows.{Configuration, KeepsLimits, dealer_numbered, has_room}
+use Rattle.venue_rows.specs.Rows.{Configuration, dealer_numbered, has_room}
 use Rattle.venue_rows.specs.Rows.{investor_numbered}
-use Rattle.venue_rows.specs.Texts.{is_firm_name}
 use Rattle.venue_rows.specs.declared.dealer_rows.DealerRow.{DealerRow}
 use Rattle.venue_rows.specs.declared.investor_rows.InvestorRow.{InvestorRow}
 use Rattle.dealer_desk.specs.DealerFacts.{book_of, quotes_accepted}
-use Rattle.dealer_desk.specs.DealerOutput.{DeskState, closable, desk_after, number_in}
+use Rattle.dealer_desk.specs.DealerOutput.{desk_after}
 use Rattle.dealer_desk.specs.declared.events.DealerEvent.{DealerEvent}
-use Rattle.dealer_desk.specs.declared.events.DealerEvent.TheVariants as at_desk
 use Rattle.investor_desk.specs.InvestorDesk.{market_for, market_of}
-use Rattle.investor_desk.specs.InvestorRules.{InvestorMarket, investor_verdict}
+use Rattle.investor_desk.specs.InvestorRules.{InvestorMarket}
 use Rattle.investor_desk.specs.declared.events.InvestorEvent.{InvestorEvent}
-use Rattle.investor_desk.specs.declared.events.InvestorEvent.TheVariants as at_investor
 use Rattle.request_room.specs.RoomFacts.{RoomFact}
 use Rattle.request_room.specs.Book.{event_facts, hit_outcome}
 use Rattle.request_room.specs.declared.ends.End.{End}
@@ -36,24 +30,19 @@ use Rattle.venue_places.specs.Dealers.{Dealer, QuoteRef, acting_dealer, dealer_a
 use Rattle.venue_places.specs.Dealers.{quote_with_word}
 use Rattle.venue_places.specs.declared.actors.Actor.{Actor}
 use Rattle.venue_places.specs.declared.actors.Actor.TheVariants as actor
-use Rattle.step_replay.specs.Actions.{Effect, at_dealer, at_market, done_by, done_for, drop_at}
-use Rattle.step_replay.specs.Actions.{hit_with, in_room, left_by, left_by_drop, left_by_investor}
-use Rattle.step_replay.specs.Actions.{lifting, nothing, received_by_dealer, received_by_investor}
-use Rattle.step_replay.specs.Actions.{settlement_of, verdict_on, where_known}
-use Rattle.step_replay.specs.DealerTrail.{DealerEntry, Lifted, book_by, entries_of, rooms_by}
-use Rattle.step_replay.specs.EachLemmas.{Every, every_both}
-use Rattle.step_replay.specs.InvestorTrail as investor_trail
+use Rattle.step_replay.specs.Actions.{Effect, at_dealer, at_market, done_by, done_for}
+use Rattle.step_replay.specs.Actions.{hit_with, in_room}
+use Rattle.step_replay.specs.Actions.{lifting, nothing}
+use Rattle.step_replay.specs.Actions.{where_known}
+use Rattle.step_replay.specs.DealerTrail.{DealerEntry, Lifted, entries_of}
 use Rattle.step_replay.specs.OwnerLemmas.{owned_by}
 use Rattle.step_replay.specs.PlaceLemmas.{dealer_grown, dealer_stays, other_trail, own_trail}
 use Rattle.step_replay.specs.PlaceLemmas.{trail_at_investor, trail_in_room}
-use Rattle.step_replay.specs.SeenLemmas.{Seen}
-use Rattle.step_replay.specs.VenueFacts.{AtDealer, Fact, InRoom, of_dealer, of_investor, of_room}
+use Rattle.step_replay.specs.VenueFacts.{AtDealer, Fact, InRoom, of_dealer, of_room}
 use Rattle.venue_text.specs.ReadBack.{is_short}
-use Rattle.due_laws.proofs.SayableDuties.{AllFit, DutyFits, asked_fit, further_fit, hit_fit}
-use Rattle.due_laws.proofs.SayableDuties.{investor_named, said_fit, unpost_fit}
-use Rattle.due_laws.proofs.SayableTrails.{TrailFits, drop_fits, lifted_fits, own_fits}
-use Rattle.due_laws.proofs.SayableTrails.{request_short, short_below, shown_fits, told_fits}
-use Rattle.due_laws.proofs.SayableVerdicts.{verdict_asks, verdict_drops}
+use Rattle.due_laws.proofs.SayableDuties.{AllFit, hit_fit}
+use Rattle.due_laws.proofs.SayableTrails.{TrailFits, lifted_fits}
+use Rattle.due_laws.proofs.SayableTrails.{short_below}
 
 -- no desk accepts more quotes than its row allows
 abbrev pub AcceptsFew : Type 0

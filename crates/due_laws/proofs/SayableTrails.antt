@@ -1,5 +1,5 @@
 -- A dealer's trail by which nothing was due that due text can't say, event by event.
-use Rattle.std.proofs.Common.{◌≡◌, ◌<◌, ◌≤◌, ℕ, ◌+◌, ◌==◌, Bool, true, false, ◌&&◌, not, nat_lt, List}
+use Rattle.std.proofs.Common.{◌≡◌, ◌<◌, ◌≤◌, ℕ, ◌+◌, ◌==◌, Bool, true, not, List}
 use Rattle.std.proofs.Common.{[], ◌∷◌, ◌++◌, length, filter_map, Option, Some, None, is_some}
 use Rattle.std.proofs.Common.{if◌then◌else◌, refl, sym, ap, ◌∙◌, subst, arith}
 use Rattle.std.specs.List.{list_all}

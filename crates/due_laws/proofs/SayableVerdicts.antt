@@ -1,6 +1,6 @@
 -- What verdicts leave: the drops of the quotes that were accepted so far, and a request that names
 -- its investor.
-use Rattle.std.proofs.Common.{◌≡◌, ℕ, Bool, true, false, List, [], ◌∷◌, Option, Some, None}
+use Rattle.std.proofs.Common.{◌≡◌, ℕ, Bool, true, false, List, Option, Some, None}
 use Rattle.std.proofs.Common.{if◌then◌else◌, refl}
 use Rattle.market_terms.specs.Checks.{first_refusal}
 use Rattle.quote_messages.specs.Arrivals.{dealer_arrival, investor_arrival}

@@ -1,6 +1,6 @@
 -- Each message that the lines of a day spell has a byte.
 use Rattle.std.proofs.Common.{◌≡◌, ℕ, zero, suc, Bool, true, false, List, [], ◌∷◌, ◌++◌, length, map}
-use Rattle.std.proofs.Common.{replicate, Result, Ok, Err, IfOk, codes, if◌then◌else◌, refl}
+use Rattle.std.proofs.Common.{replicate, Result, Ok, IfOk, codes, if◌then◌else◌, refl}
 use Rattle.std.proofs.Common.{sym, subst}
 use Rattle.std.specs.List.{list_all}
 use Rattle.std.specs.Prelude.{slice_get}
@@ -18,7 +18,6 @@ use Rattle.step_replay.specs.declared.steps.Step.{Step}
 use Rattle.step_replay.specs.declared.steps.Step.TheVariants as step
 use Rattle.input_lines.specs.DueText.{Lines, at_line}
 use Rattle.input_lines.specs.Lines.{behind_part, first_part, time_of}
-use Rattle.input_lines.specs.ResultSteps.{◌>>=◌}
 use Rattle.input_lines.specs.SayLine.{hexed_of, received_of, said_message, said_of, with_bar}
 use Rattle.input_lines.specs.StepLines.{Heard, Read, clock_steps, cut_for, expire_step, firm_named}
 use Rattle.input_lines.specs.StepLines.{hex_step, in_step, in_steps, known_actor, known_firm}

@@ -1,9 +1,9 @@
 -- Names of traders, written with one space between each two, and read again.
 use Rattle.std.proofs.Common.{◌≡◌, ◌≢◌, ◌<◌, ◌≤◌, ℕ, suc, ◌+◌, ◌-◌, ◌==◌, ◌||◌, ◌&&◌, not, Bool, true}
-use Rattle.std.proofs.Common.{false, nat_lt, cond, List, [], ◌∷◌, ◌++◌, length, Option, Some, None}
-use Rattle.std.proofs.Common.{slice_index, AllPairs, if◌then◌else◌, refl, sym, ap, ap₂, ◌∙◌, arith}
+use Rattle.std.proofs.Common.{false, nat_lt, cond, List, [], ◌∷◌, ◌++◌, length, Some, None}
+use Rattle.std.proofs.Common.{slice_index, AllPairs, refl, sym, ap, ap₂, ◌∙◌, arith}
 use Rattle.std.proofs.Common.{get_or, slice_get, take, zero, zero-lt-suc}
-use Rattle.std.specs.List.{AllByRecursion, join_with_byte, list_all, list_any}
+use Rattle.std.specs.List.{AllByRecursion, join_with_byte, list_all}
 use Rattle.std.proofs.lemmas.Bool.{and_from, and_parts, not-true}
 use Rattle.std.proofs.lemmas.Bool.Decides.{nat_tests}
 use Rattle.std.proofs.lemmas.List.{append-nil, append_assoc, length-append}

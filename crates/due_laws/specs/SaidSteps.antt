@@ -1,5 +1,5 @@
 -- Steps by the messages that they bring.
-use Rattle.std.specs.Prelude.{ℕ, ◌==◌, Bool, true, not, length}
+use Rattle.std.specs.Prelude.{◌==◌, Bool, true, not, length}
 use Rattle.step_replay.specs.declared.steps.Step.{Step}
 use Rattle.step_replay.specs.declared.steps.Step.TheVariants as step
 
