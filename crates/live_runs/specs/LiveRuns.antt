@@ -191,11 +191,18 @@ IsLiveFault form Firm lines =
     × ((config : ConfigValues) × (venue_of text ≡ Ok config) × (name_fault form config ≡ Some Firm))
 IsLiveFault form fault lines = ⊥
 
+-- where a writer may refuse: behind any line where each is answered, and else at the end alone,
+-- since all is printed there
+abbrev pub IsPrinting : LineForm → List (List ℕ) → Type 0
+IsPrinting (answered form) rest = Unit {0}
+IsPrinting (kept_for sought) rest = rest ≡ []
+IsPrinting (compared_for whom) rest = rest ≡ []
+
 -- Where a fault ends the day no line before it is left out: with the next line the fault is there,
--- and `parts` is told at the end alone. Memory may be refused, and a writer refuse, anywhere.
+-- and `parts` is told at the end alone. Memory may be refused anywhere.
 abbrev pub Reaches : LineForm → ProgramFault → List (List ℕ) → List (List ℕ) → Type 0
 Reaches form Memory lines rest = Unit {0}
-Reaches form Write lines rest = Unit {0}
+Reaches form Write lines rest = IsPrinting form rest
 Reaches form Parts lines rest = rest ≡ []
 Reaches form fault lines rest = IsLiveFault form fault (lines ++ take 1 rest)
 
