@@ -7,7 +7,7 @@ use Rattle.investor_desk.specs.declared.events.InvestorEvent.{InvestorEvent}
 use Rattle.investor_desk.specs.declared.events.InvestorEvent.TheVariants as at_investor
 use Rattle.market_terms.specs.declared.rooms.RoomRef.{RoomRef}
 use Rattle.recorded_days.specs.Records.{InvestorLists}
-use Rattle.session_worker.specs.DayChecks.{same_room}
+use Rattle.market_terms.specs.Rooms.{is_same_room}
 use Rattle.session_worker.specs.declared.arrivals.Arrival.{Arrival}
 use Rattle.session_worker.specs.declared.arrivals.Arrival.TheVariants as arrival
 
@@ -17,7 +17,7 @@ room_named investor request = record { investor = investor; n = request }
 
 -- this, where the rooms are the same
 abbrev pub where_same : RoomRef → RoomRef → Arrival → Option Arrival
-where_same room own what = if same_room room own then Some what else None
+where_same room own what = if is_same_room room own then Some what else None
 
 -- what came from a room by an event at the desk of the investor with this number
 abbrev pub arrival_from : RoomRef → ℕ → InvestorEvent → Option Arrival

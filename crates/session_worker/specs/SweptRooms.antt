@@ -6,7 +6,8 @@ use Rattle.std.specs.Global.{Vec}
 use Rattle.std.specs.Str.{bytes_eq}
 use Rattle.market_terms.specs.declared.rooms.RoomRef.{RoomRef}
 use Rattle.recorded_days.specs.declared.actions.Sweep.{Sweep}
-use Rattle.session_worker.specs.DayChecks.{DayRoom, same_room, times_swept}
+use Rattle.session_worker.specs.DayChecks.{DayRoom, times_swept}
+use Rattle.market_terms.specs.Rooms.{is_same_room}
 use Rattle.session_worker.specs.ToldRooms.{room_cmp}
 
 -- what is in a list, where there is one
@@ -21,7 +22,7 @@ list_of by_room room = list_in (get room_cmp by_room room)
 -- the moments of a room, after a sweep more
 abbrev pub times_after : RoomRef → Sweep → List ℕ → List ℕ
 times_after room sweep times =
-    if same_room room sweep.room then times ++ sweep.moment ∷ [] else times
+    if is_same_room room sweep.room then times ++ sweep.moment ∷ [] else times
 
 -- whether a room was swept at the moments that stand under it
 abbrev pub is_swept_by : BTreeMap RoomRef (Vec ℕ) → DayRoom → Bool

@@ -2,7 +2,7 @@ use Rattle.std.proofs.Common.{rules, ◌≡◌, ◌∙◌, ◌∷◌, ◌++◌, 
 use Rattle.std.specs.BTreeMap.{get}
 use Rattle.std.specs.BTreeMap.Entry.{map_with_value}
 use Rattle.session_worker.specs.Arrivals.{where_same}
-use Rattle.session_worker.specs.DayChecks.{same_room}
+use Rattle.market_terms.specs.Rooms.{is_same_room}
 use Rattle.session_worker.specs.NextItems.{with_next}
 use Rattle.session_worker.specs.SweptRooms.{list_of}
 use Rattle.session_worker.specs.ToldRooms.{room_cmp}
@@ -29,5 +29,5 @@ returns c =
     λ room.
     let own : list_of (map_with_value entry list) room
     ≡ with_next (list_of was room) (where_same room from what) =
-    put room ∙ where_own (list_of was room) what (same_room room from) in
+    put room ∙ where_own (list_of was room) what (is_same_room room from) in
     search (rules, own)
