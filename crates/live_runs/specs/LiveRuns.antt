@@ -171,6 +171,13 @@ IsConfigurationIn (compared_for whom) lines text =
     (text ≡ configuration_in lines) ⊎ (text ≡ second_configuration lines)
 IsConfigurationIn form lines text = text ≡ configuration_in lines
 
+-- such a configuration, where a line `%%` ends it
+abbrev pub IsWholeIn : LineForm → List (List ℕ) → List ℕ → Type 0
+IsWholeIn (compared_for whom) lines text =
+    ((are_divided lines ≡ true) × (text ≡ configuration_in lines))
+    ⊎ ((are_four lines ≡ true) × (text ≡ second_configuration lines))
+IsWholeIn form lines text = (are_divided lines ≡ true) × (text ≡ configuration_in lines)
+
 -- a line is too long, or a configuration, or there are too many lines
 abbrev pub ArePastLimits : LineForm → List (List ℕ) → Type 0
 ArePastLimits form lines =
@@ -185,9 +192,9 @@ IsLiveFault form Write lines = Unit {0}
 IsLiveFault form Input lines = ArePastLimits form lines
 IsLiveFault form Parts lines = are_whole form lines ≡ false
 IsLiveFault form (Config fault) lines =
-    (text : List ℕ) × IsConfigurationIn form lines text × (venue_of text ≡ Err (Config fault))
+    (text : List ℕ) × IsWholeIn form lines text × (venue_of text ≡ Err (Config fault))
 IsLiveFault form Firm lines =
-    (text : List ℕ) × IsConfigurationIn form lines text
+    (text : List ℕ) × IsWholeIn form lines text
     × ((config : ConfigValues) × (venue_of text ≡ Ok config) × (name_fault form config ≡ Some Firm))
 IsLiveFault form fault lines = ⊥
 
