@@ -3,3 +3,4 @@ pub mod Codes
 pub mod Dealers
 pub mod Texts
 pub mod DayLines
+pub mod Unpriced
