@@ -8,5 +8,7 @@ mod ListLemmas
 mod OutcomeLemmas
 mod ReaderLemmas
 mod StandLemmas
+pub mod UnpricedBooks
+pub mod UnpricedEvents
 mod VerdictLemmas
 mod WriteLemmas

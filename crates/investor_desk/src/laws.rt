@@ -1,13 +1,15 @@
 //! Laws over the definitions of a desk, each the contract of a function that does nothing.
-ghost use Rattle.std.specs.Prelude.{◌≡◌, ◌≤◌, ℕ, List, [], ◌∷◌, ◌++◌, IfSome};
+ghost use Rattle.std.specs.Prelude.{◌≡◌, ◌≤◌, ℕ, List, [], ◌∷◌, ◌++◌, map, IfSome, Option};
 ghost use Rattle.investor_desk.specs.declared.events.InvestorEvent.{InvestorEvent};
-ghost use Rattle.investor_desk.specs.InvestorFacts.{book_of, requests_accepted, requests_open};
-ghost use Rattle.investor_desk.specs.InvestorRules.{InvestorMarket};
+ghost use Rattle.investor_desk.specs.InvestorFacts.{InvestorBook, InvestorFact, book_of, knows};
+ghost use Rattle.investor_desk.specs.InvestorFacts.{requests_accepted, requests_open};
+ghost use Rattle.investor_desk.specs.InvestorRules.{InvestorMarket, investor_verdict};
 ghost use Rattle.investor_desk.specs.InvestorDesk.{DeskEvents, verdict_at};
 ghost use Rattle.investor_desk.specs.InvestorOutput.{desk_after, event_facts, event_messages};
 ghost use Rattle.investor_desk.specs.InvestorOutput.{investor_output, moment_of, sent_with};
 ghost use Rattle.investor_desk.specs.InvestorOutput.{verdict_duty};
 ghost use Rattle.investor_desk.specs.DeskLaws.{IsOfDay};
+ghost use Rattle.investor_desk.specs.Unpriced.{unpriced, unpriced_book, unpriced_event};
 
 /// The facts after one event more are those before it, and behind them what this event adds: a
 /// function of the book as it stood. So are the messages.
@@ -38,4 +40,23 @@ pub fn what_is_left_is_of_the_day()
     ensures { (desk : DeskEvents) (moment : ℕ) (bytes : List ℕ)
         → IfSome (verdict_duty desk.market moment (verdict_at desk moment bytes))
         (IsOfDay desk.market) }
+{}
+
+/// No verdict asks a price. Where two desks are one but for the prices of quotes, each message gets
+/// one verdict at both, both know the same requests and quotes, and what each event adds to what
+/// they keep is one but for prices again.
+pub fn no_verdict_asks_a_price()
+    ensures verdicts { (market : InvestorMarket) (one other : InvestorBook) (moment : ℕ)
+        (bytes : List ℕ) → unpriced_book one ≡ unpriced_book other
+        → investor_verdict market one moment bytes ≡ investor_verdict market other moment bytes }
+    ensures known { (one other : InvestorBook) (number : ℕ) (quote : Option ℕ)
+        → unpriced_book one ≡ unpriced_book other
+        → knows one number quote ≡ knows other number quote }
+    ensures kept { (market : InvestorMarket) (one other : InvestorBook)
+        (more later : InvestorEvent) → unpriced_book one ≡ unpriced_book other
+        → unpriced_event more ≡ unpriced_event later
+        → map unpriced (event_facts market one more)
+        ≡ map unpriced (event_facts market other later) }
+    ensures books { (facts others : List InvestorFact) → map unpriced facts ≡ map unpriced others
+        → unpriced_book (book_of facts) ≡ unpriced_book (book_of others) }
 {}

@@ -4,3 +4,4 @@ pub mod Dealers
 pub mod Rooms
 pub mod Texts
 pub mod DayLines
+pub mod Unpriced

@@ -1,265 +1,178 @@
--- A drop and a hit, without prices, are those of the day without prices.
-use Rattle.std.proofs.Common.{◌≡◌, ℕ, Bool, true, false, List, [], ◌++◌, map, Option, Some, None}
-use Rattle.std.proofs.Common.{option_map, refl, sym, ap, ◌∙◌, if◌then◌else◌, ◌&&◌, subst, Result}
-use Rattle.std.proofs.Common.{Ok, Err}
+-- A drop and a hit in two days of which the same is left without prices.
+use Rattle.std.proofs.Common.{◌≡◌, ℕ, ◌==◌, Bool, ◌&&◌, List, ◌++◌, map, filter_map, Option, Some, None}
+use Rattle.std.proofs.Common.{option_map, refl, ap, ◌∙◌, subst, if◌then◌else◌, Result, Ok, Err}
 use Rattle.std.specs.Option.{option_to_list}
-use Rattle.market_terms.specs.declared.closes.Close.{Close}
-use Rattle.market_terms.specs.declared.closes.Close.TheVariants as closes
+use Rattle.market_terms.proofs.ErasedLists.{by_erased}
+use Rattle.market_terms.specs.Unpriced.{unpriced_duty}
+use Rattle.market_terms.specs.declared.closes.HitRefusal.{HitRefusal}
 use Rattle.market_terms.specs.declared.duties.Duty.{Duty}
 use Rattle.market_terms.specs.declared.duties.Duty.TheVariants as duty
+use Rattle.market_terms.specs.declared.rooms.ResponseRef.{ResponseRef}
 use Rattle.market_terms.specs.declared.rooms.RoomRef.{RoomRef}
 use Rattle.quote_word.specs.declared.settled.Settled.{Settled}
+use Rattle.quote_word.specs.declared.settled.Settled.TheVariants as settled
 use Rattle.venue_rows.specs.Rows.{Configuration, has_room}
-use Rattle.dealer_desk.specs.DealerFacts.{DealerFact, DealerBook, Came, Quoted, Told}
-use Rattle.dealer_desk.specs.DealerFacts.{number_to_drop, quote_to_drop}
-use Rattle.dealer_desk.specs.DealerOutput.{unpost_dropped, further_drop}
-use Rattle.dealer_desk.specs.declared.standing.StandingQuote.{StandingQuote}
+use Rattle.dealer_desk.specs.DealerFacts.{DealerBook, number_to_drop, quote_to_drop}
+use Rattle.dealer_desk.specs.DealerOutput.{event_facts, further_drop, unpost_dropped}
+use Rattle.dealer_desk.specs.Unpriced.{unpriced}
+use Rattle.dealer_desk.specs.declared.events.DealerEvent.{DealerEvent}
 use Rattle.dealer_desk.specs.declared.events.DealerEvent.TheVariants as at_desk
-use Rattle.venue_steps.specs.Words.{has_word}
-use Rattle.step_replay.specs.DealerTrail.{DealerEntry, AtDesk, Sent, book_by, rooms_by, entries_of}
-use Rattle.step_replay.specs.VenueFacts.{Fact, of_dealer, InRoom, of_room}
-use Rattle.step_replay.specs.Actions.{Dealer, words_of, word_for, answer_to_drop, drop_at}
-use Rattle.step_replay.specs.Actions.{left_by_drop, dropped_by, QuoteRef, quote_with_word}
-use Rattle.step_replay.specs.Actions.{quote_asked, answer_to_hit, lifting, hit_with, hit_in}
-use Rattle.venue_laws.proofs.Erasing.{erase_close, erase_fact, erase_entry, erase_book, erase_duty}
-use Rattle.venue_laws.proofs.Erasing.{erase_standing, erase, erase_room_fact}
-use Rattle.venue_laws.proofs.ErasedLists.{map_map, append_along, map_along}
-use Rattle.venue_laws.proofs.ErasedRules.{to_drop, number_to_drop_same, none_to_drop}
-use Rattle.venue_laws.proofs.ErasedEntries as entries
-use Rattle.venue_laws.proofs.ErasedActions.{AreAlike, erased, is_own, dealer_same, if_alike}
-use Rattle.venue_laws.proofs.ErasedActions.{desk_alike, rooms_known, book_known, room_same}
-use Rattle.market_terms.specs.declared.closes.HitRefusal.{HitRefusal}
-use Rattle.market_terms.specs.declared.rooms.ResponseRef.{ResponseRef}
-use Rattle.request_room.specs.RoomFacts.{RoomFact}
+use Rattle.dealer_desk.proofs.UnpricedBooks.{number_same, some_to_drop, unposted_same}
+use Rattle.dealer_desk.proofs.UnpricedVerdicts.{kept_alike}
 use Rattle.request_room.specs.Book.{hit_outcome}
+use Rattle.request_room.specs.Unpriced.{uncovered, unpriced as unpriced_in_room}
 use Rattle.request_room.specs.declared.ends.End.{End}
 use Rattle.request_room.specs.declared.events.RoomEvent.TheVariants as at_room
-use Rattle.venue_steps.specs.RoomSteps.{hit_word, duties_of_hit}
-use Rattle.venue_laws.proofs.ErasedRoom.{happens_same, hit_word_same, outcome_same, erase_outcome}
-use Rattle.venue_laws.proofs.ErasedDuties.{hit_duties_same}
-
--- What is erased once is erased.
-
-close_twice : (close : Close) → erase_close (erase_close close) ≡ erase_close close
-close_twice closes.Cover = refl
-close_twice other = refl
-
-kept_twice : (own : Bool) (bytes : List ℕ)
-    → (if own then (if own then bytes else []) else []) ≡ (if own then bytes else [])
-kept_twice true bytes = refl
-kept_twice false bytes = refl
-
-fact_twice : (own : Bool) (fact : DealerFact)
-    → erase_fact own (erase_fact own fact) ≡ erase_fact own fact
-fact_twice own (Came moment bytes used) =
-    ap (λ (kept : List ℕ). Came moment kept used) (kept_twice own bytes)
-fact_twice own (Quoted quote) = refl
-fact_twice own (Told request close moment) =
-    ap (λ (c : Close). Told request c moment) (close_twice close)
-fact_twice own fact = refl
-
-entry_twice : (own : Bool) (entry : DealerEntry)
-    → erase_entry own (erase_entry own entry) ≡ erase_entry own entry
-entry_twice own (AtDesk fact) = ap (λ (f : DealerFact). AtDesk f) (fact_twice own fact)
-entry_twice own (Sent message) = refl
-entry_twice own entry = refl
-
-trail_twice : (own : Bool) (trail : List DealerEntry)
-    → map (erase_entry own) (map (erase_entry own) trail) ≡ map (erase_entry own) trail
-trail_twice own trail =
-    map_map (erase_entry own) (erase_entry own) (erase_entry own) (entry_twice own) trail
+use Rattle.request_room.proofs.UnpricedRooms.{kept_alike as kept_in_room, outcome_alike}
+use Rattle.request_room.proofs.UnpricedRooms.{question_alike}
+use Rattle.venue_steps.specs.RoomSteps.{hit_word, word_asked_by}
+use Rattle.venue_steps.specs.Words.{has_word}
+use Rattle.step_replay.specs.DealerTrail.{DealerEntry, answer_to_dealer, book_by, entries_of}
+use Rattle.step_replay.specs.DealerTrail.{rooms_by}
+use Rattle.step_replay.specs.VenueFacts.{Fact, InRoom, of_dealer, of_room}
+use Rattle.step_replay.specs.Actions.{Dealer, QuoteRef, answer_to_drop, answer_to_hit, drop_at}
+use Rattle.step_replay.specs.Actions.{dropped_by, hit_in, hit_with, left_by_drop, lifting}
+use Rattle.step_replay.specs.Actions.{quote_asked, quote_with_word, word_for, words_of}
+use Rattle.venue_laws.proofs.Erasing.{AreFacts, asked_of, desks_alike, desks_at, erase, erase_entry}
+use Rattle.venue_laws.proofs.Erasing.{in_rooms, rooms_at, trails_at}
+use Rattle.venue_laws.proofs.ErasedActions.{AreAlike, answers_alike, desk_alike, entries_alike}
+use Rattle.venue_laws.proofs.ErasedActions.{if_alike}
+use Rattle.venue_laws.proofs.ErasedDuties.{hit_left}
+use Rattle.venue_laws.proofs.ErasedLists.{all_along, filter_along}
 
 -- A drop.
+module _ (config : Configuration) (own : ℕ) (facts others : List Fact)
+    (same : AreFacts own facts others) (dealer : Dealer) (last moment : ℕ) where
+  -- the dealer's trail in both days
+  abbrev one : List DealerEntry
+  one = of_dealer dealer.number facts
 
-unposted_same : (rooms : List RoomRef) (moment : ℕ) (settlement : Option Settled)
-    (found : Option StandingQuote)
-    → unpost_dropped rooms moment settlement (option_map erase_standing found)
-    ≡ unpost_dropped rooms moment settlement found
-unposted_same rooms moment settlement None = refl
-unposted_same rooms moment settlement (Some own) = refl
+  abbrev other : List DealerEntry
+  other = of_dealer dealer.number others
 
-further_same : (book : DealerBook) (last moment : ℕ)
-    → further_drop (erase_book book) last moment ≡ further_drop book last moment
-further_same book last moment =
-    ap (λ (b : Bool). if b then Some (duty.Drop last moment) else None) (none_to_drop book last)
+  -- whether the bytes that came to it stay
+  abbrev stay : Bool
+  stay = dealer.number == own
 
-module _ (config : Configuration) (own : ℕ) (facts : List Fact) (dealer : Dealer)
-    (last moment : ℕ) where
-  -- whether the dealer's messages are kept
-  abbrev own_dealer : Bool
-  own_dealer = is_own config own facts dealer.number
+  number_alike : number_to_drop (book_by one) last ≡ number_to_drop (book_by other) last
+  number_alike =
+      asked_of one other (desks_at own facts others same dealer.number)
+      (λ (b : DealerBook). number_to_drop b last) (λ b. number_same b last)
 
-  -- the dealer's trail
-  abbrev trail : List DealerEntry
-  trail = of_dealer dealer.number facts
+  answer_alike : answer_to_drop one last ≡ answer_to_drop other last
+  answer_alike =
+      answers_alike one other (desks_at own facts others same dealer.number)
+      (number_to_drop (book_by one) last)
+      ∙ ap (option_map (answer_to_dealer other)) number_alike
 
-  -- the same of the facts without prices
-  abbrev known : List DealerEntry
-  known = of_dealer dealer.number (erased config own facts)
-
-  known_is : known ≡ map (erase_entry own_dealer) trail
-  known_is = dealer_same config own facts dealer.number
-
-  number_known : number_to_drop (book_by known) last ≡ number_to_drop (book_by trail) last
-  number_known =
-      ap (λ (b : DealerBook). number_to_drop b last) (book_known config own facts dealer.number)
-      ∙ number_to_drop_same (book_by trail) last
-
-  answer_known : answer_to_drop known last ≡ answer_to_drop trail last
-  answer_known =
-      rw (number_known, known_is)
-      (entries.answers_same own_dealer trail (number_to_drop (book_by trail) last))
-
-  -- the drop adds the same without prices
-  added_same : map (erase_entry own_dealer)
-      (entries_of config.date dealer.row trail (drop_at trail last moment))
-      ≡ map (erase_entry own_dealer) (entries_of config.date dealer.row
-      (map (erase_entry own_dealer) trail) (drop_at known last moment))
-  added_same =
-      entries.drop_same own_dealer config.date dealer.row trail last moment
-      (answer_to_drop trail last)
-      ∙ ap (λ (settlement : Option Settled). map (erase_entry own_dealer) (entries_of config.date
-      dealer.row (map (erase_entry own_dealer) trail) (at_desk.Drop last moment settlement)))
-      (sym answer_known)
+  kept : map (unpriced stay)
+      (event_facts config.date dealer.row (book_by one) (drop_at one last moment))
+      ≡ map (unpriced stay)
+      (event_facts config.date dealer.row (book_by other) (drop_at other last moment))
+  kept =
+      kept_alike config.date dealer.row stay (book_by one) (book_by other)
+      (drop_at one last moment) (drop_at other last moment)
+      (desks_at own facts others same dealer.number).books
+      (ap (λ (s : Option Settled). at_desk.Drop last moment s) answer_alike)
 
   -- a trail after the drop
   abbrev after : List DealerEntry → List DealerEntry
-  after l = l ++ entries_of config.date dealer.row l (drop_at l last moment)
+  after trail = trail ++ entries_of config.date dealer.row trail (drop_at trail last moment)
 
-  after_same : map (erase_entry own_dealer) (after trail)
-      ≡ map (erase_entry own_dealer) (after known)
-  after_same =
-      append_along (erase_entry own_dealer) trail _ known _
-      (sym (trail_twice own_dealer trail) ∙ ap (map (erase_entry own_dealer)) (sym known_is))
-      (added_same
-      ∙ ap (λ (l : List DealerEntry). map (erase_entry own_dealer)
-      (entries_of config.date dealer.row l (drop_at known last moment))) (sym known_is))
+  after_alike : filter_map (erase_entry stay) (after one)
+      ≡ filter_map (erase_entry stay) (after other)
+  after_alike =
+      filter_along (erase_entry stay) one _ other _ (trails_at own facts others same dealer.number)
+      (entries_alike stay config dealer one other (drop_at one last moment)
+      (drop_at other last moment) kept refl)
 
-  -- what is dropped next after a trail
-  abbrev next : List DealerEntry → List Duty
-  next l = option_to_list (further_drop (book_by (after l)) last moment)
+  further_alike : further_drop (book_by (after one)) last moment
+      ≡ further_drop (book_by (after other)) last moment
+  further_alike =
+      asked_of (after one) (after other) (desks_alike stay (after one) (after other) after_alike)
+      (λ (b : DealerBook). further_drop b last moment)
+      (λ b. ap (λ (some : Bool). if some then Some (duty.Drop last moment) else None)
+      (some_to_drop b last))
 
-  next_as : (l : List DealerEntry)
-      → next l ≡ option_to_list
-      (further_drop (book_by (map (erase_entry own_dealer) (after l))) last moment)
-  next_as l =
-      ap (λ (d : Option Duty). option_to_list d)
-      (sym (further_same (book_by (after l)) last moment)
-      ∙ ap (λ (b : DealerBook). further_drop b last moment)
-      (sym (entries.book_by_same own_dealer (after l))))
-
-  next_same : next trail ≡ next known
-  next_same =
-      next_as trail
-      ∙ ap (λ (l : List DealerEntry). option_to_list (further_drop (book_by l) last moment))
-      after_same
-      ∙ sym (next_as known)
-
-  unposted_known : unpost_dropped (rooms_by trail) moment (answer_to_drop trail last)
-      (quote_to_drop (book_by trail) last)
-      ≡ unpost_dropped (rooms_by known) moment (answer_to_drop known last)
-      (quote_to_drop (book_by known) last)
-  unposted_known =
+  left_alike : left_by_drop config facts last moment dealer
+      ≡ left_by_drop config others last moment dealer
+  left_alike =
+      let desks = desks_at own facts others same dealer.number in
       rw (
-        rooms_known config own facts dealer.number,
-        answer_known,
-        book_known config own facts dealer.number,
-        to_drop (book_by trail) last,
-      )
-      (sym (unposted_same (rooms_by trail) moment (answer_to_drop trail last)
-      (quote_to_drop (book_by trail) last)))
-
-  left_same : left_by_drop config facts last moment dealer
-      ≡ left_by_drop config (erased config own facts) last moment dealer
-  left_same =
-      ap (λ (d : Option Duty). option_to_list d ++ next trail) unposted_known
-      ∙ ap (λ (l : List Duty). option_to_list (unpost_dropped (rooms_by known) moment
-      (answer_to_drop known last) (quote_to_drop (book_by known) last)) ++ l) next_same
+        further_alike,
+        desks.rooms,
+        answer_alike,
+        asked_of one other desks (λ (b : DealerBook). unpost_dropped (rooms_by other) moment
+            (answer_to_drop other last) (quote_to_drop b last))
+            (λ b. unposted_same b (rooms_by other) last moment (answer_to_drop other last)),
+      ) refl
 
   pub dropped_alike : AreAlike own (dropped_by config facts last moment dealer)
-      (dropped_by config (erased config own facts) last moment dealer)
+      (dropped_by config others last moment dealer)
   dropped_alike =
       if_alike _ _
       (ap (λ (q : Option ℕ). has_word (words_of config) (option_map (word_for config dealer) q))
-      (sym number_known))
-      (desk_alike config own facts dealer (drop_at trail last moment) (drop_at known last moment)
-      (left_by_drop config facts last moment dealer)
-      (left_by_drop config (erased config own facts) last moment dealer) added_same
-      (ap (map erase_duty) left_same))
+      number_alike)
+      (desk_alike config own facts others same dealer (drop_at one last moment)
+      (drop_at other last moment) (left_by_drop config facts last moment dealer)
+      (left_by_drop config others last moment dealer) kept refl (ap (map unpriced_duty) left_alike))
 
 -- A hit.
 
 lifting_same : (found : Option QuoteRef) (outcome : Result End HitRefusal)
-    → lifting found (erase_outcome outcome) ≡ lifting found outcome
+    → lifting found (uncovered outcome) ≡ lifting found outcome
 lifting_same None outcome = refl
 lifting_same (Some hit) (Ok award) = refl
 lifting_same (Some hit) (Err refused) = refl
 
-module _ (config : Configuration) (own : ℕ) (facts : List Fact) (room : RoomRef)
-    (response : ResponseRef) (word moment : ℕ) where
-  -- the room's facts
-  abbrev here : List RoomFact
-  here = of_room room facts
-
-  -- the same of the facts without prices
-  abbrev there : List RoomFact
-  there = of_room room (erased config own facts)
-
-  there_is : there ≡ map erase_room_fact here
-  there_is = room_same config own facts room
-
+module _ (config : Configuration) (own : ℕ) (facts others : List Fact)
+    (same : AreFacts own facts others) (room : RoomRef) (response : ResponseRef)
+    (word moment : ℕ) where
   with_alike : (settlement : Option Settled)
       → AreAlike own (hit_with config facts room response word moment settlement)
-      (hit_with config (erased config own facts) room response word moment settlement)
+      (hit_with config others room response word moment settlement)
   with_alike settlement = record {
-    facts_are = append_along (erase own) _ _ _ _
-        (ap (map (erase own)) (sym (lifting_same found (hit_outcome here word moment settlement))
-        ∙ ap (lifting found) outcome_is
-        ∙ lifting_same found (hit_outcome there word moment settlement)))
-        (map_along (erase own) (InRoom room) erase_room_fact (λ fact. refl) _ _
-        (rw there_is (happens_same here (at_room.Hit word moment settlement))));
-    duties_are = hit_duties_same here room response word moment settlement
-        ∙ ap (λ (l : List RoomFact).
-        map erase_duty (duties_of_hit l room response word moment true settlement)) (sym there_is);
+    facts_are = filter_along (erase own) _ _ _ _
+        (ap (filter_map (erase own)) (by_erased uncovered (lifting (quote_with_word config word))
+        (lifting (quote_with_word config word)) (lifting_same (quote_with_word config word))
+        (hit_outcome (of_room room facts) word moment settlement)
+        (hit_outcome (of_room room others) word moment settlement)
+        (outcome_alike (of_room room facts) (of_room room others)
+        (in_rooms own facts others same room) word moment settlement)))
+        (all_along (erase own) (InRoom room) unpriced_in_room (λ fact. refl) _ _
+        (kept_in_room (of_room room facts) (of_room room others)
+        (at_room.Hit word moment settlement) (at_room.Hit word moment settlement)
+        (rooms_at own facts others same room) refl));
+    duties_are = hit_left (of_room room facts) (of_room room others)
+        (in_rooms own facts others same room) room response word moment settlement;
   }
-    where
-      found : Option QuoteRef
-      found = quote_with_word config word
 
-      outcome_is : erase_outcome (hit_outcome here word moment settlement)
-          ≡ erase_outcome (hit_outcome there word moment settlement)
-      outcome_is = rw there_is (sym (outcome_same here word moment settlement))
+  asked_alike : hit_word (of_room room facts) word moment ≡ hit_word (of_room room others) word moment
+  asked_alike =
+      ap word_asked_by (question_alike (of_room room facts) (of_room room others)
+      (in_rooms own facts others same room) word moment)
 
-  asked_known : hit_word there word moment ≡ hit_word here word moment
-  asked_known =
-      rw there_is (hit_word_same here word moment)
-
-  answer_same : (hit : QuoteRef)
-      → answer_to_hit (erased config own facts) hit ≡ answer_to_hit facts hit
-  answer_same hit =
-      rw (dealer_same config own facts hit.dealer) (entries.hit_answer_same
-      (is_own config own facts hit.dealer) (of_dealer hit.dealer facts) hit.quote)
-
-  answers_same : (found : Option QuoteRef)
-      → option_map (answer_to_hit (erased config own facts)) found
-      ≡ option_map (answer_to_hit facts) found
-  answers_same None = refl
-  answers_same (Some hit) = ap (λ (s : Settled). Some s) (answer_same hit)
+  settled_alike : (found : Option QuoteRef)
+      → option_map (answer_to_hit facts) found ≡ option_map (answer_to_hit others) found
+  settled_alike None = refl
+  settled_alike (Some hit) =
+      ap (λ (b : Bool). Some (if b then settled.Withdrawn else settled.Lifted))
+      ((desks_at own facts others same hit.dealer).withdrawn hit.quote)
 
   -- the settlement of the word that a hit asks
   abbrev answer_by : List Fact → Option ℕ → Option Settled
   answer_by l asked = option_map (answer_to_hit l) (quote_asked config asked)
 
   pub hit_alike : AreAlike own (hit_in config facts room response word moment)
-      (hit_in config (erased config own facts) room response word moment)
+      (hit_in config others room response word moment)
   hit_alike =
       if_alike _ _
       (ap (λ (q : Option ℕ).
-      has_room config room.investor room.n && has_word (words_of config) q) (sym asked_known))
+      has_room config room.investor room.n && has_word (words_of config) q) asked_alike)
       (subst (λ (settlement : Option Settled).
       AreAlike own (hit_with config facts room response word moment
-      (answer_by facts (hit_word here word moment)))
-      (hit_with config (erased config own facts) room response word moment settlement))
-      (sym (answers_same (quote_asked config (hit_word here word moment)))
-      ∙ ap (answer_by (erased config own facts)) (sym asked_known))
-      (with_alike (answer_by facts (hit_word here word moment))))
+      (answer_by facts (hit_word (of_room room facts) word moment)))
+      (hit_with config others room response word moment settlement))
+      (settled_alike (quote_asked config (hit_word (of_room room facts) word moment))
+      ∙ ap (answer_by others) asked_alike)
+      (with_alike (answer_by facts (hit_word (of_room room facts) word moment))))

@@ -1,150 +1,248 @@
--- A day of which the prices are erased, who was the cover, the bytes of what was sent, and the
--- bytes of what dealers sent, but for one dealer: what is left is what that dealer's due list
--- can tell of, but for the cover.
-use Rattle.std.specs.Prelude.{ℕ, ◌==◌, Bool, [], map, None, if◌then◌else◌, option_map}
-use Rattle.market_terms.specs.declared.closes.Close.{Close}
-use Rattle.market_terms.specs.declared.closes.Close.TheVariants as closes
-use Rattle.market_terms.specs.declared.duties.Duty.{Duty}
-use Rattle.market_terms.specs.declared.duties.Duty.TheVariants as duty
-use Rattle.market_terms.specs.declared.rooms.Offer.{Offer}
-use Rattle.dealer_desk.specs.DealerFacts.{DealerFact, DealerBook, Came, Quoted, Told}
-use Rattle.dealer_desk.specs.declared.accepted.AcceptedQuote.{AcceptedQuote}
-use Rattle.dealer_desk.specs.declared.standing.QuoteEnd.{QuoteEnd}
-use Rattle.dealer_desk.specs.declared.standing.QuoteEnd.TheVariants as end
-use Rattle.dealer_desk.specs.declared.standing.StandingQuote.{StandingQuote}
-use Rattle.dealer_desk.specs.declared.verdicts.DealerVerdict.{DealerVerdict}
-use Rattle.dealer_desk.specs.declared.verdicts.DealerVerdict.TheVariants as verdict
-use Rattle.investor_desk.specs.InvestorFacts.{InvestorFact, InvestorBook, StandingRequest, Offered}
-use Rattle.investor_desk.specs.InvestorFacts.{Closed}
-use Rattle.investor_desk.specs.declared.standing.RequestClose.{RequestClose}
-use Rattle.investor_desk.specs.declared.standing.RequestClose.TheVariants as request_close
-use Rattle.investor_desk.specs.declared.standing.ShownOffer.{ShownOffer}
-use Rattle.request_room.specs.RoomFacts.{RoomFact, Posted, Ended}
-use Rattle.request_room.specs.declared.ends.End.{End}
-use Rattle.request_room.specs.declared.quotes.PostedQuote.{PostedQuote}
-use Rattle.step_replay.specs.DealerTrail.{DealerEntry, AtDesk, Sent}
+-- A day of which the prices are erased, who was the cover, what was sent, and the bytes of what
+-- dealers sent, but for one dealer: what is left is what that dealer's due list can tell of, but
+-- for the cover. Where the same is left of two days, the same stands at each place of both.
+use Rattle.std.proofs.Common.{◌≡◌, ℕ, ◌==◌, Bool, true, false, List, map, filter_map, Option, Some}
+use Rattle.std.proofs.Common.{None, option_map, option_and_then, unwrap_or, refl, ap, ◌∙◌, arith}
+use Rattle.std.proofs.Common.{if◌then◌else◌}
+use Rattle.std.specs.List.{list_any}
+use Rattle.std.proofs.lemmas.Bool.Decides.{nat_tests}
+use Rattle.std.proofs.lemmas.List.{map-id}
+use Rattle.market_terms.proofs.ErasedLists.{by_erased, map_cond}
+use Rattle.market_terms.specs.Unpriced.{uncovered, unpriced_duty}
+use Rattle.market_terms.specs.declared.rooms.RoomRef.{RoomRef}
+use Rattle.dealer_desk.specs.DealerFacts.{DealerBook, DealerFact}
+use Rattle.dealer_desk.specs.DealerOutput.{is_same_room}
+use Rattle.dealer_desk.specs.DeskLaws.{withdraws}
+use Rattle.dealer_desk.specs.Unpriced.{unpriced as unpriced_at_dealer, unpriced_book}
+use Rattle.dealer_desk.proofs.UnpricedBooks.{books_alike, withdraws_same}
+use Rattle.investor_desk.specs.Unpriced.{unpriced as unpriced_at_investor}
+use Rattle.investor_desk.specs.Unpriced.{unpriced_book as unpriced_investor_book}
+use Rattle.investor_desk.proofs.UnpricedBooks.{books_alike as investor_books_alike}
+use Rattle.request_room.specs.Unpriced.{unpriced as unpriced_in_room}
+use Rattle.request_room.proofs.UnpricedRooms.{AreRooms, rooms_alike}
+use Rattle.step_replay.specs.AuditTrail.{Caused}
+use Rattle.step_replay.specs.DealerTrail.{DealerEntry, AtDesk, Sent, book_by, fact_in, facts_of}
+use Rattle.step_replay.specs.DealerTrail.{lifts, room_in, rooms_by, was_lifted, was_withdrawn}
+use Rattle.step_replay.specs.InvestorTrail as investor_trail
 use Rattle.step_replay.specs.InvestorTrail.{InvestorEntry, AtDesk as AtInvestorsDesk}
 use Rattle.step_replay.specs.InvestorTrail.{Sent as SentToInvestor}
-use Rattle.step_replay.specs.VenueFacts.{Fact, AtDealer, InRoom, AtInvestor}
-use Rattle.step_replay.specs.AuditTrail.{Caused}
+use Rattle.step_replay.specs.VenueFacts.{Fact, AtDealer, InRoom, AtInvestor, entry_at_dealer}
+use Rattle.step_replay.specs.VenueFacts.{entry_at_investor, fact_in_room, of_dealer, of_investor}
+use Rattle.step_replay.specs.VenueFacts.{of_room}
 use Rattle.step_replay.specs.declared.dues.Due.{Due}
 use Rattle.step_replay.specs.declared.dues.Due.TheVariants as due
+use Rattle.venue_laws.proofs.ErasedLists.{any_left, left_in, left_map}
 
--- how a request ended for a dealer, whether or not its quote was the cover
+-- What is left of a fact, where anything is.
 
-abbrev pub erase_close : Close → Close
-erase_close closes.Cover = closes.DoneAway
-erase_close other = other
+-- at a dealer: the bytes that came stay or do not
+abbrev pub erase_entry : Bool → DealerEntry → Option DealerEntry
+erase_entry stay (AtDesk fact) = Some (AtDesk (unpriced_at_dealer stay fact))
+erase_entry stay (Sent message) = None
+erase_entry stay entry = Some entry
 
--- At a dealer.
+-- at an investor
+abbrev pub erase_investor_entry : InvestorEntry → Option InvestorEntry
+erase_investor_entry (AtInvestorsDesk fact) = Some (AtInvestorsDesk (unpriced_at_investor fact))
+erase_investor_entry (SentToInvestor message) = None
 
-abbrev pub erase_quote : AcceptedQuote → AcceptedQuote
-erase_quote quote = record quote { price = 0 }
+-- in the venue: the bytes stay that the dealer with this number sent
+abbrev pub erase : ℕ → Fact → Option Fact
+erase own (AtDealer number entry) = option_map (AtDealer number) (erase_entry (number == own) entry)
+erase own (InRoom room fact) = Some (InRoom room (unpriced_in_room fact))
+erase own (AtInvestor number entry) = option_map (AtInvestor number) (erase_investor_entry entry)
 
--- whose bytes are kept is the dealer's own
-abbrev pub erase_fact : Bool → DealerFact → DealerFact
-erase_fact own (Came moment bytes used) = Came moment (if own then bytes else []) used
-erase_fact own (Quoted quote) = Quoted (erase_quote quote)
-erase_fact own (Told request close moment) = Told request (erase_close close) moment
-erase_fact own fact = fact
-
-abbrev pub erase_entry : Bool → DealerEntry → DealerEntry
-erase_entry own (AtDesk fact) = AtDesk (erase_fact own fact)
-erase_entry own (Sent message) = Sent []
-erase_entry own entry = entry
-
-abbrev pub erase_end : QuoteEnd → QuoteEnd
-erase_end (end.Withdrawn by) = end.Withdrawn by
-erase_end (end.Closed close) = end.Closed (erase_close close)
-
-abbrev pub erase_standing : StandingQuote → StandingQuote
-erase_standing own = record {
-  quote = erase_quote own.quote;
-  is_known_lifted = own.is_known_lifted;
-  end = option_map erase_end own.end;
-}
-
-abbrev pub erase_book : DealerBook → DealerBook
-erase_book book = record {
-  used = book.used;
-  notices = book.notices;
-  requests = book.requests;
-  quotes = map erase_standing book.quotes;
-}
-
-abbrev pub erase_verdict : DealerVerdict → DealerVerdict
-erase_verdict (verdict.QuoteAccepted request id quote replaced) =
-    verdict.QuoteAccepted request id (erase_quote quote) replaced
-erase_verdict other = other
-
--- In a room.
-
-abbrev pub erase_posted : PostedQuote → PostedQuote
-erase_posted quote = record quote { price = 0 }
-
-abbrev pub erase_cover : End → End
-erase_cover end = record end { cover = None }
-
-abbrev pub erase_room_fact : RoomFact → RoomFact
-erase_room_fact (Posted quote) = Posted (erase_posted quote)
-erase_room_fact (Ended end moment) = Ended (erase_cover end) moment
-erase_room_fact fact = fact
-
--- At an investor.
-
-abbrev pub erase_offer : Offer → Offer
-erase_offer offer = record offer { price = 0 }
-
-abbrev pub erase_shown : ShownOffer → ShownOffer
-erase_shown shown = record shown { offer = erase_offer shown.offer }
-
-abbrev pub erase_request_close : RequestClose → RequestClose
-erase_request_close (request_close.Awarded quote dealer price) =
-    request_close.Awarded quote dealer 0
-erase_request_close request_close.Passed = request_close.Passed
-erase_request_close request_close.Expired = request_close.Expired
-
-abbrev pub erase_investor_fact : InvestorFact → InvestorFact
-erase_investor_fact (Offered shown) = Offered (erase_shown shown)
-erase_investor_fact (Closed request close) = Closed request (erase_request_close close)
-erase_investor_fact fact = fact
-
-abbrev pub erase_investor_entry : InvestorEntry → InvestorEntry
-erase_investor_entry (AtInvestorsDesk fact) = AtInvestorsDesk (erase_investor_fact fact)
-erase_investor_entry (SentToInvestor message) = SentToInvestor []
-
-abbrev pub erase_request : StandingRequest → StandingRequest
-erase_request own = record {
-  request = own.request;
-  close = option_map erase_request_close own.close;
-  standing = map erase_shown own.standing;
-}
-
-abbrev pub erase_investor_book : InvestorBook → InvestorBook
-erase_investor_book book = record {
-  used = book.used;
-  requests = map erase_request book.requests;
-  offers = map erase_shown book.offers;
-}
-
--- In the venue.
-
-abbrev pub erase_duty : Duty → Duty
-erase_duty (duty.Post room quote price valid_until moment) =
-    duty.Post room quote 0 valid_until moment
-erase_duty (duty.Relay room offer moment) = duty.Relay room (erase_offer offer) moment
-erase_duty (duty.Tell dealer room close moment) = duty.Tell dealer room (erase_close close) moment
-erase_duty other = other
-
-abbrev pub erase : ℕ → Fact → Fact
-erase own (AtDealer dealer entry) = AtDealer dealer (erase_entry (dealer == own) entry)
-erase own (InRoom room fact) = InRoom room (erase_room_fact fact)
-erase own (AtInvestor investor entry) = AtInvestor investor (erase_investor_entry entry)
+-- what is left of a duty that was caused, and of an item that is due
 
 abbrev pub erase_caused : Caused → Caused
-erase_caused caused = record { by = caused.by; duty = erase_duty caused.duty }
+erase_caused caused = record { by = caused.by; duty = unpriced_duty caused.duty }
 
--- an item that is due
 abbrev pub erase_due : Due → Due
-erase_due (due.Closed request close moment) = due.Closed request (erase_close close) moment
+erase_due (due.Closed request close moment) = due.Closed request (uncovered close) moment
 erase_due other = other
+
+-- the same is left of two days' facts
+abbrev pub AreFacts : ℕ → List Fact → List Fact → Type 0
+AreFacts own one other = filter_map (erase own) one ≡ filter_map (erase own) other
+
+-- Places.
+
+-- what is left of something at a place
+at_place : {E : Type 0} (read : Fact → Option E) (place : E → Fact) (b : Bool) (left : Option E)
+    → ((entry : E) → read (place entry) ≡ (if b then Some entry else None))
+    → option_and_then read (option_map place left) ≡ (if b then left else None)
+at_place read place true None is = refl
+at_place read place false None is = refl
+at_place read place b (Some entry) is = is entry
+
+if_left : {E : Type 0} (left : E → Option E) (b : Bool) (entry : E)
+    → (if b then left entry else None) ≡ option_and_then left (if b then Some entry else None)
+if_left left true entry = refl
+if_left left false entry = refl
+
+pub trail_left : (own number : ℕ) (facts : List Fact)
+    → of_dealer number (filter_map (erase own) facts)
+    ≡ filter_map (erase_entry (number == own)) (of_dealer number facts)
+unfolding of_dealer
+trail_left own number facts =
+    left_in (erase own) (entry_at_dealer number) (entry_at_dealer number)
+    (erase_entry (number == own)) each facts
+  where
+    each : (fact : Fact)
+        → option_and_then (entry_at_dealer number) (erase own fact)
+        ≡ option_and_then (erase_entry (number == own)) (entry_at_dealer number fact)
+    each (AtDealer dealer entry) =
+        at_place (entry_at_dealer number) (AtDealer dealer) (dealer == number)
+        (erase_entry (dealer == own) entry) (λ kept. refl)
+        ∙ by_test (dealer == number) refl
+        ∙ if_left (erase_entry (number == own)) (dealer == number) entry
+      where
+        by_test : (b : Bool) → (dealer == number) ≡ b
+            → (if b then erase_entry (dealer == own) entry else None)
+            ≡ (if b then erase_entry (number == own) entry else None)
+        by_test false test = refl
+        by_test true test =
+            let equal : dealer ≡ number = grind (arith, nat_tests) in
+            ap (λ (n : ℕ). erase_entry (n == own) entry) equal
+    each (InRoom room fact) = refl
+    each (AtInvestor investor (SentToInvestor message)) = refl
+    each (AtInvestor investor entry) = refl
+
+room_left : (own : ℕ) (place : RoomRef) (facts : List Fact)
+    → of_room place (filter_map (erase own) facts) ≡ map unpriced_in_room (of_room place facts)
+unfolding of_room
+room_left own place facts =
+    left_map (erase own) (fact_in_room place) (fact_in_room place) unpriced_in_room each facts
+  where
+    each : (fact : Fact)
+        → option_and_then (fact_in_room place) (erase own fact)
+        ≡ option_map unpriced_in_room (fact_in_room place fact)
+    each (AtDealer dealer (Sent message)) = refl
+    each (AtDealer dealer entry) = refl
+    each (InRoom room fact) = map_cond unpriced_in_room (is_same_room room place) fact None
+    each (AtInvestor investor (SentToInvestor message)) = refl
+    each (AtInvestor investor entry) = refl
+
+investor_left : (own number : ℕ) (facts : List Fact)
+    → of_investor number (filter_map (erase own) facts)
+    ≡ filter_map erase_investor_entry (of_investor number facts)
+unfolding of_investor
+investor_left own number facts =
+    left_in (erase own) (entry_at_investor number) (entry_at_investor number) erase_investor_entry
+    each facts
+  where
+    each : (fact : Fact)
+        → option_and_then (entry_at_investor number) (erase own fact)
+        ≡ option_and_then erase_investor_entry (entry_at_investor number fact)
+    each (AtDealer dealer (Sent message)) = refl
+    each (AtDealer dealer entry) = refl
+    each (InRoom room fact) = refl
+    each (AtInvestor investor entry) =
+        at_place (entry_at_investor number) (AtInvestor investor) (investor == number)
+        (erase_investor_entry entry) (λ kept. refl)
+        ∙ if_left erase_investor_entry (investor == number) entry
+
+-- What is asked of a dealer's trail.
+pub record AreDesks (one other : List DealerEntry) : Type 0 where
+  pub books : unpriced_book (book_by one) ≡ unpriced_book (book_by other)
+  pub rooms : rooms_by one ≡ rooms_by other
+  pub lifted : (quote : ℕ) → was_lifted one quote ≡ was_lifted other quote
+  pub withdrawn : (quote : ℕ) → was_withdrawn one quote ≡ was_withdrawn other quote
+
+pub desks_alike : (stay : Bool) (one other : List DealerEntry)
+    → filter_map (erase_entry stay) one ≡ filter_map (erase_entry stay) other → AreDesks one other
+desks_alike stay one other same = record {
+  books = books_alike stay (facts_of one) (facts_of other) facts;
+  rooms = by_erased (filter_map (erase_entry stay)) rooms_by rooms_by rooms_left one other same;
+  lifted = λ quote. by_erased (filter_map (erase_entry stay))
+      (λ (l : List DealerEntry). was_lifted l quote) (λ (l : List DealerEntry). was_lifted l quote)
+      (any_left (erase_entry stay) (lifts quote) (lifts_left quote)) one other same;
+  withdrawn = λ quote. by_erased (map (unpriced_at_dealer stay))
+      (λ (l : List DealerFact). list_any (withdraws quote) l)
+      (λ (l : List DealerFact). list_any (withdraws quote) l)
+      (withdraws_same stay quote) (facts_of one) (facts_of other) facts;
+}
+  where
+    fact_left : (entry : DealerEntry)
+        → option_and_then fact_in (erase_entry stay entry)
+        ≡ option_map (unpriced_at_dealer stay) (fact_in entry)
+    fact_left (AtDesk fact) = refl
+    fact_left (Sent message) = refl
+    fact_left entry = refl
+
+    facts : map (unpriced_at_dealer stay) (facts_of one)
+        ≡ map (unpriced_at_dealer stay) (facts_of other)
+    facts =
+        by_erased (filter_map (erase_entry stay))
+        (λ (l : List DealerEntry). map (unpriced_at_dealer stay) (facts_of l)) facts_of
+        (left_map (erase_entry stay) fact_in fact_in (unpriced_at_dealer stay) fact_left) one other
+        same
+
+    room_left_in : (entry : DealerEntry)
+        → option_and_then room_in (erase_entry stay entry)
+        ≡ option_map (λ (room : RoomRef). room) (room_in entry)
+    room_left_in (AtDesk fact) = refl
+    room_left_in (Sent message) = refl
+    room_left_in entry = refl
+
+    rooms_left : (trail : List DealerEntry)
+        → rooms_by (filter_map (erase_entry stay) trail) ≡ rooms_by trail
+    rooms_left trail =
+        left_map (erase_entry stay) room_in room_in (λ (room : RoomRef). room) room_left_in trail
+        ∙ map-id (rooms_by trail)
+
+    lifts_left : (quote : ℕ) (entry : DealerEntry)
+        → unwrap_or (option_map (lifts quote) (erase_entry stay entry)) false ≡ lifts quote entry
+    lifts_left quote (AtDesk fact) = refl
+    lifts_left quote (Sent message) = refl
+    lifts_left quote entry = refl
+
+-- whatever a desk's book is asked but prices and covers
+pub asked_of : {Z : Type 0} (one other : List DealerEntry) → AreDesks one other
+    → (f : DealerBook → Z) → ((book : DealerBook) → f (unpriced_book book) ≡ f book)
+    → f (book_by one) ≡ f (book_by other)
+asked_of one other desks f law =
+    by_erased unpriced_book f f law (book_by one) (book_by other) desks.books
+
+module _ (own : ℕ) (one other : List Fact) (same : AreFacts own one other) where
+  pub trails_at : (number : ℕ)
+      → filter_map (erase_entry (number == own)) (of_dealer number one)
+      ≡ filter_map (erase_entry (number == own)) (of_dealer number other)
+  trails_at number =
+      by_erased (filter_map (erase own))
+      (λ (l : List Fact). filter_map (erase_entry (number == own)) (of_dealer number l))
+      (of_dealer number) (trail_left own number) one other same
+
+  pub desks_at : (number : ℕ) → AreDesks (of_dealer number one) (of_dealer number other)
+  desks_at number = desks_alike (number == own) _ _ (trails_at number)
+
+  pub rooms_at : (place : RoomRef)
+      → map unpriced_in_room (of_room place one) ≡ map unpriced_in_room (of_room place other)
+  rooms_at place =
+      by_erased (filter_map (erase own))
+      (λ (l : List Fact). map unpriced_in_room (of_room place l)) (of_room place)
+      (room_left own place) one other same
+
+  pub in_rooms : (place : RoomRef) → AreRooms (of_room place one) (of_room place other)
+  in_rooms place = rooms_alike _ _ (rooms_at place)
+
+  pub investors_at : (number : ℕ)
+      → unpriced_investor_book (investor_trail.book_by (of_investor number one))
+      ≡ unpriced_investor_book (investor_trail.book_by (of_investor number other))
+  investors_at number =
+      investor_books_alike _ _ (by_erased (filter_map (erase own))
+      (λ (l : List Fact). map unpriced_at_investor (investor_trail.facts_of (of_investor number l)))
+      (λ (l : List Fact). investor_trail.facts_of (of_investor number l)) facts_left one other same)
+    where
+      fact_left : (entry : InvestorEntry)
+          → option_and_then investor_trail.fact_in (erase_investor_entry entry)
+          ≡ option_map unpriced_at_investor (investor_trail.fact_in entry)
+      fact_left (AtInvestorsDesk fact) = refl
+      fact_left (SentToInvestor message) = refl
+
+      facts_left : (facts : List Fact)
+          → investor_trail.facts_of (of_investor number (filter_map (erase own) facts))
+          ≡ map unpriced_at_investor (investor_trail.facts_of (of_investor number facts))
+      facts_left facts =
+          rw (investor_left own number facts) (left_map erase_investor_entry investor_trail.fact_in
+          investor_trail.fact_in unpriced_at_investor fact_left (of_investor number facts))

@@ -17,11 +17,13 @@ use Rattle.quote_messages.specs.SessionChecks.{decline_lines}
 use Rattle.quote_messages.specs.declared.session_faults.SessionRejectReason.{SessionRejectReason}
 use Rattle.quote_messages.specs.declared.session_faults.SessionRejectReason.TheVariants as reason
 use Rattle.step_replay.specs.EachLemmas.{Every}
-use Rattle.venue_laws.specs.PriceAlike.{is_price_tag, IsPriceOf, ArePricesOf, IsOneOrPriced}
-use Rattle.venue_laws.proofs.ErasedLists.{count_erased}
+use Rattle.venue_laws.specs.PriceAlike.{is_price_tag, IsPriceOf, IsOneOrPriced}
+use Rattle.market_terms.proofs.ErasedLists.{count_erased}
 
--- two values of a tag are lawful prices
-pub record ArePrices (bond : Option BondRow) (one other : Option (List ℕ)) : Type 0 where
+-- two values of a price's tag are lawful prices
+pub record ArePrices (bond : Option BondRow) (tag : ℕ) (one other : Option (List ℕ))
+    : Type 0 where
+  pub is_price : is_price_tag tag ≡ true
   pub text : List ℕ
   pub priced : List ℕ
   pub one_is : one ≡ Some text
@@ -55,80 +57,61 @@ module _ (bond : Option BondRow) where
 
   -- Values.
 
-  -- another tag than that of a price
-  other_tag : (one other : Field) (tag : ℕ) → ArePricesOf bond one other
-      → is_price_tag tag ≡ false → (one.0 == tag) ≡ false
-  other_tag one other tag prices is_none = by_test (one.0 == tag) refl
-    where
-      by_test : (b : Bool) → (one.0 == tag) ≡ b → (one.0 == tag) ≡ false
-      by_test false test = test
-      by_test true test =
-          let equal : one.0 ≡ tag = grind (arith, nat_tests) in
-          let never : true ≡ false =
-          sym prices.is_price ∙ ap is_price_tag equal ∙ is_none in cc
-
-  first_same : (x y : Field) (tag : ℕ) (rest rest_too : Option (List ℕ))
-      → IsOneOrPriced bond x y → is_price_tag tag ≡ false → rest ≡ rest_too
-      → (if x.0 == tag then Some x.1 else rest) ≡ (if y.0 == tag then Some y.1 else rest_too)
-  first_same x y tag rest rest_too (inl same) is_none later =
-      ap (λ (field : Field). if field.0 == tag then Some field.1 else rest) same
-      ∙ ap (λ (o : Option (List ℕ)). if y.0 == tag then Some y.1 else o) later
-  first_same x y tag rest rest_too (inr prices) is_none later =
-      let here : (x.0 == tag) ≡ false = other_tag x y tag prices is_none in
-      let there : (y.0 == tag) ≡ false = ap (λ (t : ℕ). t == tag) (sym prices.tag) ∙ here in
-      rw (here, there) later
-
-  pub value_same : (one other : List Field) → AllZip (IsOneOrPriced bond) one other → (tag : ℕ)
-      → is_price_tag tag ≡ false → value_of tag one ≡ value_of tag other
-  value_same [] [] alike tag is_none = refl
-  value_same [] (y ∷ ys) alike tag is_none = elim alike [ ]
-  value_same (x ∷ xs) [] alike tag is_none = elim alike [ ]
-  value_same (x ∷ xs) (y ∷ ys) alike tag is_none =
-      first_same x y tag (value_of tag xs) (value_of tag ys) alike.0 is_none
-      (value_same xs ys alike.1 tag is_none)
-
   -- two values are one, or lawful prices
-  abbrev pub AreValues : Option (List ℕ) → Option (List ℕ) → Type 0
-  AreValues one other = (one ≡ other) ⊎ ArePrices bond one other
+  abbrev pub AreValues : ℕ → Option (List ℕ) → Option (List ℕ) → Type 0
+  AreValues tag one other = (one ≡ other) ⊎ ArePrices bond tag one other
 
   first_price : (x y : Field) (tag : ℕ) (rest rest_too : Option (List ℕ))
-      → IsOneOrPriced bond x y → AreValues rest rest_too
-      → AreValues (if x.0 == tag then Some x.1 else rest)
+      → IsOneOrPriced bond x y → AreValues tag rest rest_too
+      → AreValues tag (if x.0 == tag then Some x.1 else rest)
       (if y.0 == tag then Some y.1 else rest_too)
   first_price x y tag rest rest_too (inl same) later =
       subst (λ (field : Field).
-      AreValues (if x.0 == tag then Some x.1 else rest)
+      AreValues tag (if x.0 == tag then Some x.1 else rest)
       (if field.0 == tag then Some field.1 else rest_too)) same (by_test (x.0 == tag))
     where
       by_test : (b : Bool)
-          → AreValues (if b then Some x.1 else rest) (if b then Some x.1 else rest_too)
+          → AreValues tag (if b then Some x.1 else rest) (if b then Some x.1 else rest_too)
       by_test true = inl refl
       by_test false = later
   first_price x y tag rest rest_too (inr prices) later =
       subst (λ (t : ℕ).
-      AreValues (if x.0 == tag then Some x.1 else rest)
-      (if t == tag then Some y.1 else rest_too)) prices.tag (by_test (x.0 == tag))
+      AreValues tag (if x.0 == tag then Some x.1 else rest)
+      (if t == tag then Some y.1 else rest_too)) prices.tag (by_test (x.0 == tag) refl)
     where
-      by_test : (b : Bool)
-          → AreValues (if b then Some x.1 else rest) (if b then Some y.1 else rest_too)
-      by_test true = inr (record {
-        text = x.1;
-        priced = y.1;
-        one_is = refl;
-        other_is = refl;
-        one_price = prices.one_price;
-        other_price = prices.other_price;
-      })
-      by_test false = later
+      by_test : (b : Bool) → (x.0 == tag) ≡ b
+          → AreValues tag (if b then Some x.1 else rest) (if b then Some y.1 else rest_too)
+      by_test true test =
+          let equal : x.0 ≡ tag = grind (arith, nat_tests) in
+          inr (record {
+            is_price = ap is_price_tag (sym equal) ∙ prices.is_price;
+            text = x.1;
+            priced = y.1;
+            one_is = refl;
+            other_is = refl;
+            one_price = prices.one_price;
+            other_price = prices.other_price;
+          })
+      by_test false test = later
 
   pub price_value : (one other : List Field) → AllZip (IsOneOrPriced bond) one other → (tag : ℕ)
-      → AreValues (value_of tag one) (value_of tag other)
+      → AreValues tag (value_of tag one) (value_of tag other)
   price_value [] [] alike tag = inl refl
   price_value [] (y ∷ ys) alike tag = elim alike [ ]
   price_value (x ∷ xs) [] alike tag = elim alike [ ]
   price_value (x ∷ xs) (y ∷ ys) alike tag =
       first_price x y tag (value_of tag xs) (value_of tag ys) alike.0
       (price_value xs ys alike.1 tag)
+
+  pub value_same : (one other : List Field) → AllZip (IsOneOrPriced bond) one other → (tag : ℕ)
+      → is_price_tag tag ≡ false → value_of tag one ≡ value_of tag other
+  value_same one other alike tag is_none = by_values (price_value one other alike tag)
+    where
+      by_values : AreValues tag (value_of tag one) (value_of tag other)
+          → value_of tag one ≡ value_of tag other
+      by_values (inl same) = same
+      by_values (inr prices) =
+          let never : true ≡ false = sym prices.is_price ∙ is_none in cc
 
 -- Lines of the session checks.
 
@@ -165,7 +148,7 @@ module _ (bond : Option BondRow) (one other : List Field)
 
   -- the fault of a price that stands so
   price_fault_same : (tag : ℕ) (repeated : Bool) (value value_too : Option (List ℕ))
-      → AreValues bond value value_too
+      → AreValues bond tag value value_too
       → at_tag tag (occurrence_fault date
       (record { tag = tag; is_required = false; value = APrice }) value repeated)
       ≡ at_tag tag (occurrence_fault date
@@ -199,40 +182,24 @@ module _ (bond : Option BondRow) (one other : List Field)
   faults_same (line ∷ lines) same =
       rw (same.0, faults_same lines same.1) refl
 
+  -- a line more
+  also : {line : Line} {lines : List Line} → IsSame line → Every IsSame lines
+      → Every IsSame (line ∷ lines)
+  also first later = (first, later)
+
   pub header_same : (name : List ℕ) (traders types : List (List ℕ))
       → first_fault (header_lines name traders types) date one
       ≡ first_fault (header_lines name traders types) date other
   header_same name traders types =
-      faults_same (header_lines name traders types)
-      (line 49 _ refl, (line 56 _ refl, (line 52 _ refl, (line 50 _ refl, (line 35 _ refl, tt)))))
+      faults_same (header_lines name traders types) (also (line 49 _ refl) (also (line 56 _ refl)
+      (also (line 52 _ refl) (also (line 50 _ refl) (also (line 35 _ refl) tt)))))
 
   pub quote_same : first_fault quote_lines date one ≡ first_fault quote_lines date other
   quote_same =
-      faults_same quote_lines (
-        line 117 _ refl,
-        (
-          line 131 _ refl,
-          (
-            line 48 _ refl,
-            (
-              line 22 _ refl,
-              (
-                price_line 132,
-                (
-                  price_line 133,
-                  (
-                    line_if 134 _ refl,
-                    (
-                      line_if 135 _ refl,
-                      (line_if 537 _ refl, (line_if 62 _ refl, tt)),
-                    ),
-                  ),
-                ),
-              ),
-            ),
-          ),
-        ),
-      )
+      faults_same quote_lines (also (line 117 _ refl) (also (line 131 _ refl)
+      (also (line 48 _ refl) (also (line 22 _ refl) (also (price_line 132)
+      (also (price_line 133) (also (line_if 134 _ refl) (also (line_if 135 _ refl)
+      (also (line_if 537 _ refl) (also (line_if 62 _ refl) tt))))))))))
 
   pub cancel_same : first_fault cancel_lines date one ≡ first_fault cancel_lines date other
   cancel_same =

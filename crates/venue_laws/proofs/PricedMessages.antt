@@ -32,7 +32,7 @@ use Rattle.dealer_desk.specs.DealerRules.{arrival_verdict, dealer_verdict}
 use Rattle.dealer_desk.specs.declared.standing.StandingRequest.{StandingRequest}
 use Rattle.dealer_desk.specs.declared.verdicts.DealerVerdict.{DealerVerdict}
 use Rattle.venue_laws.specs.PriceAlike.{is_price_tag, is_on_grid_of, IsOneOrPriced, bond_meant}
-use Rattle.venue_laws.proofs.Erasing.{erase_verdict}
+use Rattle.dealer_desk.specs.Unpriced.{unpriced_verdict}
 use Rattle.step_replay.specs.EachLemmas.{Every}
 use Rattle.venue_laws.proofs.VenueParts.{BearsGrid}
 use Rattle.venue_laws.proofs.PricedFields.{AreValues, value_same, times_same, price_value}
@@ -67,7 +67,7 @@ module _ (config : Configuration) (date : List ℕ) (row : DealerRow) (book : De
     (alike : AllZip (IsOneOrPriced (bond_meant config one)) one other) where
   -- the verdict on what came, whatever its price
   abbrev judged : Arrival DealerMessage → DealerVerdict
-  judged came = erase_verdict (arrival_verdict row book moment came)
+  judged came = unpriced_verdict (arrival_verdict row book moment came)
 
   same_value : (tag : ℕ) → is_price_tag tag ≡ false
       → value_of tag one ≡ value_of tag other
@@ -148,7 +148,7 @@ module _ (config : Configuration) (date : List ℕ) (row : DealerRow) (book : De
           ∙ sym (ap (λ (o : Option (List ℕ)). bond_with_id config (unwrap_or o [])) named)
           ∙ found
 
-      by_values : AreValues (bond_meant config one) (value_of tag one) (value_of tag other)
+      by_values : AreValues (bond_meant config one) tag (value_of tag one) (value_of tag other)
           → AreReadings bond.grid (option_map price_of (value_of tag one))
           (option_map price_of (value_of tag other))
       by_values (inl same) = inl (ap (option_map price_of) same)
@@ -234,8 +234,8 @@ module _ (config : Configuration) (date : List ℕ) (row : DealerRow) (book : De
 
   pub verdicts_alike : (bytes others : List ℕ) → frame_of bytes ≡ Some one
       → frame_of others ≡ Some other
-      → erase_verdict (dealer_verdict date row book moment bytes)
-      ≡ erase_verdict (dealer_verdict date row book moment others)
+      → unpriced_verdict (dealer_verdict date row book moment bytes)
+      ≡ unpriced_verdict (dealer_verdict date row book moment others)
   unfolding dealer_verdict dealer_arrival
   verdicts_alike bytes others one_is other_is =
       let session = dealer_session_verdict date row in

@@ -20,7 +20,7 @@ use Rattle.dealer_desk.specs.DealerRules.{asked_price, other_price, lone_price, 
 use Rattle.dealer_desk.specs.DealerRules.{price_for, quote_refusal, quote_answer, quote_on}
 use Rattle.dealer_desk.specs.DealerRules.{quote_verdict}
 use Rattle.dealer_desk.specs.declared.standing.StandingRequest.{StandingRequest}
-use Rattle.venue_laws.proofs.Erasing.{erase_verdict}
+use Rattle.dealer_desk.specs.Unpriced.{unpriced_verdict}
 use Rattle.step_replay.specs.EachLemmas.{Every}
 use Rattle.venue_laws.proofs.ListLemmas.{first_of_every}
 use Rattle.venue_laws.proofs.VenueParts.{BearsGrid}
@@ -54,23 +54,16 @@ lone_some None price priced = refl
 lone_some (Some (Ok own)) price priced = refl
 lone_some (Some (Err fault)) price priced = refl
 
-on_grid_lawful : (grid price : ℕ) → on_grid price grid ≡ true
-    → is_some (if_on_grid grid (Some price)) ≡ true
-on_grid_lawful grid price on = rw on refl
-
-two_lawful : (grid price priced : ℕ) (other : Reading) → on_grid price grid ≡ true
-    → on_grid priced grid ≡ true
-    → is_lawful grid (Some (Ok price)) other ≡ is_lawful grid (Some (Ok priced)) other
-two_lawful grid price priced None one_on other_on =
-    on_grid_lawful grid price one_on ∙ sym (on_grid_lawful grid priced other_on)
-two_lawful grid price priced (Some other) one_on other_on = refl
-
 asked_same : (grid : ℕ) (asked priced other : Reading) → AreReadings grid asked priced
     → is_lawful grid asked other ≡ is_lawful grid priced other
 asked_same grid asked priced other (inl same) = ap (λ (r : Reading). is_lawful grid r other) same
 asked_same grid asked priced other (inr prices) =
-    rw (prices.one_is, prices.other_is)
-    (two_lawful grid prices.price prices.priced other prices.one_on prices.other_on)
+    rw (prices.one_is, prices.other_is) (by_other other)
+  where
+    by_other : (o : Reading)
+        → is_lawful grid (Some (Ok prices.price)) o ≡ is_lawful grid (Some (Ok prices.priced)) o
+    by_other None = rw (prices.one_on, prices.other_on) refl
+    by_other (Some o) = refl
 
 other_same : (grid : ℕ) (asked other priced : Reading) → AreReadings grid other priced
     → is_lawful grid asked other ≡ is_lawful grid asked priced
@@ -114,8 +107,8 @@ module _ (quote : Quote) (bid offer : Reading) where
     refusal_by shown false test same = rw test refl
 
     answer_same : (request : Option StandingRequest) (refused : Option QuoteRejectReason)
-        → erase_verdict (quote_answer book moment quote request refused)
-        ≡ erase_verdict (quote_answer book moment priced request refused)
+        → unpriced_verdict (quote_answer book moment quote request refused)
+        ≡ unpriced_verdict (quote_answer book moment priced request refused)
     answer_same request (Some reason) = refl
     answer_same None None = refl
     answer_same (Some shown) None = refl
@@ -123,8 +116,8 @@ module _ (quote : Quote) (bid offer : Reading) where
     on_request : (request : Option StandingRequest)
         → quote_refusal row book moment quote request
         ≡ quote_refusal row book moment priced request
-        → erase_verdict (quote_on row book moment quote request)
-        ≡ erase_verdict (quote_on row book moment priced request)
+        → unpriced_verdict (quote_on row book moment quote request)
+        ≡ unpriced_verdict (quote_on row book moment priced request)
     on_request request same =
         rw same (answer_same request (quote_refusal row book moment priced request))
 
@@ -136,8 +129,8 @@ module _ (quote : Quote) (bid offer : Reading) where
         → AreReadings bond.grid quote.bid bid × AreReadings bond.grid quote.offer offer) where
       on_shown : (request : Option StandingRequest)
           → IfSome request (λ (own : StandingRequest). BearsGrid config own.ask)
-          → erase_verdict (quote_on row book moment quote request)
-          ≡ erase_verdict (quote_on row book moment priced request)
+          → unpriced_verdict (quote_on row book moment quote request)
+          ≡ unpriced_verdict (quote_on row book moment priced request)
       unfolding quote_refusal
       on_shown None bears = refl
       on_shown (Some shown) bears =
@@ -162,8 +155,8 @@ module _ (quote : Quote) (bid offer : Reading) where
               lawful_for shown.ask (subst (λ (g : ℕ). AreReadings g quote.bid bid) grid both.0)
               (subst (λ (g : ℕ). AreReadings g quote.offer offer) grid both.1)
 
-      pub verdict_alike : erase_verdict (quote_verdict row book moment quote)
-          ≡ erase_verdict (quote_verdict row book moment priced)
+      pub verdict_alike : unpriced_verdict (quote_verdict row book moment quote)
+          ≡ unpriced_verdict (quote_verdict row book moment priced)
       unfolding quote_verdict request_named
       verdict_alike =
           on_shown (request_named book quote.request)
