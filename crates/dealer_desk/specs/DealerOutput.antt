@@ -5,7 +5,6 @@ use Rattle.std.specs.Prelude.{slice_get, Option, Some, None, is_some, fold, ifâ—
 use Rattle.std.specs.List.{filter_map}
 use Rattle.std.specs.Option.{option_map}
 use Rattle.quote_messages.specs.Written.{written}
-
 pub use Rattle.market_terms.specs.Rooms.{is_same_room}
 use Rattle.market_terms.specs.declared.asks.Ask.{Ask}
 use Rattle.market_terms.specs.declared.closes.Close.{Close}
