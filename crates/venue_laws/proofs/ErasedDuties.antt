@@ -1,28 +1,25 @@
--- The duties that a step leaves in two rooms that are one but for prices and covers: they are one
--- but for both.
+-- The duties that a post and a hit leave in a room without prices and covers: those that they leave
+-- in the room, but for both.
 use Rattle.std.proofs.Common.{◌≡◌, ℕ, Bool, true, false, ◌&&◌, List, [], ◌∷◌, map, Option, None}
 use Rattle.std.proofs.Common.{refl, sym, ap, ◌∙◌, Result, Ok, Err, if◌then◌else◌}
 use Rattle.market_terms.specs.Unpriced.{uncovered, unpriced_duty, unpriced_offer}
-use Rattle.market_terms.specs.declared.asks.Ask.{Ask}
 use Rattle.market_terms.specs.declared.closes.Close.TheVariants as closes
 use Rattle.market_terms.specs.declared.closes.HitRefusal.{HitRefusal}
-use Rattle.market_terms.specs.declared.duties.Duty.{Duty}
 use Rattle.market_terms.specs.declared.duties.Duty.TheVariants as duty
 use Rattle.market_terms.specs.declared.rooms.Offer.{Offer}
 use Rattle.market_terms.specs.declared.rooms.ResponseRef.{ResponseRef}
 use Rattle.market_terms.specs.declared.rooms.RoomRef.{RoomRef}
 use Rattle.quote_word.specs.declared.settled.Settled.{Settled}
-use Rattle.request_room.proofs.UnpricedRooms.{AreRooms, outcome_alike, stands_alike}
+use Rattle.request_room.proofs.UnpricedRooms.{outcome_same, request_same}
 use Rattle.request_room.specs.RoomFacts.{RoomFact, hears, request_of, takes_quotes}
 use Rattle.request_room.specs.Book.{hit_outcome}
-use Rattle.request_room.specs.Unpriced.{uncovered as uncovered_outcome, uncovered_end}
+use Rattle.request_room.specs.Unpriced.{uncovered as uncovered_outcome, uncovered_end, unpriced}
 use Rattle.request_room.specs.declared.ends.End.{End}
 use Rattle.request_room.specs.declared.ends.EndKind.{EndKind}
 use Rattle.request_room.specs.declared.ends.EndKind.TheVariants as ends
-use Rattle.venue_steps.specs.RoomSteps.{close_for, dealers_of, duties_of_decline, duties_of_expire}
-use Rattle.venue_steps.specs.RoomSteps.{duties_of_hit, duties_of_open, duties_of_pass}
-use Rattle.venue_steps.specs.RoomSteps.{duties_of_post, duties_of_unpost, hit_duties, is_cover}
-use Rattle.venue_steps.specs.RoomSteps.{is_winner, told_to_each, where_follows}
+use Rattle.venue_steps.specs.RoomSteps.{close_for, dealers_of, duties_of_hit, duties_of_post}
+use Rattle.venue_steps.specs.RoomSteps.{hit_duties, is_cover, is_winner, told_to_each}
+use Rattle.venue_steps.specs.RoomSteps.{where_follows}
 
 -- How a request ended for a dealer, whoever was the cover.
 
@@ -49,28 +46,14 @@ told_each at end moment (dealer ∷ dealers) =
     rw (
       close_of_kind end.kind end.winner end.cover dealer,
       told_each at end moment dealers,
-    ) refl
+    )
 
-outcome_left : (facts : List RoomFact) (at : RoomRef) (response : ResponseRef) (moment : ℕ)
-    (outcome : Result End HitRefusal)
-    → map unpriced_duty (hit_duties facts at response moment outcome)
-    ≡ map unpriced_duty (hit_duties facts at response moment (uncovered_outcome outcome))
-outcome_left facts at response moment (Ok award) =
-    rw (told_each at award moment (dealers_of (request_of facts))) refl
-outcome_left facts at response moment (Err refused) = refl
-
--- What each step in a room leaves.
-module _ (one other : List RoomFact) (same : AreRooms one other) (at : RoomRef) where
-  pub open_left : (ask : Ask) (dealers : List ℕ) (moment : ℕ)
-      → duties_of_open one at ask dealers moment ≡ duties_of_open other at ask dealers moment
-  open_left ask dealers moment = rw (same.request, same.ended) refl
-
+module _ (facts : List RoomFact) (at : RoomRef) where
   pub post_left : (dealer : ℕ) (offer later : Offer) (moment : ℕ)
       → unpriced_offer offer ≡ unpriced_offer later
-      → map unpriced_duty (duties_of_post one at dealer offer moment)
-      ≡ map unpriced_duty (duties_of_post other at dealer later moment)
-  post_left dealer offer later moment offers =
-      rw (same.request, same.ended) (follows (hears other dealer && takes_quotes other))
+      → map unpriced_duty (duties_of_post facts at dealer offer moment)
+      ≡ map unpriced_duty (duties_of_post facts at dealer later moment)
+  post_left dealer offer later moment offers = follows (hears facts dealer && takes_quotes facts)
     where
       follows : (b : Bool)
           → map unpriced_duty (where_follows b (duty.Relay at offer moment))
@@ -78,35 +61,25 @@ module _ (one other : List RoomFact) (same : AreRooms one other) (at : RoomRef) 
       follows true = ap (λ (o : Offer). duty.Relay at o moment ∷ []) offers
       follows false = refl
 
-  pub unpost_left : (dealer word moment : ℕ)
-      → duties_of_unpost one at dealer word moment ≡ duties_of_unpost other at dealer word moment
-  unpost_left dealer word moment =
-      rw (same.request, same.ended, stands_alike one other same dealer word) refl
-
-  pub decline_left : (dealer moment : ℕ)
-      → duties_of_decline one at dealer moment ≡ duties_of_decline other at dealer moment
-  decline_left dealer moment = rw (same.request, same.ended) refl
-
-  pub pass_left : (response : ResponseRef) (moment : ℕ)
-      → duties_of_pass one at response moment ≡ duties_of_pass other at response moment
-  pass_left response moment = rw (same.ready, same.ended, same.request) refl
-
-  pub expire_left : (moment : ℕ)
-      → duties_of_expire one at moment ≡ duties_of_expire other at moment
-  expire_left moment = rw (same.ready, same.ended, same.request) refl
-
   pub hit_left : (response : ResponseRef) (word moment : ℕ) (settlement : Option Settled)
-      → map unpriced_duty (duties_of_hit one at response word moment true settlement)
-      ≡ map unpriced_duty (duties_of_hit other at response word moment true settlement)
+      → map unpriced_duty
+      (duties_of_hit (map unpriced facts) at response word moment true settlement)
+      ≡ map unpriced_duty (duties_of_hit facts at response word moment true settlement)
   hit_left response word moment settlement =
-      outcome_left one at response moment (hit_outcome one word moment settlement)
-      ∙ ap (λ (r : Result End HitRefusal). map unpriced_duty (hit_duties one at response moment r))
-      (outcome_alike one other same word moment settlement)
-      ∙ ap (map unpriced_duty)
-      (requests (uncovered_outcome (hit_outcome other word moment settlement)))
-      ∙ sym (outcome_left other at response moment (hit_outcome other word moment settlement))
+      ap (map unpriced_duty) (requests (hit_outcome (map unpriced facts) word moment settlement))
+      ∙ bare (hit_outcome (map unpriced facts) word moment settlement)
+      ∙ ap (λ (o : Result End HitRefusal). map unpriced_duty (hit_duties facts at response moment o))
+      (outcome_same facts word moment settlement)
+      ∙ sym (bare (hit_outcome facts word moment settlement))
     where
       requests : (outcome : Result End HitRefusal)
-          → hit_duties one at response moment outcome ≡ hit_duties other at response moment outcome
-      requests (Ok award) = rw (same.request) refl
+          → hit_duties (map unpriced facts) at response moment outcome
+          ≡ hit_duties facts at response moment outcome
+      requests (Ok award) = rw (request_same facts)
       requests (Err refused) = refl
+
+      bare : (outcome : Result End HitRefusal)
+          → map unpriced_duty (hit_duties facts at response moment outcome)
+          ≡ map unpriced_duty (hit_duties facts at response moment (uncovered_outcome outcome))
+      bare (Ok award) = rw (told_each at award moment (dealers_of (request_of facts)))
+      bare (Err refused) = refl

@@ -1,11 +1,10 @@
 -- A drop and a hit in two days of which the same is left without prices.
-use Rattle.std.proofs.Common.{◌≡◌, ℕ, ◌==◌, Bool, ◌&&◌, List, ◌++◌, map, filter_map, Option, Some, None}
-use Rattle.std.proofs.Common.{option_map, refl, ap, ◌∙◌, subst, if◌then◌else◌, Result, Ok, Err}
-use Rattle.std.specs.Option.{option_to_list}
+use Rattle.std.proofs.Common.{◌≡◌, ℕ, ◌==◌, Bool, true, ◌&&◌, List, ◌++◌, map, filter_map, Option}
+use Rattle.std.proofs.Common.{Some, None, option_map, refl, ap, ◌∙◌, subst, if◌then◌else◌, Result}
+use Rattle.std.proofs.Common.{Ok, Err}
 use Rattle.market_terms.proofs.ErasedLists.{by_erased}
 use Rattle.market_terms.specs.Unpriced.{unpriced_duty}
 use Rattle.market_terms.specs.declared.closes.HitRefusal.{HitRefusal}
-use Rattle.market_terms.specs.declared.duties.Duty.{Duty}
 use Rattle.market_terms.specs.declared.duties.Duty.TheVariants as duty
 use Rattle.market_terms.specs.declared.rooms.ResponseRef.{ResponseRef}
 use Rattle.market_terms.specs.declared.rooms.RoomRef.{RoomRef}
@@ -15,17 +14,16 @@ use Rattle.venue_rows.specs.Rows.{Configuration, has_room}
 use Rattle.dealer_desk.specs.DealerFacts.{DealerBook, number_to_drop, quote_to_drop}
 use Rattle.dealer_desk.specs.DealerOutput.{event_facts, further_drop, unpost_dropped}
 use Rattle.dealer_desk.specs.Unpriced.{unpriced}
-use Rattle.dealer_desk.specs.declared.events.DealerEvent.{DealerEvent}
 use Rattle.dealer_desk.specs.declared.events.DealerEvent.TheVariants as at_desk
-use Rattle.dealer_desk.proofs.UnpricedBooks.{number_same, some_to_drop, unposted_same}
-use Rattle.dealer_desk.proofs.UnpricedVerdicts.{kept_alike}
-use Rattle.request_room.specs.Book.{hit_outcome}
+use Rattle.dealer_desk.proofs.UnpricedVerdicts.{number_same, some_to_drop, unposted_same}
+use Rattle.request_room.specs.Book.{event_facts as facts_in_room, hit_outcome}
+use Rattle.request_room.specs.declared.events.RoomEvent.{RoomEvent}
 use Rattle.request_room.specs.Unpriced.{uncovered, unpriced as unpriced_in_room}
 use Rattle.request_room.specs.declared.ends.End.{End}
 use Rattle.request_room.specs.declared.events.RoomEvent.TheVariants as at_room
-use Rattle.request_room.proofs.UnpricedRooms.{kept_alike as kept_in_room, outcome_alike}
-use Rattle.request_room.proofs.UnpricedRooms.{question_alike}
-use Rattle.venue_steps.specs.RoomSteps.{hit_word, word_asked_by}
+use Rattle.request_room.proofs.UnpricedRooms.{kept_same as kept_in_room, outcome_same}
+use Rattle.request_room.proofs.UnpricedRooms.{question_same}
+use Rattle.venue_steps.specs.RoomSteps.{duties_of_hit, hit_word, word_asked_by}
 use Rattle.venue_steps.specs.Words.{has_word}
 use Rattle.step_replay.specs.DealerTrail.{DealerEntry, answer_to_dealer, book_by, entries_of}
 use Rattle.step_replay.specs.DealerTrail.{rooms_by}
@@ -33,10 +31,10 @@ use Rattle.step_replay.specs.VenueFacts.{Fact, InRoom, of_dealer, of_room}
 use Rattle.step_replay.specs.Actions.{Dealer, QuoteRef, answer_to_drop, answer_to_hit, drop_at}
 use Rattle.step_replay.specs.Actions.{dropped_by, hit_in, hit_with, left_by_drop, lifting}
 use Rattle.step_replay.specs.Actions.{quote_asked, quote_with_word, word_for, words_of}
-use Rattle.venue_laws.proofs.Erasing.{AreFacts, asked_of, desks_alike, desks_at, erase, erase_entry}
-use Rattle.venue_laws.proofs.Erasing.{in_rooms, rooms_at, trails_at}
+use Rattle.venue_laws.proofs.Erasing.{AreFacts, asked_in, asked_of, desks_alike, desks_at, erase}
+use Rattle.venue_laws.proofs.Erasing.{erase_entry, rooms_at, trails_at}
 use Rattle.venue_laws.proofs.ErasedActions.{AreAlike, answers_alike, desk_alike, entries_alike}
-use Rattle.venue_laws.proofs.ErasedActions.{if_alike}
+use Rattle.venue_laws.proofs.ErasedActions.{kept_alike, if_alike}
 use Rattle.venue_laws.proofs.ErasedDuties.{hit_left}
 use Rattle.venue_laws.proofs.ErasedLists.{all_along, filter_along}
 
@@ -70,9 +68,8 @@ module _ (config : Configuration) (own : ℕ) (facts others : List Fact)
       ≡ map (unpriced stay)
       (event_facts config.date dealer.row (book_by other) (drop_at other last moment))
   kept =
-      kept_alike config.date dealer.row stay (book_by one) (book_by other)
-      (drop_at one last moment) (drop_at other last moment)
-      (desks_at own facts others same dealer.number).books
+      kept_alike config own facts others same dealer (drop_at one last moment)
+      (drop_at other last moment)
       (ap (λ (s : Option Settled). at_desk.Drop last moment s) answer_alike)
 
   -- a trail after the drop
@@ -133,24 +130,35 @@ module _ (config : Configuration) (own : ℕ) (facts others : List Fact)
       (hit_with config others room response word moment settlement)
   with_alike settlement = record {
     facts_are = filter_along (erase own) _ _ _ _
-        (ap (filter_map (erase own)) (by_erased uncovered (lifting (quote_with_word config word))
-        (lifting (quote_with_word config word)) (lifting_same (quote_with_word config word))
-        (hit_outcome (of_room room facts) word moment settlement)
-        (hit_outcome (of_room room others) word moment settlement)
-        (outcome_alike (of_room room facts) (of_room room others)
-        (in_rooms own facts others same room) word moment settlement)))
-        (all_along (erase own) (InRoom room) unpriced_in_room (λ fact. refl) _ _
-        (kept_in_room (of_room room facts) (of_room room others)
-        (at_room.Hit word moment settlement) (at_room.Hit word moment settlement)
-        (rooms_at own facts others same room) refl));
-    duties_are = hit_left (of_room room facts) (of_room room others)
-        (in_rooms own facts others same room) room response word moment settlement;
+        (ap (filter_map (erase own)) lifted)
+        (all_along (erase own) (InRoom room) unpriced_in_room (λ fact. refl)
+        (facts_in_room (of_room room facts) hit) (facts_in_room (of_room room others) hit)
+        (rw (← kept_in_room (of_room room facts) hit, rooms_at own facts others same room)
+        (kept_in_room (of_room room others) hit)));
+    duties_are = asked_in own facts others same room
+        (λ l. map unpriced_duty (duties_of_hit l room response word moment true settlement))
+        (λ l. hit_left l room response word moment settlement);
   }
+    where
+      hit : RoomEvent
+      hit = at_room.Hit word moment settlement
+
+      lifted : lifting (quote_with_word config word)
+          (hit_outcome (of_room room facts) word moment settlement)
+          ≡ lifting (quote_with_word config word)
+          (hit_outcome (of_room room others) word moment settlement)
+      lifted =
+          asked_in own facts others same room
+          (λ l. lifting (quote_with_word config word) (hit_outcome l word moment settlement))
+          (λ l. by_erased uncovered (lifting (quote_with_word config word))
+          (lifting (quote_with_word config word)) (lifting_same (quote_with_word config word))
+          (hit_outcome (map unpriced_in_room l) word moment settlement)
+          (hit_outcome l word moment settlement) (outcome_same l word moment settlement))
 
   asked_alike : hit_word (of_room room facts) word moment ≡ hit_word (of_room room others) word moment
   asked_alike =
-      ap word_asked_by (question_alike (of_room room facts) (of_room room others)
-      (in_rooms own facts others same room) word moment)
+      asked_in own facts others same room (λ l. hit_word l word moment)
+      (λ l. ap word_asked_by (question_same l word moment))
 
   settled_alike : (found : Option QuoteRef)
       → option_map (answer_to_hit facts) found ≡ option_map (answer_to_hit others) found

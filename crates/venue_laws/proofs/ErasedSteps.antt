@@ -1,6 +1,6 @@
 -- Every duty, message and sweep in two days of which the same is left without prices: one line a
 -- duty.
-use Rattle.std.proofs.Common.{◌≡◌, ℕ, ◌==◌, Bool, true, ◌&&◌, List, [], map, Option, Some, None}
+use Rattle.std.proofs.Common.{◌≡◌, ℕ, ◌==◌, true, ◌&&◌, List, [], map, Option, Some, None}
 use Rattle.std.proofs.Common.{option_map, is_some, refl, sym, ap, ◌∙◌, if◌then◌else◌}
 use Rattle.std.specs.Option.{option_to_list}
 use Rattle.market_terms.specs.Unpriced.{unpriced_duty}
@@ -14,77 +14,76 @@ use Rattle.dealer_desk.specs.Unpriced.{unpriced, unpriced_verdict}
 use Rattle.dealer_desk.specs.declared.events.DealerEvent.TheVariants as at_desk
 use Rattle.dealer_desk.specs.declared.verdicts.DealerVerdict.{DealerVerdict}
 use Rattle.dealer_desk.proofs.UnpricedVerdicts.{asked_alike, came_alike, duty_alike as left_alike}
-use Rattle.dealer_desk.proofs.UnpricedVerdicts.{verdicts_alike}
+use Rattle.dealer_desk.proofs.UnpricedVerdicts.{verdict_same}
+use Rattle.dealer_desk.specs.DealerFacts.{DealerBook}
+use Rattle.dealer_desk.specs.DealerRules.{dealer_verdict}
+use Rattle.market_terms.proofs.ErasedLists.{by_erased}
 use Rattle.investor_desk.specs.InvestorDesk.{market_for}
 use Rattle.investor_desk.specs.InvestorOutput as investor_output
-use Rattle.investor_desk.specs.InvestorRules.{InvestorMarket}
-use Rattle.investor_desk.specs.Unpriced.{unpriced_event}
+use Rattle.investor_desk.specs.InvestorRules.{InvestorMarket, investor_verdict}
+use Rattle.investor_desk.specs.Unpriced.{unpriced_book, unpriced_event}
 use Rattle.investor_desk.specs.declared.events.InvestorEvent.{InvestorEvent}
 use Rattle.investor_desk.specs.declared.events.InvestorEvent.TheVariants as at_investor
 use Rattle.investor_desk.specs.declared.verdicts.InvestorVerdict.{InvestorVerdict}
-use Rattle.investor_desk.proofs.UnpricedEvents.{verdicts_alike as investor_verdicts_alike}
+use Rattle.investor_desk.proofs.UnpricedDesks.{verdict_same as investor_verdict_same}
 use Rattle.request_room.specs.RoomFacts.{hears}
 use Rattle.request_room.specs.declared.events.RoomEvent.TheVariants as at_room
-use Rattle.request_room.proofs.UnpricedRooms.{hears_alike}
+use Rattle.request_room.proofs.UnpricedRooms.{asked, asked_of_book}
+use Rattle.venue_steps.specs.RoomSteps.{duties_of_decline, duties_of_expire, duties_of_open}
+use Rattle.venue_steps.specs.RoomSteps.{duties_of_pass, duties_of_post, duties_of_unpost}
 use Rattle.venue_steps.specs.InvestorSteps.{replies_to}
 use Rattle.venue_steps.specs.Words.{has_word}
 use Rattle.venue_places.specs.declared.actors.Actor.{Actor}
 use Rattle.step_replay.specs.DealerTrail.{DealerEntry, answer_to_dealer, book_by, rooms_by}
-use Rattle.step_replay.specs.InvestorTrail as investor_trail
-use Rattle.step_replay.specs.VenueFacts.{Fact, of_dealer, of_investor, of_room}
-use Rattle.step_replay.specs.Actions.{Dealer, acting_dealer, at_investor_of, dealer_at}
-use Rattle.step_replay.specs.Actions.{declined_by, has_word_for, left_by}
-use Rattle.step_replay.specs.Actions.{left_by_investor, offer_of, posted_by, received_by_dealer}
-use Rattle.step_replay.specs.Actions.{received_by_investor, settlement_of, unposted_by, verdict_on}
-use Rattle.step_replay.specs.Actions.{where_known, word_for, words_of}
+use Rattle.step_replay.specs.VenueFacts.{Fact, of_dealer, of_room}
+use Rattle.step_replay.specs.Actions.{Dealer, acting_dealer, at_investor_of, dealer_at, declined_by}
+use Rattle.step_replay.specs.Actions.{has_word_for, left_by, left_by_investor, offer_of, posted_by}
+use Rattle.step_replay.specs.Actions.{received_by_dealer, received_by_investor, settlement_of}
+use Rattle.step_replay.specs.Actions.{unposted_by, verdict_on, where_known, word_for, words_of}
 use Rattle.step_replay.specs.DutyEffects.{duty_effect, message_effect, sweep_effect}
-use Rattle.venue_laws.proofs.Erasing.{AreFacts, desks_at, in_rooms, investors_at}
+use Rattle.venue_laws.proofs.Erasing.{AreFacts, asked_in, asked_of, desks_at, investors_at}
 use Rattle.venue_laws.proofs.ErasedActions.{AreAlike, answers_alike, desk_alike, done_alike}
-use Rattle.venue_laws.proofs.ErasedActions.{either_alike, if_alike, investor_alike, known_alike}
-use Rattle.venue_laws.proofs.ErasedActions.{market_alike, room_alike, shown_alike, told_alike}
-use Rattle.venue_laws.proofs.ErasedDuties.{decline_left, expire_left, open_left, pass_left}
-use Rattle.venue_laws.proofs.ErasedDuties.{post_left, unpost_left}
+use Rattle.venue_laws.proofs.ErasedActions.{either_alike, event_alike, if_alike, investor_alike}
+use Rattle.venue_laws.proofs.ErasedActions.{known_alike, market_alike, room_alike, shown_alike}
+use Rattle.venue_laws.proofs.ErasedActions.{told_alike}
+use Rattle.venue_laws.proofs.ErasedDuties.{post_left}
 use Rattle.venue_laws.proofs.ErasedHits.{dropped_alike, hit_alike}
 
 module _ (config : Configuration) (own : ℕ) (one other : List Fact)
     (facts : AreFacts own one other) where
-  heard : (room : RoomRef) (dealer : ℕ) (may : Bool)
-      → (may && hears (of_room room one) dealer) ≡ (may && hears (of_room room other) dealer)
-  heard room dealer may =
-      ap (λ (b : Bool). may && b) (hears_alike _ _ (in_rooms own one other facts room) dealer)
-
   posted_alike : (room : RoomRef) (quote price : ℕ) (until : Option ℕ) (moment : ℕ)
       (dealer : Dealer)
       → AreAlike own (posted_by config one room quote price until moment dealer)
       (posted_by config other room quote 0 until moment dealer)
   posted_alike room quote price until moment dealer =
+      let bare = offer_of config dealer quote 0 until in
       room_alike config own one other facts room _ _
       (at_room.Post dealer.number (word_for config dealer quote) price until)
       (at_room.Post dealer.number (word_for config dealer quote) 0 until) _ _
-      (heard room dealer.number (has_word_for config dealer quote)) refl
-      (post_left _ _ (in_rooms own one other facts room) room dealer.number
-      (offer_of config dealer quote price until) (offer_of config dealer quote 0 until) moment refl)
+      (asked_in own one other facts room
+      (λ l. has_word_for config dealer quote && hears l dealer.number) (λ l. simp asked)) refl
+      (post_left (of_room room one) room dealer.number
+      (offer_of config dealer quote price until) bare moment refl
+      ∙ asked_in own one other facts room
+      (λ l. map unpriced_duty (duties_of_post l room dealer.number bare moment)) (λ l. simp asked))
 
   unposted_alike : (room : RoomRef) (quote moment : ℕ) (dealer : Dealer)
       → AreAlike own (unposted_by config one room quote moment dealer)
       (unposted_by config other room quote moment dealer)
   unposted_alike room quote moment dealer =
-      room_alike config own one other facts room _ _
+      event_alike config own one other facts room
+      (λ l. has_word_for config dealer quote && hears l dealer.number)
       (at_room.Unpost dealer.number (word_for config dealer quote))
-      (at_room.Unpost dealer.number (word_for config dealer quote)) _ _
-      (heard room dealer.number (has_word_for config dealer quote)) refl
-      (ap (map unpriced_duty) (unpost_left _ _ (in_rooms own one other facts room) room
-      dealer.number (word_for config dealer quote) moment))
+      (λ l. duties_of_unpost l room dealer.number (word_for config dealer quote) moment)
+      (λ l. simp asked) (λ l. simp asked_of_book)
 
   declined_alike : (room : RoomRef) (moment : ℕ) (dealer : Dealer)
       → AreAlike own (declined_by config one room moment dealer)
       (declined_by config other room moment dealer)
   declined_alike room moment dealer =
-      room_alike config own one other facts room _ _ (at_room.Decline dealer.number)
-      (at_room.Decline dealer.number) _ _
-      (hears_alike _ _ (in_rooms own one other facts room) dealer.number) refl
-      (ap (map unpriced_duty)
-      (decline_left _ _ (in_rooms own one other facts room) room dealer.number moment))
+      event_alike config own one other facts room (λ l. hears l dealer.number)
+      (at_room.Decline dealer.number) (λ l. duties_of_decline l room dealer.number moment)
+      (λ l. simp asked) (λ l. simp asked)
 
   to_investor : (room : RoomRef) (more : InvestorEvent)
       → AreAlike own (at_investor_of config room (where_known one room.n None more))
@@ -105,14 +104,13 @@ module _ (config : Configuration) (own : ℕ) (one other : List Fact)
       (duty_effect config other by (unpriced_duty more))
   unfolding duty_effect
   duty_alike by (duty.Open room ask dealers moment) =
-      room_alike config own one other facts room true true _ _ _ _ refl refl
-      (ap (map unpriced_duty)
-      (open_left _ _ (in_rooms own one other facts room) room ask dealers moment))
+      event_alike config own one other facts room (λ l. true) _
+      (λ l. duties_of_open l room ask dealers moment) (λ l. refl) (λ l. simp asked)
   duty_alike by (duty.Show dealer room ask moment) =
       done_alike (dealer_at config dealer) (shown_alike config own one other facts room ask moment)
   duty_alike by (duty.Ready room moment) =
-      room_alike config own one other facts room true true at_room.Ready at_room.Ready [] [] refl
-      refl refl
+      event_alike config own one other facts room (λ l. true) at_room.Ready (λ l. []) (λ l. refl)
+      (λ l. refl)
   duty_alike by (duty.Post room quote price valid_until moment) =
       done_alike (acting_dealer config by) (posted_alike room quote price valid_until moment)
   duty_alike by (duty.Relay room offer moment) =
@@ -129,9 +127,8 @@ module _ (config : Configuration) (own : ℕ) (one other : List Fact)
   duty_alike by (duty.Hit room response word moment) =
       hit_alike config own one other facts room response word moment
   duty_alike by (duty.Pass room response moment) =
-      room_alike config own one other facts room true true (at_room.Pass moment)
-      (at_room.Pass moment) _ _ refl refl (ap (map unpriced_duty)
-      (pass_left _ _ (in_rooms own one other facts room) room response moment))
+      event_alike config own one other facts room (λ l. true) (at_room.Pass moment)
+      (λ l. duties_of_pass l room response moment) (λ l. refl) (λ l. simp asked)
   duty_alike by (duty.Answer room response reply moment) =
       market_alike (market_for config room.investor) (λ market.
       if_alike (replies_to response.k reply) (replies_to response.k reply) refl
@@ -150,9 +147,8 @@ module _ (config : Configuration) (own : ℕ) (one other : List Fact)
       → AreAlike own (sweep_effect config one room moment) (sweep_effect config other room moment)
   unfolding sweep_effect
   sweep_alike room moment =
-      room_alike config own one other facts room true true (at_room.Expire moment)
-      (at_room.Expire moment) _ _ refl refl (ap (map unpriced_duty)
-      (expire_left _ _ (in_rooms own one other facts room) room moment))
+      event_alike config own one other facts room (λ l. true) (at_room.Expire moment)
+      (λ l. duties_of_expire l room moment) (λ l. refl) (λ l. simp asked)
 
   -- A message of a dealer: another message may stand in its place, where the verdicts on both are
   -- one but for the price.
@@ -221,8 +217,10 @@ module _ (config : Configuration) (own : ℕ) (one other : List Fact)
   pub one_verdict : (moment : ℕ) (bytes : List ℕ) (dealer : Dealer)
       → verdict_on config one moment bytes dealer ≡ verdict_on config other moment bytes dealer
   one_verdict moment bytes dealer =
-      verdicts_alike config.date dealer.row _ _ moment bytes
-      (desks_at own one other facts dealer.number).books
+      asked_of (of_dealer dealer.number one) (of_dealer dealer.number other)
+      (desks_at own one other facts dealer.number)
+      (λ (b : DealerBook). dealer_verdict config.date dealer.row b moment bytes)
+      (λ b. verdict_same b config.date dealer.row moment bytes)
 
   said_to_investor : (moment : ℕ) (bytes : List ℕ) (market : InvestorMarket)
       → AreAlike own (received_by_investor one moment bytes market)
@@ -231,10 +229,14 @@ module _ (config : Configuration) (own : ℕ) (one other : List Fact)
       investor_alike config own one other facts market (at_investor.Received moment bytes)
       (at_investor.Received moment bytes) (left_by_investor one moment bytes market)
       (left_by_investor other moment bytes market) refl
-      (ap (λ (v : InvestorVerdict).
-      map unpriced_duty (option_to_list (investor_output.verdict_duty market moment v)))
-      (investor_verdicts_alike market _ _ moment bytes
-      (investors_at own one other facts market.firm)))
+      (by_erased unpriced_book
+      (λ b. left (investor_verdict market b moment bytes))
+      (λ b. left (investor_verdict market b moment bytes))
+      (λ b. ap left (investor_verdict_same market b moment bytes)) _ _
+      (investors_at own one other facts market.firm))
+    where
+      left : InvestorVerdict → List Duty
+      left v = map unpriced_duty (option_to_list (investor_output.verdict_duty market moment v))
 
   -- the same message
   pub message_alike : (firm moment : ℕ) (bytes : List ℕ)

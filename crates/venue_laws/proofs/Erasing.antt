@@ -4,22 +4,19 @@
 use Rattle.std.proofs.Common.{◌≡◌, ℕ, ◌==◌, Bool, true, false, List, map, filter_map, Option, Some}
 use Rattle.std.proofs.Common.{None, option_map, option_and_then, unwrap_or, refl, ap, ◌∙◌, arith}
 use Rattle.std.proofs.Common.{if◌then◌else◌}
-use Rattle.std.specs.List.{list_any}
 use Rattle.std.proofs.lemmas.Bool.Decides.{nat_tests}
-use Rattle.std.proofs.lemmas.List.{map-id}
 use Rattle.market_terms.proofs.ErasedLists.{by_erased, map_cond}
 use Rattle.market_terms.specs.Unpriced.{uncovered, unpriced_duty}
 use Rattle.market_terms.specs.declared.rooms.RoomRef.{RoomRef}
-use Rattle.dealer_desk.specs.DealerFacts.{DealerBook, DealerFact}
+use Rattle.dealer_desk.specs.DealerFacts.{DealerBook, book_of}
 use Rattle.dealer_desk.specs.DealerOutput.{is_same_room}
-use Rattle.dealer_desk.specs.DeskLaws.{withdraws}
 use Rattle.dealer_desk.specs.Unpriced.{unpriced as unpriced_at_dealer, unpriced_book}
-use Rattle.dealer_desk.proofs.UnpricedBooks.{books_alike, withdraws_same}
+use Rattle.dealer_desk.proofs.UnpricedBooks.{book_same, withdrawn_same}
 use Rattle.investor_desk.specs.Unpriced.{unpriced as unpriced_at_investor}
 use Rattle.investor_desk.specs.Unpriced.{unpriced_book as unpriced_investor_book}
-use Rattle.investor_desk.proofs.UnpricedBooks.{books_alike as investor_books_alike}
+use Rattle.investor_desk.proofs.UnpricedDesks.{book_same as investor_book_same}
 use Rattle.request_room.specs.Unpriced.{unpriced as unpriced_in_room}
-use Rattle.request_room.proofs.UnpricedRooms.{AreRooms, rooms_alike}
+use Rattle.request_room.specs.RoomFacts.{RoomFact}
 use Rattle.step_replay.specs.AuditTrail.{Caused}
 use Rattle.step_replay.specs.DealerTrail.{DealerEntry, AtDesk, Sent, book_by, fact_in, facts_of}
 use Rattle.step_replay.specs.DealerTrail.{lifts, room_in, rooms_by, was_lifted, was_withdrawn}
@@ -31,7 +28,7 @@ use Rattle.step_replay.specs.VenueFacts.{entry_at_investor, fact_in_room, of_dea
 use Rattle.step_replay.specs.VenueFacts.{of_room}
 use Rattle.step_replay.specs.declared.dues.Due.{Due}
 use Rattle.step_replay.specs.declared.dues.Due.TheVariants as due
-use Rattle.venue_laws.proofs.ErasedLists.{any_left, left_in, left_map}
+use Rattle.venue_laws.proofs.ErasedLists.{any_fuse, fuse, map_fuse}
 
 -- What is left of a fact, where anything is.
 
@@ -84,9 +81,7 @@ pub trail_left : (own number : ℕ) (facts : List Fact)
     → of_dealer number (filter_map (erase own) facts)
     ≡ filter_map (erase_entry (number == own)) (of_dealer number facts)
 unfolding of_dealer
-trail_left own number facts =
-    left_in (erase own) (entry_at_dealer number) (entry_at_dealer number)
-    (erase_entry (number == own)) each facts
+trail_left own number facts = simp (fuse, each)
   where
     each : (fact : Fact)
         → option_and_then (entry_at_dealer number) (erase own fact)
@@ -111,8 +106,7 @@ trail_left own number facts =
 room_left : (own : ℕ) (place : RoomRef) (facts : List Fact)
     → of_room place (filter_map (erase own) facts) ≡ map unpriced_in_room (of_room place facts)
 unfolding of_room
-room_left own place facts =
-    left_map (erase own) (fact_in_room place) (fact_in_room place) unpriced_in_room each facts
+room_left own place facts = simp (fuse, map_fuse, each)
   where
     each : (fact : Fact)
         → option_and_then (fact_in_room place) (erase own fact)
@@ -127,9 +121,7 @@ investor_left : (own number : ℕ) (facts : List Fact)
     → of_investor number (filter_map (erase own) facts)
     ≡ filter_map erase_investor_entry (of_investor number facts)
 unfolding of_investor
-investor_left own number facts =
-    left_in (erase own) (entry_at_investor number) (entry_at_investor number) erase_investor_entry
-    each facts
+investor_left own number facts = simp (fuse, each)
   where
     each : (fact : Fact)
         → option_and_then (entry_at_investor number) (erase own fact)
@@ -149,55 +141,48 @@ pub record AreDesks (one other : List DealerEntry) : Type 0 where
   pub lifted : (quote : ℕ) → was_lifted one quote ≡ was_lifted other quote
   pub withdrawn : (quote : ℕ) → was_withdrawn one quote ≡ was_withdrawn other quote
 
-pub desks_alike : (stay : Bool) (one other : List DealerEntry)
-    → filter_map (erase_entry stay) one ≡ filter_map (erase_entry stay) other → AreDesks one other
-desks_alike stay one other same = record {
-  books = books_alike stay (facts_of one) (facts_of other) facts;
-  rooms = by_erased (filter_map (erase_entry stay)) rooms_by rooms_by rooms_left one other same;
-  lifted = λ quote. by_erased (filter_map (erase_entry stay))
-      (λ (l : List DealerEntry). was_lifted l quote) (λ (l : List DealerEntry). was_lifted l quote)
-      (any_left (erase_entry stay) (lifts quote) (lifts_left quote)) one other same;
-  withdrawn = λ quote. by_erased (map (unpriced_at_dealer stay))
-      (λ (l : List DealerFact). list_any (withdraws quote) l)
-      (λ (l : List DealerFact). list_any (withdraws quote) l)
-      (withdraws_same stay quote) (facts_of one) (facts_of other) facts;
-}
-  where
-    fact_left : (entry : DealerEntry)
-        → option_and_then fact_in (erase_entry stay entry)
-        ≡ option_map (unpriced_at_dealer stay) (fact_in entry)
-    fact_left (AtDesk fact) = refl
-    fact_left (Sent message) = refl
-    fact_left entry = refl
+module _ (stay : Bool) where
+  fact_left : (entry : DealerEntry)
+      → option_and_then fact_in (erase_entry stay entry)
+      ≡ option_map (unpriced_at_dealer stay) (fact_in entry)
+  fact_left (AtDesk fact) = refl
+  fact_left (Sent message) = refl
+  fact_left entry = refl
 
-    facts : map (unpriced_at_dealer stay) (facts_of one)
-        ≡ map (unpriced_at_dealer stay) (facts_of other)
-    facts =
-        by_erased (filter_map (erase_entry stay))
-        (λ (l : List DealerEntry). map (unpriced_at_dealer stay) (facts_of l)) facts_of
-        (left_map (erase_entry stay) fact_in fact_in (unpriced_at_dealer stay) fact_left) one other
-        same
+  room_in_left : (entry : DealerEntry)
+      → option_and_then room_in (erase_entry stay entry) ≡ room_in entry
+  room_in_left (AtDesk fact) = refl
+  room_in_left (Sent message) = refl
+  room_in_left entry = refl
 
-    room_left_in : (entry : DealerEntry)
-        → option_and_then room_in (erase_entry stay entry)
-        ≡ option_map (λ (room : RoomRef). room) (room_in entry)
-    room_left_in (AtDesk fact) = refl
-    room_left_in (Sent message) = refl
-    room_left_in entry = refl
+  lifts_left : (quote : ℕ) (entry : DealerEntry)
+      → unwrap_or (option_map (lifts quote) (erase_entry stay entry)) false ≡ lifts quote entry
+  lifts_left quote (AtDesk fact) = refl
+  lifts_left quote (Sent message) = refl
+  lifts_left quote entry = refl
 
-    rooms_left : (trail : List DealerEntry)
-        → rooms_by (filter_map (erase_entry stay) trail) ≡ rooms_by trail
-    rooms_left trail =
-        left_map (erase_entry stay) room_in room_in (λ (room : RoomRef). room) room_left_in trail
-        ∙ map-id (rooms_by trail)
+  pub desks_alike : (one other : List DealerEntry)
+      → filter_map (erase_entry stay) one ≡ filter_map (erase_entry stay) other
+      → AreDesks one other
+  desks_alike one other same = record {
+    books = along (λ l. unpriced_book (book_by l)) (λ l. book_of (facts_of l))
+        (λ l. rw (facts_left l) (book_same stay (facts_of l)));
+    rooms = along rooms_by rooms_by (λ l. simp (fuse, room_in_left));
+    lifted = λ quote. along (λ l. was_lifted l quote) (λ l. was_lifted l quote)
+        (λ l. simp (any_fuse, lifts_left));
+    withdrawn = λ quote. along (λ l. was_withdrawn l quote) (λ l. was_withdrawn l quote)
+        (λ l. rw (facts_left l) (withdrawn_same stay quote (facts_of l)));
+  }
+    where
+      along : {Z : Type 0} (f g : List DealerEntry → Z)
+          → ((l : List DealerEntry) → g (filter_map (erase_entry stay) l) ≡ f l) → f one ≡ f other
+      along f g law = by_erased (filter_map (erase_entry stay)) f g law one other same
 
-    lifts_left : (quote : ℕ) (entry : DealerEntry)
-        → unwrap_or (option_map (lifts quote) (erase_entry stay entry)) false ≡ lifts quote entry
-    lifts_left quote (AtDesk fact) = refl
-    lifts_left quote (Sent message) = refl
-    lifts_left quote entry = refl
+      facts_left : (l : List DealerEntry)
+          → facts_of (filter_map (erase_entry stay) l) ≡ map (unpriced_at_dealer stay) (facts_of l)
+      facts_left l = simp (fuse, map_fuse, fact_left)
 
--- whatever a desk's book is asked but prices and covers
+-- whatever a dealer's book is asked but prices and covers
 pub asked_of : {Z : Type 0} (one other : List DealerEntry) → AreDesks one other
     → (f : DealerBook → Z) → ((book : DealerBook) → f (unpriced_book book) ≡ f book)
     → f (book_by one) ≡ f (book_by other)
@@ -216,6 +201,15 @@ module _ (own : ℕ) (one other : List Fact) (same : AreFacts own one other) whe
   pub desks_at : (number : ℕ) → AreDesks (of_dealer number one) (of_dealer number other)
   desks_at number = desks_alike (number == own) _ _ (trails_at number)
 
+  -- whatever a room is asked but prices and covers
+  pub asked_in : {Z : Type 0} (place : RoomRef) (f : List RoomFact → Z)
+      → ((l : List RoomFact) → f (map unpriced_in_room l) ≡ f l)
+      → f (of_room place one) ≡ f (of_room place other)
+  asked_in place f law =
+      by_erased (filter_map (erase own)) (λ (l : List Fact). f (of_room place l))
+      (λ (l : List Fact). f (of_room place l))
+      (λ l. rw (room_left own place l) (law (of_room place l))) one other same
+
   pub rooms_at : (place : RoomRef)
       → map unpriced_in_room (of_room place one) ≡ map unpriced_in_room (of_room place other)
   rooms_at place =
@@ -223,16 +217,15 @@ module _ (own : ℕ) (one other : List Fact) (same : AreFacts own one other) whe
       (λ (l : List Fact). map unpriced_in_room (of_room place l)) (of_room place)
       (room_left own place) one other same
 
-  pub in_rooms : (place : RoomRef) → AreRooms (of_room place one) (of_room place other)
-  in_rooms place = rooms_alike _ _ (rooms_at place)
-
   pub investors_at : (number : ℕ)
       → unpriced_investor_book (investor_trail.book_by (of_investor number one))
       ≡ unpriced_investor_book (investor_trail.book_by (of_investor number other))
   investors_at number =
-      investor_books_alike _ _ (by_erased (filter_map (erase own))
-      (λ (l : List Fact). map unpriced_at_investor (investor_trail.facts_of (of_investor number l)))
-      (λ (l : List Fact). investor_trail.facts_of (of_investor number l)) facts_left one other same)
+      by_erased (filter_map (erase own))
+      (λ (l : List Fact). unpriced_investor_book (investor_trail.book_by (of_investor number l)))
+      (λ (l : List Fact). investor_trail.book_by (of_investor number l))
+      (λ l. rw (investor_left own number l, facts_left (of_investor number l))
+      (investor_book_same (investor_trail.facts_of (of_investor number l)))) one other same
     where
       fact_left : (entry : InvestorEntry)
           → option_and_then investor_trail.fact_in (erase_investor_entry entry)
@@ -240,9 +233,7 @@ module _ (own : ℕ) (one other : List Fact) (same : AreFacts own one other) whe
       fact_left (AtInvestorsDesk fact) = refl
       fact_left (SentToInvestor message) = refl
 
-      facts_left : (facts : List Fact)
-          → investor_trail.facts_of (of_investor number (filter_map (erase own) facts))
-          ≡ map unpriced_at_investor (investor_trail.facts_of (of_investor number facts))
-      facts_left facts =
-          rw (investor_left own number facts) (left_map erase_investor_entry investor_trail.fact_in
-          investor_trail.fact_in unpriced_at_investor fact_left (of_investor number facts))
+      facts_left : (l : List InvestorEntry)
+          → investor_trail.facts_of (filter_map erase_investor_entry l)
+          ≡ map unpriced_at_investor (investor_trail.facts_of l)
+      facts_left l = simp (fuse, map_fuse, fact_left)

@@ -1,8 +1,7 @@
 -- Blindness to prices: two days that are one but for the prices of other dealers stay one without
 -- prices, step by step.
-use Rattle.std.proofs.Common.{◌≡◌, ℕ, ◌==◌, false, List, [], ◌∷◌, ◌++◌, map, filter_map, drop}
-use Rattle.std.proofs.Common.{count_by, fold, Some, None, option_map, refl, sym, ap, ◌∙◌, subst}
-use Rattle.std.proofs.Common.{◌⊎◌, inl, inr}
+use Rattle.std.proofs.Common.{◌≡◌, ℕ, List, [], ◌∷◌, ◌++◌, map, filter_map, drop, count_by, fold}
+use Rattle.std.proofs.Common.{Some, None, option_map, refl, sym, ap, ◌∙◌, subst, ◌⊎◌, inl, inr}
 use Rattle.std.proofs.lemmas.List.{drop-map}
 use Rattle.market_terms.proofs.ErasedLists.{append_along, by_erased, map_cond}
 use Rattle.market_terms.specs.Unpriced.{unpriced_duty}
@@ -14,12 +13,11 @@ use Rattle.dealer_desk.specs.Unpriced.{unpriced_verdict}
 use Rattle.venue_places.specs.declared.actors.Actor.{Actor}
 use Rattle.venue_places.specs.declared.actors.Actor.TheVariants as actor
 use Rattle.step_replay.specs.DealerTrail.{book_by}
-use Rattle.step_replay.specs.VenueFacts.{of_dealer}
+use Rattle.step_replay.specs.VenueFacts.{of_dealer, Fact}
 use Rattle.step_replay.specs.Actions.{Effect, dealer_of, received_by_dealer}
 use Rattle.step_replay.specs.DutyEffects.{duty_effect, message_effect}
 use Rattle.step_replay.specs.AuditTrail.{AuditTrail, Caused, no_steps, duty_of, is_same_actor}
 use Rattle.step_replay.specs.AuditTrail.{pending, with_effect, after_turn, after_step, audit_trail}
-use Rattle.step_replay.specs.VenueFacts.{Fact}
 use Rattle.step_replay.specs.declared.steps.Step.{Step}
 use Rattle.step_replay.specs.declared.steps.Step.TheVariants as step
 use Rattle.venue_laws.specs.PriceAlike.{IsPricedByAnother, IsPriceAlike}
