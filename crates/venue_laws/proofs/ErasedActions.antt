@@ -159,21 +159,29 @@ module _ (config : Configuration) (own : ℕ) (facts : List Fact) where
       rw (rooms_left own facts dealer.number) (told_alike_of dealer close moment
       (number_in (rooms_by (of_dealer dealer.number facts)) room))
 
-  -- In a room.
+  -- In a room: an event of which the test asks no price, and what it leaves only the price that it
+  -- bears.
 
-  pub room_alike : (room : RoomRef) (may may_too : Bool) (more : RoomEvent)
-      (duties duties_too : List Duty) → may ≡ may_too
-      → map unpriced_duty duties ≡ map unpriced_duty duties_too
-      → AreAlike own (in_room config known room may (unpriced_to_room more) duties)
-      (in_room config facts room may_too more duties_too)
-  room_alike room may may_too more duties duties_too tests same =
+  pub event_alike : (room : RoomRef) (may : List RoomFact → Bool) (event : RoomEvent) (price : ℕ)
+      (duties : ℕ → List RoomFact → List Duty)
+      → ((l : List RoomFact) → may (map unpriced_in_room l) ≡ may l)
+      → ((l : List RoomFact)
+      → map unpriced_duty (duties 0 (map unpriced_in_room l)) ≡ map unpriced_duty (duties price l))
+      → AreAlike own (in_room config known room (may (of_room room known)) (unpriced_to_room event)
+      (duties 0 (of_room room known)))
+      (in_room config facts room (may (of_room room facts)) event
+      (duties price (of_room room facts)))
+  event_alike room may event price duties tests same =
+      let bare_room = room_left own facts room in
       if_alike _ _
-      (ap (λ (b : Bool). has_room config room.investor room.n && b) tests)
+      (ap (λ (l : List RoomFact). has_room config room.investor room.n && may l) bare_room
+      ∙ ap (λ (b : Bool). has_room config room.investor room.n && b) (tests (of_room room facts)))
       (both_alike own _ _
       (all_along (erase own) (InRoom room) unpriced_in_room (λ fact. refl) _ _
-      (ap (λ (l : List RoomFact).
-      map unpriced_in_room (added_in_room l (unpriced_to_room more)))
-      (room_left own facts room) ∙ kept_in_room (of_room room facts) more)) same)
+      (ap (λ (l : List RoomFact). map unpriced_in_room (added_in_room l (unpriced_to_room event)))
+      bare_room ∙ kept_in_room (of_room room facts) event))
+      (ap (λ (l : List RoomFact). map unpriced_duty (duties 0 l)) bare_room
+      ∙ same (of_room room facts)))
 
   -- At an investor.
 

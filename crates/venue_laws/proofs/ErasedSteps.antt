@@ -1,5 +1,5 @@
 -- Every duty, message and sweep in a day without prices: one line a duty.
-use Rattle.std.proofs.Common.{◌≡◌, ℕ, ◌==◌, Bool, true, ◌&&◌, List, [], map, Option, Some, None}
+use Rattle.std.proofs.Common.{◌≡◌, ℕ, ◌==◌, true, ◌&&◌, List, [], map, Option, Some, None}
 use Rattle.std.proofs.Common.{option_map, is_some, refl, ap, ◌∙◌, if◌then◌else◌}
 use Rattle.std.specs.Option.{option_to_list}
 use Rattle.market_terms.specs.Unpriced.{unpriced_duty}
@@ -19,10 +19,7 @@ use Rattle.investor_desk.specs.Unpriced.{unpriced_event}
 use Rattle.investor_desk.specs.declared.events.InvestorEvent.{InvestorEvent}
 use Rattle.investor_desk.specs.declared.events.InvestorEvent.TheVariants as at_investor
 use Rattle.investor_desk.proofs.UnpricedDesks.{verdict_same as investor_verdict_same}
-use Rattle.request_room.specs.RoomFacts.{RoomFact, hears}
-use Rattle.request_room.specs.Unpriced.{unpriced as unpriced_in_room}
-use Rattle.request_room.specs.Unpriced.{unpriced_event as unpriced_to_room}
-use Rattle.request_room.specs.declared.events.RoomEvent.{RoomEvent}
+use Rattle.request_room.specs.RoomFacts.{hears}
 use Rattle.request_room.specs.declared.events.RoomEvent.TheVariants as at_room
 use Rattle.request_room.proofs.UnpricedRooms.{asked, asked_of_book}
 use Rattle.venue_steps.specs.InvestorSteps.{replies_to}
@@ -32,17 +29,16 @@ use Rattle.venue_steps.specs.Words.{has_word}
 use Rattle.venue_places.specs.declared.actors.Actor.{Actor}
 use Rattle.step_replay.specs.DealerTrail.{DealerEntry, answer_to_dealer, book_by, rooms_by}
 use Rattle.step_replay.specs.InvestorTrail as investor_trail
-use Rattle.step_replay.specs.VenueFacts.{Fact, of_dealer, of_investor, of_room}
-use Rattle.step_replay.specs.Actions.{Dealer, acting_dealer, at_investor_of, dealer_at, in_room}
-use Rattle.step_replay.specs.Actions.{declined_by, has_word_for, left_by, left_by_investor}
-use Rattle.step_replay.specs.Actions.{offer_of, posted_by, received_by_dealer, received_by_investor}
-use Rattle.step_replay.specs.Actions.{settlement_of, unposted_by, verdict_on, where_known, word_for}
-use Rattle.step_replay.specs.Actions.{words_of}
+use Rattle.step_replay.specs.VenueFacts.{Fact, of_dealer, of_investor}
+use Rattle.step_replay.specs.Actions.{Dealer, acting_dealer, at_investor_of, dealer_at, declined_by}
+use Rattle.step_replay.specs.Actions.{has_word_for, left_by, left_by_investor, offer_of, posted_by}
+use Rattle.step_replay.specs.Actions.{received_by_dealer, received_by_investor, settlement_of}
+use Rattle.step_replay.specs.Actions.{unposted_by, verdict_on, where_known, word_for, words_of}
 use Rattle.step_replay.specs.DutyEffects.{duty_effect, message_effect, sweep_effect}
-use Rattle.venue_laws.proofs.Erasing.{bare, book_left, investor_book_left, room_left, rooms_left}
+use Rattle.venue_laws.proofs.Erasing.{bare, book_left, investor_book_left, rooms_left}
 use Rattle.venue_laws.proofs.ErasedActions.{AreAlike, desk_alike, done_alike, either_alike}
-use Rattle.venue_laws.proofs.ErasedActions.{if_alike, investor_alike, known_alike, market_alike}
-use Rattle.venue_laws.proofs.ErasedActions.{room_alike, shown_alike, told_alike}
+use Rattle.venue_laws.proofs.ErasedActions.{event_alike, if_alike, investor_alike, known_alike}
+use Rattle.venue_laws.proofs.ErasedActions.{market_alike, shown_alike, told_alike}
 use Rattle.venue_laws.proofs.ErasedDuties.{post_left}
 use Rattle.venue_laws.proofs.ErasedHits.{answers_same, dropped_alike, hit_alike}
 
@@ -53,64 +49,36 @@ module _ (config : Configuration) (own : ℕ) (facts : List Fact) where
 
   -- In a room.
 
-  -- an event there, where neither its test nor what it leaves asks a price
-  event_alike : (room : RoomRef) (may : List RoomFact → Bool) (event : RoomEvent)
-      (duties : List RoomFact → List Duty)
-      → ((l : List RoomFact) → may (map unpriced_in_room l) ≡ may l)
-      → ((l : List RoomFact) → duties (map unpriced_in_room l) ≡ duties l)
-      → AreAlike own (in_room config known room (may (of_room room known))
-      (unpriced_to_room event) (duties (of_room room known)))
-      (in_room config facts room (may (of_room room facts)) event (duties (of_room room facts)))
-  event_alike room may event duties tests same =
-      room_alike config own facts room (may (of_room room known)) (may (of_room room facts)) event
-      (duties (of_room room known)) (duties (of_room room facts))
-      (ap may (room_left own facts room) ∙ tests (of_room room facts))
-      (ap (map unpriced_duty)
-      (ap duties (room_left own facts room) ∙ same (of_room room facts)))
-
   posted_alike : (room : RoomRef) (quote price : ℕ) (until : Option ℕ) (moment : ℕ)
       (dealer : Dealer)
       → AreAlike own (posted_by config known room quote 0 until moment dealer)
       (posted_by config facts room quote price until moment dealer)
   posted_alike room quote price until moment dealer =
-      let duties = λ (l : List RoomFact) (p : ℕ). map unpriced_duty
-      (duties_of_post l room dealer.number (offer_of config dealer quote p until) moment) in
-      room_alike config own facts room _ _
-      (at_room.Post dealer.number (word_for config dealer quote) price until) _ _
-      (ap (λ (l : List RoomFact). has_word_for config dealer quote && hears l dealer.number)
-      (room_left own facts room) ∙ heard (of_room room facts))
-      (ap (λ (l : List RoomFact). duties l 0) (room_left own facts room)
-      ∙ left (of_room room facts)
-      ∙ post_left (of_room room facts) room dealer.number (offer_of config dealer quote 0 until)
-      (offer_of config dealer quote price until) moment refl)
-    where
-      heard : (l : List RoomFact)
-          → (has_word_for config dealer quote && hears (map unpriced_in_room l) dealer.number)
-          ≡ (has_word_for config dealer quote && hears l dealer.number)
-      heard l = simp asked
-
-      left : (l : List RoomFact)
-          → map unpriced_duty (duties_of_post (map unpriced_in_room l) room dealer.number
-          (offer_of config dealer quote 0 until) moment)
-          ≡ map unpriced_duty
-          (duties_of_post l room dealer.number (offer_of config dealer quote 0 until) moment)
-      left l = simp asked
+      event_alike config own facts room
+      (λ l. has_word_for config dealer quote && hears l dealer.number)
+      (at_room.Post dealer.number (word_for config dealer quote) price until) price
+      (λ p l. duties_of_post l room dealer.number (offer_of config dealer quote p until) moment)
+      (λ l. simp asked) (λ l. simp asked (post_left l room dealer.number
+      (offer_of config dealer quote 0 until) (offer_of config dealer quote price until) moment
+      refl))
 
   unposted_alike : (room : RoomRef) (quote moment : ℕ) (dealer : Dealer)
       → AreAlike own (unposted_by config known room quote moment dealer)
       (unposted_by config facts room quote moment dealer)
   unposted_alike room quote moment dealer =
-      event_alike room (λ l. has_word_for config dealer quote && hears l dealer.number)
-      (at_room.Unpost dealer.number (word_for config dealer quote))
-      (λ l. duties_of_unpost l room dealer.number (word_for config dealer quote) moment)
+      event_alike config own facts room
+      (λ l. has_word_for config dealer quote && hears l dealer.number)
+      (at_room.Unpost dealer.number (word_for config dealer quote)) 0
+      (λ p l. duties_of_unpost l room dealer.number (word_for config dealer quote) moment)
       (λ l. simp asked) (λ l. simp asked_of_book)
 
   declined_alike : (room : RoomRef) (moment : ℕ) (dealer : Dealer)
       → AreAlike own (declined_by config known room moment dealer)
       (declined_by config facts room moment dealer)
   declined_alike room moment dealer =
-      event_alike room (λ l. hears l dealer.number) (at_room.Decline dealer.number)
-      (λ l. duties_of_decline l room dealer.number moment) (λ l. simp asked) (λ l. simp asked)
+      event_alike config own facts room (λ l. hears l dealer.number)
+      (at_room.Decline dealer.number) 0
+      (λ p l. duties_of_decline l room dealer.number moment) (λ l. simp asked) (λ l. simp asked)
 
   -- At an investor.
 
@@ -128,12 +96,14 @@ module _ (config : Configuration) (own : ℕ) (facts : List Fact) where
       (duty_effect config facts by more)
   unfolding duty_effect
   duty_alike by (duty.Open room ask dealers moment) =
-      event_alike room (λ l. true) (at_room.Open (record { ask = ask; dealers = dealers }))
-      (λ l. duties_of_open l room ask dealers moment) (λ l. refl) (λ l. simp asked)
+      event_alike config own facts room (λ l. true)
+      (at_room.Open (record { ask = ask; dealers = dealers })) 0
+      (λ p l. duties_of_open l room ask dealers moment) (λ l. refl) (λ l. simp asked)
   duty_alike by (duty.Show dealer room ask moment) =
       done_alike (dealer_at config dealer) (shown_alike config own facts room ask moment)
   duty_alike by (duty.Ready room moment) =
-      event_alike room (λ l. true) at_room.Ready (λ l. []) (λ l. refl) (λ l. refl)
+      event_alike config own facts room (λ l. true) at_room.Ready 0 (λ p l. []) (λ l. refl)
+      (λ l. refl)
   duty_alike by (duty.Post room quote price valid_until moment) =
       done_alike (acting_dealer config by) (posted_alike room quote price valid_until moment)
   duty_alike by (duty.Relay room offer moment) =
@@ -150,8 +120,8 @@ module _ (config : Configuration) (own : ℕ) (facts : List Fact) where
   duty_alike by (duty.Hit room response word moment) =
       hit_alike config own facts room response word moment
   duty_alike by (duty.Pass room response moment) =
-      event_alike room (λ l. true) (at_room.Pass moment)
-      (λ l. duties_of_pass l room response moment) (λ l. refl) (λ l. simp asked)
+      event_alike config own facts room (λ l. true) (at_room.Pass moment) 0
+      (λ p l. duties_of_pass l room response moment) (λ l. refl) (λ l. simp asked)
   duty_alike by (duty.Answer room response reply moment) =
       market_alike (market_for config room.investor) (λ market.
       if_alike (replies_to response.k reply) (replies_to response.k reply) refl
@@ -168,8 +138,8 @@ module _ (config : Configuration) (own : ℕ) (facts : List Fact) where
       → AreAlike own (sweep_effect config known room moment) (sweep_effect config facts room moment)
   unfolding sweep_effect
   sweep_alike room moment =
-      event_alike room (λ l. true) (at_room.Expire moment) (λ l. duties_of_expire l room moment)
-      (λ l. refl) (λ l. simp asked)
+      event_alike config own facts room (λ l. true) (at_room.Expire moment) 0
+      (λ p l. duties_of_expire l room moment) (λ l. refl) (λ l. simp asked)
 
   -- A message of a dealer: another message may stand in its place, where the verdicts on both are
   -- one but for the price.

@@ -18,7 +18,7 @@ use Rattle.quote_messages.specs.declared.session_faults.SessionRejectReason.{Ses
 use Rattle.quote_messages.specs.declared.session_faults.SessionRejectReason.TheVariants as reason
 use Rattle.step_replay.specs.EachLemmas.{Every}
 use Rattle.venue_laws.specs.PriceAlike.{is_price_tag, IsPriceOf, IsOneOrPriced}
-use Rattle.market_terms.proofs.ErasedLists.{count_erased}
+use Rattle.market_terms.proofs.ErasedLists.{count_map}
 
 -- two values of a price's tag are lawful prices
 pub record ArePrices (bond : Option BondRow) (tag : ℕ) (one other : Option (List ℕ))
@@ -49,11 +49,9 @@ module _ (bond : Option BondRow) where
   pub times_same : (one other : List Field) → AllZip (IsOneOrPriced bond) one other → (tag : ℕ)
       → times_of tag one ≡ times_of tag other
   times_same one other alike tag =
-      sym (count_erased (λ (field : Field). field.0) (λ (field : Field). field.0 == tag)
-      (λ (t : ℕ). t == tag) (λ field. refl) one)
+      sym (count_map (λ (field : Field). field.0) (λ (t : ℕ). t == tag) one)
       ∙ ap (count_by (λ (t : ℕ). t == tag)) (tags_same one other alike)
-      ∙ count_erased (λ (field : Field). field.0) (λ (field : Field). field.0 == tag)
-      (λ (t : ℕ). t == tag) (λ field. refl) other
+      ∙ count_map (λ (field : Field). field.0) (λ (t : ℕ). t == tag) other
 
   -- Values.
 

@@ -1,11 +1,10 @@
 -- Two messages of a dealer that differ in lawful prices alone: the verdicts on them are one but for
 -- the price.
 use Rattle.std.proofs.Common.{◌≡◌, ℕ, ◌==◌, Bool, true, false, List, drop, Option, Some, None}
-use Rattle.std.proofs.Common.{option_map, option_and_then, unwrap_or, codes, refl, sym, ap, ◌∙◌}
-use Rattle.std.proofs.Common.{if◌then◌else◌, Result, Ok, inl, inr, nat_lt, []}
+use Rattle.std.proofs.Common.{option_and_then, unwrap_or, codes, refl, sym, ap, ◌∙◌, subst}
+use Rattle.std.proofs.Common.{if◌then◌else◌, Result, Ok, nat_lt, []}
 use Rattle.std.specs.List.{AllZip}
 use Rattle.std.specs.Str.Parse.{digits_value}
-use Rattle.bond_prices.specs.Price.{price_of}
 use Rattle.fix_fields.specs.Frame.{Field, frame_of, value_of, times_of}
 use Rattle.quote_messages.specs.Arrivals.{sequence_number, reject_of, out_of_sequence, in_sequence}
 use Rattle.quote_messages.specs.Arrivals.{numbered, dealer_arrival}
@@ -28,13 +27,13 @@ use Rattle.dealer_desk.specs.DealerFacts.{DealerBook, expected_number}
 use Rattle.dealer_desk.specs.DealerRules.{arrival_verdict, dealer_verdict}
 use Rattle.dealer_desk.specs.declared.standing.StandingRequest.{StandingRequest}
 use Rattle.dealer_desk.specs.declared.verdicts.DealerVerdict.{DealerVerdict}
-use Rattle.venue_laws.specs.PriceAlike.{is_price_tag, is_on_grid_of, IsOneOrPriced, bond_meant}
+use Rattle.venue_laws.specs.PriceAlike.{is_price_tag, IsOneOrPriced, bond_meant}
 use Rattle.dealer_desk.specs.Unpriced.{unpriced_verdict}
 use Rattle.step_replay.specs.EachLemmas.{Every}
 use Rattle.venue_laws.proofs.VenueParts.{BearsGrid}
 use Rattle.venue_laws.proofs.PricedFields.{AreValues, value_same, times_same, price_value}
 use Rattle.venue_laws.proofs.PricedFields.{header_same, quote_same, cancel_same, decline_same}
-use Rattle.venue_laws.proofs.PricedQuotes.{Reading, AreReadings, verdict_alike}
+use Rattle.venue_laws.proofs.PricedQuotes.{priced, verdict_alike}
 use Rattle.quote_messages.proofs.GroupLemmas.{or_next-none}
 
 -- What a message without a fault of its session names: a bond.
@@ -72,14 +71,8 @@ module _ (config : Configuration) (date : List ℕ) (row : DealerRow) (book : De
 
   -- The quote.
 
-  -- the prices as the other message has them
-  abbrev bid : Reading
-  bid = option_map price_of (value_of 132 other)
-
-  abbrev offer : Reading
-  offer = option_map price_of (value_of 133 other)
-
-  quote_is : quote_of date other ≡ record (quote_of date one) { bid = bid; offer = offer }
+  quote_is : quote_of date other
+      ≡ priced (quote_of date one) (value_of 132 other) (value_of 133 other)
   quote_is =
       rw (
         same_value 50 refl,
@@ -90,49 +83,30 @@ module _ (config : Configuration) (date : List ℕ) (row : DealerRow) (book : De
         same_value 135 refl,
         same_value 537 refl,
         same_value 62 refl,
-      ) refl
-
-  readings : (text : List ℕ) → value_of 48 one ≡ Some text → (bond : BondRow)
-      → bond_with_id config (text_at 48 one) ≡ Some bond → (tag : ℕ)
-      → AreReadings bond.grid (option_map price_of (value_of tag one))
-      (option_map price_of (value_of tag other))
-  readings text named bond found tag =
-      by_values (price_value (bond_meant config one) one other alike tag)
-    where
-      meant : bond_meant config one ≡ Some bond
-      meant =
-          ap (option_and_then (bond_with_id config)) named
-          ∙ sym (ap (λ (o : Option (List ℕ)). bond_with_id config (unwrap_or o [])) named)
-          ∙ found
-
-      by_values : AreValues (bond_meant config one) tag (value_of tag one) (value_of tag other)
-          → AreReadings bond.grid (option_map price_of (value_of tag one))
-          (option_map price_of (value_of tag other))
-      by_values (inl same) = inl (ap (option_map price_of) same)
-      by_values (inr prices) = inr (record {
-        price = prices.one_price.price;
-        priced = prices.other_price.price;
-        one_is = ap (option_map price_of) prices.one_is
-            ∙ ap (λ r. Some r) prices.one_price.is_read;
-        other_is = ap (option_map price_of) prices.other_is
-            ∙ ap (λ r. Some r) prices.other_price.is_read;
-        one_on = sym (ap (λ (b : Option BondRow). is_on_grid_of b prices.one_price.price) meant)
-            ∙ prices.one_price.is_on_grid;
-        other_on = sym (ap (λ (b : Option BondRow). is_on_grid_of b prices.other_price.price) meant)
-            ∙ prices.other_price.is_on_grid;
-      })
+      )
 
   quote_one : first_fault quote_lines date one ≡ None
       → judged (Taken (message.Quote (quote_of date one)))
       ≡ judged (Taken (message.Quote (quote_of date other)))
   quote_one fine =
-      let named = names_bond date one fine in
-      verdict_alike (quote_of date one) bid offer row book moment config bear
-      (λ bond found. (
-        readings named.0 named.1 bond found 132,
-        readings named.0 named.1 bond found 133,
-      ))
+      verdict_alike (quote_of date one) (value_of 132 one) (value_of 132 other) (value_of 133 one)
+      (value_of 133 other) row book moment config bear
+      (λ bond found. (values bond found 132, values bond found 133))
       ∙ ap (λ (q : Quote). judged (Taken (message.Quote q))) (sym quote_is)
+    where
+      meant : (bond : BondRow) → bond_with_id config (text_at 48 one) ≡ Some bond
+          → bond_meant config one ≡ Some bond
+      meant bond found =
+          let named = names_bond date one fine in
+          ap (option_and_then (bond_with_id config)) named.1
+          ∙ sym (ap (λ (o : Option (List ℕ)). bond_with_id config (unwrap_or o [])) named.1)
+          ∙ found
+
+      values : (bond : BondRow) → bond_with_id config (text_at 48 one) ≡ Some bond → (tag : ℕ)
+          → AreValues (Some bond) tag (value_of tag one) (value_of tag other)
+      values bond found tag =
+          subst (λ (b : Option BondRow). AreValues b tag (value_of tag one) (value_of tag other))
+          (meant bond found) (price_value (bond_meant config one) one other alike tag)
 
   -- All messages.
 
