@@ -1,25 +1,34 @@
--- A drop and a hit in a day without prices.
-use Rattle.std.proofs.Common.{◌≡◌, ℕ, ◌==◌, Bool, ◌&&◌, List, ◌++◌, map, filter_map, Option, Some}
-use Rattle.std.proofs.Common.{None, option_map, refl, ap, ◌∙◌, Result, Ok, Err}
-use Rattle.market_terms.proofs.ErasedLists.{by_erased}
-use Rattle.market_terms.specs.Unpriced.{unpriced_duty}
+-- A post, a drop and a hit in a day without prices: what they leave, and what they do.
+use Rattle.std.proofs.Common.{◌≡◌, ℕ, Bool, true, false, ◌&&◌, List, [], ◌∷◌, map, Option, None}
+use Rattle.std.proofs.Common.{refl, sym, ap, ◌∙◌, Result, Ok, Err, if◌then◌else◌, ◌==◌, ◌++◌}
+use Rattle.std.proofs.Common.{filter_map, Some, option_map}
+use Rattle.market_terms.specs.Unpriced.{uncovered, unpriced_duty, unpriced_offer}
+use Rattle.market_terms.specs.declared.closes.Close.TheVariants as closes
 use Rattle.market_terms.specs.declared.closes.HitRefusal.{HitRefusal}
+use Rattle.market_terms.specs.declared.duties.Duty.TheVariants as duty
+use Rattle.market_terms.specs.declared.rooms.Offer.{Offer}
 use Rattle.market_terms.specs.declared.rooms.ResponseRef.{ResponseRef}
 use Rattle.market_terms.specs.declared.rooms.RoomRef.{RoomRef}
 use Rattle.quote_word.specs.declared.settled.Settled.{Settled}
+use Rattle.request_room.proofs.UnpricedRooms.{outcome_same, request_same, kept_same as kept_in_room}
+use Rattle.request_room.proofs.UnpricedRooms.{question_same}
+use Rattle.request_room.specs.RoomFacts.{RoomFact, hears, request_of, takes_quotes}
+use Rattle.request_room.specs.Book.{hit_outcome}
+use Rattle.request_room.specs.Unpriced.{uncovered as uncovered_outcome, uncovered_end}
+use Rattle.request_room.specs.Unpriced.{unpriced as unpriced_in_room}
+use Rattle.request_room.specs.declared.ends.End.{End}
+use Rattle.request_room.specs.declared.ends.EndKind.{EndKind}
+use Rattle.request_room.specs.declared.ends.EndKind.TheVariants as ends
+use Rattle.venue_steps.specs.RoomSteps.{close_for, dealers_of, duties_of_hit, duties_of_post}
+use Rattle.venue_steps.specs.RoomSteps.{hit_duties, is_cover, is_winner, told_to_each}
+use Rattle.venue_steps.specs.RoomSteps.{where_follows, hit_word, word_asked_by}
+use Rattle.market_terms.proofs.ErasedLists.{by_erased}
 use Rattle.venue_rows.specs.Rows.{Configuration, has_room}
 use Rattle.dealer_desk.specs.DealerFacts.{number_to_drop}
 use Rattle.dealer_desk.specs.DealerOutput.{event_facts, further_drop}
 use Rattle.dealer_desk.specs.Unpriced.{unpriced}
 use Rattle.dealer_desk.proofs.UnpricedVerdicts.{number_same, some_to_drop, unposted_same}
-use Rattle.request_room.specs.RoomFacts.{RoomFact}
-use Rattle.request_room.specs.Book.{hit_outcome}
-use Rattle.request_room.specs.Unpriced.{uncovered, unpriced as unpriced_in_room}
-use Rattle.request_room.specs.declared.ends.End.{End}
 use Rattle.request_room.specs.declared.events.RoomEvent.TheVariants as at_room
-use Rattle.request_room.proofs.UnpricedRooms.{kept_same as kept_in_room, outcome_same}
-use Rattle.request_room.proofs.UnpricedRooms.{question_same}
-use Rattle.venue_steps.specs.RoomSteps.{hit_word, word_asked_by}
 use Rattle.venue_steps.specs.Words.{has_word}
 use Rattle.step_replay.specs.DealerTrail.{DealerEntry, answer_to_dealer, book_by, entries_of}
 use Rattle.step_replay.specs.DealerTrail.{rooms_by}
@@ -31,8 +40,70 @@ use Rattle.venue_laws.proofs.Erasing.{bare, book_is, book_left, erase, erase_ent
 use Rattle.venue_laws.proofs.Erasing.{once_left, room_left, rooms_left, trail_left, withdrawn_left}
 use Rattle.venue_laws.proofs.ErasedActions.{AreAlike, both_alike, desk_alike, entries_alike}
 use Rattle.venue_laws.proofs.ErasedActions.{if_alike, kept_alike}
-use Rattle.venue_laws.proofs.ErasedDuties.{hit_left}
 use Rattle.venue_laws.proofs.ErasedLists.{all_along, filter_along}
+
+-- How a request ended for a dealer, whoever was the cover.
+
+award_close : (won cover : Bool)
+    → uncovered (if won then closes.Hit else if cover then closes.Cover else closes.DoneAway)
+    ≡ uncovered (if won then closes.Hit else closes.DoneAway)
+award_close true cover = refl
+award_close false true = refl
+award_close false false = refl
+
+close_of_kind : (kind : EndKind) (winner : Option (ℕ × ℕ)) (cover : Option ℕ) (dealer : ℕ)
+    → uncovered (close_for (record { kind = kind; winner = winner; cover = cover }) dealer)
+    ≡ uncovered (close_for (record { kind = kind; winner = winner; cover = None }) dealer)
+close_of_kind ends.Awarded winner cover dealer =
+    award_close (is_winner winner dealer) (is_cover cover dealer)
+close_of_kind ends.Passed winner cover dealer = refl
+close_of_kind ends.Expired winner cover dealer = refl
+
+told_each : (at : RoomRef) (end : End) (moment : ℕ) (dealers : List ℕ)
+    → map unpriced_duty (told_to_each at end dealers moment)
+    ≡ map unpriced_duty (told_to_each at (uncovered_end end) dealers moment)
+told_each at end moment [] = refl
+told_each at end moment (dealer ∷ dealers) =
+    rw (
+      close_of_kind end.kind end.winner end.cover dealer,
+      told_each at end moment dealers,
+    )
+
+module _ (facts : List RoomFact) (at : RoomRef) where
+  pub post_left : (dealer : ℕ) (offer later : Offer) (moment : ℕ)
+      → unpriced_offer offer ≡ unpriced_offer later
+      → map unpriced_duty (duties_of_post facts at dealer offer moment)
+      ≡ map unpriced_duty (duties_of_post facts at dealer later moment)
+  post_left dealer offer later moment offers = follows (hears facts dealer && takes_quotes facts)
+    where
+      follows : (b : Bool)
+          → map unpriced_duty (where_follows b (duty.Relay at offer moment))
+          ≡ map unpriced_duty (where_follows b (duty.Relay at later moment))
+      follows true = ap (λ (o : Offer). duty.Relay at o moment ∷ []) offers
+      follows false = refl
+
+  pub hit_left : (response : ResponseRef) (word moment : ℕ) (settlement : Option Settled)
+      → map unpriced_duty
+      (duties_of_hit (map unpriced_in_room facts) at response word moment true settlement)
+      ≡ map unpriced_duty (duties_of_hit facts at response word moment true settlement)
+  hit_left response word moment settlement =
+      ap (map unpriced_duty) (requests (hit_outcome (map unpriced_in_room facts) word moment settlement))
+      ∙ whoever (hit_outcome (map unpriced_in_room facts) word moment settlement)
+      ∙ ap (λ (o : Result End HitRefusal). map unpriced_duty (hit_duties facts at response moment o))
+      (outcome_same facts word moment settlement)
+      ∙ sym (whoever (hit_outcome facts word moment settlement))
+    where
+      requests : (outcome : Result End HitRefusal)
+          → hit_duties (map unpriced_in_room facts) at response moment outcome
+          ≡ hit_duties facts at response moment outcome
+      requests (Ok award) = rw (request_same facts)
+      requests (Err refused) = refl
+
+      whoever : (outcome : Result End HitRefusal)
+          → map unpriced_duty (hit_duties facts at response moment outcome)
+          ≡ map unpriced_duty (hit_duties facts at response moment (uncovered_outcome outcome))
+      whoever (Ok award) = rw (told_each at award moment (dealers_of (request_of facts)))
+      whoever (Err refused) = refl
 
 -- the answer to the word that a dealer asks, where it asks one
 pub answers_same : (own : ℕ) (facts : List Fact) (number : ℕ) (asked : Option ℕ)
@@ -113,7 +184,7 @@ module _ (config : Configuration) (own : ℕ) (facts : List Fact) (dealer : Deal
 -- A hit.
 
 lifting_same : (found : Option QuoteRef) (outcome : Result End HitRefusal)
-    → lifting found (uncovered outcome) ≡ lifting found outcome
+    → lifting found (uncovered_outcome outcome) ≡ lifting found outcome
 lifting_same None outcome = refl
 lifting_same (Some hit) (Ok award) = refl
 lifting_same (Some hit) (Err refused) = refl
@@ -130,7 +201,7 @@ module _ (config : Configuration) (own : ℕ) (facts : List Fact) (room : RoomRe
   with_alike settlement =
       rw (room_left own facts room) (both_alike own _ _
       (filter_along (erase own) _ _ _ _
-      (ap (filter_map (erase own)) (by_erased uncovered (lifting (quote_with_word config word))
+      (ap (filter_map (erase own)) (by_erased uncovered_outcome (lifting (quote_with_word config word))
       (lifting (quote_with_word config word)) (lifting_same (quote_with_word config word))
       (hit_outcome (map unpriced_in_room here) word moment settlement)
       (hit_outcome here word moment settlement) (outcome_same here word moment settlement)))

@@ -39,8 +39,7 @@ use Rattle.venue_laws.proofs.Erasing.{bare, book_left, investor_book_left, rooms
 use Rattle.venue_laws.proofs.ErasedActions.{AreAlike, desk_alike, done_alike, either_alike}
 use Rattle.venue_laws.proofs.ErasedActions.{event_alike, if_alike, investor_alike, known_alike}
 use Rattle.venue_laws.proofs.ErasedActions.{market_alike, shown_alike, told_alike}
-use Rattle.venue_laws.proofs.ErasedDuties.{post_left}
-use Rattle.venue_laws.proofs.ErasedHits.{answers_same, dropped_alike, hit_alike}
+use Rattle.venue_laws.proofs.ErasedHits.{post_left, answers_same, dropped_alike, hit_alike}
 
 module _ (config : Configuration) (own : ℕ) (facts : List Fact) where
   -- the facts without prices

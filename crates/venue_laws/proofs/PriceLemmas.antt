@@ -73,6 +73,11 @@ module _ (config : Configuration) (own : ℕ) where
           → duty_of by (erase_caused caused) ≡ option_map unpriced_duty (duty_of by caused)
       duty_same caused = map_cond unpriced_duty (is_same_actor caused.by by) caused.duty None
 
+      duties_left : (caused : List Caused)
+          → map unpriced_duty (filter_map (duty_of by) caused)
+          ≡ filter_map (duty_of by) (map erase_caused caused)
+      duties_left caused = simp (filter_fuse, map_fuse, duty_same)
+
       pending_is : (trail : AuditTrail)
           → map unpriced_duty (pending by trail)
           ≡ drop (count_by (is_same_actor by) trail.done)
@@ -81,11 +86,6 @@ module _ (config : Configuration) (own : ℕ) where
           let count = count_by (is_same_actor by) trail.done in
           sym (drop-map unpriced_duty count (filter_map (duty_of by) trail.caused))
           ∙ ap (drop count) (duties_left trail.caused)
-
-      duties_left : (caused : List Caused)
-          → map unpriced_duty (filter_map (duty_of by) caused)
-          ≡ filter_map (duty_of by) (map erase_caused caused)
-      duties_left caused = simp (filter_fuse, map_fuse, duty_same)
 
   -- what is alike to one action in the days without prices
   through : (action : List Fact → Effect) (one other : List Fact) {effect effect_too : Effect}
