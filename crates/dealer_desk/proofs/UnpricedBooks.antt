@@ -1,7 +1,7 @@
 -- The book of a dealer's desk without prices, and whoever was the cover, by the facts without both.
 use Rattle.std.proofs.Common.{◌≡◌, ℕ, ◌+◌, ◌==◌, Bool, List, [], ◌∷◌, map, None, option_map, refl}
 use Rattle.std.specs.List.{list_any}
-use Rattle.market_terms.proofs.ErasedLists.{any_map, by_erased, count_map, map_cond, or_map}
+use Rattle.market_terms.proofs.ErasedLists.{any_map, count_map, map_cond, or_map}
 use Rattle.dealer_desk.specs.DealerFacts.{DealerFact, Quoted, Shown, Told, Withdrawn, book_of}
 use Rattle.dealer_desk.specs.DealerFacts.{declines, ends, finds_lifted, first_said, is_notice}
 use Rattle.dealer_desk.specs.DealerFacts.{requests_from, standings, tells, used_number}

@@ -1,8 +1,8 @@
 -- No verdict of an investor's desk, and nothing that the desk keeps, asks a price.
 use Rattle.std.proofs.Common.{◌≡◌, ℕ, ◌==◌, Bool, ◌&&◌, List, [], ◌∷◌, map, Option, Some, None}
 use Rattle.std.proofs.Common.{option_map, is_some, refl, ap}
-use Rattle.market_terms.proofs.ErasedLists.{any_map, append_along, by_erased, count_map, erased}
-use Rattle.market_terms.proofs.ErasedLists.{find_map, if_map, map_cond, or_map}
+use Rattle.market_terms.proofs.ErasedLists.{any_map, append_along, count_map, erased, find_map}
+use Rattle.market_terms.proofs.ErasedLists.{if_map, map_cond, or_map}
 use Rattle.market_terms.specs.Unpriced.{unpriced_offer}
 use Rattle.market_terms.specs.declared.closes.HitRefusal.{HitRefusal}
 use Rattle.market_terms.specs.declared.rooms.ResponseRef.{ResponseRef}

@@ -1,7 +1,7 @@
 -- Lists from whose items something is erased: whoever does not ask for it finds the same.
 use Rattle.std.proofs.Common.{◌≡◌, ℕ, ◌+◌, Bool, true, false, cond, List, [], ◌∷◌, ◌++◌, map, fold}
 use Rattle.std.proofs.Common.{sum_by, count_by, Option, Some, None, option_map, is_some, find, refl}
-use Rattle.std.proofs.Common.{ap, ◌∙◌, sym}
+use Rattle.std.proofs.Common.{ap, ◌∙◌, sym, if◌then◌else◌}
 use Rattle.std.specs.List.{list_any}
 use Rattle.std.specs.Option.{option_or}
 use Rattle.std.proofs.lemmas.List.{length-map, map-append}
@@ -42,6 +42,11 @@ map_twice e f None = refl
 map_twice e f (Some x) = refl
 
 -- Lists.
+
+pub if_map : {X Y : Type 0} (e : X → Y) (b : Bool) (x : X) (rest : List X)
+    → (if b then e x ∷ map e rest else map e rest) ≡ map e (if b then x ∷ rest else rest)
+if_map e true x rest = refl
+if_map e false x rest = refl
 
 pub find_map : {X Y : Type 0} (e : X → Y) (q : Y → Bool) (xs : List X)
     → find q (map e xs) ≡ option_map e (find (λ x. q (e x)) xs)
