@@ -1,8 +1,8 @@
 -- No verdict of a dealer's desk, and nothing that the desk keeps, asks a price of a quote that
 -- stands, or who was the cover.
 use Rattle.std.proofs.Common.{◌≡◌, ℕ, Bool, true, false, List, [], ◌∷◌, map, Option, Some, None}
-use Rattle.std.proofs.Common.{option_map, is_some, refl, sym, ap, ◌∙◌, if◌then◌else◌}
-use Rattle.market_terms.proofs.ErasedLists.{append_along, by_erased, twice}
+use Rattle.std.proofs.Common.{option_map, is_some, refl, sym, ap, if◌then◌else◌}
+use Rattle.market_terms.proofs.ErasedLists.{append_along, by_erased, erased, find_map, twice}
 use Rattle.market_terms.specs.Unpriced.{uncovered, unpriced_duty}
 use Rattle.market_terms.specs.declared.closes.Close.{Close}
 use Rattle.market_terms.specs.declared.rooms.RoomRef.{RoomRef}
@@ -17,19 +17,19 @@ use Rattle.quote_messages.specs.declared.quotes.Quote.{Quote}
 use Rattle.quote_messages.specs.declared.reject_reasons.QuoteRejectReason.{QuoteRejectReason}
 use Rattle.quote_word.specs.declared.settled.Settled.{Settled}
 use Rattle.venue_rows.specs.declared.dealer_rows.DealerRow.{DealerRow}
-use Rattle.dealer_desk.specs.DealerFacts.{DealerFact, DealerBook, Quoted, Told, Dropped, book_of}
-use Rattle.dealer_desk.specs.DealerFacts.{expected_number, is_closing, is_withdrawal}
-use Rattle.dealer_desk.specs.DealerFacts.{live_number_on, quote_with_id, quotes_accepted}
-use Rattle.dealer_desk.specs.DealerFacts.{request_named}
-use Rattle.dealer_desk.specs.DealerRules.{arrival_verdict, cancel_of, cancel_verdict, dealer_verdict}
-use Rattle.dealer_desk.specs.DealerRules.{decline_on, decline_verdict, quote_answer, quote_on}
-use Rattle.dealer_desk.specs.DealerRules.{quote_refusal, quote_verdict}
+use Rattle.dealer_desk.specs.DealerFacts.{DealerBook, Quoted, Told, expected_number}
+use Rattle.dealer_desk.specs.DealerFacts.{exposure_beside, has_lifted_quote, is_closing}
+use Rattle.dealer_desk.specs.DealerFacts.{is_withdrawal, live_quote_on, number_to_drop}
+use Rattle.dealer_desk.specs.DealerFacts.{quote_to_drop, quote_with_id, request_named}
+use Rattle.dealer_desk.specs.DealerFacts.{request_numbered}
+use Rattle.dealer_desk.specs.DealerRules.{arrival_verdict, cancel_of, cancel_verdict}
+use Rattle.dealer_desk.specs.DealerRules.{dealer_verdict, decline_on, decline_verdict, quote_answer}
+use Rattle.dealer_desk.specs.DealerRules.{quote_on, quote_refusal, quote_verdict}
 use Rattle.dealer_desk.specs.DealerOutput.{came, closable, event_facts, goes_through, post_of}
-use Rattle.dealer_desk.specs.DealerOutput.{room_of, settled_facts, uses_number, verdict_duty}
-use Rattle.dealer_desk.specs.DealerOutput.{verdict_facts, word_asked}
+use Rattle.dealer_desk.specs.DealerOutput.{room_of, settled_facts, unpost_dropped, uses_number}
+use Rattle.dealer_desk.specs.DealerOutput.{verdict_duty, verdict_facts, word_asked}
 use Rattle.dealer_desk.specs.Unpriced.{unpriced, unpriced_book, unpriced_end, unpriced_event}
 use Rattle.dealer_desk.specs.Unpriced.{unpriced_quote, unpriced_standing, unpriced_verdict}
-use Rattle.dealer_desk.specs.declared.accepted.AcceptedQuote.{AcceptedQuote}
 use Rattle.dealer_desk.specs.declared.events.DealerEvent.{DealerEvent}
 use Rattle.dealer_desk.specs.declared.events.DealerEvent.TheVariants as event
 use Rattle.dealer_desk.specs.declared.standing.QuoteEnd.{QuoteEnd}
@@ -39,73 +39,50 @@ use Rattle.dealer_desk.specs.declared.standing.StandingRequest.{StandingRequest}
 use Rattle.dealer_desk.specs.declared.standing.Withdrawal.TheVariants as by
 use Rattle.dealer_desk.specs.declared.verdicts.DealerVerdict.{DealerVerdict}
 use Rattle.dealer_desk.specs.declared.verdicts.DealerVerdict.TheVariants as verdict
-use Rattle.dealer_desk.proofs.UnpricedBooks.{accepted_same, beside_same, books_alike, closable_same}
-use Rattle.dealer_desk.proofs.UnpricedBooks.{lifted_same, live_same_on, number_same, some_to_drop}
-use Rattle.dealer_desk.proofs.UnpricedBooks.{some_with_id, with_id}
 
 -- Verdicts.
 
-withdrawal_same : (end : Option QuoteEnd)
-    → is_withdrawal (option_map unpriced_end end) ≡ is_withdrawal end
-withdrawal_same None = refl
-withdrawal_same (Some (end.Withdrawn by)) = refl
-withdrawal_same (Some (end.Closed close)) = refl
-
-closing_same : (end : Option QuoteEnd) → is_closing (option_map unpriced_end end) ≡ is_closing end
-closing_same None = refl
-closing_same (Some (end.Withdrawn by)) = refl
-closing_same (Some (end.Closed close)) = refl
+ended_same : (end : Option QuoteEnd)
+    → (is_withdrawal (option_map unpriced_end end) ≡ is_withdrawal end)
+    × (is_closing (option_map unpriced_end end) ≡ is_closing end)
+ended_same None = (refl, refl)
+ended_same (Some (end.Withdrawn by)) = (refl, refl)
+ended_same (Some (end.Closed close)) = (refl, refl)
 
 cancel_same : (id : List ℕ) (found : Option StandingQuote)
     → cancel_of id (option_map unpriced_standing found) ≡ cancel_of id found
 cancel_same id None = refl
-cancel_same id (Some own) = rw (withdrawal_same own.end, closing_same own.end) refl
+cancel_same id (Some own) = rw ((ended_same own.end).0, (ended_same own.end).1)
 
 module _ (book : DealerBook) where
   -- the book without prices
   abbrev bare : DealerBook
   bare = unpriced_book book
 
-  refusal_same : (row : DealerRow) (moment : ℕ) (quote : Quote) (request : Option StandingRequest)
-      → quote_refusal row bare moment quote request ≡ quote_refusal row book moment quote request
-  unfolding quote_refusal
-  refusal_same row moment quote None = refl
-  refusal_same row moment quote (Some shown) =
-      rw (
-        lifted_same book shown.number,
-        some_with_id book quote.id,
-        accepted_same book,
-        live_same_on book shown.number,
-        beside_same book (live_number_on book shown.number),
-      ) refl
-
-  answer_same : (moment : ℕ) (quote : Quote) (request : Option StandingRequest)
-      (refused : Option QuoteRejectReason)
-      → quote_answer bare moment quote request refused
-      ≡ quote_answer book moment quote request refused
-  answer_same moment quote request (Some reason) = refl
-  answer_same moment quote None None = refl
-  answer_same moment quote (Some request) None =
-      rw (accepted_same book, live_same_on book request.number) refl
-
   quote_same : (row : DealerRow) (moment : ℕ) (quote : Quote) (request : Option StandingRequest)
       → quote_on row bare moment quote request ≡ quote_on row book moment quote request
-  quote_same row moment quote request =
-      ap (quote_answer bare moment quote request) (refusal_same row moment quote request)
-      ∙ answer_same moment quote request (quote_refusal row book moment quote request)
+  unfolding quote_refusal quote_with_id has_lifted_quote live_quote_on exposure_beside
+  quote_same row moment quote None = refl
+  quote_same row moment quote (Some shown) =
+      simp erased (answered (quote_refusal row book moment quote (Some shown)))
+    where
+      answered : (refused : Option QuoteRejectReason)
+          → quote_answer bare moment quote (Some shown) refused
+          ≡ quote_answer book moment quote (Some shown) refused
+      answered (Some reason) = refl
+      answered None = simp erased
+
+  scope_same : (scope : CancelScope) → cancel_verdict bare scope ≡ cancel_verdict book scope
+  unfolding cancel_verdict quote_with_id quote_to_drop
+  scope_same (cancels.One id) = rw find_map (cancel_same id (quote_with_id book id))
+  scope_same (cancels.All id) = simp erased
+  scope_same (cancels.Other cancel_type id) = refl
 
   decline_same : (name : List ℕ) (request : Option StandingRequest)
       → decline_on bare name request ≡ decline_on book name request
+  unfolding live_quote_on
   decline_same name None = refl
-  decline_same name (Some request) = rw (live_same_on book request.number) refl
-
-  scope_same : (scope : CancelScope) → cancel_verdict bare scope ≡ cancel_verdict book scope
-  unfolding cancel_verdict
-  scope_same (cancels.One id) =
-      ap (cancel_of id) (with_id book id) ∙ cancel_same id (quote_with_id book id)
-  scope_same (cancels.All id) =
-      rw (accepted_same book, some_to_drop book (quotes_accepted book)) refl
-  scope_same (cancels.Other cancel_type id) = refl
+  decline_same name (Some request) = simp erased
 
   taken_same : (row : DealerRow) (moment : ℕ) (came : Arrival DealerMessage)
       → arrival_verdict row bare moment came ≡ arrival_verdict row book moment came
@@ -119,20 +96,36 @@ module _ (book : DealerBook) where
   taken_same row moment (arrival.Taken (message.Decline decline)) =
       decline_same decline.request (request_named book decline.request)
 
-  verdict_same : (date : List ℕ) (row : DealerRow) (moment : ℕ) (bytes : List ℕ)
+  pub verdict_same : (date : List ℕ) (row : DealerRow) (moment : ℕ) (bytes : List ℕ)
       → dealer_verdict date row bare moment bytes ≡ dealer_verdict date row book moment bytes
   unfolding dealer_verdict
   verdict_same date row moment bytes =
       taken_same row moment (dealer_arrival date row (expected_number book) bytes)
 
--- where two books are one without prices, a message gets one verdict by both
-pub verdicts_alike : (date : List ℕ) (row : DealerRow) (one other : DealerBook) (moment : ℕ)
-    (bytes : List ℕ) → unpriced_book one ≡ unpriced_book other
-    → dealer_verdict date row one moment bytes ≡ dealer_verdict date row other moment bytes
-verdicts_alike date row one other moment bytes =
-    by_erased unpriced_book (λ (b : DealerBook). dealer_verdict date row b moment bytes)
-    (λ (b : DealerBook). dealer_verdict date row b moment bytes)
-    (λ b. verdict_same b date row moment bytes) one other
+  pub number_same : (last : ℕ) → number_to_drop bare last ≡ number_to_drop book last
+  unfolding quote_to_drop
+  number_same last = simp erased
+
+  pub some_to_drop : (last : ℕ)
+      → is_some (quote_to_drop bare last) ≡ is_some (quote_to_drop book last)
+  unfolding quote_to_drop
+  some_to_drop last = simp erased
+
+  pub unposted_same : (rooms : List RoomRef) (last moment : ℕ) (settlement : Option Settled)
+      → unpost_dropped rooms moment settlement (quote_to_drop bare last)
+      ≡ unpost_dropped rooms moment settlement (quote_to_drop book last)
+  unfolding quote_to_drop
+  unposted_same rooms last moment settlement = simp erased (by_quote (quote_to_drop book last))
+    where
+      by_quote : (found : Option StandingQuote)
+          → unpost_dropped rooms moment settlement (option_map unpriced_standing found)
+          ≡ unpost_dropped rooms moment settlement found
+      by_quote None = refl
+      by_quote (Some own) = refl
+
+  pub closable_same : (request : ℕ) → closable bare request ≡ closable book request
+  unfolding closable request_numbered
+  closable_same request = refl
 
 -- What a verdict says, whatever its price.
 
@@ -194,40 +187,23 @@ module _ (v w : DealerVerdict) (alike : unpriced_verdict v ≡ unpriced_verdict 
       → map (unpriced stay) (came moment bytes v settlement)
       ≡ map (unpriced stay) (came moment others w settlement)
   came_alike stay moment bytes others settlement same =
-      rw (same, ← uses_same v, alike, uses_same w, facts_alike stay settlement) refl
+      rw (same, ← uses_same v, alike, uses_same w, facts_alike stay settlement)
 
 -- What the desk keeps.
 
-module _ (date : List ℕ) (row : DealerRow) (stay : Bool) where
-  -- what an event adds, without prices
-  abbrev kept : DealerBook → DealerEvent → List DealerFact
-  kept book more = map (unpriced stay) (event_facts date row book more)
-
-  told_same : (b : Bool) (request : ℕ) (close : Close) (moment : ℕ)
-      → map (unpriced stay) (if b then Told request (uncovered close) moment ∷ [] else [])
-      ≡ map (unpriced stay) (if b then Told request close moment ∷ [] else [])
-  told_same true request close moment =
-      ap (λ (c : Close). Told request c moment ∷ []) (sym (twice close))
-  told_same false request close moment = refl
-
-  kept_same : (book : DealerBook) (more : DealerEvent)
-      → kept (unpriced_book book) (unpriced_event more) ≡ kept book more
-  unfolding event_facts
-  kept_same book (event.Received moment bytes settlement) =
-      rw (verdict_same book date row moment bytes) refl
-  kept_same book (event.Shown room ask moment) = refl
-  kept_same book (event.Told request close moment) =
-      rw (closable_same book request)
-      (told_same (is_some (closable book request)) request close moment)
-  kept_same book (event.Drop last moment settlement) = rw (number_same book last) refl
-
-  -- where two books are one without prices, and two events, both desks keep the same
-  pub kept_alike : (one other : DealerBook) (more later : DealerEvent)
-      → unpriced_book one ≡ unpriced_book other → unpriced_event more ≡ unpriced_event later
-      → map (unpriced stay) (event_facts date row one more)
-      ≡ map (unpriced stay) (event_facts date row other later)
-  kept_alike one other more later books events =
-      sym (kept_same one more)
-      ∙ ap (λ (b : DealerBook). kept b (unpriced_event more)) books
-      ∙ ap (λ (e : DealerEvent). kept (unpriced_book other) e) events
-      ∙ kept_same other later
+pub kept_same : (date : List ℕ) (row : DealerRow) (stay : Bool) (book : DealerBook) (more : DealerEvent)
+    → map (unpriced stay) (event_facts date row (unpriced_book book) (unpriced_event more))
+    ≡ map (unpriced stay) (event_facts date row book more)
+unfolding event_facts
+kept_same date row stay book (event.Received moment bytes settlement) =
+    rw (verdict_same book date row moment bytes)
+kept_same date row stay book (event.Shown room ask moment) = refl
+kept_same date row stay book (event.Told request close moment) =
+    rw (closable_same book request) (told (is_some (closable book request)))
+  where
+    told : (b : Bool)
+        → map (unpriced stay) (if b then Told request (uncovered close) moment ∷ [] else [])
+        ≡ map (unpriced stay) (if b then Told request close moment ∷ [] else [])
+    told true = ap (λ (c : Close). Told request c moment ∷ []) (sym (twice close))
+    told false = refl
+kept_same date row stay book (event.Drop last moment settlement) = rw (number_same book last)

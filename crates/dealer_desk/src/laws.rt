@@ -116,19 +116,18 @@ pub fn quotes_stand_as_their_words_were_settled()
         (book_at desk).quotes }
 {}
 
-/// No verdict asks a price, or who was the cover. Where two desks are one but for the prices of
-/// their quotes and for Cover (694=4) against Done Away (694=5), each message gets one verdict at
-/// both, and what each event adds to what they keep is one but for that again.
+/// No verdict asks a price, or who was the cover. At a desk without prices, and without Cover
+/// (694=4) told from Done Away (694=5), each message gets the verdict that it gets at the desk, and
+/// each event adds what it adds there, but for prices and covers.
 pub fn no_verdict_asks_a_price()
-    ensures verdicts { (date : List ℕ) (row : DealerRow) (one other : DealerBook) (moment : ℕ)
-        (bytes : List ℕ) → unpriced_book one ≡ unpriced_book other
-        → dealer_verdict date row one moment bytes ≡ dealer_verdict date row other moment bytes }
-    ensures kept { (date : List ℕ) (row : DealerRow) (bytes_stay : Bool) (one other : DealerBook)
-        (more later : DealerEvent) → unpriced_book one ≡ unpriced_book other
-        → unpriced_event more ≡ unpriced_event later
-        → map (unpriced bytes_stay) (event_facts date row one more)
-        ≡ map (unpriced bytes_stay) (event_facts date row other later) }
-    ensures books { (bytes_stay : Bool) (facts others : List DealerFact)
-        → map (unpriced bytes_stay) facts ≡ map (unpriced bytes_stay) others
-        → unpriced_book (book_of facts) ≡ unpriced_book (book_of others) }
+    ensures verdicts { (book : DealerBook) (date : List ℕ) (row : DealerRow) (moment : ℕ)
+        (bytes : List ℕ) → dealer_verdict date row (unpriced_book book) moment bytes
+        ≡ dealer_verdict date row book moment bytes }
+    ensures kept { (date : List ℕ) (row : DealerRow) (bytes_stay : Bool) (book : DealerBook)
+        (more : DealerEvent)
+        → map (unpriced bytes_stay)
+        (event_facts date row (unpriced_book book) (unpriced_event more))
+        ≡ map (unpriced bytes_stay) (event_facts date row book more) }
+    ensures books { (bytes_stay : Bool) (facts : List DealerFact)
+        → book_of (map (unpriced bytes_stay) facts) ≡ unpriced_book (book_of facts) }
 {}

@@ -8,7 +8,6 @@ mod ListLemmas
 mod OutcomeLemmas
 mod ReaderLemmas
 mod StandLemmas
-pub mod UnpricedBooks
-pub mod UnpricedEvents
+pub mod UnpricedDesks
 mod VerdictLemmas
 mod WriteLemmas

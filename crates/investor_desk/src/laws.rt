@@ -42,21 +42,18 @@ pub fn what_is_left_is_of_the_day()
         (IsOfDay desk.market) }
 {}
 
-/// No verdict asks a price. Where two desks are one but for the prices of quotes, each message gets
-/// one verdict at both, both know the same requests and quotes, and what each event adds to what
-/// they keep is one but for prices again.
+/// No verdict asks a price. At a desk without prices each message gets the verdict that it gets at
+/// the desk, the same requests and quotes are known, and each event adds what it adds there, but
+/// for prices.
 pub fn no_verdict_asks_a_price()
-    ensures verdicts { (market : InvestorMarket) (one other : InvestorBook) (moment : ℕ)
-        (bytes : List ℕ) → unpriced_book one ≡ unpriced_book other
-        → investor_verdict market one moment bytes ≡ investor_verdict market other moment bytes }
-    ensures known { (one other : InvestorBook) (number : ℕ) (quote : Option ℕ)
-        → unpriced_book one ≡ unpriced_book other
-        → knows one number quote ≡ knows other number quote }
-    ensures kept { (market : InvestorMarket) (one other : InvestorBook)
-        (more later : InvestorEvent) → unpriced_book one ≡ unpriced_book other
-        → unpriced_event more ≡ unpriced_event later
-        → map unpriced (event_facts market one more)
-        ≡ map unpriced (event_facts market other later) }
-    ensures books { (facts others : List InvestorFact) → map unpriced facts ≡ map unpriced others
-        → unpriced_book (book_of facts) ≡ unpriced_book (book_of others) }
+    ensures verdicts { (market : InvestorMarket) (book : InvestorBook) (moment : ℕ)
+        (bytes : List ℕ) → investor_verdict market (unpriced_book book) moment bytes
+        ≡ investor_verdict market book moment bytes }
+    ensures known { (book : InvestorBook) (number : ℕ) (quote : Option ℕ)
+        → knows (unpriced_book book) number quote ≡ knows book number quote }
+    ensures kept { (market : InvestorMarket) (book : InvestorBook) (more : InvestorEvent)
+        → map unpriced (event_facts market (unpriced_book book) (unpriced_event more))
+        ≡ map unpriced (event_facts market book more) }
+    ensures books { (facts : List InvestorFact)
+        → book_of (map unpriced facts) ≡ unpriced_book (book_of facts) }
 {}

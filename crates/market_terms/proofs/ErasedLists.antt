@@ -1,10 +1,11 @@
 -- Lists from whose items something is erased: whoever does not ask for it finds the same.
 use Rattle.std.proofs.Common.{◌≡◌, ℕ, ◌+◌, Bool, true, false, cond, List, [], ◌∷◌, ◌++◌, map, fold}
-use Rattle.std.proofs.Common.{filter_map, sum_by, count_by, Option, Some, None, option_map, is_some}
-use Rattle.std.proofs.Common.{option_and_then, find, refl, ap, ◌∙◌, sym, if◌then◌else◌}
-use Rattle.std.specs.List.{list_any, cons_option}
+use Rattle.std.proofs.Common.{sum_by, count_by, Option, Some, None, option_map, is_some, find, refl}
+use Rattle.std.proofs.Common.{ap, ◌∙◌, sym, if◌then◌else◌}
+use Rattle.std.specs.List.{list_any}
 use Rattle.std.specs.Option.{option_or}
-use Rattle.std.proofs.lemmas.List.{map-append}
+use Rattle.std.proofs.lemmas.List.{length-map, map-append}
+use Rattle.std.proofs.lemmas.List.Folds.{fold-map}
 use Rattle.market_terms.specs.declared.closes.Close.{Close}
 use Rattle.market_terms.specs.declared.closes.Close.TheVariants as closes
 use Rattle.market_terms.specs.Unpriced.{uncovered}
@@ -35,10 +36,10 @@ pub some_map : {X Y : Type 0} (e : X → Y) (o : Option X) → is_some (option_m
 some_map e None = refl
 some_map e (Some x) = refl
 
-pub map_twice : {X Y Z : Type 0} (e : X → Y) (f : Y → Z) (g : X → Z) → ((x : X) → f (e x) ≡ g x)
-    → (o : Option X) → option_map f (option_map e o) ≡ option_map g o
-map_twice e f g same None = refl
-map_twice e f g same (Some x) = ap (λ z. Some z) (same x)
+pub map_twice : {X Y Z : Type 0} (e : X → Y) (f : Y → Z) (o : Option X)
+    → option_map f (option_map e o) ≡ option_map (λ x. f (e x)) o
+map_twice e f None = refl
+map_twice e f (Some x) = refl
 
 -- Lists.
 
@@ -47,36 +48,28 @@ pub if_map : {X Y : Type 0} (e : X → Y) (b : Bool) (x : X) (rest : List X)
 if_map e true x rest = refl
 if_map e false x rest = refl
 
-pub find_erased : {X Y : Type 0} (e : X → Y) (p : X → Bool) (q : Y → Bool)
-    → ((x : X) → q (e x) ≡ p x) → (xs : List X) → find q (map e xs) ≡ option_map e (find p xs)
-find_erased e p q same [] = refl
-find_erased e p q same (x ∷ xs) =
-    rw (same x, find_erased e p q same xs) (map_cond e (p x) x (find p xs))
+pub find_map : {X Y : Type 0} (e : X → Y) (q : Y → Bool) (xs : List X)
+    → find q (map e xs) ≡ option_map e (find (λ x. q (e x)) xs)
+find_map e q [] = refl
+find_map e q (x ∷ xs) = rw (find_map e q xs) (map_cond e (q (e x)) x (find (λ x. q (e x)) xs))
 
-pub any_erased : {X Y : Type 0} (e : X → Y) (p : X → Bool) (q : Y → Bool)
-    → ((x : X) → q (e x) ≡ p x) → (xs : List X) → list_any q (map e xs) ≡ list_any p xs
-any_erased e p q same [] = refl
-any_erased e p q same (x ∷ xs) = rw (same x, any_erased e p q same xs) refl
+pub any_map : {X Y : Type 0} (e : X → Y) (q : Y → Bool) (xs : List X)
+    → list_any q (map e xs) ≡ list_any (λ x. q (e x)) xs
+any_map e q [] = refl
+any_map e q (x ∷ xs) = rw (any_map e q xs)
+
+pub sum_map : {X Y : Type 0} (e : X → Y) (g : Y → ℕ) (xs : List X)
+    → sum_by g (map e xs) ≡ sum_by (λ x. g (e x)) xs
+sum_map e g xs = fold-map (λ (a : ℕ) (y : _). a + g y) e 0 xs
+
+pub count_map : {X Y : Type 0} (e : X → Y) (q : Y → Bool) (xs : List X)
+    → count_by q (map e xs) ≡ count_by (λ x. q (e x)) xs
+count_map e q xs = sum_map e (λ y. cond (q y) 1 0) xs
+
+-- what is asked of a list of which something is erased is asked of the list
+pub ruleset erased = (find_map, any_map, sum_map, count_map, length-map, some_map, map_twice)
 
 pub append_along : {X Y : Type 0} (e : X → Y) (xs ys xs' ys' : List X) → map e xs ≡ map e xs'
     → map e ys ≡ map e ys' → map e (xs ++ ys) ≡ map e (xs' ++ ys')
 append_along e xs ys xs' ys' first second =
-    rw (map-append e xs ys, map-append e xs' ys', first, second) refl
-
-fold_erased : {X Y : Type 0} (e : X → Y) (f : X → ℕ) (g : Y → ℕ) → ((x : X) → g (e x) ≡ f x)
-    → (a : ℕ) (xs : List X)
-    → fold (λ (a : ℕ) (y : Y). a + g y) a (map e xs) ≡ fold (λ (a : ℕ) (x : X). a + f x) a xs
-fold_erased e f g same a [] = refl
-fold_erased e f g same a (x ∷ xs) =
-    ap (λ (n : ℕ). fold (λ (a : ℕ) (y : _). a + g y) (a + n) (map e xs)) (same x)
-    ∙ fold_erased e f g same (a + f x) xs
-
-pub sum_erased : {X Y : Type 0} (e : X → Y) (f : X → ℕ) (g : Y → ℕ) → ((x : X) → g (e x) ≡ f x)
-    → (xs : List X) → sum_by g (map e xs) ≡ sum_by f xs
-sum_erased e f g same xs = fold_erased e f g same 0 xs
-
-pub count_erased : {X Y : Type 0} (e : X → Y) (p : X → Bool) (q : Y → Bool)
-    → ((x : X) → q (e x) ≡ p x) → (xs : List X) → count_by q (map e xs) ≡ count_by p xs
-count_erased e p q same xs =
-    sum_erased e (λ x. cond (p x) 1 0) (λ y. cond (q y) 1 0)
-    (λ x. ap (λ (b : Bool). cond b 1 0) (same x)) xs
+    rw (map-append e xs ys, map-append e xs' ys', first, second)

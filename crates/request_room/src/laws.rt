@@ -66,16 +66,15 @@ pub fn an_awarded_word_was_lifted()
         (λ winner. (moment : ℕ) × Contains events (event.Hit winner.1 moment (Some Lifted)))) }
 {}
 
-/// No step asks a price but to find the cover. Where two rooms are one but for the prices of their
-/// quotes, and for who was the cover, each step does the same in both, but for that again; a hit
-/// meets the same checks, and both hear the same dealers.
+/// No step asks a price but to find the cover. In a room without prices, and without who was the
+/// cover, each step does what it does in the room, but for both; a hit meets the same checks, and
+/// the same dealers are heard.
 pub fn no_step_asks_a_price()
-    ensures kept { (one other : List RoomFact) (more later : RoomEvent)
-        → map unpriced one ≡ map unpriced other → unpriced_event more ≡ unpriced_event later
-        → map unpriced (event_facts one more) ≡ map unpriced (event_facts other later) }
-    ensures hits { (one other : List RoomFact) (word : ℕ) (moment : ℕ)
-        → map unpriced one ≡ map unpriced other
-        → hit_question one word moment ≡ hit_question other word moment }
-    ensures heard { (one other : List RoomFact) (dealer : ℕ)
-        → map unpriced one ≡ map unpriced other → hears one dealer ≡ hears other dealer }
+    ensures kept { (facts : List RoomFact) (more : RoomEvent)
+        → map unpriced (event_facts (map unpriced facts) (unpriced_event more))
+        ≡ map unpriced (event_facts facts more) }
+    ensures hits { (facts : List RoomFact) (word : ℕ) (moment : ℕ)
+        → hit_question (map unpriced facts) word moment ≡ hit_question facts word moment }
+    ensures heard { (facts : List RoomFact) (dealer : ℕ)
+        → hears (map unpriced facts) dealer ≡ hears facts dealer }
 {}

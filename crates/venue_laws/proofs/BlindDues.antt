@@ -16,8 +16,8 @@ use Rattle.venue_laws.specs.PriceAlike.{IsPriceAlike, IsCoverAgainstDoneAway, Is
 use Rattle.step_replay.specs.declared.dues.Due.{Due}
 use Rattle.step_replay.specs.declared.dues.Due.TheVariants as due
 use Rattle.step_replay.specs.declared.steps.Step.{Step}
-use Rattle.venue_laws.proofs.Erasing.{erase, erase_due, erase_entry, trail_left}
-use Rattle.venue_laws.proofs.ErasedLists.{left_map}
+use Rattle.venue_laws.proofs.Erasing.{bare, erase_due, erase_entry, trail_left}
+use Rattle.venue_laws.proofs.ErasedLists.{fuse, map_fuse}
 use Rattle.venue_laws.proofs.LiveQuotes.{LoneQuotes}
 use Rattle.venue_laws.proofs.PriceLemmas.{all_days}
 use Rattle.venue_laws.proofs.VenueDesk.{WordsOfDay}
@@ -34,15 +34,19 @@ due_same (AtDesk fact) = refl
 due_same (Lifted quote) = refl
 due_same entry = refl
 
+dues_left : (trail : List DealerEntry)
+    → due_list (filter_map (erase_entry true) trail) ≡ map erase_due (due_list trail)
+dues_left trail = simp (fuse, map_fuse, due_same)
+
 due_list_is : (own : ℕ) (facts : List Fact)
-    → due_list (of_dealer own (filter_map (erase own) facts))
+    → due_list (of_dealer own (bare own facts))
     ≡ map erase_due (due_list (of_dealer own facts))
 due_list_is own facts =
     let same : (own == own) ≡ true = eq-eqb own own refl in
     ap (λ (l : List DealerEntry). due_list l)
-    (trail_left own own facts
+    (trail_left own facts own
     ∙ ap (λ (b : Bool). filter_map (erase_entry b) (of_dealer own facts)) same)
-    ∙ left_map (erase_entry true) due_by due_by erase_due due_same (of_dealer own facts)
+    ∙ dues_left (of_dealer own facts)
 
 -- two items are one, but that Cover may stand against Done Away
 abbrev pub AreItems : Due → Due → Type 0
@@ -92,7 +96,7 @@ is_blind lone words reads config steps others own alike =
     let day = audit_trail config steps in
     let other = audit_trail config others in
     lists (due_to own day) (due_to own other)
-    (by_erased (filter_map (erase own))
+    (by_erased (bare own)
     (λ (l : List Fact). map erase_due (due_list (of_dealer own l)))
     (λ (l : List Fact). due_list (of_dealer own l)) (due_list_is own) day.facts other.facts
     (all_days config own lone words reads steps others alike).facts_are)

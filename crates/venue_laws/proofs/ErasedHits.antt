@@ -1,31 +1,34 @@
--- A drop and a hit in two days of which the same is left without prices.
-use Rattle.std.proofs.Common.{◌≡◌, ℕ, ◌==◌, Bool, ◌&&◌, List, ◌++◌, map, filter_map, Option, Some, None}
-use Rattle.std.proofs.Common.{option_map, refl, ap, ◌∙◌, subst, if◌then◌else◌, Result, Ok, Err}
-use Rattle.std.specs.Option.{option_to_list}
-use Rattle.market_terms.proofs.ErasedLists.{by_erased}
-use Rattle.market_terms.specs.Unpriced.{unpriced_duty}
+-- A post, a drop and a hit in a day without prices: what they leave, and what they do.
+use Rattle.std.proofs.Common.{◌≡◌, ℕ, Bool, true, false, ◌&&◌, List, [], ◌∷◌, map, Option, None}
+use Rattle.std.proofs.Common.{refl, sym, ap, ◌∙◌, Result, Ok, Err, if◌then◌else◌, ◌==◌, ◌++◌}
+use Rattle.std.proofs.Common.{filter_map, Some, option_map}
+use Rattle.market_terms.specs.Unpriced.{uncovered, unpriced_duty, unpriced_offer}
+use Rattle.market_terms.specs.declared.closes.Close.TheVariants as closes
 use Rattle.market_terms.specs.declared.closes.HitRefusal.{HitRefusal}
-use Rattle.market_terms.specs.declared.duties.Duty.{Duty}
 use Rattle.market_terms.specs.declared.duties.Duty.TheVariants as duty
+use Rattle.market_terms.specs.declared.rooms.Offer.{Offer}
 use Rattle.market_terms.specs.declared.rooms.ResponseRef.{ResponseRef}
 use Rattle.market_terms.specs.declared.rooms.RoomRef.{RoomRef}
 use Rattle.quote_word.specs.declared.settled.Settled.{Settled}
-use Rattle.quote_word.specs.declared.settled.Settled.TheVariants as settled
-use Rattle.venue_rows.specs.Rows.{Configuration, has_room}
-use Rattle.dealer_desk.specs.DealerFacts.{DealerBook, number_to_drop, quote_to_drop}
-use Rattle.dealer_desk.specs.DealerOutput.{event_facts, further_drop, unpost_dropped}
-use Rattle.dealer_desk.specs.Unpriced.{unpriced}
-use Rattle.dealer_desk.specs.declared.events.DealerEvent.{DealerEvent}
-use Rattle.dealer_desk.specs.declared.events.DealerEvent.TheVariants as at_desk
-use Rattle.dealer_desk.proofs.UnpricedBooks.{number_same, some_to_drop, unposted_same}
-use Rattle.dealer_desk.proofs.UnpricedVerdicts.{kept_alike}
+use Rattle.request_room.proofs.UnpricedRooms.{outcome_same, request_same, kept_same as kept_in_room}
+use Rattle.request_room.proofs.UnpricedRooms.{question_same}
+use Rattle.request_room.specs.RoomFacts.{RoomFact, hears, request_of, takes_quotes}
 use Rattle.request_room.specs.Book.{hit_outcome}
-use Rattle.request_room.specs.Unpriced.{uncovered, unpriced as unpriced_in_room}
+use Rattle.request_room.specs.Unpriced.{uncovered as uncovered_outcome, uncovered_end}
+use Rattle.request_room.specs.Unpriced.{unpriced as unpriced_in_room}
 use Rattle.request_room.specs.declared.ends.End.{End}
+use Rattle.request_room.specs.declared.ends.EndKind.{EndKind}
+use Rattle.request_room.specs.declared.ends.EndKind.TheVariants as ends
+use Rattle.venue_steps.specs.RoomSteps.{close_for, dealers_of, duties_of_hit, duties_of_post}
+use Rattle.venue_steps.specs.RoomSteps.{hit_duties, is_cover, is_winner, told_to_each}
+use Rattle.venue_steps.specs.RoomSteps.{where_follows, hit_word, word_asked_by}
+use Rattle.market_terms.proofs.ErasedLists.{by_erased}
+use Rattle.venue_rows.specs.Rows.{Configuration, has_room}
+use Rattle.dealer_desk.specs.DealerFacts.{number_to_drop}
+use Rattle.dealer_desk.specs.DealerOutput.{event_facts, further_drop}
+use Rattle.dealer_desk.specs.Unpriced.{unpriced}
+use Rattle.dealer_desk.proofs.UnpricedVerdicts.{number_same, some_to_drop, unposted_same}
 use Rattle.request_room.specs.declared.events.RoomEvent.TheVariants as at_room
-use Rattle.request_room.proofs.UnpricedRooms.{kept_alike as kept_in_room, outcome_alike}
-use Rattle.request_room.proofs.UnpricedRooms.{question_alike}
-use Rattle.venue_steps.specs.RoomSteps.{hit_word, word_asked_by}
 use Rattle.venue_steps.specs.Words.{has_word}
 use Rattle.step_replay.specs.DealerTrail.{DealerEntry, answer_to_dealer, book_by, entries_of}
 use Rattle.step_replay.specs.DealerTrail.{rooms_by}
@@ -33,146 +36,193 @@ use Rattle.step_replay.specs.VenueFacts.{Fact, InRoom, of_dealer, of_room}
 use Rattle.step_replay.specs.Actions.{Dealer, QuoteRef, answer_to_drop, answer_to_hit, drop_at}
 use Rattle.step_replay.specs.Actions.{dropped_by, hit_in, hit_with, left_by_drop, lifting}
 use Rattle.step_replay.specs.Actions.{quote_asked, quote_with_word, word_for, words_of}
-use Rattle.venue_laws.proofs.Erasing.{AreFacts, asked_of, desks_alike, desks_at, erase, erase_entry}
-use Rattle.venue_laws.proofs.Erasing.{in_rooms, rooms_at, trails_at}
-use Rattle.venue_laws.proofs.ErasedActions.{AreAlike, answers_alike, desk_alike, entries_alike}
-use Rattle.venue_laws.proofs.ErasedActions.{if_alike}
-use Rattle.venue_laws.proofs.ErasedDuties.{hit_left}
+use Rattle.venue_laws.proofs.Erasing.{bare, book_is, book_left, erase, erase_entry, lifted_left}
+use Rattle.venue_laws.proofs.Erasing.{once_left, room_left, rooms_left, trail_left, withdrawn_left}
+use Rattle.venue_laws.proofs.ErasedActions.{AreAlike, both_alike, desk_alike, entries_alike}
+use Rattle.venue_laws.proofs.ErasedActions.{if_alike, kept_alike}
 use Rattle.venue_laws.proofs.ErasedLists.{all_along, filter_along}
 
--- A drop.
-module _ (config : Configuration) (own : ℕ) (facts others : List Fact)
-    (same : AreFacts own facts others) (dealer : Dealer) (last moment : ℕ) where
-  -- the dealer's trail in both days
-  abbrev one : List DealerEntry
-  one = of_dealer dealer.number facts
+-- How a request ended for a dealer, whoever was the cover.
 
-  abbrev other : List DealerEntry
-  other = of_dealer dealer.number others
+award_close : (won cover : Bool)
+    → uncovered (if won then closes.Hit else if cover then closes.Cover else closes.DoneAway)
+    ≡ uncovered (if won then closes.Hit else closes.DoneAway)
+award_close true cover = refl
+award_close false true = refl
+award_close false false = refl
+
+close_of_kind : (kind : EndKind) (winner : Option (ℕ × ℕ)) (cover : Option ℕ) (dealer : ℕ)
+    → uncovered (close_for (record { kind = kind; winner = winner; cover = cover }) dealer)
+    ≡ uncovered (close_for (record { kind = kind; winner = winner; cover = None }) dealer)
+close_of_kind ends.Awarded winner cover dealer =
+    award_close (is_winner winner dealer) (is_cover cover dealer)
+close_of_kind ends.Passed winner cover dealer = refl
+close_of_kind ends.Expired winner cover dealer = refl
+
+told_each : (at : RoomRef) (end : End) (moment : ℕ) (dealers : List ℕ)
+    → map unpriced_duty (told_to_each at end dealers moment)
+    ≡ map unpriced_duty (told_to_each at (uncovered_end end) dealers moment)
+told_each at end moment [] = refl
+told_each at end moment (dealer ∷ dealers) =
+    rw (
+      close_of_kind end.kind end.winner end.cover dealer,
+      told_each at end moment dealers,
+    )
+
+module _ (facts : List RoomFact) (at : RoomRef) where
+  pub post_left : (dealer : ℕ) (offer later : Offer) (moment : ℕ)
+      → unpriced_offer offer ≡ unpriced_offer later
+      → map unpriced_duty (duties_of_post facts at dealer offer moment)
+      ≡ map unpriced_duty (duties_of_post facts at dealer later moment)
+  post_left dealer offer later moment offers = follows (hears facts dealer && takes_quotes facts)
+    where
+      follows : (b : Bool)
+          → map unpriced_duty (where_follows b (duty.Relay at offer moment))
+          ≡ map unpriced_duty (where_follows b (duty.Relay at later moment))
+      follows true = ap (λ (o : Offer). duty.Relay at o moment ∷ []) offers
+      follows false = refl
+
+  pub hit_left : (response : ResponseRef) (word moment : ℕ) (settlement : Option Settled)
+      → map unpriced_duty
+      (duties_of_hit (map unpriced_in_room facts) at response word moment true settlement)
+      ≡ map unpriced_duty (duties_of_hit facts at response word moment true settlement)
+  hit_left response word moment settlement =
+      ap (map unpriced_duty) (requests (hit_outcome (map unpriced_in_room facts) word moment settlement))
+      ∙ whoever (hit_outcome (map unpriced_in_room facts) word moment settlement)
+      ∙ ap (λ (o : Result End HitRefusal). map unpriced_duty (hit_duties facts at response moment o))
+      (outcome_same facts word moment settlement)
+      ∙ sym (whoever (hit_outcome facts word moment settlement))
+    where
+      requests : (outcome : Result End HitRefusal)
+          → hit_duties (map unpriced_in_room facts) at response moment outcome
+          ≡ hit_duties facts at response moment outcome
+      requests (Ok award) = rw (request_same facts)
+      requests (Err refused) = refl
+
+      whoever : (outcome : Result End HitRefusal)
+          → map unpriced_duty (hit_duties facts at response moment outcome)
+          ≡ map unpriced_duty (hit_duties facts at response moment (uncovered_outcome outcome))
+      whoever (Ok award) = rw (told_each at award moment (dealers_of (request_of facts)))
+      whoever (Err refused) = refl
+
+-- the answer to the word that a dealer asks, where it asks one
+pub answers_same : (own : ℕ) (facts : List Fact) (number : ℕ) (asked : Option ℕ)
+    → option_map (answer_to_dealer (of_dealer number (bare own facts))) asked
+    ≡ option_map (answer_to_dealer (of_dealer number facts)) asked
+answers_same own facts number None = refl
+answers_same own facts number (Some quote) = rw (lifted_left own facts number quote)
+
+-- A drop.
+module _ (config : Configuration) (own : ℕ) (facts : List Fact) (dealer : Dealer)
+    (last moment : ℕ) where
+  -- the dealer's trail in the day without prices, and in the day
+  abbrev known : List DealerEntry
+  known = of_dealer dealer.number (bare own facts)
+
+  abbrev trail : List DealerEntry
+  trail = of_dealer dealer.number facts
 
   -- whether the bytes that came to it stay
   abbrev stay : Bool
   stay = dealer.number == own
 
-  number_alike : number_to_drop (book_by one) last ≡ number_to_drop (book_by other) last
-  number_alike =
-      asked_of one other (desks_at own facts others same dealer.number)
-      (λ (b : DealerBook). number_to_drop b last) (λ b. number_same b last)
+  number_known : number_to_drop (book_by known) last ≡ number_to_drop (book_by trail) last
+  number_known = rw (book_left own facts dealer.number) (number_same (book_by trail) last)
 
-  answer_alike : answer_to_drop one last ≡ answer_to_drop other last
-  answer_alike =
-      answers_alike one other (desks_at own facts others same dealer.number)
-      (number_to_drop (book_by one) last)
-      ∙ ap (option_map (answer_to_dealer other)) number_alike
+  answer_known : answer_to_drop known last ≡ answer_to_drop trail last
+  answer_known =
+      rw (number_known) (answers_same own facts dealer.number (number_to_drop (book_by trail) last))
 
   kept : map (unpriced stay)
-      (event_facts config.date dealer.row (book_by one) (drop_at one last moment))
+      (event_facts config.date dealer.row (book_by known) (drop_at known last moment))
       ≡ map (unpriced stay)
-      (event_facts config.date dealer.row (book_by other) (drop_at other last moment))
-  kept =
-      kept_alike config.date dealer.row stay (book_by one) (book_by other)
-      (drop_at one last moment) (drop_at other last moment)
-      (desks_at own facts others same dealer.number).books
-      (ap (λ (s : Option Settled). at_desk.Drop last moment s) answer_alike)
+      (event_facts config.date dealer.row (book_by trail) (drop_at trail last moment))
+  kept = rw (answer_known) (kept_alike config own facts dealer (drop_at trail last moment))
 
   -- a trail after the drop
   abbrev after : List DealerEntry → List DealerEntry
-  after trail = trail ++ entries_of config.date dealer.row trail (drop_at trail last moment)
+  after l = l ++ entries_of config.date dealer.row l (drop_at l last moment)
 
-  after_alike : filter_map (erase_entry stay) (after one)
-      ≡ filter_map (erase_entry stay) (after other)
-  after_alike =
-      filter_along (erase_entry stay) one _ other _ (trails_at own facts others same dealer.number)
-      (entries_alike stay config dealer one other (drop_at one last moment)
-      (drop_at other last moment) kept refl)
+  after_left : filter_map (erase_entry stay) (after known)
+      ≡ filter_map (erase_entry stay) (after trail)
+  after_left =
+      filter_along (erase_entry stay) known _ trail _
+      (ap (filter_map (erase_entry stay)) (trail_left own facts dealer.number)
+      ∙ once_left stay trail)
+      (entries_alike stay config dealer known trail (drop_at known last moment)
+      (drop_at trail last moment) kept refl)
 
-  further_alike : further_drop (book_by (after one)) last moment
-      ≡ further_drop (book_by (after other)) last moment
-  further_alike =
-      asked_of (after one) (after other) (desks_alike stay (after one) (after other) after_alike)
-      (λ (b : DealerBook). further_drop b last moment)
-      (λ b. ap (λ (some : Bool). if some then Some (duty.Drop last moment) else None)
-      (some_to_drop b last))
+  further_same : further_drop (book_by (after known)) last moment
+      ≡ further_drop (book_by (after trail)) last moment
+  further_same =
+      by_erased (filter_map (erase_entry stay))
+      (λ (l : List DealerEntry). further_drop (book_by l) last moment)
+      (λ (l : List DealerEntry). further_drop (book_by l) last moment)
+      (λ l. rw (book_is stay l, some_to_drop (book_by l) last)) (after known) (after trail) after_left
 
-  left_alike : left_by_drop config facts last moment dealer
-      ≡ left_by_drop config others last moment dealer
-  left_alike =
-      let desks = desks_at own facts others same dealer.number in
+  left_same : left_by_drop config (bare own facts) last moment dealer
+      ≡ left_by_drop config facts last moment dealer
+  left_same =
       rw (
-        further_alike,
-        desks.rooms,
-        answer_alike,
-        asked_of one other desks (λ (b : DealerBook). unpost_dropped (rooms_by other) moment
-            (answer_to_drop other last) (quote_to_drop b last))
-            (λ b. unposted_same b (rooms_by other) last moment (answer_to_drop other last)),
-      ) refl
+        further_same,
+        rooms_left own facts dealer.number,
+        answer_known,
+        book_left own facts dealer.number,
+        unposted_same (book_by trail) (rooms_by trail) last moment (answer_to_drop trail last),
+      )
 
-  pub dropped_alike : AreAlike own (dropped_by config facts last moment dealer)
-      (dropped_by config others last moment dealer)
+  pub dropped_alike : AreAlike own (dropped_by config (bare own facts) last moment dealer)
+      (dropped_by config facts last moment dealer)
   dropped_alike =
       if_alike _ _
       (ap (λ (q : Option ℕ). has_word (words_of config) (option_map (word_for config dealer) q))
-      number_alike)
-      (desk_alike config own facts others same dealer (drop_at one last moment)
-      (drop_at other last moment) (left_by_drop config facts last moment dealer)
-      (left_by_drop config others last moment dealer) kept refl (ap (map unpriced_duty) left_alike))
+      number_known)
+      (desk_alike config own facts dealer (drop_at known last moment) (drop_at trail last moment)
+      (left_by_drop config (bare own facts) last moment dealer)
+      (left_by_drop config facts last moment dealer) kept refl (ap (map unpriced_duty) left_same))
 
 -- A hit.
 
 lifting_same : (found : Option QuoteRef) (outcome : Result End HitRefusal)
-    → lifting found (uncovered outcome) ≡ lifting found outcome
+    → lifting found (uncovered_outcome outcome) ≡ lifting found outcome
 lifting_same None outcome = refl
 lifting_same (Some hit) (Ok award) = refl
 lifting_same (Some hit) (Err refused) = refl
 
-module _ (config : Configuration) (own : ℕ) (facts others : List Fact)
-    (same : AreFacts own facts others) (room : RoomRef) (response : ResponseRef)
-    (word moment : ℕ) where
+module _ (config : Configuration) (own : ℕ) (facts : List Fact) (room : RoomRef)
+    (response : ResponseRef) (word moment : ℕ) where
+  -- the room's facts
+  abbrev here : List RoomFact
+  here = of_room room facts
+
   with_alike : (settlement : Option Settled)
-      → AreAlike own (hit_with config facts room response word moment settlement)
-      (hit_with config others room response word moment settlement)
-  with_alike settlement = record {
-    facts_are = filter_along (erase own) _ _ _ _
-        (ap (filter_map (erase own)) (by_erased uncovered (lifting (quote_with_word config word))
-        (lifting (quote_with_word config word)) (lifting_same (quote_with_word config word))
-        (hit_outcome (of_room room facts) word moment settlement)
-        (hit_outcome (of_room room others) word moment settlement)
-        (outcome_alike (of_room room facts) (of_room room others)
-        (in_rooms own facts others same room) word moment settlement)))
-        (all_along (erase own) (InRoom room) unpriced_in_room (λ fact. refl) _ _
-        (kept_in_room (of_room room facts) (of_room room others)
-        (at_room.Hit word moment settlement) (at_room.Hit word moment settlement)
-        (rooms_at own facts others same room) refl));
-    duties_are = hit_left (of_room room facts) (of_room room others)
-        (in_rooms own facts others same room) room response word moment settlement;
-  }
+      → AreAlike own (hit_with config (bare own facts) room response word moment settlement)
+      (hit_with config facts room response word moment settlement)
+  with_alike settlement =
+      rw (room_left own facts room) (both_alike own _ _
+      (filter_along (erase own) _ _ _ _
+      (ap (filter_map (erase own)) (by_erased uncovered_outcome (lifting (quote_with_word config word))
+      (lifting (quote_with_word config word)) (lifting_same (quote_with_word config word))
+      (hit_outcome (map unpriced_in_room here) word moment settlement)
+      (hit_outcome here word moment settlement) (outcome_same here word moment settlement)))
+      (all_along (erase own) (InRoom room) unpriced_in_room (λ fact. refl) _ _
+      (kept_in_room here (at_room.Hit word moment settlement))))
+      (hit_left here room response word moment settlement))
 
-  asked_alike : hit_word (of_room room facts) word moment ≡ hit_word (of_room room others) word moment
-  asked_alike =
-      ap word_asked_by (question_alike (of_room room facts) (of_room room others)
-      (in_rooms own facts others same room) word moment)
+  asked_same : hit_word (of_room room (bare own facts)) word moment ≡ hit_word here word moment
+  asked_same =
+      rw (room_left own facts room) (ap word_asked_by (question_same here word moment))
 
-  settled_alike : (found : Option QuoteRef)
-      → option_map (answer_to_hit facts) found ≡ option_map (answer_to_hit others) found
-  settled_alike None = refl
-  settled_alike (Some hit) =
-      ap (λ (b : Bool). Some (if b then settled.Withdrawn else settled.Lifted))
-      ((desks_at own facts others same hit.dealer).withdrawn hit.quote)
+  settled_same : (found : Option QuoteRef)
+      → option_map (answer_to_hit (bare own facts)) found ≡ option_map (answer_to_hit facts) found
+  settled_same None = refl
+  settled_same (Some hit) = rw (withdrawn_left own facts hit.dealer hit.quote)
 
-  -- the settlement of the word that a hit asks
-  abbrev answer_by : List Fact → Option ℕ → Option Settled
-  answer_by l asked = option_map (answer_to_hit l) (quote_asked config asked)
-
-  pub hit_alike : AreAlike own (hit_in config facts room response word moment)
-      (hit_in config others room response word moment)
+  pub hit_alike : AreAlike own (hit_in config (bare own facts) room response word moment)
+      (hit_in config facts room response word moment)
   hit_alike =
-      if_alike _ _
-      (ap (λ (q : Option ℕ).
-      has_room config room.investor room.n && has_word (words_of config) q) asked_alike)
-      (subst (λ (settlement : Option Settled).
-      AreAlike own (hit_with config facts room response word moment
-      (answer_by facts (hit_word (of_room room facts) word moment)))
-      (hit_with config others room response word moment settlement))
-      (settled_alike (quote_asked config (hit_word (of_room room facts) word moment))
-      ∙ ap (answer_by others) asked_alike)
-      (with_alike (answer_by facts (hit_word (of_room room facts) word moment))))
+      rw (asked_same, settled_same (quote_asked config (hit_word here word moment)))
+      (if_alike (has_room config room.investor room.n
+      && has_word (words_of config) (hit_word here word moment)) _ refl
+      (with_alike (option_map (answer_to_hit facts)
+      (quote_asked config (hit_word here word moment)))))

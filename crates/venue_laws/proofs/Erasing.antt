@@ -1,25 +1,22 @@
 -- A day of which the prices are erased, who was the cover, what was sent, and the bytes of what
 -- dealers sent, but for one dealer: what is left is what that dealer's due list can tell of, but
--- for the cover. Where the same is left of two days, the same stands at each place of both.
-use Rattle.std.proofs.Common.{◌≡◌, ℕ, ◌==◌, Bool, true, false, List, map, filter_map, Option, Some}
-use Rattle.std.proofs.Common.{None, option_map, option_and_then, unwrap_or, refl, ap, ◌∙◌, arith}
-use Rattle.std.proofs.Common.{if◌then◌else◌}
-use Rattle.std.specs.List.{list_any}
+-- for the cover. At each place of the day what is left stands as it does without prices.
+use Rattle.std.proofs.Common.{◌≡◌, ℕ, ◌==◌, Bool, true, false, List, [], map, filter_map, Option}
+use Rattle.std.proofs.Common.{Some, None, option_map, option_and_then, unwrap_or, refl, sym, ap}
+use Rattle.std.proofs.Common.{◌∙◌, arith, if◌then◌else◌}
 use Rattle.std.proofs.lemmas.Bool.Decides.{nat_tests}
-use Rattle.std.proofs.lemmas.List.{map-id}
-use Rattle.market_terms.proofs.ErasedLists.{by_erased, map_cond}
+use Rattle.market_terms.proofs.ErasedLists.{map_cond, twice}
 use Rattle.market_terms.specs.Unpriced.{uncovered, unpriced_duty}
+use Rattle.market_terms.specs.declared.closes.Close.{Close}
 use Rattle.market_terms.specs.declared.rooms.RoomRef.{RoomRef}
-use Rattle.dealer_desk.specs.DealerFacts.{DealerBook, DealerFact}
+use Rattle.dealer_desk.specs.DealerFacts.{DealerFact, Came, Told}
 use Rattle.dealer_desk.specs.DealerOutput.{is_same_room}
-use Rattle.dealer_desk.specs.DeskLaws.{withdraws}
 use Rattle.dealer_desk.specs.Unpriced.{unpriced as unpriced_at_dealer, unpriced_book}
-use Rattle.dealer_desk.proofs.UnpricedBooks.{books_alike, withdraws_same}
+use Rattle.dealer_desk.proofs.UnpricedBooks.{book_same, withdrawn_same}
 use Rattle.investor_desk.specs.Unpriced.{unpriced as unpriced_at_investor}
 use Rattle.investor_desk.specs.Unpriced.{unpriced_book as unpriced_investor_book}
-use Rattle.investor_desk.proofs.UnpricedBooks.{books_alike as investor_books_alike}
+use Rattle.investor_desk.proofs.UnpricedDesks.{book_same as investor_book_same}
 use Rattle.request_room.specs.Unpriced.{unpriced as unpriced_in_room}
-use Rattle.request_room.proofs.UnpricedRooms.{AreRooms, rooms_alike}
 use Rattle.step_replay.specs.AuditTrail.{Caused}
 use Rattle.step_replay.specs.DealerTrail.{DealerEntry, AtDesk, Sent, book_by, fact_in, facts_of}
 use Rattle.step_replay.specs.DealerTrail.{lifts, room_in, rooms_by, was_lifted, was_withdrawn}
@@ -29,9 +26,10 @@ use Rattle.step_replay.specs.InvestorTrail.{Sent as SentToInvestor}
 use Rattle.step_replay.specs.VenueFacts.{Fact, AtDealer, InRoom, AtInvestor, entry_at_dealer}
 use Rattle.step_replay.specs.VenueFacts.{entry_at_investor, fact_in_room, of_dealer, of_investor}
 use Rattle.step_replay.specs.VenueFacts.{of_room}
+use Rattle.step_replay.specs.Actions.{Effect}
 use Rattle.step_replay.specs.declared.dues.Due.{Due}
 use Rattle.step_replay.specs.declared.dues.Due.TheVariants as due
-use Rattle.venue_laws.proofs.ErasedLists.{any_left, left_in, left_map}
+use Rattle.venue_laws.proofs.ErasedLists.{any_fuse, fuse, map_fuse}
 
 -- What is left of a fact, where anything is.
 
@@ -52,7 +50,15 @@ erase own (AtDealer number entry) = option_map (AtDealer number) (erase_entry (n
 erase own (InRoom room fact) = Some (InRoom room (unpriced_in_room fact))
 erase own (AtInvestor number entry) = option_map (AtInvestor number) (erase_investor_entry entry)
 
--- what is left of a duty that was caused, and of an item that is due
+-- what is left of facts, of what an action adds and leaves, of a duty that was caused, and of an
+-- item that is due
+
+abbrev pub bare : ℕ → List Fact → List Fact
+bare own facts = filter_map (erase own) facts
+
+abbrev pub left : ℕ → Effect → Effect
+left own effect =
+    record { facts = bare own effect.facts; duties = map unpriced_duty effect.duties }
 
 abbrev pub erase_caused : Caused → Caused
 erase_caused caused = record { by = caused.by; duty = unpriced_duty caused.duty }
@@ -60,10 +66,6 @@ erase_caused caused = record { by = caused.by; duty = unpriced_duty caused.duty 
 abbrev pub erase_due : Due → Due
 erase_due (due.Closed request close moment) = due.Closed request (uncovered close) moment
 erase_due other = other
-
--- the same is left of two days' facts
-abbrev pub AreFacts : ℕ → List Fact → List Fact → Type 0
-AreFacts own one other = filter_map (erase own) one ≡ filter_map (erase own) other
 
 -- Places.
 
@@ -80,13 +82,11 @@ if_left : {E : Type 0} (left : E → Option E) (b : Bool) (entry : E)
 if_left left true entry = refl
 if_left left false entry = refl
 
-pub trail_left : (own number : ℕ) (facts : List Fact)
-    → of_dealer number (filter_map (erase own) facts)
+pub trail_left : (own : ℕ) (facts : List Fact) (number : ℕ)
+    → of_dealer number (bare own facts)
     ≡ filter_map (erase_entry (number == own)) (of_dealer number facts)
 unfolding of_dealer
-trail_left own number facts =
-    left_in (erase own) (entry_at_dealer number) (entry_at_dealer number)
-    (erase_entry (number == own)) each facts
+trail_left own facts number = simp (fuse, each)
   where
     each : (fact : Fact)
         → option_and_then (entry_at_dealer number) (erase own fact)
@@ -108,11 +108,10 @@ trail_left own number facts =
     each (AtInvestor investor (SentToInvestor message)) = refl
     each (AtInvestor investor entry) = refl
 
-room_left : (own : ℕ) (place : RoomRef) (facts : List Fact)
-    → of_room place (filter_map (erase own) facts) ≡ map unpriced_in_room (of_room place facts)
+pub room_left : (own : ℕ) (facts : List Fact) (place : RoomRef)
+    → of_room place (bare own facts) ≡ map unpriced_in_room (of_room place facts)
 unfolding of_room
-room_left own place facts =
-    left_map (erase own) (fact_in_room place) (fact_in_room place) unpriced_in_room each facts
+room_left own facts place = simp (fuse, map_fuse, each)
   where
     each : (fact : Fact)
         → option_and_then (fact_in_room place) (erase own fact)
@@ -123,13 +122,11 @@ room_left own place facts =
     each (AtInvestor investor (SentToInvestor message)) = refl
     each (AtInvestor investor entry) = refl
 
-investor_left : (own number : ℕ) (facts : List Fact)
-    → of_investor number (filter_map (erase own) facts)
+investor_left : (own : ℕ) (facts : List Fact) (number : ℕ)
+    → of_investor number (bare own facts)
     ≡ filter_map erase_investor_entry (of_investor number facts)
 unfolding of_investor
-investor_left own number facts =
-    left_in (erase own) (entry_at_investor number) (entry_at_investor number) erase_investor_entry
-    each facts
+investor_left own facts number = simp (fuse, each)
   where
     each : (fact : Fact)
         → option_and_then (entry_at_investor number) (erase own fact)
@@ -142,107 +139,92 @@ investor_left own number facts =
         (erase_investor_entry entry) (λ kept. refl)
         ∙ if_left erase_investor_entry (investor == number) entry
 
--- What is asked of a dealer's trail.
-pub record AreDesks (one other : List DealerEntry) : Type 0 where
-  pub books : unpriced_book (book_by one) ≡ unpriced_book (book_by other)
-  pub rooms : rooms_by one ≡ rooms_by other
-  pub lifted : (quote : ℕ) → was_lifted one quote ≡ was_lifted other quote
-  pub withdrawn : (quote : ℕ) → was_withdrawn one quote ≡ was_withdrawn other quote
-
-pub desks_alike : (stay : Bool) (one other : List DealerEntry)
-    → filter_map (erase_entry stay) one ≡ filter_map (erase_entry stay) other → AreDesks one other
-desks_alike stay one other same = record {
-  books = books_alike stay (facts_of one) (facts_of other) facts;
-  rooms = by_erased (filter_map (erase_entry stay)) rooms_by rooms_by rooms_left one other same;
-  lifted = λ quote. by_erased (filter_map (erase_entry stay))
-      (λ (l : List DealerEntry). was_lifted l quote) (λ (l : List DealerEntry). was_lifted l quote)
-      (any_left (erase_entry stay) (lifts quote) (lifts_left quote)) one other same;
-  withdrawn = λ quote. by_erased (map (unpriced_at_dealer stay))
-      (λ (l : List DealerFact). list_any (withdraws quote) l)
-      (λ (l : List DealerFact). list_any (withdraws quote) l)
-      (withdraws_same stay quote) (facts_of one) (facts_of other) facts;
-}
+pub investor_book_left : (own : ℕ) (facts : List Fact) (number : ℕ)
+    → investor_trail.book_by (of_investor number (bare own facts))
+    ≡ unpriced_investor_book (investor_trail.book_by (of_investor number facts))
+investor_book_left own facts number =
+    rw (investor_left own facts number, facts_left (of_investor number facts))
+    (investor_book_same (investor_trail.facts_of (of_investor number facts)))
   where
-    fact_left : (entry : DealerEntry)
-        → option_and_then fact_in (erase_entry stay entry)
-        ≡ option_map (unpriced_at_dealer stay) (fact_in entry)
-    fact_left (AtDesk fact) = refl
-    fact_left (Sent message) = refl
-    fact_left entry = refl
+    fact_left : (entry : InvestorEntry)
+        → option_and_then investor_trail.fact_in (erase_investor_entry entry)
+        ≡ option_map unpriced_at_investor (investor_trail.fact_in entry)
+    fact_left (AtInvestorsDesk fact) = refl
+    fact_left (SentToInvestor message) = refl
 
-    facts : map (unpriced_at_dealer stay) (facts_of one)
-        ≡ map (unpriced_at_dealer stay) (facts_of other)
-    facts =
-        by_erased (filter_map (erase_entry stay))
-        (λ (l : List DealerEntry). map (unpriced_at_dealer stay) (facts_of l)) facts_of
-        (left_map (erase_entry stay) fact_in fact_in (unpriced_at_dealer stay) fact_left) one other
-        same
+    facts_left : (trail : List InvestorEntry)
+        → investor_trail.facts_of (filter_map erase_investor_entry trail)
+        ≡ map unpriced_at_investor (investor_trail.facts_of trail)
+    facts_left trail = simp (fuse, map_fuse, fact_left)
 
-    room_left_in : (entry : DealerEntry)
-        → option_and_then room_in (erase_entry stay entry)
-        ≡ option_map (λ (room : RoomRef). room) (room_in entry)
-    room_left_in (AtDesk fact) = refl
-    room_left_in (Sent message) = refl
-    room_left_in entry = refl
+-- A dealer's trail.
 
-    rooms_left : (trail : List DealerEntry)
-        → rooms_by (filter_map (erase_entry stay) trail) ≡ rooms_by trail
-    rooms_left trail =
-        left_map (erase_entry stay) room_in room_in (λ (room : RoomRef). room) room_left_in trail
-        ∙ map-id (rooms_by trail)
-
-    lifts_left : (quote : ℕ) (entry : DealerEntry)
-        → unwrap_or (option_map (lifts quote) (erase_entry stay entry)) false ≡ lifts quote entry
-    lifts_left quote (AtDesk fact) = refl
-    lifts_left quote (Sent message) = refl
-    lifts_left quote entry = refl
-
--- whatever a desk's book is asked but prices and covers
-pub asked_of : {Z : Type 0} (one other : List DealerEntry) → AreDesks one other
-    → (f : DealerBook → Z) → ((book : DealerBook) → f (unpriced_book book) ≡ f book)
-    → f (book_by one) ≡ f (book_by other)
-asked_of one other desks f law =
-    by_erased unpriced_book f f law (book_by one) (book_by other) desks.books
-
-module _ (own : ℕ) (one other : List Fact) (same : AreFacts own one other) where
-  pub trails_at : (number : ℕ)
-      → filter_map (erase_entry (number == own)) (of_dealer number one)
-      ≡ filter_map (erase_entry (number == own)) (of_dealer number other)
-  trails_at number =
-      by_erased (filter_map (erase own))
-      (λ (l : List Fact). filter_map (erase_entry (number == own)) (of_dealer number l))
-      (of_dealer number) (trail_left own number) one other same
-
-  pub desks_at : (number : ℕ) → AreDesks (of_dealer number one) (of_dealer number other)
-  desks_at number = desks_alike (number == own) _ _ (trails_at number)
-
-  pub rooms_at : (place : RoomRef)
-      → map unpriced_in_room (of_room place one) ≡ map unpriced_in_room (of_room place other)
-  rooms_at place =
-      by_erased (filter_map (erase own))
-      (λ (l : List Fact). map unpriced_in_room (of_room place l)) (of_room place)
-      (room_left own place) one other same
-
-  pub in_rooms : (place : RoomRef) → AreRooms (of_room place one) (of_room place other)
-  in_rooms place = rooms_alike _ _ (rooms_at place)
-
-  pub investors_at : (number : ℕ)
-      → unpriced_investor_book (investor_trail.book_by (of_investor number one))
-      ≡ unpriced_investor_book (investor_trail.book_by (of_investor number other))
-  investors_at number =
-      investor_books_alike _ _ (by_erased (filter_map (erase own))
-      (λ (l : List Fact). map unpriced_at_investor (investor_trail.facts_of (of_investor number l)))
-      (λ (l : List Fact). investor_trail.facts_of (of_investor number l)) facts_left one other same)
+module _ (stay : Bool) (trail : List DealerEntry) where
+  facts_left : facts_of (filter_map (erase_entry stay) trail)
+      ≡ map (unpriced_at_dealer stay) (facts_of trail)
+  facts_left = simp (fuse, map_fuse, each)
     where
-      fact_left : (entry : InvestorEntry)
-          → option_and_then investor_trail.fact_in (erase_investor_entry entry)
-          ≡ option_map unpriced_at_investor (investor_trail.fact_in entry)
-      fact_left (AtInvestorsDesk fact) = refl
-      fact_left (SentToInvestor message) = refl
+      each : (entry : DealerEntry)
+          → option_and_then fact_in (erase_entry stay entry)
+          ≡ option_map (unpriced_at_dealer stay) (fact_in entry)
+      each (AtDesk fact) = refl
+      each (Sent message) = refl
+      each entry = refl
 
-      facts_left : (facts : List Fact)
-          → investor_trail.facts_of (of_investor number (filter_map (erase own) facts))
-          ≡ map unpriced_at_investor (investor_trail.facts_of (of_investor number facts))
-      facts_left facts =
-          rw (investor_left own number facts) (left_map erase_investor_entry investor_trail.fact_in
-          investor_trail.fact_in unpriced_at_investor fact_left (of_investor number facts))
+  pub book_is : book_by (filter_map (erase_entry stay) trail) ≡ unpriced_book (book_by trail)
+  book_is = rw (facts_left) (book_same stay (facts_of trail))
+
+  -- what is left once is left
+  pub once_left : filter_map (erase_entry stay) (filter_map (erase_entry stay) trail)
+      ≡ filter_map (erase_entry stay) trail
+  once_left = simp (fuse, each)
+    where
+      bytes_twice : (b : Bool) (bytes : List ℕ)
+          → (if b then (if b then bytes else []) else []) ≡ (if b then bytes else [])
+      bytes_twice true bytes = refl
+      bytes_twice false bytes = refl
+
+      fact_twice : (fact : DealerFact)
+          → unpriced_at_dealer stay (unpriced_at_dealer stay fact) ≡ unpriced_at_dealer stay fact
+      fact_twice (Came moment bytes used) =
+          ap (λ (l : List ℕ). Came moment l used) (bytes_twice stay bytes)
+      fact_twice (Told request close moment) =
+          ap (λ (c : Close). Told request c moment) (sym (twice close))
+      fact_twice fact = refl
+
+      each : (entry : DealerEntry)
+          → option_and_then (erase_entry stay) (erase_entry stay entry) ≡ erase_entry stay entry
+      each (AtDesk fact) = ap (λ (f : DealerFact). Some (AtDesk f)) (fact_twice fact)
+      each (Sent message) = refl
+      each entry = refl
+
+module _ (own : ℕ) (facts : List Fact) (number : ℕ) where
+  pub book_left : book_by (of_dealer number (bare own facts))
+      ≡ unpriced_book (book_by (of_dealer number facts))
+  book_left = rw (trail_left own facts number) (book_is (number == own) (of_dealer number facts))
+
+  pub rooms_left : rooms_by (of_dealer number (bare own facts)) ≡ rooms_by (of_dealer number facts)
+  rooms_left = rw (trail_left own facts number) (simp (fuse, each))
+    where
+      each : (entry : DealerEntry)
+          → option_and_then room_in (erase_entry (number == own) entry) ≡ room_in entry
+      each (AtDesk fact) = refl
+      each (Sent message) = refl
+      each entry = refl
+
+  pub lifted_left : (quote : ℕ) → was_lifted (of_dealer number (bare own facts)) quote
+      ≡ was_lifted (of_dealer number facts) quote
+  lifted_left quote = rw (trail_left own facts number) (simp (any_fuse, each))
+    where
+      each : (entry : DealerEntry)
+          → unwrap_or (option_map (lifts quote) (erase_entry (number == own) entry)) false
+          ≡ lifts quote entry
+      each (AtDesk fact) = refl
+      each (Sent message) = refl
+      each entry = refl
+
+  pub withdrawn_left : (quote : ℕ) → was_withdrawn (of_dealer number (bare own facts)) quote
+      ≡ was_withdrawn (of_dealer number facts) quote
+  withdrawn_left quote =
+      rw (trail_left own facts number, facts_left (number == own) (of_dealer number facts))
+      (withdrawn_same (number == own) quote (facts_of (of_dealer number facts)))

@@ -5,7 +5,6 @@ mod ConditionMet
 mod ConditionMetOnce
 mod CountLemmas
 mod ErasedActions
-mod ErasedDuties
 mod ErasedHits
 mod ErasedLists
 mod ErasedSteps

@@ -1,8 +1,7 @@
 -- Blindness to prices: two days that are one but for the prices of other dealers stay one without
 -- prices, step by step.
-use Rattle.std.proofs.Common.{◌≡◌, ℕ, ◌==◌, false, List, [], ◌∷◌, ◌++◌, map, filter_map, drop}
-use Rattle.std.proofs.Common.{count_by, fold, Some, None, option_map, refl, sym, ap, ◌∙◌, subst}
-use Rattle.std.proofs.Common.{◌⊎◌, inl, inr}
+use Rattle.std.proofs.Common.{◌≡◌, ℕ, List, [], ◌∷◌, ◌++◌, map, filter_map, drop, count_by, fold}
+use Rattle.std.proofs.Common.{Some, None, option_map, refl, sym, ap, ◌∙◌, subst, ◌⊎◌, inl, inr, subst₂}
 use Rattle.std.proofs.lemmas.List.{drop-map}
 use Rattle.market_terms.proofs.ErasedLists.{append_along, by_erased, map_cond}
 use Rattle.market_terms.specs.Unpriced.{unpriced_duty}
@@ -10,24 +9,21 @@ use Rattle.market_terms.specs.declared.duties.Duty.{Duty}
 use Rattle.fix_fields.specs.Frame.{Field, IsFrame, frame_of}
 use Rattle.venue_rows.specs.Rows.{Configuration, dealer_numbered}
 use Rattle.venue_rows.specs.declared.dealer_rows.DealerRow.{DealerRow}
-use Rattle.dealer_desk.specs.Unpriced.{unpriced_verdict}
 use Rattle.venue_places.specs.declared.actors.Actor.{Actor}
 use Rattle.venue_places.specs.declared.actors.Actor.TheVariants as actor
 use Rattle.step_replay.specs.DealerTrail.{book_by}
-use Rattle.step_replay.specs.VenueFacts.{of_dealer}
+use Rattle.step_replay.specs.VenueFacts.{of_dealer, Fact}
 use Rattle.step_replay.specs.Actions.{Effect, dealer_of, received_by_dealer}
-use Rattle.step_replay.specs.DutyEffects.{duty_effect, message_effect}
+use Rattle.step_replay.specs.DutyEffects.{duty_effect, message_effect, sweep_effect}
 use Rattle.step_replay.specs.AuditTrail.{AuditTrail, Caused, no_steps, duty_of, is_same_actor}
 use Rattle.step_replay.specs.AuditTrail.{pending, with_effect, after_turn, after_step, audit_trail}
-use Rattle.step_replay.specs.VenueFacts.{Fact}
 use Rattle.step_replay.specs.declared.steps.Step.{Step}
 use Rattle.step_replay.specs.declared.steps.Step.TheVariants as step
 use Rattle.venue_laws.specs.PriceAlike.{IsPricedByAnother, IsPriceAlike}
-use Rattle.venue_laws.proofs.Erasing.{AreFacts, erase, erase_caused}
-use Rattle.venue_laws.proofs.ErasedLists.{filter_along, filter_map_erased}
+use Rattle.venue_laws.proofs.Erasing.{bare, erase, erase_caused, left}
+use Rattle.venue_laws.proofs.ErasedLists.{filter_along, filter_fuse, map_fuse}
 use Rattle.venue_laws.proofs.ErasedActions.{AreAlike}
-use Rattle.venue_laws.proofs.ErasedSteps.{duty_alike, message_alike, one_verdict, said_alike}
-use Rattle.venue_laws.proofs.ErasedSteps.{sweep_alike}
+use Rattle.venue_laws.proofs.ErasedSteps.{duty_alike, message_alike, said_alike, sweep_alike}
 use Rattle.venue_laws.proofs.LiveQuotes.{LoneQuotes}
 use Rattle.venue_laws.proofs.VenueDay.{step_stands, venue_ok}
 use Rattle.venue_laws.proofs.VenueDesk.{WordsOfDay}
@@ -37,7 +33,7 @@ use Rattle.venue_laws.proofs.PricedMessages.{verdicts_alike}
 
 -- two days so far are one without prices
 pub record AreDays (own : ℕ) (one other : AuditTrail) : Type 0 where
-  pub facts_are : AreFacts own one.facts other.facts
+  pub facts_are : bare own one.facts ≡ bare own other.facts
   pub caused_are : map erase_caused one.caused ≡ map erase_caused other.caused
   pub done_are : one.done ≡ other.done
 
@@ -58,10 +54,11 @@ module _ (config : Configuration) (own : ℕ) where
       → AreDays own (with_effect by one effect) (with_effect by other effect_too)
   after_effects by one other effect effect_too before alike = record {
     facts_are = filter_along (erase own) one.facts effect.facts other.facts effect_too.facts
-        before.facts_are alike.facts_are;
+        before.facts_are (ap (λ (e : Effect). e.facts) alike.same);
     caused_are = append_along erase_caused one.caused _ other.caused _ before.caused_are
         (by_erased (map unpriced_duty) (λ (l : List Duty). map erase_caused (map (caused_by by) l))
-        (map (caused_by by)) (caused_left by) effect.duties effect_too.duties alike.duties_are);
+        (map (caused_by by)) (caused_left by) effect.duties effect_too.duties
+        (ap (λ (e : Effect). e.duties) alike.same));
     done_are = before.done_are;
   }
 
@@ -76,6 +73,11 @@ module _ (config : Configuration) (own : ℕ) where
           → duty_of by (erase_caused caused) ≡ option_map unpriced_duty (duty_of by caused)
       duty_same caused = map_cond unpriced_duty (is_same_actor caused.by by) caused.duty None
 
+      duties_left : (caused : List Caused)
+          → map unpriced_duty (filter_map (duty_of by) caused)
+          ≡ filter_map (duty_of by) (map erase_caused caused)
+      duties_left caused = simp (filter_fuse, map_fuse, duty_same)
+
       pending_is : (trail : AuditTrail)
           → map unpriced_duty (pending by trail)
           ≡ drop (count_by (is_same_actor by) trail.done)
@@ -83,23 +85,25 @@ module _ (config : Configuration) (own : ℕ) where
       pending_is trail =
           let count = count_by (is_same_actor by) trail.done in
           sym (drop-map unpriced_duty count (filter_map (duty_of by) trail.caused))
-          ∙ ap (drop count) (sym (filter_map_erased erase_caused (duty_of by) (duty_of by)
-          unpriced_duty duty_same trail.caused))
+          ∙ ap (drop count) (duties_left trail.caused)
 
-  duties_same : (by : Actor) (one other : List Fact) (more later : Duty) → AreFacts own one other
-      → unpriced_duty more ≡ unpriced_duty later
+  -- what is alike to one action in the days without prices
+  through : (action : List Fact → Effect) (one other : List Fact) {effect effect_too : Effect}
+      → AreAlike own (action (bare own one)) effect
+      → AreAlike own (action (bare own other)) effect_too → bare own one ≡ bare own other
+      → AreAlike own effect effect_too
+  through action one other first second same = record {
+    same = sym first.same ∙ ap (λ (l : List Fact). left own (action l)) same ∙ second.same;
+  }
+
+  duties_same : (by : Actor) (one other : List Fact) (more later : Duty)
+      → bare own one ≡ bare own other → unpriced_duty more ≡ unpriced_duty later
       → AreAlike own (duty_effect config one by more) (duty_effect config other by later)
   duties_same by one other more later facts same =
-      let here = duty_alike config own one other facts by more in
-      let there = duty_alike config own other other refl by later in
-      record {
-        facts_are = here.facts_are
-            ∙ ap (λ (d : Duty). filter_map (erase own) (duty_effect config other by d).facts) same
-            ∙ sym there.facts_are;
-        duties_are = here.duties_are
-            ∙ ap (λ (d : Duty). map unpriced_duty (duty_effect config other by d).duties) same
-            ∙ sym there.duties_are;
-      }
+      through (λ l. duty_effect config l by (unpriced_duty more)) one other
+      (duty_alike config own one by more)
+      (subst (λ (d : Duty). AreAlike own (duty_effect config (bare own other) by d)
+      (duty_effect config other by later)) (sym same) (duty_alike config own other by later)) facts
 
   turns_same : (by : Actor) (one other : AuditTrail) (duties duties_too : List Duty)
       → AreDays own one other → map unpriced_duty duties ≡ map unpriced_duty duties_too
@@ -133,28 +137,27 @@ module _ (config : Configuration) (own : ℕ) where
       (reads : (bytes : List ℕ) (fields : List Field) → IsFrame bytes fields
       → frame_of bytes ≡ Some fields) where
     priced_same : (one other : AuditTrail) (more later : Step) → VenueOk config one
-        → AreFacts own one.facts other.facts → (priced : IsPricedByAnother config own more later)
+        → bare own one.facts ≡ bare own other.facts
+        → (priced : IsPricedByAnother config own more later)
         → AreAlike own (message_effect config one.facts priced.firm priced.moment priced.message)
         (message_effect config other.facts priced.firm priced.moment priced.priced)
     priced_same one other more later stood facts priced =
-        let dealer = dealer_of priced.firm priced.row in
         let prices = priced.prices in
-        subst (λ (e : Effect). AreAlike own e
-        (message_effect config other.facts priced.firm priced.moment priced.priced))
+        through (λ l. message_effect config l priced.firm priced.moment priced.priced) one.facts
+        other.facts
+        (subst₂ (λ (e d : Effect). AreAlike own e d)
+        (message_is (bare own one.facts) priced.firm priced.moment priced.priced priced.row
+        priced.is_dealer)
         (message_is one.facts priced.firm priced.moment priced.message priced.row priced.is_dealer)
-        (subst (λ (e : Effect). AreAlike own
-        (received_by_dealer config one.facts priced.moment priced.message dealer) e)
-        (message_is other.facts priced.firm priced.moment priced.priced priced.row priced.is_dealer)
-        (said_alike config own one.facts other.facts facts priced.moment priced.message
-        priced.priced dealer
-        (verdicts_alike config config.date priced.row
+        (said_alike config own one.facts priced.moment priced.priced priced.message
+        (dealer_of priced.firm priced.row)
+        (sym (verdicts_alike config config.date priced.row
         (book_by (of_dealer priced.firm one.facts)) priced.moment
         (book_bears config one stood priced.firm) prices.fields prices.others prices.fields_are
         priced.message priced.priced (reads priced.message prices.fields prices.one_is)
-        (reads priced.priced prices.others prices.other_is)
-        ∙ ap unpriced_verdict
-        (one_verdict config own one.facts other.facts facts priced.moment priced.priced dealer))
-        (rw (priced.is_another) refl)))
+        (reads priced.priced prices.others prices.other_is)))
+        (rw (priced.is_another))))
+        (message_alike config own other.facts priced.firm priced.moment priced.priced) facts
 
     -- Steps.
 
@@ -163,13 +166,17 @@ module _ (config : Configuration) (own : ℕ) where
     unfolding after_step
     step_same one other (step.In firm moment bytes) before =
         after_effects (actor.Firm firm) one other _ _ before
-        (message_alike config own one.facts other.facts before.facts_are firm moment bytes)
+        (through (λ l. message_effect config l firm moment bytes) one.facts other.facts
+        (message_alike config own one.facts firm moment bytes)
+        (message_alike config own other.facts firm moment bytes) before.facts_are)
     step_same one other (step.Turn by) before =
         turns_same by one other (pending by one) (pending by other) before
         (pending_same by one other before)
     step_same one other (step.Expire room moment) before =
         after_effects actor.Clock one other _ _ before
-        (sweep_alike config own one.facts other.facts before.facts_are room moment)
+        (through (λ l. sweep_effect config l room moment) one.facts other.facts
+        (sweep_alike config own one.facts room moment)
+        (sweep_alike config own other.facts room moment) before.facts_are)
 
     either_step : (one other : AuditTrail) (more later : Step) → VenueOk config one
         → AreDays own one other → (more ≡ later) ⊎ IsPricedByAnother config own more later

@@ -2,7 +2,7 @@
 -- no line of the session checks tells them apart.
 use Rattle.std.proofs.Common.{◌≡◌, ℕ, ◌==◌, Bool, true, false, nat_lt, List, [], ◌∷◌, map, length}
 use Rattle.std.proofs.Common.{Option, Some, None, count_by, refl, sym, ap, ◌∙◌, arith}
-use Rattle.std.proofs.Common.{if◌then◌else◌, Ok, ◌⊎◌, inl, inr, subst}
+use Rattle.std.proofs.Common.{if◌then◌else◌, Ok, ◌⊎◌, inl, inr}
 use Rattle.std.specs.List.{AllZip}
 use Rattle.std.proofs.lemmas.Bool.Decides.{nat_tests}
 use Rattle.bond_prices.specs.Price.{price_of}
@@ -14,11 +14,10 @@ use Rattle.quote_messages.specs.SessionLines.{required_where, required, optional
 use Rattle.quote_messages.specs.SessionLines.{has_number}
 use Rattle.quote_messages.specs.SessionChecks.{header_lines, quote_lines, cancel_lines}
 use Rattle.quote_messages.specs.SessionChecks.{decline_lines}
-use Rattle.quote_messages.specs.declared.session_faults.SessionRejectReason.{SessionRejectReason}
 use Rattle.quote_messages.specs.declared.session_faults.SessionRejectReason.TheVariants as reason
 use Rattle.step_replay.specs.EachLemmas.{Every}
 use Rattle.venue_laws.specs.PriceAlike.{is_price_tag, IsPriceOf, IsOneOrPriced}
-use Rattle.market_terms.proofs.ErasedLists.{count_erased}
+use Rattle.market_terms.proofs.ErasedLists.{count_map}
 
 -- two values of a price's tag are lawful prices
 pub record ArePrices (bond : Option BondRow) (tag : ℕ) (one other : Option (List ℕ))
@@ -49,11 +48,9 @@ module _ (bond : Option BondRow) where
   pub times_same : (one other : List Field) → AllZip (IsOneOrPriced bond) one other → (tag : ℕ)
       → times_of tag one ≡ times_of tag other
   times_same one other alike tag =
-      sym (count_erased (λ (field : Field). field.0) (λ (field : Field). field.0 == tag)
-      (λ (t : ℕ). t == tag) (λ field. refl) one)
+      sym (count_map (λ (field : Field). field.0) (λ (t : ℕ). t == tag) one)
       ∙ ap (count_by (λ (t : ℕ). t == tag)) (tags_same one other alike)
-      ∙ count_erased (λ (field : Field). field.0) (λ (field : Field). field.0 == tag)
-      (λ (t : ℕ). t == tag) (λ field. refl) other
+      ∙ count_map (λ (field : Field). field.0) (λ (t : ℕ). t == tag) other
 
   -- Values.
 
@@ -65,26 +62,21 @@ module _ (bond : Option BondRow) where
       → IsOneOrPriced bond x y → AreValues tag rest rest_too
       → AreValues tag (if x.0 == tag then Some x.1 else rest)
       (if y.0 == tag then Some y.1 else rest_too)
-  first_price x y tag rest rest_too (inl same) later =
-      subst (λ (field : Field).
-      AreValues tag (if x.0 == tag then Some x.1 else rest)
-      (if field.0 == tag then Some field.1 else rest_too)) same (by_test (x.0 == tag))
+  first_price x y tag rest rest_too (inl same) later = rw same (by_test (y.0 == tag))
     where
       by_test : (b : Bool)
-          → AreValues tag (if b then Some x.1 else rest) (if b then Some x.1 else rest_too)
+          → AreValues tag (if b then Some y.1 else rest) (if b then Some y.1 else rest_too)
       by_test true = inl refl
       by_test false = later
   first_price x y tag rest rest_too (inr prices) later =
-      subst (λ (t : ℕ).
-      AreValues tag (if x.0 == tag then Some x.1 else rest)
-      (if t == tag then Some y.1 else rest_too)) prices.tag (by_test (x.0 == tag) refl)
+      rw (prices.tag) (by_test (y.0 == tag) refl)
     where
-      by_test : (b : Bool) → (x.0 == tag) ≡ b
+      by_test : (b : Bool) → (y.0 == tag) ≡ b
           → AreValues tag (if b then Some x.1 else rest) (if b then Some y.1 else rest_too)
       by_test true test =
-          let equal : x.0 ≡ tag = grind (arith, nat_tests) in
+          let equal : y.0 ≡ tag = grind (arith, nat_tests) in
           inr (record {
-            is_price = ap is_price_tag (sym equal) ∙ prices.is_price;
+            is_price = ap is_price_tag (sym equal ∙ sym prices.tag) ∙ prices.is_price;
             text = x.1;
             priced = y.1;
             one_is = refl;
@@ -153,19 +145,14 @@ module _ (bond : Option BondRow) (one other : List Field)
       (record { tag = tag; is_required = false; value = APrice }) value repeated)
       ≡ at_tag tag (occurrence_fault date
       (record { tag = tag; is_required = false; value = APrice }) value_too repeated)
-  price_fault_same tag repeated value value_too (inl same) =
-      ap (λ (v : Option (List ℕ)). at_tag tag (occurrence_fault date
-      (record { tag = tag; is_required = false; value = APrice }) v repeated)) same
+  price_fault_same tag repeated value value_too (inl same) = rw same
   price_fault_same tag repeated value value_too (inr prices) =
-      let found = λ (v : Option (List ℕ)). at_tag tag (occurrence_fault date
-      (record { tag = tag; is_required = false; value = APrice }) v repeated) in
-      let fine = λ (f : Option SessionRejectReason).
-      at_tag tag (if repeated then Some reason.TagMoreThanOnce else f) in
-      ap found prices.one_is
-      ∙ ap fine (price_fine date prices.text prices.one_price.price prices.one_price.is_read)
-      ∙ sym (ap fine
-      (price_fine date prices.priced prices.other_price.price prices.other_price.is_read))
-      ∙ sym (ap found prices.other_is)
+      rw (
+        prices.one_is,
+        prices.other_is,
+        price_fine date prices.text prices.one_price.price prices.one_price.is_read,
+        price_fine date prices.priced prices.other_price.price prices.other_price.is_read,
+      )
 
   price_line : (tag : ℕ) → IsSame (optional tag APrice)
   unfolding tag_fault
