@@ -49,9 +49,14 @@ ends_same stay quote (Told request close moment) =
     map_cond unpriced_end (request == quote.request) (end.Closed close) None
 ends_same stay quote fact = refl
 
+any_same : (stay : Bool) (says : DealerFact → Bool)
+    → ((fact : DealerFact) → says (unpriced stay fact) ≡ says fact) → (facts : List DealerFact)
+    → list_any says (map (unpriced stay) facts) ≡ list_any says facts
+any_same stay says same facts = simp (any_map, same)
+
 pub withdrawn_same : (stay : Bool) (quote : ℕ) (facts : List DealerFact)
     → list_any (withdraws quote) (map (unpriced stay) facts) ≡ list_any (withdraws quote) facts
-withdrawn_same stay quote facts = simp (any_map, withdraws_same)
+withdrawn_same stay quote facts = any_same stay (withdraws quote) (withdraws_same stay quote) facts
 
 -- The book.
 
@@ -67,14 +72,22 @@ requests_same : (stay : Bool) (number : ℕ) (facts : List DealerFact)
     → requests_from number (map (unpriced stay) facts) ≡ requests_from number facts
 requests_same stay number [] = refl
 requests_same stay number (Shown ask moment ∷ later) =
-    simp (any_map, declines_same, tells_same, requests_same stay (number + 1) later)
+    rw (
+      any_same stay (declines number) (declines_same stay number) later,
+      any_same stay (tells number) (tells_same stay number) later,
+      requests_same stay (number + 1) later,
+    )
 requests_same stay number (fact ∷ later) = requests_same stay number later
 
 standings_same : (stay : Bool) (facts : List DealerFact)
     → standings (map (unpriced stay) facts) ≡ map unpriced_standing (standings facts)
 standings_same stay [] = refl
 standings_same stay (Quoted quote ∷ later) =
-    simp (any_map, lifted_same, end_same stay quote later, standings_same stay later)
+    rw (
+      any_same stay (finds_lifted quote.number) (lifted_same stay quote.number) later,
+      end_same stay quote later,
+      standings_same stay later,
+    )
 standings_same stay (fact ∷ later) = standings_same stay later
 
 -- the book by the facts without prices is the book without prices

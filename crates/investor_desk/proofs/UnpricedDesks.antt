@@ -62,11 +62,15 @@ close_same number (fact ∷ later) =
     rw (closes_same number fact, close_same number later)
     (or_map unpriced_close (closes number fact) (first_said (closes number) later))
 
+stands_same : (number : ℕ) (shown : ShownOffer) (later : List InvestorFact)
+    → stands_on number (unpriced_shown shown) (map unpriced later) ≡ stands_on number shown later
+stands_same number shown later = simp (any_map, gone_same)
+
 standing_same : (number : ℕ) (facts : List InvestorFact)
     → standing_on number (map unpriced facts) ≡ map unpriced_shown (standing_on number facts)
 standing_same number [] = refl
 standing_same number (Offered shown ∷ later) =
-    simp (any_map, gone_same, standing_same number later)
+    rw (stands_same number shown later, standing_same number later)
     (if_map unpriced_shown (stands_on number shown later) shown (standing_on number later))
 standing_same number (fact ∷ later) = standing_same number later
 

@@ -57,6 +57,11 @@ end_same (fact ∷ facts) =
 pub is_ended_same : (facts : List RoomFact) → is_ended (map unpriced facts) ≡ is_ended facts
 is_ended_same facts = rw (end_same facts) (some_map uncovered_end (end_of facts))
 
+replaced_same : (quote : PostedQuote) (later : List RoomFact)
+    → list_any (takes_out (unpriced_quote quote)) (map unpriced later)
+    ≡ list_any (takes_out quote) later
+replaced_same quote later = simp (any_map, takes_out_same)
+
 if_same : (b : Bool) (quote : PostedQuote) (rest : List PostedQuote)
     → (if b then map unpriced_quote rest else unpriced_quote quote ∷ map unpriced_quote rest)
     ≡ map unpriced_quote (if b then rest else quote ∷ rest)
@@ -67,7 +72,7 @@ pub book_same : (facts : List RoomFact)
     → book_of (map unpriced facts) ≡ map unpriced_quote (book_of facts)
 book_same [] = refl
 book_same (Posted quote ∷ later) =
-    simp (any_map, takes_out_same quote, book_same later)
+    rw (replaced_same quote later, book_same later)
     (if_same (list_any (takes_out quote) later) quote (book_of later))
 book_same (Opened request ∷ later) = book_same later
 book_same (Readied ∷ later) = book_same later
