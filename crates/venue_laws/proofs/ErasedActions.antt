@@ -1,8 +1,7 @@
 -- What an action adds and leaves in a day without prices: what it adds and leaves in the day, but
 -- for prices.
 use Rattle.std.proofs.Common.{◌≡◌, ℕ, ◌==◌, Bool, true, false, ◌&&◌, List, [], map, filter_map}
-use Rattle.std.proofs.Common.{Option, Some, None, is_some, refl, sym, ap, ◌∙◌, if◌then◌else◌}
-use Rattle.std.specs.Option.{option_to_list}
+use Rattle.std.proofs.Common.{Option, Some, None, is_some, refl, ap, ◌∙◌, if◌then◌else◌}
 use Rattle.market_terms.specs.Unpriced.{uncovered, unpriced_duty}
 use Rattle.market_terms.specs.declared.asks.Ask.{Ask}
 use Rattle.market_terms.specs.declared.closes.Close.{Close}
@@ -17,7 +16,6 @@ use Rattle.dealer_desk.specs.declared.events.DealerEvent.{DealerEvent}
 use Rattle.dealer_desk.specs.declared.events.DealerEvent.TheVariants as at_desk
 use Rattle.dealer_desk.proofs.UnpricedVerdicts.{closable_same, kept_same as kept_at_dealer}
 use Rattle.investor_desk.specs.InvestorFacts.{InvestorBook, knows}
-use Rattle.investor_desk.specs.InvestorOutput.{event_facts as added_at_investor}
 use Rattle.investor_desk.specs.InvestorRules.{InvestorMarket}
 use Rattle.investor_desk.specs.Unpriced.{unpriced as unpriced_at_investor}
 use Rattle.investor_desk.specs.Unpriced.{unpriced_event as unpriced_to_investor}
@@ -29,8 +27,7 @@ use Rattle.request_room.specs.Unpriced.{unpriced as unpriced_in_room}
 use Rattle.request_room.specs.Unpriced.{unpriced_event as unpriced_to_room}
 use Rattle.request_room.specs.declared.events.RoomEvent.{RoomEvent}
 use Rattle.request_room.proofs.UnpricedRooms.{kept_same as kept_in_room}
-use Rattle.step_replay.specs.DealerTrail.{DealerEntry, AtDesk, Sent, ShownIn, book_by, entries_of}
-use Rattle.step_replay.specs.DealerTrail.{rooms_by}
+use Rattle.step_replay.specs.DealerTrail.{DealerEntry, AtDesk, Sent, book_by, entries_of, rooms_by}
 use Rattle.step_replay.specs.InvestorTrail as investor_trail
 use Rattle.step_replay.specs.InvestorTrail.{AtDesk as AtInvestorsDesk, Sent as SentToInvestor}
 use Rattle.step_replay.specs.VenueFacts.{Fact, AtDealer, InRoom, AtInvestor, of_dealer, of_investor}
@@ -39,7 +36,8 @@ use Rattle.step_replay.specs.Actions.{Effect, Dealer, at_dealer, at_market, done
 use Rattle.step_replay.specs.Actions.{in_room, nothing, shown_to, told_of, told_to, where_known}
 use Rattle.venue_laws.proofs.Erasing.{bare, book_left, erase, erase_entry, erase_investor_entry}
 use Rattle.venue_laws.proofs.Erasing.{investor_book_left, left, room_left, rooms_left}
-use Rattle.venue_laws.proofs.ErasedLists.{all_along, at_along, filter_along, left_none}
+use Rattle.std.proofs.lemmas.List.Elements.{filter_map-append}
+use Rattle.venue_laws.proofs.ErasedLists.{all_along, left_all, left_at, left_none}
 
 -- two actions add and leave the same, but for what is erased
 pub record AreAlike (own : ℕ) (one other : Effect) : Type 0 where
@@ -88,13 +86,13 @@ pub entries_alike : (stay : Bool) (config : Configuration) (dealer : Dealer)
     ≡ filter_map (erase_entry stay) (entries_of config.date dealer.row other later)
 unfolding entries_of
 entries_alike stay config dealer one other more later kept rooms =
-    filter_along (erase_entry stay) _ _ _ _
-    (filter_along (erase_entry stay) _ _ _ _
-    (all_along (erase_entry stay) AtDesk (unpriced_at_dealer stay) (λ fact. refl) _ _ kept)
-    (ap (λ (r : Option RoomRef). filter_map (erase_entry stay) (map ShownIn (option_to_list r)))
-    rooms))
-    (left_none (erase_entry stay) Sent (λ message. refl) _
-    ∙ sym (left_none (erase_entry stay) Sent (λ message. refl) _))
+    simp (
+      filter_map-append,
+      left_all (erase_entry stay) AtDesk (unpriced_at_dealer stay) (λ fact. refl),
+      left_none (erase_entry stay) Sent (λ message. refl),
+      kept,
+      rooms,
+    )
 
 module _ (config : Configuration) (own : ℕ) (facts : List Fact) where
   -- the facts without prices
@@ -114,11 +112,14 @@ module _ (config : Configuration) (own : ℕ) (facts : List Fact) where
       → AreAlike own (at_dealer config known dealer more duties)
       (at_dealer config facts dealer later duties_too)
   desk_alike dealer more later duties duties_too kept rooms same =
-      both_alike own _ _
-      (at_along (erase own) (AtDealer dealer.number) (erase_entry (dealer.number == own))
-      (λ entry. refl) _ _
-      (entries_alike (dealer.number == own) config dealer (of_dealer dealer.number known)
-      (of_dealer dealer.number facts) more later kept rooms)) same
+      both_alike own (at_dealer config known dealer more duties)
+      (at_dealer config facts dealer later duties_too)
+      (simp (
+        left_at (erase own) (AtDealer dealer.number) (erase_entry (dealer.number == own))
+            (λ entry. refl),
+        entries_alike (dealer.number == own) config dealer (of_dealer dealer.number known)
+            (of_dealer dealer.number facts) more later kept rooms,
+      )) same
 
   pub kept_alike : (dealer : Dealer) (more : DealerEvent)
       → map (unpriced_at_dealer (dealer.number == own)) (event_facts config.date dealer.row
@@ -191,16 +192,16 @@ module _ (config : Configuration) (own : ℕ) (facts : List Fact) where
       (at_market facts market more duties_too)
   unfolding investor_trail.entries_of
   investor_alike market more duties duties_too same =
-      both_alike own _ _
-      (at_along (erase own) (AtInvestor market.firm) erase_investor_entry (λ entry. refl) _ _
-      (filter_along erase_investor_entry _ _ _ _
-      (all_along erase_investor_entry AtInvestorsDesk unpriced_at_investor (λ fact. refl) _ _
-      (ap (λ (b : InvestorBook).
-      map unpriced_at_investor (added_at_investor market b (unpriced_to_investor more)))
-      (investor_book_left own facts market.firm)
-      ∙ kept_at_investor market (investor_trail.book_by (of_investor market.firm facts)) more))
-      (left_none erase_investor_entry SentToInvestor (λ message. refl) _
-      ∙ sym (left_none erase_investor_entry SentToInvestor (λ message. refl) _)))) same
+      both_alike own (at_market known market (unpriced_to_investor more) duties)
+      (at_market facts market more duties_too)
+      (simp (
+        left_at (erase own) (AtInvestor market.firm) erase_investor_entry (λ entry. refl),
+        filter_map-append,
+        left_all erase_investor_entry AtInvestorsDesk unpriced_at_investor (λ fact. refl),
+        left_none erase_investor_entry SentToInvestor (λ message. refl),
+        investor_book_left own facts market.firm,
+        kept_at_investor market (investor_trail.book_by (of_investor market.firm facts)) more,
+      )) same
 
   -- where an investor knows a request
   pub known_alike : (request : ℕ) (quote : Option ℕ) (more : InvestorEvent)

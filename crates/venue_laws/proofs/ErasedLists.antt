@@ -54,23 +54,24 @@ pub filter_along : {X Y : Type 0} (e : X → Option Y) (xs ys xs' ys' : List X)
 filter_along e xs ys xs' ys' first second =
     rw (filter_map-append e xs ys, filter_map-append e xs' ys', first, second)
 
--- items at a place, where the same is left of both
-pub at_along : {X Y : Type 0} (e : Y → Option Y) (k : X → Y) (u : X → Option X)
-    → ((x : X) → e (k x) ≡ option_map k (u x)) → (xs ys : List X)
-    → filter_map u xs ≡ filter_map u ys → filter_map e (map k xs) ≡ filter_map e (map k ys)
-at_along e k u same xs ys alike =
-    simp (filter_fuse, same, ← map_fuse) (ap (map k) alike)
+-- items at a place
+pub left_at : {X Y : Type 0} (e : Y → Option Y) (k : X → Y) (u : X → Option X)
+    → ((x : X) → e (k x) ≡ option_map k (u x)) → (xs : List X)
+    → filter_map e (map k xs) ≡ map k (filter_map u xs)
+left_at e k u same xs = simp (filter_fuse, map_fuse, same)
 
--- the same where each is left, without what is erased
+-- each is left, without what is erased
+pub left_all : {X Y : Type 0} (e : Y → Option Y) (k : X → Y) (u : X → X)
+    → ((x : X) → e (k x) ≡ Some (k (u x))) → (xs : List X)
+    → filter_map e (map k xs) ≡ map k (map u xs)
+left_all e k u same [] = refl
+left_all e k u same (x ∷ xs) = rw (same x, left_all e k u same xs)
+
 pub all_along : {X Y : Type 0} (e : Y → Option Y) (k : X → Y) (u : X → X)
     → ((x : X) → e (k x) ≡ Some (k (u x))) → (xs ys : List X)
     → map u xs ≡ map u ys → filter_map e (map k xs) ≡ filter_map e (map k ys)
 all_along e k u same xs ys alike =
-    left xs ∙ ap (map k) alike ∙ sym (left ys)
-  where
-    left : (l : List _) → filter_map e (map k l) ≡ map k (map u l)
-    left [] = refl
-    left (x ∷ l) = rw (same x, left l)
+    left_all e k u same xs ∙ ap (map k) alike ∙ sym (left_all e k u same ys)
 
 pub left_none : {X Y : Type 0} (e : Y → Option Y) (k : X → Y) → ((x : X) → e (k x) ≡ None)
     → (xs : List X) → filter_map e (map k xs) ≡ []

@@ -8,14 +8,12 @@ use Rattle.std.proofs.lemmas.Bool.Decides.{nat_tests}
 use Rattle.bond_prices.specs.Price.{price_of}
 use Rattle.fix_fields.specs.Frame.{Field, value_of, times_of}
 use Rattle.venue_rows.specs.declared.bond_rows.BondRow.{BondRow}
-use Rattle.quote_messages.specs.ValueForms.{ValueRule, APrice, value_fault}
-use Rattle.quote_messages.specs.SessionLines.{Line, occurrence_fault, at_tag, tag_fault}
-use Rattle.quote_messages.specs.SessionLines.{required_where, required, optional, first_fault}
-use Rattle.quote_messages.specs.SessionLines.{has_number}
+use Rattle.quote_messages.specs.ValueForms.{APrice, value_fault}
+use Rattle.quote_messages.specs.SessionLines.{occurrence_fault, at_tag, tag_fault, optional}
+use Rattle.quote_messages.specs.SessionLines.{first_fault}
 use Rattle.quote_messages.specs.SessionChecks.{header_lines, quote_lines, cancel_lines}
 use Rattle.quote_messages.specs.SessionChecks.{decline_lines}
 use Rattle.quote_messages.specs.declared.session_faults.SessionRejectReason.TheVariants as reason
-use Rattle.step_replay.specs.EachLemmas.{Every}
 use Rattle.venue_laws.specs.PriceAlike.{is_price_tag, IsPriceOf, IsOneOrPriced}
 use Rattle.market_terms.proofs.ErasedLists.{count_map}
 
@@ -118,26 +116,6 @@ price_fine date (c ∷ text) price is =
 
 module _ (bond : Option BondRow) (one other : List Field)
     (alike : AllZip (IsOneOrPriced bond) one other) (date : List ℕ) where
-  -- a line that both keep or both do not keep
-  abbrev pub IsSame : Line → Type 0
-  IsSame line = line date one ≡ line date other
-
-  line_where : (is_required : List Field → Bool) (tag : ℕ) (rule : ValueRule)
-      → is_price_tag tag ≡ false → is_required one ≡ is_required other
-      → IsSame (required_where is_required tag rule)
-  line_where is_required tag rule is_none same =
-      rw (same, value_same bond one other alike tag is_none, times_same bond one other alike tag) refl
-
-  line : (tag : ℕ) (rule : ValueRule) → is_price_tag tag ≡ false → IsSame (required tag rule)
-  line tag rule is_none = line_where (λ fields. true) tag rule is_none refl
-
-  line_if : (tag : ℕ) (rule : ValueRule) → is_price_tag tag ≡ false → IsSame (optional tag rule)
-  line_if tag rule is_none = line_where (λ fields. false) tag rule is_none refl
-
-  number_same : (tag n : ℕ) → is_price_tag tag ≡ false
-      → has_number tag n one ≡ has_number tag n other
-  number_same tag n is_none = rw (value_same bond one other alike tag is_none) refl
-
   -- the fault of a price that stands so
   price_fault_same : (tag : ℕ) (repeated : Bool) (value value_too : Option (List ℕ))
       → AreValues bond tag value value_too
@@ -154,7 +132,7 @@ module _ (bond : Option BondRow) (one other : List Field)
         price_fine date prices.priced prices.other_price.price prices.other_price.is_read,
       )
 
-  price_line : (tag : ℕ) → IsSame (optional tag APrice)
+  price_line : (tag : ℕ) → optional tag APrice date one ≡ optional tag APrice date other
   unfolding tag_fault
   price_line tag =
       rw (times_same bond one other alike tag)
@@ -163,35 +141,19 @@ module _ (bond : Option BondRow) (one other : List Field)
 
   -- Tables.
 
-  pub faults_same : (lines : List Line) → Every IsSame lines
-      → first_fault lines date one ≡ first_fault lines date other
-  faults_same [] same = refl
-  faults_same (line ∷ lines) same =
-      rw (same.0, faults_same lines same.1) refl
-
-  -- a line more
-  also : {line : Line} {lines : List Line} → IsSame line → Every IsSame lines
-      → Every IsSame (line ∷ lines)
-  also first later = (first, later)
-
   pub header_same : (name : List ℕ) (traders types : List (List ℕ))
       → first_fault (header_lines name traders types) date one
       ≡ first_fault (header_lines name traders types) date other
   header_same name traders types =
-      faults_same (header_lines name traders types) (also (line 49 _ refl) (also (line 56 _ refl)
-      (also (line 52 _ refl) (also (line 50 _ refl) (also (line 35 _ refl) tt)))))
+      simp (times_same bond one other alike, value_same bond one other alike)
 
   pub quote_same : first_fault quote_lines date one ≡ first_fault quote_lines date other
   quote_same =
-      faults_same quote_lines (also (line 117 _ refl) (also (line 131 _ refl)
-      (also (line 48 _ refl) (also (line 22 _ refl) (also (price_line 132)
-      (also (price_line 133) (also (line_if 134 _ refl) (also (line_if 135 _ refl)
-      (also (line_if 537 _ refl) (also (line_if 62 _ refl) tt))))))))))
+      rw (price_line 132, price_line 133)
+      (simp (times_same bond one other alike, value_same bond one other alike))
 
   pub cancel_same : first_fault cancel_lines date one ≡ first_fault cancel_lines date other
-  cancel_same =
-      faults_same cancel_lines
-      (line 298 _ refl, (line_where (has_number 298 5) 117 _ refl (number_same 298 5 refl), tt))
+  cancel_same = simp (times_same bond one other alike, value_same bond one other alike)
 
   pub decline_same : first_fault decline_lines date one ≡ first_fault decline_lines date other
-  decline_same = faults_same decline_lines (line 131 _ refl, (line 658 _ refl, tt))
+  decline_same = simp (times_same bond one other alike, value_same bond one other alike)

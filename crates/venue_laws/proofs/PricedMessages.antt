@@ -2,7 +2,7 @@
 -- the price.
 use Rattle.std.proofs.Common.{◌≡◌, ℕ, ◌==◌, Bool, true, false, List, drop, Option, Some, None}
 use Rattle.std.proofs.Common.{option_and_then, unwrap_or, codes, refl, sym, ap, ◌∙◌, subst}
-use Rattle.std.proofs.Common.{if◌then◌else◌, Result, Ok, nat_lt, []}
+use Rattle.std.proofs.Common.{if◌then◌else◌, Result, Ok, Err, nat_lt, []}
 use Rattle.std.specs.List.{AllZip}
 use Rattle.std.specs.Str.Parse.{digits_value}
 use Rattle.fix_fields.specs.Frame.{Field, frame_of, value_of, times_of}
@@ -74,16 +74,7 @@ module _ (config : Configuration) (date : List ℕ) (row : DealerRow) (book : De
   quote_is : quote_of date other
       ≡ priced (quote_of date one) (value_of 132 other) (value_of 133 other)
   quote_is =
-      rw (
-        same_value 50 refl,
-        same_value 117 refl,
-        same_value 131 refl,
-        same_value 48 refl,
-        same_value 134 refl,
-        same_value 135 refl,
-        same_value 537 refl,
-        same_value 62 refl,
-      )
+      simp same_value
 
   quote_one : first_fault quote_lines date one ≡ None
       → judged (Taken (message.Quote (quote_of date one)))
@@ -119,12 +110,7 @@ module _ (config : Configuration) (date : List ℕ) (row : DealerRow) (book : De
       rw (
         cancel_same (bond_meant config one) one other alike date,
         decline_same (bond_meant config one) one other alike date,
-        same_value 35 refl,
-        same_value 50 refl,
-        same_value 298 refl,
-        same_value 117 refl,
-        same_value 131 refl,
-      )
+      ) (simp same_value)
 
   sequence_same : sequence_number one ≡ sequence_number other
   sequence_same =
@@ -135,7 +121,7 @@ module _ (config : Configuration) (date : List ℕ) (row : DealerRow) (book : De
       (is_quote : Bool) (fault : Option SessionFault) (v w : DealerMessage)
       (later : Result DealerMessage SessionFault)
       → (fault ≡ None → judged (Taken v) ≡ judged (Taken w))
-      → judged (numbered expected other number
+      → judged (numbered expected one number
       (unless_fault header (if is_quote then unless_fault fault (Ok v) else later)))
       ≡ judged (numbered expected other number
       (unless_fault header (if is_quote then unless_fault fault (Ok w) else later)))
@@ -143,18 +129,23 @@ module _ (config : Configuration) (date : List ℕ) (row : DealerRow) (book : De
   quotes_one expected (Some number) header is_quote fault v w later same =
       by_test (digits_value 10 number == expected) header is_quote fault same
     where
+      taken : (said : Result DealerMessage SessionFault)
+          → judged (in_sequence one number said) ≡ judged (in_sequence other number said)
+      taken (Ok message) = refl
+      taken (Err fault) = rw (same_value 35 refl)
+
       by_test : (b : Bool) (h : Option SessionFault) (q : Bool) (f : Option SessionFault)
           → (f ≡ None → judged (Taken v) ≡ judged (Taken w))
-          → judged (if b then in_sequence other number
+          → judged (if b then in_sequence one number
           (unless_fault h (if q then unless_fault f (Ok v) else later))
-          else OutOfSequence (reject_of other number out_of_sequence))
+          else OutOfSequence (reject_of one number out_of_sequence))
           ≡ judged (if b then in_sequence other number
           (unless_fault h (if q then unless_fault f (Ok w) else later))
           else OutOfSequence (reject_of other number out_of_sequence))
-      by_test false h q f same = refl
-      by_test true (Some fault) q f same = refl
-      by_test true None false f same = refl
-      by_test true None true (Some fault) same = refl
+      by_test false h q f same = rw (same_value 35 refl)
+      by_test true (Some fault) q f same = taken (Err fault)
+      by_test true None false f same = taken later
+      by_test true None true (Some fault) same = taken (Err fault)
       by_test true None true None same = same refl
 
   arrivals_one : (expected : ℕ)
