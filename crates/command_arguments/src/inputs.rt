@@ -139,8 +139,9 @@ With --woven the actions of all threads are put into one list of steps, in an or
 stands behind those that came before it, and the list is replayed. Where it sends every firm the
 same messages, `woven N` is printed behind them, N the number of the steps.
 
-A day whose record does not agree with what came is a fault of the venue: `day: Inbox`, `day: Told`
-or `day: Sweep`; one that is not woven is `weave: Malformed`, `weave: Cycle` or `weave: Differs`.
+A day whose record does not agree with what came is a fault of the venue: `day: Inbox`, `day: Told`,
+`day: Sweep`, `day: Shown`, `day: Relayed` or `day: Answered`; one that is not woven is
+`weave: Malformed`, `weave: Cycle` or `weave: Differs`.
 
 Example: of the configuration and the first step in the help of `replay`, `day --woven` prints
   DLR1 1 09:00:00.000 R 131=R1|146=1|55=[N/A]|48=BONDA0000001|22=4|54=1|38=2000000|126=20250314-09:05:00.000|453=1|448=INV1|447=D|452=13

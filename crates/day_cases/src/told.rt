@@ -58,6 +58,8 @@ fn unkept_day(name: &str) -> Result<UnkeptDay, CaseFault> {
         "Told" => Ok(UnkeptDay::Told),
         "Sweep" => Ok(UnkeptDay::Sweep),
         "Shown" => Ok(UnkeptDay::Shown),
+        "Relayed" => Ok(UnkeptDay::Relayed),
+        "Answered" => Ok(UnkeptDay::Answered),
         _ => Err(CaseFault::Form),
     }
 }

@@ -20,6 +20,8 @@ mod TableClosing
 mod TableGrowth
 mod TableLemmas
 mod TableReads
+pub mod UnpricedBooks
+pub mod UnpricedVerdicts
 mod VerdictLemmas
 mod WordEvents
 mod WordLemmas

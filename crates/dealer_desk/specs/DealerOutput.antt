@@ -1,10 +1,11 @@
 -- What a dealer is sent, as a function of its row and of the events at its desk, and what its
 -- messages leave to be done in the rooms of its requests.
-use Rattle.std.specs.Prelude.{ℕ, ◌+◌, ◌-◌, Bool, true, false, ◌&&◌, ◌==◌, List, [], ◌∷◌, ◌++◌}
-use Rattle.std.specs.Prelude.{length, slice_get, Option, Some, None, is_some, fold, if◌then◌else◌}
+use Rattle.std.specs.Prelude.{ℕ, ◌+◌, ◌-◌, Bool, true, false, List, [], ◌∷◌, ◌++◌, length}
+use Rattle.std.specs.Prelude.{slice_get, Option, Some, None, is_some, fold, if◌then◌else◌}
 use Rattle.std.specs.List.{filter_map}
 use Rattle.std.specs.Option.{option_map}
 use Rattle.quote_messages.specs.Written.{written}
+pub use Rattle.market_terms.specs.Rooms.{is_same_room}
 use Rattle.market_terms.specs.declared.asks.Ask.{Ask}
 use Rattle.market_terms.specs.declared.closes.Close.{Close}
 use Rattle.market_terms.specs.declared.rooms.RoomRef.{RoomRef}
@@ -216,10 +217,6 @@ shown_room other = None
 -- the rooms of the requests that were shown, in the order of their numbers
 abbrev pub rooms_of : List DealerEvent → List RoomRef
 rooms_of events = filter_map shown_room events
-
--- whether two rooms are one: that of the same request of the same investor
-abbrev pub is_same_room : RoomRef → RoomRef → Bool
-is_same_room one other = (one.investor == other.investor) && (one.n == other.n)
 
 -- the room of the request with this number, from 1
 abbrev pub room_of : List RoomRef → ℕ → Option RoomRef

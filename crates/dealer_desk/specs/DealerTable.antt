@@ -1,7 +1,7 @@
 -- What the index of a desk keeps beside the requests and the quotes of its book. Only private
 -- functions and invariants say this.
-use Rattle.std.specs.Prelude.{◌≡◌, ◌≤◌, ◌<◌, ℕ, ◌+◌, ◌-◌, ◌*◌, ◌%◌, ◌^◌, Option, Some}
-use Rattle.std.specs.Prelude.{List, [], ◌∷◌, ◌++◌, length, map, fold, find, slice_get}
+use Rattle.std.specs.Prelude.{◌≡◌, ◌≤◌, ◌<◌, ℕ, ◌+◌, ◌-◌, ◌*◌, ◌%◌, ◌^◌, Option, Some, List, []}
+use Rattle.std.specs.Prelude.{◌∷◌, ◌++◌, length, map, fold, find, slice_get}
 use Rattle.std.specs.List.{list_any, sum_by, position_or_len}
 use Rattle.std.specs.Option.{option_map}
 use Rattle.std.specs.BTreeMap.{BTreeMap, get}
@@ -9,8 +9,8 @@ use Rattle.std.specs.Cmp.Lexicographic.{slice_cmp}
 use Rattle.std.specs.Ordering.{nat_cmp, ordering_then}
 use Rattle.std.specs.declared.cmp.Ordering.{Ordering}
 use Rattle.venue_rows.specs.Texts.{same_text}
-use Rattle.venue_rows.specs.declared.dealer_rows.TheConstants.DealerRow.{MOST_QUOTES}
-use Rattle.venue_rows.specs.declared.dealer_rows.TheConstants.DealerRow.{MOST_EXPOSURE}
+use Rattle.venue_rows.specs.declared.dealer_rows.TheConstants.DealerRow.{MOST_QUOTES, MOST_EXPOSURE}
+pub use Rattle.market_terms.specs.Rooms.{room_cmp}
 use Rattle.market_terms.specs.declared.lines.QuoteLine.{QuoteLine}
 use Rattle.market_terms.specs.declared.rooms.RoomRef.{RoomRef}
 use Rattle.dealer_desk.specs.DealerFacts.{DealerFact, DealerBook, is_live_on, is_lifted_on}
@@ -56,10 +56,6 @@ abbrev pub IsSoundTable : Table → Type 0
 IsSoundTable table =
     IsTable table.rows.items table.quotes.items table.lines.items table.exposure
     table.first_droppable
-
--- how rooms are ordered
-abbrev pub room_cmp : RoomRef → RoomRef → Ordering
-room_cmp one other = ordering_then (nat_cmp one.investor other.investor) (nat_cmp one.n other.n)
 
 -- the number of a text's last eight characters, with a character more
 abbrev pub tail_with : ℕ → ℕ → ℕ

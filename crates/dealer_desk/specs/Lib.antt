@@ -8,3 +8,4 @@ pub mod DeskLaws
 pub mod QuoteLines
 pub mod RuleCuts
 pub mod SettledWords
+pub mod Unpriced

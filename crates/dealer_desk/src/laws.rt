@@ -1,6 +1,6 @@
 //! Laws over the definitions of a desk, each the contract of a function that does nothing.
 ghost use Rattle.std.specs.Prelude.{◌≡◌, ◌≤◌, ℕ, true, List, [], ◌∷◌, ◌++◌, Option, None, is_some};
-ghost use Rattle.std.specs.Prelude.{IfSome, length, filter, All};
+ghost use Rattle.std.specs.Prelude.{Bool, IfSome, length, filter, map, All};
 ghost use Rattle.venue_rows.specs.declared.dealer_rows.DealerRow.{DealerRow};
 ghost use Rattle.quote_word.specs.declared.settled.Settled.{Settled};
 ghost use Rattle.dealer_desk.specs.declared.events.DealerEvent.{DealerEvent};
@@ -15,6 +15,7 @@ ghost use Rattle.dealer_desk.specs.DealerOutput.{verdict_duty, unpost_dropped};
 ghost use Rattle.dealer_desk.specs.SettledWords.{settled_words, asked_by};
 ghost use Rattle.dealer_desk.specs.DeskLaws.{IsOfDay, request_meant, says_lifted, says_withdrawn};
 ghost use Rattle.dealer_desk.specs.DeskLaws.{withdraws};
+ghost use Rattle.dealer_desk.specs.Unpriced.{unpriced, unpriced_book, unpriced_event};
 ghost use Rattle.std.specs.List.{list_any};
 
 /// The facts after one event more are those before it, and behind them what this event adds: a
@@ -113,4 +114,20 @@ pub fn quotes_stand_as_their_words_were_settled()
         → All (λ own. own.is_known_lifted
         ≡ list_any (says_lifted own.quote.number) (settled_words (facts_at desk)))
         (book_at desk).quotes }
+{}
+
+/// No verdict asks a price, or who was the cover. At a desk without prices, and without Cover
+/// (694=4) told from Done Away (694=5), each message gets the verdict that it gets at the desk, and
+/// each event adds what it adds there, but for prices and covers.
+pub fn no_verdict_asks_a_price()
+    ensures verdicts { (book : DealerBook) (date : List ℕ) (row : DealerRow) (moment : ℕ)
+        (bytes : List ℕ) → dealer_verdict date row (unpriced_book book) moment bytes
+        ≡ dealer_verdict date row book moment bytes }
+    ensures kept { (date : List ℕ) (row : DealerRow) (bytes_stay : Bool) (book : DealerBook)
+        (more : DealerEvent)
+        → map (unpriced bytes_stay)
+        (event_facts date row (unpriced_book book) (unpriced_event more))
+        ≡ map (unpriced bytes_stay) (event_facts date row book more) }
+    ensures books { (bytes_stay : Bool) (facts : List DealerFact)
+        → book_of (map (unpriced bytes_stay) facts) ≡ unpriced_book (book_of facts) }
 {}

@@ -78,8 +78,9 @@ pub use desks::DealerDesk;
 pub use events::DealerEvent;
 pub use laws::{
     a_settlement_unasked_changes_nothing, facts_after_one_event_more,
-    facts_say_how_words_were_settled, limits_are_kept, quotes_stand_as_their_words_were_settled,
-    what_is_asked_is_of_the_day, what_is_left_is_of_the_day, words_are_asked_event_by_event,
+    facts_say_how_words_were_settled, limits_are_kept, no_verdict_asks_a_price,
+    quotes_stand_as_their_words_were_settled, what_is_asked_is_of_the_day,
+    what_is_left_is_of_the_day, words_are_asked_event_by_event,
 };
 pub use standing::{QuoteEnd, StandingQuote, StandingRequest, Withdrawal};
 pub use verdicts::DealerVerdict;

@@ -17,6 +17,8 @@ unkept_name unkept.Inbox = codes "Inbox"
 unkept_name unkept.Told = codes "Told"
 unkept_name unkept.Sweep = codes "Sweep"
 unkept_name unkept.Shown = codes "Shown"
+unkept_name unkept.Relayed = codes "Relayed"
+unkept_name unkept.Answered = codes "Answered"
 
 -- why a day on threads is not woven into steps, by its name
 abbrev pub unwoven_name : UnwovenDay → List ℕ

@@ -21,6 +21,10 @@ pub enum UnkeptDay {
     Sweep,
     /// A dealer was not shown the requests that name it.
     Shown,
+    /// The quotes that came to an investor are not those that were posted for its request.
+    Relayed,
+    /// The replies that came to an investor are not those of the room of its request.
+    Answered,
 }
 
 impl UnkeptDay {
@@ -34,6 +38,8 @@ impl UnkeptDay {
             UnkeptDay::Told => "Told",
             UnkeptDay::Sweep => "Sweep",
             UnkeptDay::Shown => "Shown",
+            UnkeptDay::Relayed => "Relayed",
+            UnkeptDay::Answered => "Answered",
         }
     }
 }

@@ -8,5 +8,6 @@ mod ListLemmas
 mod OutcomeLemmas
 mod ReaderLemmas
 mod StandLemmas
+pub mod UnpricedDesks
 mod VerdictLemmas
 mod WriteLemmas

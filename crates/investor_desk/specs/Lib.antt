@@ -7,3 +7,4 @@ pub mod InvestorRules
 pub mod InvestorTable
 pub mod RequestLines
 pub mod RuleCuts
+pub mod Unpriced

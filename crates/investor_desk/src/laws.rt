@@ -1,13 +1,15 @@
 //! Laws over the definitions of a desk, each the contract of a function that does nothing.
-ghost use Rattle.std.specs.Prelude.{◌≡◌, ◌≤◌, ℕ, List, [], ◌∷◌, ◌++◌, IfSome};
+ghost use Rattle.std.specs.Prelude.{◌≡◌, ◌≤◌, ℕ, List, [], ◌∷◌, ◌++◌, map, IfSome, Option};
 ghost use Rattle.investor_desk.specs.declared.events.InvestorEvent.{InvestorEvent};
-ghost use Rattle.investor_desk.specs.InvestorFacts.{book_of, requests_accepted, requests_open};
-ghost use Rattle.investor_desk.specs.InvestorRules.{InvestorMarket};
+ghost use Rattle.investor_desk.specs.InvestorFacts.{InvestorBook, InvestorFact, book_of, knows};
+ghost use Rattle.investor_desk.specs.InvestorFacts.{requests_accepted, requests_open};
+ghost use Rattle.investor_desk.specs.InvestorRules.{InvestorMarket, investor_verdict};
 ghost use Rattle.investor_desk.specs.InvestorDesk.{DeskEvents, verdict_at};
 ghost use Rattle.investor_desk.specs.InvestorOutput.{desk_after, event_facts, event_messages};
 ghost use Rattle.investor_desk.specs.InvestorOutput.{investor_output, moment_of, sent_with};
 ghost use Rattle.investor_desk.specs.InvestorOutput.{verdict_duty};
 ghost use Rattle.investor_desk.specs.DeskLaws.{IsOfDay};
+ghost use Rattle.investor_desk.specs.Unpriced.{unpriced, unpriced_book, unpriced_event};
 
 /// The facts after one event more are those before it, and behind them what this event adds: a
 /// function of the book as it stood. So are the messages.
@@ -38,4 +40,20 @@ pub fn what_is_left_is_of_the_day()
     ensures { (desk : DeskEvents) (moment : ℕ) (bytes : List ℕ)
         → IfSome (verdict_duty desk.market moment (verdict_at desk moment bytes))
         (IsOfDay desk.market) }
+{}
+
+/// No verdict asks a price. At a desk without prices each message gets the verdict that it gets at
+/// the desk, the same requests and quotes are known, and each event adds what it adds there, but
+/// for prices.
+pub fn no_verdict_asks_a_price()
+    ensures verdicts { (market : InvestorMarket) (book : InvestorBook) (moment : ℕ)
+        (bytes : List ℕ) → investor_verdict market (unpriced_book book) moment bytes
+        ≡ investor_verdict market book moment bytes }
+    ensures known { (book : InvestorBook) (number : ℕ) (quote : Option ℕ)
+        → knows (unpriced_book book) number quote ≡ knows book number quote }
+    ensures kept { (market : InvestorMarket) (book : InvestorBook) (more : InvestorEvent)
+        → map unpriced (event_facts market (unpriced_book book) (unpriced_event more))
+        ≡ map unpriced (event_facts market book more) }
+    ensures books { (facts : List InvestorFact)
+        → book_of (map unpriced facts) ≡ unpriced_book (book_of facts) }
 {}

@@ -42,6 +42,9 @@ mod verdicts;
 
 pub use desks::InvestorDesk;
 pub use events::{InvestorEvent, KeptResponse};
-pub use laws::{facts_after_one_event_more, limits_are_kept, what_is_left_is_of_the_day};
+pub use laws::{
+    facts_after_one_event_more, limits_are_kept, no_verdict_asks_a_price,
+    what_is_left_is_of_the_day,
+};
 pub use standing::{AcceptedRequest, RequestClose, ShownOffer};
 pub use verdicts::InvestorVerdict;

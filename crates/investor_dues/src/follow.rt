@@ -115,7 +115,8 @@ impl FollowedInvestor {
         Ok(())
     }
 
-    /// A step is done, and then all duties of its actor, one by one until none is left.
+    /// A step is done, and then all duties of its actor, one by one until none is left. It names
+    /// what the venue has: one that does not is refused, as memory is.
     pub fn step_live(
         &mut self,
         alloc: Global,
@@ -124,6 +125,7 @@ impl FollowedInvestor {
     ) -> Result<(), Memory>
         requires { is_some (investor_numbered config.now (firm_followed self.old)) ≡ true }
         ensures firm { OnOk result (firm_followed self.new ≡ firm_followed self.old) }
+        ensures named { OnOk result (fault_of config.now 0 step.now ≡ None) }
         ensures ok { OnOk result ((row : InvestorRow) (steps : List Step)
             → IsFollowed config.now (firm_followed self.old) row steps self.old
             → IsFollowed config.now (firm_followed self.old) row

@@ -120,7 +120,7 @@ module _ (day : SoughtDay) (o o' : Option (List ℕ)) where
         lines = lines;
         rest = [];
         split = sym (append-nil lines);
-        reached = tt;
+        reached = refl;
         left = (
           is.config,
           record {
@@ -212,7 +212,7 @@ module _ (one other : SoughtDay) (o o' : Option (List ℕ)) (text : List ℕ) (c
         lines = lines;
         rest = [];
         split = sym (append-nil lines);
-        reached = tt;
+        reached = refl;
         left = (
           text,
           has_compared whom lines one other text (record { before = start; after = o }) err compares is,

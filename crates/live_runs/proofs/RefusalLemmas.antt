@@ -16,7 +16,7 @@ use Rattle.investor_texts.specs.SoughtDays.{of_investor, sought_of, firms}
 use Rattle.investor_texts.specs.DueCommand.{where_investor}
 use Rattle.venue_text.specs.KeptDays as kept_days
 use Rattle.venue_text.specs.KeptDays.{Wanted, dues, messages}
-use Rattle.venue_text.specs.LiveInput.{configuration_in}
+use Rattle.venue_text.specs.LiveInput.{are_divided, configuration_in}
 use Rattle.input_lines.specs.ResultSteps.{◌>>=◌}
 use Rattle.input_lines.specs.StepLines.{asked, dealer_named, firm_named}
 use Rattle.input_lines.specs.VenueParts.{is_divider, or_config_fault, venue_of}
@@ -40,7 +40,8 @@ use Rattle.live_runs.specs.declared.stages.Stage.{Stage}
 use Rattle.live_runs.specs.declared.stages.Stage.TheVariants as stage
 use Rattle.live_runs.proofs.LineLemmas.{configuration_grows, configuration_is, configuration_stays}
 use Rattle.live_runs.proofs.LineLemmas.{now_divided, still_undivided, text_grows}
-use Rattle.live_runs.proofs.TwoDayLemmas.{answers_nothing, first_text, no_day}
+use Rattle.live_runs.proofs.PartLemmas.{parts_stay}
+use Rattle.live_runs.proofs.TwoDayLemmas.{answers_nothing, first_text, first_whole, no_day}
 
 -- a fault of what a configuration spells is one of its own
 pub config_fault : (text : List ℕ) (fault : ProgramFault) → venue_of text ≡ Err fault → (f : ConfigFault) × (fault ≡ Config f)
@@ -154,11 +155,16 @@ module _ (form : LineForm) (lines : List (List ℕ)) (line text : List ℕ) (out
       configuration_stays (lines ++ line ∷ []) more (now_divided lines line undivided here)
       ∙ configuration_is lines line undivided here ∙ sym had.text_is
 
+  -- it stands whole, whatever comes behind it
+  stays_whole : is_divider line ≡ true → (more : List (List ℕ)) → are_divided ((lines ++ line ∷ []) ++ more) ≡ true
+  stays_whole here more =
+      (parts_stay is_divider (lines ++ line ∷ []) more (now_divided lines line had.nothing.undivided here)).any
+
   lawless : (f : ConfigFault) → is_divider line ≡ true → venue_of text ≡ Err (Config f) → (more : List (List ℕ))
       → IsLiveFault form (Config f) ((lines ++ line ∷ []) ++ more)
   lawless f here is more = (
     configuration_in ((lines ++ line ∷ []) ++ more),
-    first_text form ((lines ++ line ∷ []) ++ more),
+    first_whole form ((lines ++ line ∷ []) ++ more) (stays_whole here more),
     ap venue_of (whole_configuration here more) ∙ is,
   )
 
@@ -166,7 +172,7 @@ module _ (form : LineForm) (lines : List (List ℕ)) (line text : List ℕ) (out
       → name_fault form config ≡ Some Firm → (more : List (List ℕ)) → IsLiveFault form Firm ((lines ++ line ∷ []) ++ more)
   nameless config here spelled is more = (
     configuration_in ((lines ++ line ∷ []) ++ more),
-    first_text form ((lines ++ line ∷ []) ++ more),
+    first_whole form ((lines ++ line ∷ []) ++ more) (stays_whole here more),
     (config, ap venue_of (whole_configuration here more) ∙ spelled, is),
   )
 

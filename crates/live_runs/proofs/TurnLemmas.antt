@@ -8,7 +8,7 @@ use Rattle.std.proofs.lemmas.Bool.{false≢true}
 use Rattle.venue_rows.specs.Rows.{ConfigValues}
 use Rattle.venue_config.specs.declared.faults.ConfigFault.{ConfigFault}
 use Rattle.investor_texts.specs.SoughtDays.{Whom}
-use Rattle.venue_text.specs.LiveInput.{configuration_in}
+use Rattle.venue_text.specs.LiveInput.{are_divided, configuration_in}
 use Rattle.input_lines.specs.VenueParts.{is_divider, venue_of}
 use Rattle.input_lines.specs.declared.faults.ProgramFault.{ProgramFault}
 use Rattle.input_lines.specs.declared.faults.ProgramFault.TheVariants.{Input, Config, Firm, Memory}
@@ -16,7 +16,7 @@ use Rattle.investor_texts.specs.declared.sought_days.SoughtDay.{SoughtDay}
 use Rattle.input_lines.specs.declared.lines.TheConstants.{MOST_INPUT}
 use Rattle.live_runs.specs.LineForms.{LineForm, answered, compared_for, kept_for}
 use Rattle.live_runs.specs.LiveRuns.{EndsDay, HasAnswered, IsLiveFault, name_fault}
-use Rattle.live_runs.specs.LiveRuns.{second_configuration}
+use Rattle.live_runs.specs.LiveRuns.{are_four, second_configuration}
 use Rattle.live_runs.specs.LiveCalls.{TurnFails, Turns, is_turn, err_new, out_new, StageFails}
 use Rattle.live_runs.specs.LiveCalls.{StageTakes}
 use Rattle.live_runs.specs.LiveStages.{AreTwo, AwaitsSecond, BothGo}
@@ -25,7 +25,9 @@ use Rattle.live_runs.specs.declared.stages.Stage.{Stage}
 use Rattle.live_runs.specs.declared.stages.Stage.TheVariants as stage
 use Rattle.live_runs.proofs.LineLemmas.{configuration_grows, configuration_is, configuration_stays}
 use Rattle.live_runs.proofs.LineLemmas.{now_divided, still_undivided, text_grows}
-use Rattle.live_runs.proofs.TwoDayLemmas.{awaiting_taken, first_ends, second_opens, second_text}
+use Rattle.live_runs.proofs.PartLemmas.{parts_stay}
+use Rattle.live_runs.proofs.TwoDayLemmas.{awaiting_taken, first_ends, four_are, second_opens}
+use Rattle.live_runs.proofs.TwoDayLemmas.{second_text}
 use Rattle.live_runs.proofs.RefusalLemmas.{config_fault, firm_alone, up_to_here}
 use Rattle.live_runs.proofs.StageLemmas.{still}
 
@@ -88,14 +90,21 @@ module _ (whom : Whom) (lines : List (List ℕ)) (line text : List ℕ) (day : S
       ∙ configuration_stays (had.behind ++ line ∷ []) more (now_divided had.behind line had.undivided here)
       ∙ configuration_is had.behind line had.undivided here ∙ sym had.text_is
 
+  now_four : is_divider line ≡ true → (more : List (List ℕ)) → are_four ((lines ++ line ∷ []) ++ more) ≡ true
+  now_four here more =
+      four_are whom ((lines ++ line ∷ []) ++ more) had.first had.divider (had.behind ++ line ∷ more) (all_two more) day out err had.goes
+      ∙ ap are_divided (sym (append_assoc had.behind (line ∷ []) more))
+      ∙ (parts_stay is_divider (had.behind ++ line ∷ []) more (now_divided had.behind line had.undivided here)).any
+
   second_so : (f : ConfigFault) → is_divider line ≡ true → venue_of text ≡ Err (Config f) → (more : List (List ℕ))
       → IsLiveFault (compared_for whom) (Config f) ((lines ++ line ∷ []) ++ more)
-  second_so f here is more = (text, inr (sym (second_whole here more)), is)
+  second_so f here is more = (text, inr (now_four here more, sym (second_whole here more)), is)
 
   second_named : (config : ConfigValues) → is_divider line ≡ true → venue_of text ≡ Ok config
       → name_fault (compared_for whom) config ≡ Some Firm → (more : List (List ℕ))
       → IsLiveFault (compared_for whom) Firm ((lines ++ line ∷ []) ++ more)
-  second_named config here spelled is more = (text, inr (sym (second_whole here more)), (config, spelled, is))
+  second_named config here spelled is more =
+      (text, inr (now_four here more, sym (second_whole here more)), (config, spelled, is))
 
   second_past : is_divider line ≡ false → MOST_INPUT < length (text ++ line ++ 10 ∷ []) → (more : List (List ℕ))
       → IsLiveFault (compared_for whom) Input ((lines ++ line ∷ []) ++ more)

@@ -14,7 +14,8 @@ use Rattle.input_lines.specs.declared.faults.ProgramFault.{ProgramFault}
 use Rattle.investor_texts.specs.declared.sought_days.SoughtDay.{SoughtDay}
 use Rattle.live_runs.specs.LineForms.{LineForm, answered, compared_for, kept_for}
 use Rattle.live_runs.specs.LiveRuns.{GainsFaults, HasAnswered, AnswersNothing, HasNoDay}
-use Rattle.live_runs.specs.LiveRuns.{IsConfigurationIn, TakesBoth, TakesOne, are_four, are_whole}
+use Rattle.live_runs.specs.LiveRuns.{IsConfigurationIn, IsWholeIn, TakesBoth, TakesOne, are_four}
+use Rattle.live_runs.specs.LiveRuns.{are_whole}
 use Rattle.live_runs.specs.LiveRuns.{first_taken, second_configuration, second_taken}
 use Rattle.live_runs.specs.LiveCalls.{Start, KeepsAnywhere, err_new, err_old, out_new, out_old}
 use Rattle.live_runs.specs.LiveCalls.{KeptTakes}
@@ -47,6 +48,11 @@ first_text (answered form) lines = refl
 first_text (kept_for sought) lines = refl
 first_text (compared_for whom) lines = inl refl
 
+pub first_whole : (form : LineForm) (lines : List (List ℕ)) → are_divided lines ≡ true → IsWholeIn form lines (configuration_in lines)
+first_whole (answered form) lines divided = (divided, refl)
+first_whole (kept_for sought) lines divided = (divided, refl)
+first_whole (compared_for whom) lines divided = inl (divided, refl)
+
 pub not_whole : (form : LineForm) (lines : List (List ℕ)) → are_divided lines ≡ false → are_whole form lines ≡ false
 not_whole (answered form) lines undivided = undivided
 not_whole (kept_for sought) lines undivided = undivided
@@ -76,7 +82,7 @@ module _ (whom : Whom) (lines first : List (List ℕ)) (divider : List ℕ) (beh
       ap (λ l. venue_of (configuration_in l)) two.split
       ∙ ap venue_of (configuration_stays first (divider ∷ behind) goes.goes.answers.divided) ∙ goes.goes.answers.spelled
 
-  four_are : are_four lines ≡ are_divided behind
+  pub four_are : are_four lines ≡ are_divided behind
   four_are = ap are_four two.split ∙ four_is first divider behind goes.goes.answers.divided goes.alone two.divides
 
   pub second_text : second_configuration lines ≡ configuration_in behind

@@ -171,6 +171,13 @@ IsConfigurationIn (compared_for whom) lines text =
     (text ≡ configuration_in lines) ⊎ (text ≡ second_configuration lines)
 IsConfigurationIn form lines text = text ≡ configuration_in lines
 
+-- such a configuration, where a line `%%` ends it
+abbrev pub IsWholeIn : LineForm → List (List ℕ) → List ℕ → Type 0
+IsWholeIn (compared_for whom) lines text =
+    ((are_divided lines ≡ true) × (text ≡ configuration_in lines))
+    ⊎ ((are_four lines ≡ true) × (text ≡ second_configuration lines))
+IsWholeIn form lines text = (are_divided lines ≡ true) × (text ≡ configuration_in lines)
+
 -- a line is too long, or a configuration, or there are too many lines
 abbrev pub ArePastLimits : LineForm → List (List ℕ) → Type 0
 ArePastLimits form lines =
@@ -185,17 +192,24 @@ IsLiveFault form Write lines = Unit {0}
 IsLiveFault form Input lines = ArePastLimits form lines
 IsLiveFault form Parts lines = are_whole form lines ≡ false
 IsLiveFault form (Config fault) lines =
-    (text : List ℕ) × IsConfigurationIn form lines text × (venue_of text ≡ Err (Config fault))
+    (text : List ℕ) × IsWholeIn form lines text × (venue_of text ≡ Err (Config fault))
 IsLiveFault form Firm lines =
-    (text : List ℕ) × IsConfigurationIn form lines text
+    (text : List ℕ) × IsWholeIn form lines text
     × ((config : ConfigValues) × (venue_of text ≡ Ok config) × (name_fault form config ≡ Some Firm))
 IsLiveFault form fault lines = ⊥
 
+-- where a writer may refuse: behind any line where each is answered, and else at the end alone,
+-- since all is printed there
+abbrev pub IsPrinting : LineForm → List (List ℕ) → Type 0
+IsPrinting (answered form) rest = Unit {0}
+IsPrinting (kept_for sought) rest = rest ≡ []
+IsPrinting (compared_for whom) rest = rest ≡ []
+
 -- Where a fault ends the day no line before it is left out: with the next line the fault is there,
--- and `parts` is told at the end alone. Memory may be refused, and a writer refuse, anywhere.
+-- and `parts` is told at the end alone. Memory may be refused anywhere.
 abbrev pub Reaches : LineForm → ProgramFault → List (List ℕ) → List (List ℕ) → Type 0
 Reaches form Memory lines rest = Unit {0}
-Reaches form Write lines rest = Unit {0}
+Reaches form Write lines rest = IsPrinting form rest
 Reaches form Parts lines rest = rest ≡ []
 Reaches form fault lines rest = IsLiveFault form fault (lines ++ take 1 rest)
 

@@ -1,1 +1,2 @@
+pub mod ErasedLists
 pub mod IdTexts

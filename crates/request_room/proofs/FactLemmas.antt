@@ -16,10 +16,10 @@ pub or_none : {A : Type 0} (o : Option A) → option_or o None ≡ o
 or_none None = refl
 or_none (Some x) = refl
 
-or_assoc : {A : Type 0} (one two three : Option A) → option_or (option_or one two) three
+option_or_assoc : {A : Type 0} (one two three : Option A) → option_or (option_or one two) three
     ≡ option_or one (option_or two three)
-or_assoc None two three = refl
-or_assoc (Some x) two three = refl
+option_or_assoc None two three = refl
+option_or_assoc (Some x) two three = refl
 
 -- what is said after one fact more
 pub said_after : {A : Type 0} (says : RoomFact → Option A) (facts : List RoomFact) (fact : RoomFact)
@@ -27,7 +27,7 @@ pub said_after : {A : Type 0} (says : RoomFact → Option A) (facts : List RoomF
 said_after says [] fact = or_none (says fact)
 said_after says (first ∷ later) fact =
     ap (option_or (says first)) (said_after says later fact)
-    ∙ sym (or_assoc (says first) (first_said says later) (says fact))
+    ∙ sym (option_or_assoc (says first) (first_said says later) (says fact))
 
 -- what is said by facts and more facts
 pub said_append : {A : Type 0} (says : RoomFact → Option A) (facts more : List RoomFact)
@@ -35,7 +35,7 @@ pub said_append : {A : Type 0} (says : RoomFact → Option A) (facts more : List
 said_append says [] more = refl
 said_append says (first ∷ later) more =
     ap (option_or (says first)) (said_append says later more)
-    ∙ sym (or_assoc (says first) (first_said says later) (first_said says more))
+    ∙ sym (option_or_assoc (says first) (first_said says later) (first_said says more))
 
 -- a fact that says nothing changes nothing of what is said
 pub said_by_others : {A : Type 0} (says : RoomFact → Option A) (facts : List RoomFact)

@@ -11,3 +11,4 @@ pub mod EarliestLemmas
 pub mod KeptBookLemmas
 pub mod KeptRoomLemmas
 pub mod LiftLemmas
+pub mod UnpricedRooms

@@ -1,3 +1,4 @@
 pub mod Book
 pub mod Kept
 pub mod RoomFacts
+pub mod Unpriced

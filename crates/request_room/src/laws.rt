@@ -1,14 +1,16 @@
 //! Laws over the definitions of a room, each the contract of a function that does nothing.
 ghost use Rattle.std.specs.Prelude.{◌≡◌, ◌≢◌, ◌≤◌, ◌↔◌, ℕ, List, [], ◌∷◌, ◌++◌, length, filter};
-ghost use Rattle.std.specs.Prelude.{AllPairs, Contains, IfSome, IsTrue};
+ghost use Rattle.std.specs.Prelude.{AllPairs, Contains, IfSome, IsTrue, map};
 ghost use Rattle.market_terms.specs.declared.asks.Side.{Side};
 ghost use Rattle.quote_word.specs.declared.settled.Settled.TheVariants.{Lifted};
 ghost use Rattle.request_room.specs.declared.events.RoomEvent.{RoomEvent};
 ghost use Rattle.request_room.specs.declared.events.RoomEvent.TheVariants as event;
 ghost use Rattle.request_room.specs.declared.quotes.PostedQuote.{PostedQuote};
-ghost use Rattle.request_room.specs.RoomFacts.{RoomFact, end_of, is_award, is_ended, is_ending};
+ghost use Rattle.request_room.specs.RoomFacts.{RoomFact, end_of, hears, is_award, is_ended};
+ghost use Rattle.request_room.specs.RoomFacts.{is_ending};
 ghost use Rattle.request_room.specs.Book.{IsBest, IsEndOf, book_of, cover_of, event_facts, others};
-ghost use Rattle.request_room.specs.Book.{room_after};
+ghost use Rattle.request_room.specs.Book.{hit_question, room_after};
+ghost use Rattle.request_room.specs.Unpriced.{unpriced, unpriced_event};
 
 /// A room begins with no fact, and one event more adds what `event_facts` says of it to the facts
 /// that stand: so whoever tells a room one event at a time follows it by its facts alone.
@@ -62,4 +64,17 @@ pub fn an_awarded_word_was_lifted()
     ensures { (events : List RoomEvent)
         → IfSome (end_of (room_after events)) (λ end. IfSome end.winner
         (λ winner. (moment : ℕ) × Contains events (event.Hit winner.1 moment (Some Lifted)))) }
+{}
+
+/// No step asks a price but to find the cover. In a room without prices, and without who was the
+/// cover, each step does what it does in the room, but for both; a hit meets the same checks, and
+/// the same dealers are heard.
+pub fn no_step_asks_a_price()
+    ensures kept { (facts : List RoomFact) (more : RoomEvent)
+        → map unpriced (event_facts (map unpriced facts) (unpriced_event more))
+        ≡ map unpriced (event_facts facts more) }
+    ensures hits { (facts : List RoomFact) (word : ℕ) (moment : ℕ)
+        → hit_question (map unpriced facts) word moment ≡ hit_question facts word moment }
+    ensures heard { (facts : List RoomFact) (dealer : ℕ)
+        → hears (map unpriced facts) dealer ≡ hears facts dealer }
 {}

@@ -67,8 +67,8 @@ pub use ends::{End, EndKind};
 pub use events::RoomEvent;
 pub use laws::{
     a_dealer_has_one_quote, a_room_ends_once, an_awarded_word_was_lifted,
-    an_ended_room_changes_no_more, facts_after_one_event_more, only_an_award_has_a_winner,
-    the_cover_is_the_best_other_quote,
+    an_ended_room_changes_no_more, facts_after_one_event_more, no_step_asks_a_price,
+    only_an_award_has_a_winner, the_cover_is_the_best_other_quote,
 };
 pub use quotes::PostedQuote;
 pub use requests::{KeptRequest, RoomRequest};

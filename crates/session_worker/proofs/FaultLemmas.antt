@@ -124,6 +124,8 @@ one_among first count firm low high (fault.Inbox named) e =
 one_among first count firm low high (fault.Told dealer) e = e
 one_among first count firm low high (fault.Sweep room) e = e
 one_among first count firm low high (fault.Shown dealer) e = e
+one_among first count firm low high (fault.Relayed room) e = e
+one_among first count firm low high (fault.Answered room) e = e
 one_among first count firm low high fault.Memory e = tt
 
 -- A fault of the whole day.
@@ -137,6 +139,8 @@ dealer_is_of config inboxes sweeps count all (fault.Inbox firm) e =
 dealer_is_of config inboxes sweeps count all (fault.Told dealer) e = absurd e
 dealer_is_of config inboxes sweeps count all (fault.Sweep room) e = absurd e
 dealer_is_of config inboxes sweeps count all (fault.Shown dealer) e = absurd e
+dealer_is_of config inboxes sweeps count all (fault.Relayed room) e = absurd e
+dealer_is_of config inboxes sweeps count all (fault.Answered room) e = absurd e
 dealer_is_of config inboxes sweeps count all fault.Memory e = tt
 
 -- a firm of the investors
@@ -148,6 +152,8 @@ investor_is_of config inboxes sweeps first count from all (fault.Inbox firm) e =
 investor_is_of config inboxes sweeps first count from all (fault.Told dealer) e = absurd e
 investor_is_of config inboxes sweeps first count from all (fault.Sweep room) e = absurd e
 investor_is_of config inboxes sweeps first count from all (fault.Shown dealer) e = absurd e
+investor_is_of config inboxes sweeps first count from all (fault.Relayed room) e = absurd e
+investor_is_of config inboxes sweeps first count from all (fault.Answered room) e = absurd e
 investor_is_of config inboxes sweeps first count from all fault.Memory e = tt
 
 -- the first place of a list that passes a test is one of it
@@ -223,8 +229,12 @@ first_is_of config inboxes sweeps joined of_day (fault.Sweep room) e =
     record { joined = joined; joined_of = of_day; first = e }
 first_is_of config inboxes sweeps joined of_day (fault.Shown dealer) e =
     record { joined = joined; joined_of = of_day; first = e }
+first_is_of config inboxes sweeps joined of_day (fault.Relayed room) e =
+    record { joined = joined; joined_of = of_day; first = e }
+first_is_of config inboxes sweeps joined of_day (fault.Answered room) e =
+    record { joined = joined; joined_of = of_day; first = e }
 first_is_of config inboxes sweeps joined of_day (fault.Inbox firm) e =
-    unleft_is_of config inboxes joined firm of_day e.3
+    unleft_is_of config inboxes joined firm of_day e.5
 first_is_of config inboxes sweeps joined of_day fault.Memory e = tt
 
 -- What was joined.

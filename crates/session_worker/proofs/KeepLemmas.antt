@@ -1,7 +1,6 @@
 -- The days of the firms behind the joins, one after the other.
 use Rattle.std.proofs.Common.{◌≡◌, ◌∙◌, sym, ap, subst, refl, ℕ, zero, suc, List, [], ◌∷◌, ◌++◌}
-use Rattle.std.proofs.Common.{All, Some, None, length, map, slice_index_or, ◌+◌}
-use Rattle.std.proofs.lemmas.List.{length-map, map-append}
+use Rattle.std.proofs.Common.{All, Some, length, slice_index_or, ◌+◌}
 use Rattle.std.proofs.lemmas.List.Elements.{All-push}
 use Rattle.std.specs.Prelude.{slice_get}
 use Rattle.std.proofs.lemmas.Option.{same_Some}
@@ -15,30 +14,22 @@ use Rattle.investor_desk.specs.InvestorDesk.{market_for}
 use Rattle.investor_desk.specs.InvestorOutput.{investor_output}
 use Rattle.investor_desk.specs.RequestLines.{lines_of as request_lines}
 use Rattle.quote_word.specs.Board.{BoardName, Front}
-use Rattle.quote_word.specs.SettleLog.{IsLegal, SettleLog}
+use Rattle.quote_word.specs.SettleLog.{SettleLog}
 use Rattle.quote_word.specs.SettleLogLaws.{entry_stays_later}
 use Rattle.venue_rows.specs.Rows.{Configuration, dealer_numbered}
 use Rattle.venue_rows.specs.declared.dealer_rows.DealerRow.{DealerRow}
 use Rattle.step_replay.specs.Actions.{dealer_of, first_word}
-use Rattle.recorded_days.specs.Records.{ActionRef, DealerLists, FirmLists, InvestorLists}
-use Rattle.recorded_days.specs.Records.{RecordedDay, RoomLists, of_dealer, of_investor}
+use Rattle.recorded_days.specs.Records.{ActionRef, DealerLists, InvestorLists, RoomLists}
 use Rattle.recorded_days.specs.declared.actions.Action.{Action}
 use Rattle.recorded_days.specs.declared.actions.Inbound.{Inbound}
-use Rattle.recorded_days.specs.declared.actions.Sweep.{Sweep}
-use Rattle.session_worker.specs.DayActions.{EventsAreOfActions}
 use Rattle.session_worker.specs.DayChecks.{DayRoom, came_from_dealer, came_from_investor}
-use Rattle.session_worker.specs.DayChecks.{first_unswept, first_untold}
 use Rattle.session_worker.specs.KeptDays.{DealerKeeps, DealersKeep, DealerStands, DealersStand}
-use Rattle.session_worker.specs.KeptDays.{InvestorKeeps, InvestorsKeep, KeepsDay, RoomStands}
-use Rattle.session_worker.specs.KeptDays.{RoomsStand, answers_to, names_of, rooms_in, rooms_of}
-use Rattle.session_worker.specs.KeptDays.{rooms_of_venue, without_rooms}
+use Rattle.session_worker.specs.KeptDays.{InvestorKeeps, InvestorsKeep, RoomStands, RoomsStand}
+use Rattle.session_worker.specs.KeptDays.{answers_to, without_rooms}
 use Rattle.session_worker.specs.Locks.{KeepsDealer, StandsIn, answers_at, answers_in}
-use Rattle.session_worker.specs.ShownRequests.{first_unshown}
-use Rattle.session_worker.proofs.AwardLemmas.{awards_stand}
 use Rattle.session_worker.proofs.DealerAnswers.{SentTheirView}
 use Rattle.session_worker.proofs.DealerLockLemmas.{view_is_seen}
 use Rattle.session_worker.proofs.LockLemmas.{answers_stay, some_is_none}
-use Rattle.session_worker.proofs.RoomNames.{each_like, inboxes_like}
 
 -- what holds of each item of a list, and of one item more behind them
 pub each_more : {X : Type 0} (P : ℕ → X → Type 0) (xs : List X) (x : X)
@@ -207,93 +198,3 @@ dealers_stand_more config log days day stand more firm dealer found =
 pub rooms_stand_more : (log : SettleLog) (rooms : List DayRoom) (room : DayRoom)
     → RoomsStand log rooms → RoomStands log room → RoomsStand log (rooms ++ room ∷ [])
 rooms_stand_more log rooms room stand more = All-push (RoomStands log) rooms room stand more
-
--- The whole day.
-
--- the messages that came from dealers and from investors
-abbrev pub dealer_inboxes : List DealerLists → List (List Inbound)
-dealer_inboxes days = map (λ (day : DealerLists). day.inbox) days
-
-abbrev pub investor_inboxes : List InvestorLists → List (List Inbound)
-investor_inboxes days = map (λ (day : InvestorLists). day.inbox) days
-
-firm_inboxes : (dealers : List DealerLists)
-    → map (λ (firm : FirmLists). firm.inbox) (map of_dealer dealers) ≡ dealer_inboxes dealers
-firm_inboxes [] = refl
-firm_inboxes (dealer ∷ later) = ap (λ rest. dealer.inbox ∷ rest) (firm_inboxes later)
-
-firm_inboxes_behind : (investors : List InvestorLists)
-    → map (λ (firm : FirmLists). firm.inbox) (map of_investor investors)
-    ≡ investor_inboxes investors
-firm_inboxes_behind [] = refl
-firm_inboxes_behind (investor ∷ later) =
-    ap (λ rest. investor.inbox ∷ rest) (firm_inboxes_behind later)
-
--- what stands behind the joins and the checks
-pub record Joined (config : Configuration) (inboxes : List (List Inbound)) (sweeps : List Sweep)
-    (dealers : List DealerLists) (bare whole : List InvestorLists) (clock : List Action)
-    (rooms : List DayRoom) (log later : SettleLog) : Type 0 where
-  pub dealers_are : length dealers ≡ length config.dealers
-  pub investors_are : length bare ≡ length config.investors
-  pub rooms_are : names_of rooms ≡ rooms_of_venue config
-  pub alike : map without_rooms whole ≡ map without_rooms bare
-  pub rooms_in_whole : rooms_of (length config.dealers) whole ≡ rooms
-  pub inboxes_are : dealer_inboxes dealers ++ investor_inboxes bare ≡ inboxes
-  pub dealers_keep : DealersKeep config dealers
-  pub investors_keep : InvestorsKeep config bare
-  pub told : first_untold rooms dealers ≡ None
-  pub swept : first_unswept sweeps rooms ≡ None
-  pub shown : first_unshown rooms dealers ≡ None
-  pub dealers_stand : DealersStand config log dealers
-  pub rooms_stand : RoomsStand later rooms
-  pub goes_on : IsPrefix log later
-  pub legal : IsLegal later
-  pub of_actions : EventsAreOfActions (record {
-    dealers = dealers;
-    investors = whole;
-    clock = clock;
-  })
-
-module _ (config : Configuration) (inboxes : List (List Inbound)) (sweeps : List Sweep)
-    (dealers : List DealerLists) (bare whole : List InvestorLists) (clock : List Action)
-    (rooms : List DayRoom) (log later : SettleLog)
-    (joined : Joined config inboxes sweeps dealers bare whole clock rooms log later) where
-  -- the record of it
-  abbrev day_of : RecordedDay
-  day_of = record { dealers = dealers; investors = whole; clock = clock }
-
-  same_rooms : rooms ≡ rooms_in day_of
-  same_rooms = sym joined.rooms_in_whole
-      ∙ ap (λ n. rooms_of n whole) (sym joined.dealers_are)
-
-  pub day_is_kept : KeepsDay config inboxes sweeps day_of
-  day_is_kept = record {
-    dealers_are = joined.dealers_are;
-    investors_are = sym (length-map whole without_rooms) ∙ ap length joined.alike
-        ∙ length-map bare without_rooms ∙ joined.investors_are;
-    rooms_are = subst (λ own. names_of own ≡ rooms_of_venue config) same_rooms joined.rooms_are;
-    inboxes_are = map-append (λ (firm : FirmLists). firm.inbox) (map of_dealer dealers)
-        (map of_investor whole)
-        ∙ ap (λ first. first ++ map (λ (firm : FirmLists). firm.inbox) (map of_investor whole))
-        (firm_inboxes dealers)
-        ∙ ap (λ behind. dealer_inboxes dealers ++ behind)
-        (firm_inboxes_behind whole ∙ inboxes_like whole bare joined.alike)
-        ∙ joined.inboxes_are;
-    dealers_keep = joined.dealers_keep;
-    investors_keep =
-        each_like (λ k. InvestorKeeps config (length config.dealers + k))
-        (λ k. keeps_alike config (length config.dealers + k)) whole bare joined.alike
-        joined.investors_keep;
-    told = subst (λ own. first_untold own dealers ≡ None) same_rooms joined.told;
-    swept = subst (λ own. first_unswept sweeps own ≡ None) same_rooms joined.swept;
-    shown = subst (λ own. first_unshown own dealers ≡ None) same_rooms joined.shown;
-    answers_agree = record {
-      log = later;
-      legal = joined.legal;
-      at_desks = dealers_later log later joined.goes_on config dealers joined.dealers_stand;
-      in_rooms = subst (RoomsStand later) same_rooms joined.rooms_stand;
-      awards = awards_stand later (rooms_in day_of)
-          (subst (RoomsStand later) same_rooms joined.rooms_stand);
-    };
-    of_actions = joined.of_actions;
-  }

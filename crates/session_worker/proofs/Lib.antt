@@ -1,7 +1,10 @@
 pub mod ActionLemmas
+pub mod AnswerLemmas
+pub mod ArrivalLemmas
 pub mod AwardLemmas
 pub mod BroughtLemmas
 pub mod CheckLemmas
+pub mod DayLemmas
 pub mod DealerAnswers
 pub mod DealerLockLemmas
 pub mod FaultLemmas
@@ -9,6 +12,8 @@ pub mod InboxLemmas
 pub mod KeepLemmas
 pub mod LockLemmas
 pub mod MovedLists
+pub mod OutputLemmas
+pub mod RelayLemmas
 pub mod RoomLemmas
 pub mod RoomNames
 pub mod ShiftLemmas

@@ -1,7 +1,7 @@
 -- Requests that a dealer was shown, put under their rooms one after the other.
 use Rattle.std.proofs.Common.{◌≡◌, refl, ◌∙◌, sym, ap, ℕ, ◌+◌, Bool, true, false, ◌&&◌, ◌||◌, ◌==◌}
-use Rattle.std.proofs.Common.{cond, if◌then◌else◌, List, [], ◌∷◌, count_by, Option, Some, None, arith}
-use Rattle.std.proofs.Common.{is_some}
+use Rattle.std.proofs.Common.{cond, if◌then◌else◌, List, [], ◌∷◌, count_by, Option, Some, None}
+use Rattle.std.proofs.Common.{arith}
 use Rattle.std.proofs.lemmas.Bool.Decides.{nat_tests}
 use Rattle.std.proofs.lemmas.List.Sums.{sum_by-cons}
 use Rattle.std.specs.List.{list_any}
@@ -9,7 +9,7 @@ use Rattle.dealer_desk.specs.declared.events.DealerEvent.{DealerEvent}
 use Rattle.dealer_desk.specs.declared.events.DealerEvent.TheVariants as at_dealer
 use Rattle.market_terms.specs.declared.asks.Ask.{Ask}
 use Rattle.market_terms.specs.declared.rooms.RoomRef.{RoomRef}
-use Rattle.session_worker.specs.DayChecks.{same_room}
+use Rattle.market_terms.specs.Rooms.{is_same_room}
 use Rattle.session_worker.specs.ShownRequests.{ask_shown, is_ask, is_shown_once, same_ask, shows}
 use Rattle.session_worker.specs.ShownRequests.{shows_room}
 use Rattle.session_worker.specs.ShownRooms.{is_once_with, shown_after, shown_more}
@@ -52,21 +52,21 @@ module _ (at : RoomRef) (own : Ask) (moment : ℕ) (later : List DealerEvent) (r
   any = list_any (shows room ask) later
 
   -- a request of a room of which none was shown
-  first_here : (of : Bool) → same_room room at ≡ of
+  first_here : (of : Bool) → is_same_room room at ≡ of
       → is_once_with (if of then Some (shown_more false own) else None) later room ask
       ≡ is_shown_once (showing ∷ later) room ask
   first_here true is =
       first_told c code any (none_shows room ask later) (c == 0) refl
       ∙ sym (ap (λ of. (cond of 1 0 + c == 1) && ((of && code) || any)) is)
-      ∙ sym (ap (λ n. (n == 1) && ((same_room room at && code) || any)) (counted room showing later))
+      ∙ sym (ap (λ n. (n == 1) && ((is_same_room room at && code) || any)) (counted room showing later))
   first_here false is =
       let same : c ≡ 0 + c = omega arith in
       ap (λ n. (n == 1) && any) same
       ∙ sym (ap (λ of. (cond of 1 0 + c == 1) && ((of && code) || any)) is)
-      ∙ sym (ap (λ n. (n == 1) && ((same_room room at && code) || any)) (counted room showing later))
+      ∙ sym (ap (λ n. (n == 1) && ((is_same_room room at && code) || any)) (counted room showing later))
 
   -- a request of a room of which one was shown
-  second_here : (said : Ask) (of : Bool) → same_room room at ≡ of
+  second_here : (said : Ask) (of : Bool) → is_same_room room at ≡ of
       → is_once_with (if of then Some (shown_more true own) else Some (shown.Once said)) later room
       ask ≡ is_once_with (Some (shown.Once said)) (showing ∷ later) room ask
   second_here said true is =
@@ -117,11 +117,11 @@ pub once_more : (was : Option Shown) (event : DealerEvent) (later : List DealerE
     (room : RoomRef) (ask : Ask) → is_once_with (shown_after room event was) later room ask
     ≡ is_once_with was (event ∷ later) room ask
 once_more None (at_dealer.Shown at own moment) later room ask =
-    first_here at own moment later room ask (same_room room at) refl
+    first_here at own moment later room ask (is_same_room room at) refl
 once_more (Some (shown.Once said)) (at_dealer.Shown at own moment) later room ask =
-    second_here at own moment later room ask said (same_room room at) refl
+    second_here at own moment later room ask said (is_same_room room at) refl
 once_more (Some shown.Often) (at_dealer.Shown at own moment) later room ask =
-    often_here at own moment later room ask (same_room room at)
+    often_here at own moment later room ask (is_same_room room at)
 once_more was (at_dealer.Received moment message settlement) later room ask =
     other_more was (at_dealer.Received moment message settlement) later room ask refl
 once_more was (at_dealer.Told request close moment) later room ask =

@@ -13,8 +13,9 @@ use Rattle.std.specs.declared.cmp.Ordering.{Ordering}
 use Rattle.std.specs.declared.cmp.Ordering.TheVariants.{Less, Equal, Greater}
 use Rattle.market_terms.specs.declared.rooms.RoomRef.{RoomRef}
 use Rattle.recorded_days.specs.declared.actions.Sweep.{Sweep}
-use Rattle.session_worker.specs.DayChecks.{DayRoom, is_swept, same_room, times_for, times_swept}
-use Rattle.session_worker.specs.SweptRooms.{is_swept_by, times_after, times_in, times_of}
+use Rattle.session_worker.specs.DayChecks.{DayRoom, is_swept, times_for, times_swept}
+use Rattle.market_terms.specs.Rooms.{is_same_room}
+use Rattle.session_worker.specs.SweptRooms.{is_swept_by, times_after, list_in, list_of}
 use Rattle.session_worker.specs.ToldRooms.{room_cmp}
 
 then_is : (first second : Ordering)
@@ -27,7 +28,7 @@ number_is : (one other : ℕ) → is_eq (nat_cmp one other) ≡ (other == one)
 number_is one other = grind (arith, nat_tests)
 
 -- the order of rooms finds a room that is the same
-found_same : (one other : RoomRef) → is_at (room_cmp one) other ≡ same_room other one
+found_same : (one other : RoomRef) → is_at (room_cmp one) other ≡ is_same_room other one
 found_same one other =
     then_is (nat_cmp one.investor other.investor) (nat_cmp one.n other.n)
     ∙ ap (λ b. b && is_eq (nat_cmp one.n other.n)) (number_is one.investor other.investor)
@@ -37,7 +38,7 @@ pub number_same : (one other : ℕ) → (one == other) ≡ true → one ≡ othe
 number_same one other is = grind (arith, nat_tests, is)
 
 -- rooms that are the same are equal
-is_same : (room other : RoomRef) → same_room room other ≡ true → room ≡ other
+is_same : (room other : RoomRef) → is_same_room room other ≡ true → room ≡ other
 is_same room other is =
     let both = and_parts (room.investor == other.investor) (room.n == other.n) is in
     ap (λ investor. let own : RoomRef = record { investor = investor; n = room.n } in own)
@@ -46,33 +47,33 @@ is_same room other is =
     (number_same room.n other.n both.1)
 
 -- a list that stands, or a new one
-pub list_under : (was : Option (Vec ℕ)) (new : Vec ℕ) → new.items ≡ []
-    → (unwrap_or was new).items ≡ times_in was
+pub list_under : {T : Type 0} (was : Option (Vec T)) (new : Vec T) → new.items ≡ []
+    → (unwrap_or was new).items ≡ list_in was
 list_under None new none = none
-list_under (Some times) new none = refl
+list_under (Some list) new none = refl
 
-under : (was : Option (Vec ℕ)) (times : Vec ℕ) (moment : ℕ) (own : Bool)
-    → (own ≡ true → times.items ≡ times_in was ++ moment ∷ [])
-    → times_in (cond own (Some times) was)
-    ≡ (if own then times_in was ++ moment ∷ [] else times_in was)
-under was times moment true more = more refl
-under was times moment false more = refl
+under : {T : Type 0} (was : Option (Vec T)) (list : Vec T) (what : T) (own : Bool)
+    → (own ≡ true → list.items ≡ list_in was ++ what ∷ [])
+    → list_in (cond own (Some list) was)
+    ≡ (if own then list_in was ++ what ∷ [] else list_in was)
+under was list what true more = more refl
+under was list what false more = refl
 
--- a moment more stands under the room of its sweep, and nothing else changes
-pub put_under : (old new : BTreeMap RoomRef (Vec ℕ)) (sweep : Sweep) (times : Vec ℕ)
-    → ((room : RoomRef) → get room_cmp new room
-    ≡ cond (is_at (room_cmp sweep.room) room) (Some times) (get room_cmp old room))
-    → times.items ≡ times_of old sweep.room ++ sweep.moment ∷ []
-    → (room : RoomRef) → times_of new room ≡ times_after room sweep (times_of old room)
-put_under old new sweep times put more room =
-    ap times_in (put room
-    ∙ ap (λ own. cond own (Some times) (get room_cmp old room)) (found_same sweep.room room))
-    ∙ under (get room_cmp old room) times sweep.moment (same_room room sweep.room)
-    (λ is. more
-    ∙ ap (λ own. times_of old own ++ sweep.moment ∷ []) (sym (is_same room sweep.room is)))
+-- one thing more stands under its room, and nothing else changes
+pub put_under : {T : Type 0} (old new : BTreeMap RoomRef (Vec T)) (at : RoomRef) (what : T)
+    (list : Vec T) → ((room : RoomRef) → get room_cmp new room
+    ≡ cond (is_at (room_cmp at) room) (Some list) (get room_cmp old room))
+    → list.items ≡ list_of old at ++ what ∷ []
+    → (room : RoomRef) → list_of new room
+    ≡ (if is_same_room room at then list_of old room ++ what ∷ [] else list_of old room)
+put_under old new at what list put more room =
+    ap list_in (put room
+    ∙ ap (λ own. cond own (Some list) (get room_cmp old room)) (found_same at room))
+    ∙ under (get room_cmp old room) list what (is_same_room room at)
+    (λ is. more ∙ ap (λ own. list_of old own ++ what ∷ []) (sym (is_same room at is)))
 
 put_here : (room : RoomRef) (sweep : Sweep) (later : List Sweep) (times : List ℕ) (own : Bool)
-    → same_room room sweep.room ≡ own
+    → is_same_room room sweep.room ≡ own
     → times_after room sweep times ++ times_for room later
     ≡ times ++ times_for room (sweep ∷ later)
 put_here room sweep later times true is =
@@ -90,11 +91,11 @@ pub sweep_more : (room : RoomRef) (sweep : Sweep) (later : List Sweep) (times : 
     → times_after room sweep times ++ times_for room later
     ≡ times ++ times_for room (sweep ∷ later)
 sweep_more room sweep later times =
-    put_here room sweep later times (same_room room sweep.room) refl
+    put_here room sweep later times (is_same_room room sweep.room) refl
 
 -- the first room that was not swept as its moments are, where these are those of the sweeps
 pub unswept_same : (by_room : BTreeMap RoomRef (Vec ℕ)) (sweeps : List Sweep)
-    → ((room : RoomRef) → times_of by_room room ≡ times_for room sweeps) → (rooms : List DayRoom)
+    → ((room : RoomRef) → list_of by_room room ≡ times_for room sweeps) → (rooms : List DayRoom)
     → find (λ room. not (is_swept_by by_room room)) rooms
     ≡ find (λ room. not (is_swept sweeps room)) rooms
 unswept_same by_room sweeps same [] = refl

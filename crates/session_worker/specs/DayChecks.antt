@@ -11,6 +11,7 @@ use Rattle.dealer_desk.specs.declared.events.DealerEvent.TheVariants as at_deale
 use Rattle.investor_desk.specs.declared.events.InvestorEvent.{InvestorEvent}
 use Rattle.investor_desk.specs.declared.events.InvestorEvent.TheVariants as at_investor
 use Rattle.market_terms.specs.Codes.{close_code}
+use Rattle.market_terms.specs.Rooms.{is_same_room}
 use Rattle.market_terms.specs.declared.closes.Close.{Close}
 use Rattle.market_terms.specs.declared.rooms.RoomRef.{RoomRef}
 use Rattle.request_room.specs.Book.{room_after}
@@ -75,14 +76,10 @@ notice_in rooms other = None
 abbrev pub notices_told : List DealerEvent → List Notice
 notices_told events = filter_map (notice_in (rooms_shown events)) events
 
--- whether two rooms are the same
-abbrev pub same_room : RoomRef → RoomRef → Bool
-same_room room other = (room.investor == other.investor) && (room.n == other.n)
-
 -- whether this is that room, where there is one
 abbrev pub is_room : RoomRef → Option RoomRef → Bool
 is_room room None = false
-is_room room (Some other) = same_room room other
+is_room room (Some other) = is_same_room room other
 
 -- whether a notice is of this room
 abbrev pub is_of : RoomRef → Notice → Bool
@@ -149,7 +146,7 @@ times_swept events = filter_map swept_at events
 
 -- the moment of a sweep of this room
 abbrev pub time_for : RoomRef → Sweep → Option ℕ
-time_for room sweep = if same_room room sweep.room then Some sweep.moment else None
+time_for room sweep = if is_same_room room sweep.room then Some sweep.moment else None
 
 -- the moments at which the clock was to sweep a room, in their order
 abbrev pub times_for : RoomRef → List Sweep → List ℕ

@@ -1,15 +1,18 @@
 -- Why a day on threads has no record: which fault is the first, and of what it is true.
-use Rattle.std.specs.Prelude.{◌≡◌, ℕ, ◌+◌, ◌<◌, ◌≤◌, List, ◌++◌, length, map, Some, None}
+use Rattle.std.specs.Prelude.{◌≡◌, ℕ, ◌+◌, ◌<◌, ◌≤◌, List, ◌++◌, length, map, Option, Some, None}
 use Rattle.std.specs.Option.{option_map}
+use Rattle.market_terms.specs.declared.rooms.RoomRef.{RoomRef}
 use Rattle.venue_rows.specs.Rows.{Configuration}
 use Rattle.recorded_days.specs.Records.{DealerLists, InvestorLists, RecordedDay}
 use Rattle.recorded_days.specs.declared.actions.Action.{Action}
 use Rattle.recorded_days.specs.declared.actions.Inbound.{Inbound}
 use Rattle.recorded_days.specs.declared.actions.Sweep.{Sweep}
+use Rattle.session_worker.specs.AnsweredResponses.{first_unanswered}
 use Rattle.session_worker.specs.DayActions.{EventsAreOfActions, first_unleft, number_at}
 use Rattle.session_worker.specs.DayChecks.{DayRoom, first_unswept, first_untold}
 use Rattle.session_worker.specs.KeptDays.{DealersKeep, InvestorsKeep, names_of, rooms_of}
 use Rattle.session_worker.specs.KeptDays.{rooms_of_venue, without_rooms}
+use Rattle.session_worker.specs.RelayedQuotes.{first_unrelayed}
 use Rattle.session_worker.specs.ShownRequests.{first_unshown}
 use Rattle.session_worker.specs.declared.faults.DayFault.{DayFault}
 use Rattle.session_worker.specs.declared.faults.DayFault.TheVariants as fault
@@ -33,9 +36,20 @@ abbrev pub record_of : JoinedDay → List InvestorLists → RecordedDay
 record_of joined whole =
     record { dealers = joined.dealers; investors = whole; clock = joined.clock }
 
+-- the first room of a joined day whose quotes did not come to its investor
+abbrev pub unrelayed_of : Configuration → JoinedDay → Option RoomRef
+unrelayed_of config joined =
+    first_unrelayed config (length config.dealers) joined.investors joined.rooms
+
+-- the first whose hits and passes were not answered as it replied
+abbrev pub unanswered_of : Configuration → JoinedDay → Option RoomRef
+unanswered_of config joined =
+    first_unanswered (length config.dealers) joined.investors joined.rooms
+
 -- A record is that of a joined day on which all agrees: each dealer was told how the rooms that
 -- name it ended, each room was swept as the clock was told, each dealer was shown the requests that
--- name it, and each event is that of an action.
+-- name it, the quotes and the replies of each room came to its investor, and each event is that of
+-- an action.
 pub record Agrees (config : Configuration) (sweeps : List Sweep) (joined : JoinedDay)
     (day : RecordedDay) : Type 0 where
   pub whole : List InvestorLists
@@ -44,6 +58,8 @@ pub record Agrees (config : Configuration) (sweeps : List Sweep) (joined : Joine
   pub told : first_untold joined.rooms joined.dealers ≡ None
   pub swept : first_unswept sweeps joined.rooms ≡ None
   pub shown : first_unshown joined.rooms joined.dealers ≡ None
+  pub relayed : unrelayed_of config joined ≡ None
+  pub answered : unanswered_of config joined ≡ None
   pub of_actions : EventsAreOfActions day
 
 -- the first firm of a joined day with an event, at its desk or in a room of its requests, that is
@@ -54,10 +70,12 @@ pub record IsFirstUnleft (config : Configuration) (joined : JoinedDay) (firm : �
   pub firm_is : option_map number_at (first_unleft (record_of joined whole)) ≡ Some firm
 
 -- A fault is the first of a joined day. The dealers' notices come before the sweeps, the sweeps
--- before the requests that were shown, and these before the actions: it is the first dealer that
--- was not told what it is to be told; else the first room that was not swept as the clock was told;
--- else the first dealer that was not shown what it is to be shown; else the first firm with an event
--- that is not that of an action. Memory may be refused at any point.
+-- before the requests that were shown, these before the quotes that came, these before the replies
+-- that came, and these before the actions: it is the first dealer that was not told what it is to
+-- be told; else the first room that was not swept as the clock was told; else the first dealer that
+-- was not shown what it is to be shown; else the first room whose quotes did not come to its
+-- investor; else the first whose hits and passes were not answered as it replied; else the first
+-- firm with an event that is not that of an action. Memory may be refused at any point.
 abbrev pub IsFirstOf : Configuration → List Sweep → JoinedDay → DayFault → Type 0
 IsFirstOf config sweeps joined (fault.Told dealer) =
     first_untold joined.rooms joined.dealers ≡ Some dealer
@@ -68,10 +86,23 @@ IsFirstOf config sweeps joined (fault.Shown dealer) =
     (first_untold joined.rooms joined.dealers ≡ None)
     × (first_unswept sweeps joined.rooms ≡ None)
     × (first_unshown joined.rooms joined.dealers ≡ Some dealer)
+IsFirstOf config sweeps joined (fault.Relayed room) =
+    (first_untold joined.rooms joined.dealers ≡ None)
+    × (first_unswept sweeps joined.rooms ≡ None)
+    × (first_unshown joined.rooms joined.dealers ≡ None)
+    × (unrelayed_of config joined ≡ Some room)
+IsFirstOf config sweeps joined (fault.Answered room) =
+    (first_untold joined.rooms joined.dealers ≡ None)
+    × (first_unswept sweeps joined.rooms ≡ None)
+    × (first_unshown joined.rooms joined.dealers ≡ None)
+    × (unrelayed_of config joined ≡ None)
+    × (unanswered_of config joined ≡ Some room)
 IsFirstOf config sweeps joined (fault.Inbox firm) =
     (first_untold joined.rooms joined.dealers ≡ None)
     × (first_unswept sweeps joined.rooms ≡ None)
     × (first_unshown joined.rooms joined.dealers ≡ None)
+    × (unrelayed_of config joined ≡ None)
+    × (unanswered_of config joined ≡ None)
     × IsFirstUnleft config joined firm
 IsFirstOf config sweeps joined fault.Memory = Unit {0}
 
@@ -84,6 +115,8 @@ IsInboxAmong first count (fault.Inbox firm) = (first ≤ firm) × (firm < first 
 IsInboxAmong first count (fault.Told dealer) = ⊥
 IsInboxAmong first count (fault.Sweep room) = ⊥
 IsInboxAmong first count (fault.Shown dealer) = ⊥
+IsInboxAmong first count (fault.Relayed room) = ⊥
+IsInboxAmong first count (fault.Answered room) = ⊥
 IsInboxAmong first count fault.Memory = Unit {0}
 
 -- What was joined is a day of the venue to which these messages came, an inbox for each firm: it
@@ -107,8 +140,9 @@ pub record IsOfJoined (config : Configuration) (inboxes : List (List Inbound))
   pub first : IsFirstOf config sweeps joined why
 
 -- Why there is no record of the day of a venue to which these messages came, and whose clock had
--- these sweeps to make: a dealer's notices, a room's sweeps, or the requests that a dealer was
--- shown, are the first fault of a joined day; a firm that is named is one of the venue.
+-- these sweeps to make: a dealer's notices, a room's sweeps, the requests that a dealer was shown,
+-- or the quotes or replies that came from a room, are the first fault of a joined day; a firm that
+-- is named is one of the venue.
 abbrev pub IsFaultOf : Configuration → List (List Inbound) → List Sweep → DayFault → Type 0
 IsFaultOf config inboxes sweeps (fault.Told dealer) =
     IsOfJoined config inboxes sweeps (fault.Told dealer)
@@ -116,6 +150,10 @@ IsFaultOf config inboxes sweeps (fault.Sweep room) =
     IsOfJoined config inboxes sweeps (fault.Sweep room)
 IsFaultOf config inboxes sweeps (fault.Shown dealer) =
     IsOfJoined config inboxes sweeps (fault.Shown dealer)
+IsFaultOf config inboxes sweeps (fault.Relayed room) =
+    IsOfJoined config inboxes sweeps (fault.Relayed room)
+IsFaultOf config inboxes sweeps (fault.Answered room) =
+    IsOfJoined config inboxes sweeps (fault.Answered room)
 IsFaultOf config inboxes sweeps (fault.Inbox firm) =
     firm < length config.dealers + length config.investors
 IsFaultOf config inboxes sweeps fault.Memory = Unit {0}

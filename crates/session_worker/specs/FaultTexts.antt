@@ -16,3 +16,9 @@ fault_text (fault.Sweep room) =
     ++ codes " was not swept as the clock was told"
 fault_text (fault.Shown dealer) =
     codes "dealer " ++ decimal dealer ++ codes " was not shown the requests that name it"
+fault_text (fault.Relayed room) =
+    codes "request " ++ decimal room.n ++ codes " of firm " ++ decimal room.investor
+    ++ codes " did not get the quotes that were posted for it"
+fault_text (fault.Answered room) =
+    codes "request " ++ decimal room.n ++ codes " of firm " ++ decimal room.investor
+    ++ codes " did not get the replies of its room"

@@ -27,10 +27,12 @@ use Rattle.recorded_days.specs.Records.{DealerLists, FirmLists, InvestorLists, R
 use Rattle.recorded_days.specs.Records.{RoomLists, dealer_in, firms_in}
 use Rattle.recorded_days.specs.declared.actions.Inbound.{Inbound}
 use Rattle.recorded_days.specs.declared.actions.Sweep.{Sweep}
+use Rattle.session_worker.specs.AnsweredResponses.{first_unanswered}
 use Rattle.session_worker.specs.DayActions.{EventsAreOfActions}
 use Rattle.session_worker.specs.DayChecks.{DayRoom, came_from_dealer, came_from_investor}
 use Rattle.session_worker.specs.DayChecks.{first_unswept, first_untold}
 use Rattle.session_worker.specs.Locks.{Answer, StandsIn, answers_at, answers_in}
+use Rattle.session_worker.specs.RelayedQuotes.{first_unrelayed}
 use Rattle.session_worker.specs.ShownRequests.{first_unshown}
 
 -- Rooms.
@@ -82,8 +84,8 @@ rooms_of_venue config = names_by (length config.dealers) (requests_of config.inv
 -- Firms.
 
 -- What is recorded of a dealer: what it was sent and its quotes follow from its row and the events
--- at its desk, what it was sent is the dealer view of what was due by these events, and the messages
--- that came from it, by these events, are its inbox in order and each once.
+-- at its desk, what it was sent is the dealer view of what was due by these events, and the
+-- messages that came from it, by these events, are its inbox in order and each once.
 pub record DealerKeeps (config : Configuration) (firm : ℕ) (dealer : DealerLists) : Type 0 where
   pub row : DealerRow
   pub row_is : dealer_numbered config firm ≡ Some row
@@ -167,9 +169,11 @@ pub record AnswersAgree (config : Configuration) (day : RecordedDay) : Type 0 wh
 -- and whose clock had these sweeps to make. It has the firms and rooms of the venue, and their
 -- inboxes are those that came; what is recorded of each firm follows from the events at its desk;
 -- each dealer was told once how each room that names it ended, and nothing else; each room was
--- swept as the clock was told; each dealer was shown once the request of each room that names it, as
--- it was asked, and nothing else; all settlements of one word agree; and each event is that of an
--- action at its desk or in its room.
+-- swept as the clock was told; each dealer was shown once the request of each room that names it,
+-- as it was asked, and nothing else; the quotes that took effect in each room came to its investor,
+-- each dealer's in order and as they were posted, and no others; so did, in order, the replies to
+-- its hits and passes; all settlements of one word agree; and each event is that of an action at
+-- its desk or in its room.
 pub record KeepsDay (config : Configuration) (inboxes : List (List Inbound)) (sweeps : List Sweep)
     (day : RecordedDay) : Type 0 where
   pub dealers_are : length day.dealers ≡ length config.dealers
@@ -181,6 +185,8 @@ pub record KeepsDay (config : Configuration) (inboxes : List (List Inbound)) (sw
   pub told : first_untold (rooms_in day) day.dealers ≡ None
   pub swept : first_unswept sweeps (rooms_in day) ≡ None
   pub shown : first_unshown (rooms_in day) day.dealers ≡ None
+  pub relayed : first_unrelayed config (length day.dealers) day.investors (rooms_in day) ≡ None
+  pub answered : first_unanswered (length day.dealers) day.investors (rooms_in day) ≡ None
   pub answers_agree : AnswersAgree config day
   pub of_actions : EventsAreOfActions day
 

@@ -1,3 +1,5 @@
+pub mod AnsweredResponses
+pub mod Arrivals
 pub mod DayActions
 pub mod DayChecks
 pub mod DayFaults
@@ -5,6 +7,9 @@ pub mod FaultTexts
 pub mod Inbox
 pub mod KeptDays
 pub mod Locks
+pub mod NextItems
+pub mod RelayedQuotes
+pub mod RoomOutputs
 pub mod Shifts
 pub mod ShownRequests
 pub mod ShownRooms

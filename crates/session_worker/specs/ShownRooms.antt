@@ -6,7 +6,7 @@ use Rattle.dealer_desk.specs.declared.events.DealerEvent.{DealerEvent}
 use Rattle.dealer_desk.specs.declared.events.DealerEvent.TheVariants as at_dealer
 use Rattle.market_terms.specs.declared.asks.Ask.{Ask}
 use Rattle.market_terms.specs.declared.rooms.RoomRef.{RoomRef}
-use Rattle.session_worker.specs.DayChecks.{same_room}
+use Rattle.market_terms.specs.Rooms.{is_same_room}
 use Rattle.session_worker.specs.ShownRequests.{is_shown_once, same_ask, shows_room}
 use Rattle.session_worker.specs.declared.shown_rooms.Shown.{Shown}
 use Rattle.session_worker.specs.declared.shown_rooms.Shown.TheVariants as shown
@@ -19,7 +19,7 @@ shown_more false ask = shown.Once ask
 -- what was shown of a room, after an event more
 abbrev pub shown_after : RoomRef → DealerEvent → Option Shown → Option Shown
 shown_after room (at_dealer.Shown own ask moment) was =
-    if same_room room own then Some (shown_more (is_some was) ask) else was
+    if is_same_room room own then Some (shown_more (is_some was) ask) else was
 shown_after room other was = was
 
 -- whether exactly one event showed the request of a room, and as one for this

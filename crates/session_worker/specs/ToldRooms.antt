@@ -2,19 +2,14 @@
 -- dealer, put under their rooms.
 use Rattle.std.specs.Prelude.{Bool, true, false, ◌&&◌, ◌==◌, List, count_by, Option, Some, None}
 use Rattle.std.specs.Prelude.{if◌then◌else◌}
-use Rattle.std.specs.Ordering.{nat_cmp, ordering_then}
-use Rattle.std.specs.declared.cmp.Ordering.{Ordering}
 use Rattle.market_terms.specs.Codes.{close_code}
+pub use Rattle.market_terms.specs.Rooms.{room_cmp}
 use Rattle.market_terms.specs.declared.closes.Close.{Close}
 use Rattle.market_terms.specs.declared.rooms.RoomRef.{RoomRef}
 use Rattle.session_worker.specs.DayChecks.{is_of, is_told_once}
 use Rattle.session_worker.specs.declared.notices.Notice.{Notice}
 use Rattle.session_worker.specs.declared.told_rooms.Told.{Told}
 use Rattle.session_worker.specs.declared.told_rooms.Told.TheVariants as told
-
--- how rooms are ordered
-abbrev pub room_cmp : RoomRef → RoomRef → Ordering
-room_cmp one other = ordering_then (nat_cmp one.investor other.investor) (nat_cmp one.n other.n)
 
 -- what was told of a room, where a notice more is of it
 abbrev pub told_more : Option Told → Close → Told

@@ -2,6 +2,7 @@
 ghost use Rattle.std.specs.Prelude.{◌≡◌, option_map};
 ghost use Rattle.request_room.specs.Book.{room_after};
 ghost use Rattle.request_room.specs.RoomFacts.{end_of, is_named, request_of};
+ghost use Rattle.venue_steps.specs.RoomSteps.{dealers_of};
 
 use market_terms::RoomRef;
 use recorded_days::RoomDay;
@@ -57,6 +58,16 @@ impl DayRoom {
             ≡ request_of (room_after self.now.day.events) }
     {
         self.room.request()
+    }
+
+    /// The dealers that its request names, in the request's order: none where it was not opened.
+    pub(crate) fn dealers(&self) -> &[u16]
+        ensures { result.now ≡ dealers_of (request_of (room_after self.now.day.events)) }
+    {
+        let Some(request) = self.room.request() else {
+            return &[];
+        };
+        request.dealers.as_slice()
     }
 
     /// How it ended, if it has.

@@ -6,6 +6,7 @@ ghost use Rattle.session_worker.specs.KeptDays.{KeepsDay, names_of, rooms_of_ven
 ghost use Rattle.session_worker.specs.declared.faults.DayFault.TheVariants as fault;
 ghost use Rattle.step_replay.specs.Actions as actions;
 
+use crate::answered_responses::answer_fault;
 use crate::day_actions::action_fault;
 use crate::day_checks::told_fault;
 use crate::day_rooms::DayRoom;
@@ -13,6 +14,7 @@ use crate::faults::DayFault;
 use crate::gates::Gate;
 use crate::joined::{Session, dealer_days, investor_days, with_rooms};
 use crate::naming::Naming;
+use crate::relayed_quotes::relay_fault;
 use crate::shown_checks::shown_fault;
 use crate::swept_rooms::sweep_fault;
 use crate::threads::work;
@@ -48,9 +50,9 @@ pub fn run_day<R: Threads + Wait + Sync, G: Gate>(
         → result ≡ Err (fault.Inbox
         (min (length inboxes.items) (length config.dealers + length config.investors))) }
 
-    // Else a dealer's notices, a room's sweeps, or the requests that a dealer was shown, are the
-    // first fault of a joined day of the venue with these inboxes, and a firm that is named is one
-    // of the venue.
+    // Else a dealer's notices, a room's sweeps, the requests that a dealer was shown, or the quotes
+    // or replies that came from a room, are the first fault of a joined day of the venue with these
+    // inboxes, and a firm that is named is one of the venue.
     ensures true_of { length inboxes.items ≡ length config.dealers + length config.investors
         → IfErr result
         (IsFaultOf config (map (λ inbox. inbox.items) inboxes.items) sweeps.items) }
@@ -117,8 +119,8 @@ fn sessions_left(
     Ok(sessions)
 }
 
-/// The record of what lies under the locks, where it agrees with what came. Else the fault is that a
-/// place is another's or has not its inbox, or the first of what was joined.
+/// The record of what lies under the locks, where it agrees with what came. Else the fault is that
+/// a place is another's or has not its inbox, or the first of what was joined.
 fn recorded<J: Naming>(
     venue: SharedVenue<J>,
     seen: BoardSeen,
@@ -156,7 +158,8 @@ fn recorded<J: Naming>(
 
 /// The record of a day that was joined, where all agrees: the investors are still without their
 /// rooms, which stand in a list of all rooms. Else the first fault, in the order of [`DayFault`]:
-/// the notices of the dealers, the sweeps, the requests that the dealers were shown, the actions.
+/// the notices of the dealers, the sweeps, the requests that the dealers were shown, the quotes
+/// that came to the investors, the replies that did, the actions.
 fn agreed(
     alloc: Global,
     config: &VenueConfig,
@@ -190,6 +193,12 @@ fn agreed(
     }
     if let Some(dealer) = shown_fault(alloc, dealers.as_slice(), rooms.as_slice())? {
         return Err(DayFault::Shown(dealer));
+    }
+    if let Some(room) = relay_fault(alloc, config, investors.as_slice(), rooms.as_slice())? {
+        return Err(DayFault::Relayed(room));
+    }
+    if let Some(room) = answer_fault(alloc, config, investors.as_slice(), rooms.as_slice())? {
+        return Err(DayFault::Answered(room));
     }
     let investors = with_rooms(alloc, config, investors, rooms)?;
     if let Some(firm) = action_fault(&dealers, &investors, &clock) {

@@ -27,6 +27,12 @@ pub enum DayFault {
     /// The requests that the dealer with this number was shown are not those that name it, each
     /// once and as it was asked.
     Shown(u16),
+    /// The quotes that took effect in this room are not those that came to its investor, each
+    /// dealer's in order and as they were posted.
+    Relayed(RoomRef),
+    /// The replies to the hits and passes in this room are not those that its investor was
+    /// answered, in their order.
+    Answered(RoomRef),
 }
 
 impl fmt::Display for DayFault {
@@ -52,6 +58,16 @@ impl fmt::Display for DayFault {
             DayFault::Shown(dealer) => {
                 write!(f, "dealer {dealer} was not shown the requests that name it")
             }
+            DayFault::Relayed(room) => write!(
+                f,
+                "request {} of firm {} did not get the quotes that were posted for it",
+                room.n, room.investor
+            ),
+            DayFault::Answered(room) => write!(
+                f,
+                "request {} of firm {} did not get the replies of its room",
+                room.n, room.investor
+            ),
         }
     }
 }

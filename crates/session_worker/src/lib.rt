@@ -10,10 +10,12 @@
 //! - [`run_day`]: the record keeps what `KeepsDay` of `specs/KeptDays` says, however the threads
 //!   ran: it has the venue's firms and rooms, and the inboxes that came; what each firm was sent
 //!   follows from the events at its desk, and each of these is that of an action; each dealer was
-//!   told how its rooms ended, each room was swept as the clock was told, and all settlements of
-//!   one word agree. With more or fewer inboxes than firms there is no day. Else an `Inbox` names a
-//!   firm of the venue, and a `Told` or a `Sweep` is the first fault of a day of the venue to which
-//!   these messages came (`IsFaultOf` of `specs/DayFaults`).
+//!   shown the requests that name it, as they were asked, and told how they ended; the quotes that
+//!   took effect in a room came to its investor as they were posted, and so did the room's replies;
+//!   each room was swept as the clock was told, and all settlements of one word agree. With more or
+//!   fewer inboxes than firms there is no day. Else an `Inbox` names a firm of the venue, and any
+//!   other fault but `Memory` is the first of a day of the venue to which these messages came
+//!   (`IsFaultOf` of `specs/DayFaults`).
 //! - [`dealers_of_a_day_are_sent_their_view`] and [`dealers_are_isolated_on_threads`]: so a dealer
 //!   is sent what follows from its own row and what was due to it, whatever else the other firms
 //!   did.
@@ -26,6 +28,8 @@
 #![tactic(auto)]
 
 mod actors;
+mod answered_responses;
+mod arrivals;
 mod day_actions;
 mod day_checks;
 mod day_rooms;
@@ -42,6 +46,8 @@ mod laws;
 mod naming;
 mod notices;
 mod place_events;
+mod relayed_quotes;
+mod room_outputs;
 mod rooms;
 mod shown_checks;
 mod shown_rooms;

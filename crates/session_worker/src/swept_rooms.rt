@@ -35,7 +35,7 @@ pub(crate) fn sweep_fault(
 /// The moments at which the clock was to sweep each room, in their order.
 fn times_by_room(alloc: Global, sweeps: &[Sweep]) -> Result<BTreeMap<RoomRef, Vec<Moment>>, Memory>
     ensures { IfOk result (λ by_room. (room : RoomRef)
-        → kept.times_of by_room room ≡ spec.times_for room sweeps.now) }
+        → kept.list_of by_room room ≡ spec.times_for room sweeps.now) }
 {
     let mut by_room = BTreeMap::new(alloc);
     let mut rest = sweeps;
@@ -52,8 +52,8 @@ fn put_sweep(
     by_room: &mut BTreeMap<RoomRef, Vec<Moment>>,
     sweep: Sweep,
 ) -> Result<(), Memory>
-    ensures { OnOk result ((room : RoomRef) → kept.times_of by_room.new room
-        ≡ kept.times_after room sweep (kept.times_of by_room.old room)) }
+    ensures { OnOk result ((room : RoomRef) → kept.list_of by_room.new room
+        ≡ kept.times_after room sweep (kept.list_of by_room.old room)) }
 {
     let times = by_room.entry(sweep.room)?.or_insert(Vec::new(alloc));
     times.push(sweep.moment)?;

@@ -1,8 +1,8 @@
 -- A venue that answers as steps come: what is told, and where it stands.
-use Rattle.std.proofs.Common.{◌≡◌, ◌<◌, ◌≤◌, ℕ, zero, suc, ◌+◌, ◌-◌, true, List, [], ◌∷◌, ◌++◌}
-use Rattle.std.proofs.Common.{length, fold, replicate, Option, Some, None, refl, sym, ap, ◌∙◌}
-use Rattle.std.proofs.Common.{subst, arith}
-use Rattle.std.specs.Prelude.{slice_get}
+use Rattle.std.proofs.Common.{◌≡◌, ◌<◌, ◌≤◌, ℕ, zero, suc, ◌+◌, ◌-◌, true, false, List, [], ◌∷◌}
+use Rattle.std.proofs.Common.{◌++◌, length, fold, replicate, Option, Some, None, refl, sym, ap}
+use Rattle.std.proofs.Common.{◌∙◌, subst, arith}
+use Rattle.std.specs.Prelude.{nat_lt, slice_get}
 use Rattle.std.proofs.lemmas.Bool.Decides.{nat_tests}
 use Rattle.std.proofs.lemmas.List.{append-nil, append_assoc, length-map, replicate-append-replicate}
 use Rattle.std.proofs.lemmas.List.Concat.{flat_map-append}
@@ -76,6 +76,16 @@ next_is config by trail replay known stands =
             let beyond : length (duties_in replay) ≤ index =
             get_beyond (duties_in replay) index none in
             absurd (too_far by known place beyond)
+
+-- an actor that the venue does not have has no queue
+pub next_unknown : (config : Configuration) (by : Actor) (trail : AuditTrail) (replay : Replay)
+    → is_known config by ≡ false → ReplayStands config trail replay → next_duty replay by ≡ None
+next_unknown config actor.Clock trail replay unknown stands = cc
+next_unknown config (actor.Firm number) trail replay unknown stands =
+    let count : length replay.queues.items ≡ firms_of config + 1 =
+    sym (length-map replay.queues.items (λ queue. queue.items)) ∙ stands.queues_stand.count in
+    let far : nat_lt (number + 1) (length replay.queues.items) ≡ false = grind (arith, nat_tests) in
+    rw far refl
 
 -- A step is told.
 pub tells_step : (config : Configuration) (trail : AuditTrail) (next : Step) (before after : Replay)

@@ -5,6 +5,7 @@ use Rattle.std.specs.List.{list_any}
 use Rattle.std.specs.Ordering.{nat_cmp, ordering_then}
 use Rattle.std.specs.declared.cmp.Ordering.{Ordering}
 use Rattle.std.specs.BTreeSet.{BTreeSet, IsOrdered, contains}
+pub use Rattle.market_terms.specs.Rooms.{room_cmp}
 use Rattle.market_terms.specs.declared.rooms.RoomRef.{RoomRef}
 use Rattle.dealer_desk.specs.DealerOutput.{is_same_room}
 use Rattle.venue_rows.specs.Rows.{Configuration, has_room}
@@ -15,11 +16,6 @@ use Rattle.step_replay.specs.declared.open_rooms.OpenRooms.{OpenRooms}
 -- a deadline, and the room that has it
 abbrev pub Entry : Type 0
 Entry = ℕ × RoomRef
-
--- rooms in the order of their investors and of their requests
-abbrev pub room_cmp : RoomRef → RoomRef → Ordering
-room_cmp one other =
-    ordering_then (nat_cmp one.investor other.investor) (nat_cmp one.n other.n)
 
 -- entries in the order of their deadlines, and then of their rooms
 abbrev pub entry_cmp : Entry → Entry → Ordering

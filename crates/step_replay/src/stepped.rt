@@ -1,6 +1,6 @@
 //! A venue whose day goes on step by step, and in which the duties that wait can be looked at.
-ghost use Rattle.std.specs.Prelude.{◌≡◌, ◌++◌, ◌∷◌, [], List, None, Err, true, IfOk, IfErr, IfSome};
-ghost use Rattle.std.specs.Prelude.{OnOk};
+ghost use Rattle.std.specs.Prelude.{◌≡◌, ◌++◌, ◌∷◌, [], List, None, Err, true, false, IfOk, IfErr};
+ghost use Rattle.std.specs.Prelude.{IfSome, OnOk};
 ghost use Rattle.std.specs.Option.{option_copied};
 ghost use Rattle.step_replay.specs.AuditTrail.{audit_trail, pending};
 ghost use Rattle.step_replay.specs.FirmDays.{firm_days};
@@ -56,11 +56,15 @@ impl SteppedVenue {
         Ok(())
     }
 
-    /// The duty that the next turn of an actor of the venue does: the oldest of those that wait.
+    /// The duty that the next turn of an actor does: the oldest of those that wait, and none of an
+    /// actor that the venue does not have.
     pub fn next_duty(&self, by: Actor) -> Option<&Duty>
-        ensures { (config : Configuration) (steps : List Step) → IsAfter config steps self.now
+        ensures duty { (config : Configuration) (steps : List Step) → IsAfter config steps self.now
             → is_known config by ≡ true
             → option_copied result ≡ first_in (pending by (audit_trail config steps)) }
+        ensures unknown { (config : Configuration) (steps : List Step)
+            → IsAfter config steps self.now → is_known config by ≡ false
+            → option_copied result ≡ None }
     {
         let Some(duty) = next_duty(&self.replay, by) else {
             return None;

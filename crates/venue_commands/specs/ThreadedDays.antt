@@ -16,8 +16,8 @@ use Rattle.venue_text.specs.ArrivingDays.{arriving_day}
 use Rattle.venue_text.specs.RecordText.{record_text, woven_line}
 use Rattle.input_lines.specs.declared.faults.ProgramFault.{ProgramFault}
 use Rattle.input_lines.specs.declared.faults.ProgramFault.TheVariants as program
-use Rattle.input_lines.specs.declared.faults.UnkeptDay.TheVariants.{Inbox, Told, Sweep as Swept}
-use Rattle.input_lines.specs.declared.faults.UnkeptDay.TheVariants.{Shown}
+use Rattle.input_lines.specs.declared.faults.UnkeptDay.TheVariants.{Answered, Inbox, Relayed}
+use Rattle.input_lines.specs.declared.faults.UnkeptDay.TheVariants.{Shown, Sweep as Swept, Told}
 use Rattle.input_lines.specs.declared.faults.UnwovenDay.TheVariants.{Malformed, Cycle, Differs}
 
 -- A record of the day that an input spells, which keeps what every day on threads keeps: so each
@@ -60,10 +60,13 @@ unkept (threaded.Inbox firm) = program.Day Inbox
 unkept (threaded.Told dealer) = program.Day Told
 unkept (threaded.Sweep room) = program.Day Swept
 unkept (threaded.Shown dealer) = program.Day Shown
+unkept (threaded.Relayed room) = program.Day Relayed
+unkept (threaded.Answered room) = program.Day Answered
 
 -- Something does not agree after the day, and the input has no fault. What is told is so: a
--- dealer's notices, a room's sweeps, or the requests that a dealer was shown, are the first fault of
--- a joined day that has the venue's firms and rooms and these inboxes.
+-- dealer's notices, a room's sweeps, the requests that a dealer was shown, or the quotes or replies
+-- that came from a room, are the first fault of a joined day that has the venue's firms and rooms
+-- and these inboxes.
 pub record IsUnkept (input : List ℕ) (fault : ProgramFault) : Type 0 where
   pub config : Configuration
   pub inboxes : List (List Inbound)

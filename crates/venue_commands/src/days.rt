@@ -89,5 +89,7 @@ fn unkept(fault: DayFault) -> ProgramFault
         DayFault::Told(_) => ProgramFault::Day(UnkeptDay::Told),
         DayFault::Sweep(_) => ProgramFault::Day(UnkeptDay::Sweep),
         DayFault::Shown(_) => ProgramFault::Day(UnkeptDay::Shown),
+        DayFault::Relayed(_) => ProgramFault::Day(UnkeptDay::Relayed),
+        DayFault::Answered(_) => ProgramFault::Day(UnkeptDay::Answered),
     }
 }

@@ -9,7 +9,7 @@ use thiserror::Error;
 ///
 /// `Toml` comes before all others. Then the values are looked at in their order, and each may be
 /// `Missing`, then `Name`, then `Limit`, then `Twice`; the sums come last. `Memory` may come at any
-/// point. The text of a fault is its name.
+/// point. [`ConfigFault::name`] is what a fault is called.
 #[derive(Clone, Copy, Debug, PartialEq, Eq, Error)]
 pub enum ConfigFault {
     /// The text is no TOML.

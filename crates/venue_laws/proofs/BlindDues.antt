@@ -1,6 +1,8 @@
 -- What is due to a dealer of two days that are one without prices is one but for the cover.
 use Rattle.std.proofs.Common.{◌≡◌, ℕ, ◌==◌, Bool, true, List, [], ◌∷◌, map, Some, option_map, refl}
-use Rattle.std.proofs.Common.{sym, ap, ◌∙◌, ◌⊎◌, inl, inr, eq-eqb}
+use Rattle.std.proofs.Common.{filter_map, option_and_then, sym, ap, ◌∙◌, ◌⊎◌, inl, inr, eq-eqb}
+use Rattle.market_terms.proofs.ErasedLists.{by_erased}
+use Rattle.market_terms.specs.Unpriced.{uncovered}
 use Rattle.market_terms.specs.declared.closes.Close.{Close}
 use Rattle.market_terms.specs.declared.closes.Close.TheVariants as closes
 use Rattle.fix_fields.specs.Frame.{Field, IsFrame, frame_of}
@@ -14,9 +16,8 @@ use Rattle.venue_laws.specs.PriceAlike.{IsPriceAlike, IsCoverAgainstDoneAway, Is
 use Rattle.step_replay.specs.declared.dues.Due.{Due}
 use Rattle.step_replay.specs.declared.dues.Due.TheVariants as due
 use Rattle.step_replay.specs.declared.steps.Step.{Step}
-use Rattle.venue_laws.proofs.Erasing.{erase, erase_close, erase_entry, erase_due}
-use Rattle.venue_laws.proofs.ErasedLists.{filter_map_erased}
-use Rattle.venue_laws.proofs.ErasedActions.{dealer_same}
+use Rattle.venue_laws.proofs.Erasing.{bare, erase_due, erase_entry, trail_left}
+use Rattle.venue_laws.proofs.ErasedLists.{fuse, map_fuse}
 use Rattle.venue_laws.proofs.LiveQuotes.{LoneQuotes}
 use Rattle.venue_laws.proofs.PriceLemmas.{all_days}
 use Rattle.venue_laws.proofs.VenueDesk.{WordsOfDay}
@@ -24,7 +25,7 @@ use Rattle.venue_laws.proofs.VenueDesk.{WordsOfDay}
 -- Due lists.
 
 due_same : (entry : DealerEntry)
-    → due_by (erase_entry true entry) ≡ option_map erase_due (due_by entry)
+    → option_and_then due_by (erase_entry true entry) ≡ option_map erase_due (due_by entry)
 due_same (AtDesk (Came moment bytes used)) = refl
 due_same (AtDesk (Shown ask moment)) = refl
 due_same (AtDesk (Told request close moment)) = refl
@@ -33,15 +34,19 @@ due_same (AtDesk fact) = refl
 due_same (Lifted quote) = refl
 due_same entry = refl
 
-due_list_is : (config : Configuration) (own : ℕ) (facts : List Fact)
-    → map erase_due (due_list (of_dealer own facts))
-    ≡ due_list (of_dealer own (map (erase own) facts))
-due_list_is config own facts =
+dues_left : (trail : List DealerEntry)
+    → due_list (filter_map (erase_entry true) trail) ≡ map erase_due (due_list trail)
+dues_left trail = simp (fuse, map_fuse, due_same)
+
+due_list_is : (own : ℕ) (facts : List Fact)
+    → due_list (of_dealer own (bare own facts))
+    ≡ map erase_due (due_list (of_dealer own facts))
+due_list_is own facts =
     let same : (own == own) ≡ true = eq-eqb own own refl in
-    sym (ap (λ (l : List DealerEntry). due_list l)
-    (dealer_same config own facts own
-    ∙ ap (λ (b : Bool). map (erase_entry b) (of_dealer own facts)) same)
-    ∙ filter_map_erased (erase_entry true) due_by due_by erase_due due_same (of_dealer own facts))
+    ap (λ (l : List DealerEntry). due_list l)
+    (trail_left own facts own
+    ∙ ap (λ (b : Bool). filter_map (erase_entry b) (of_dealer own facts)) same)
+    ∙ dues_left (of_dealer own facts)
 
 -- two items are one, but that Cover may stand against Done Away
 abbrev pub AreItems : Due → Due → Type 0
@@ -49,7 +54,7 @@ AreItems one other =
     (one ≡ other) ⊎ IsCoverAgainstDoneAway one other ⊎ IsCoverAgainstDoneAway other one
 
 notices : (request again moment later : ℕ) (one other : Close) → request ≡ again
-    → moment ≡ later → erase_close one ≡ erase_close other
+    → moment ≡ later → uncovered one ≡ uncovered other
     → AreItems (due.Closed request one moment) (due.Closed again other later)
 notices request again moment later closes.Cover closes.Cover requests moments same = inl (cc)
 notices request again moment later closes.Cover closes.DoneAway requests moments same =
@@ -64,7 +69,7 @@ items : (one other : Due) → erase_due one ≡ erase_due other → AreItems one
 items (due.Closed request one moment) (due.Closed again other later) same =
     let requests : request ≡ again = cc in
     let moments : moment ≡ later = cc in
-    let ends : erase_close one ≡ erase_close other = cc in
+    let ends : uncovered one ≡ uncovered other = cc in
     notices request again moment later one other requests moments ends
 items (due.Closed request one moment) other same = cc
 items one (due.Closed again other later) same = cc
@@ -91,7 +96,7 @@ is_blind lone words reads config steps others own alike =
     let day = audit_trail config steps in
     let other = audit_trail config others in
     lists (due_to own day) (due_to own other)
-    (due_list_is config own day.facts
-    ∙ ap (λ (l : List Fact). due_list (of_dealer own l))
-    (all_days config own lone words reads steps others alike).facts_are
-    ∙ sym (due_list_is config own other.facts))
+    (by_erased (bare own)
+    (λ (l : List Fact). map erase_due (due_list (of_dealer own l)))
+    (λ (l : List Fact). due_list (of_dealer own l)) (due_list_is own) day.facts other.facts
+    (all_days config own lone words reads steps others alike).facts_are)

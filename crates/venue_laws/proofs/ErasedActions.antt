@@ -1,50 +1,56 @@
--- What each action adds and leaves, without prices, is what it adds and leaves in the day without
--- prices.
-use Rattle.std.proofs.Common.{◌≡◌, ℕ, ◌==◌, Bool, true, false, ◌&&◌, List, [], map, Option, Some}
-use Rattle.std.proofs.Common.{None, option_map, is_some, cond, refl, sym, ap, ◌∙◌, arith}
-use Rattle.std.proofs.Common.{if◌then◌else◌}
-use Rattle.std.proofs.lemmas.Bool.Decides.{nat_tests}
+-- What an action adds and leaves in a day without prices: what it adds and leaves in the day, but
+-- for prices.
+use Rattle.std.proofs.Common.{◌≡◌, ℕ, ◌==◌, Bool, true, false, ◌&&◌, List, [], map, filter_map}
+use Rattle.std.proofs.Common.{Option, Some, None, is_some, refl, ap, ◌∙◌, if◌then◌else◌}
+use Rattle.market_terms.specs.Unpriced.{uncovered, unpriced_duty}
 use Rattle.market_terms.specs.declared.asks.Ask.{Ask}
 use Rattle.market_terms.specs.declared.closes.Close.{Close}
 use Rattle.market_terms.specs.declared.duties.Duty.{Duty}
 use Rattle.market_terms.specs.declared.rooms.RoomRef.{RoomRef}
 use Rattle.venue_rows.specs.Rows.{Configuration, has_room}
 use Rattle.dealer_desk.specs.DealerFacts.{DealerBook}
-use Rattle.dealer_desk.specs.DealerOutput.{number_in, closable, is_same_room}
+use Rattle.dealer_desk.specs.DealerOutput.{closable, event_facts, number_in, shown_room}
+use Rattle.dealer_desk.specs.Unpriced.{unpriced as unpriced_at_dealer}
+use Rattle.dealer_desk.specs.Unpriced.{unpriced_event as unpriced_to_dealer}
 use Rattle.dealer_desk.specs.declared.events.DealerEvent.{DealerEvent}
 use Rattle.dealer_desk.specs.declared.events.DealerEvent.TheVariants as at_desk
+use Rattle.dealer_desk.proofs.UnpricedVerdicts.{closable_same, kept_same as kept_at_dealer}
 use Rattle.investor_desk.specs.InvestorFacts.{InvestorBook, knows}
 use Rattle.investor_desk.specs.InvestorRules.{InvestorMarket}
+use Rattle.investor_desk.specs.Unpriced.{unpriced as unpriced_at_investor}
+use Rattle.investor_desk.specs.Unpriced.{unpriced_event as unpriced_to_investor}
 use Rattle.investor_desk.specs.declared.events.InvestorEvent.{InvestorEvent}
-use Rattle.request_room.specs.Book.{event_facts}
+use Rattle.investor_desk.proofs.UnpricedDesks.{kept_same as kept_at_investor, knows_same}
+use Rattle.request_room.specs.RoomFacts.{RoomFact}
+use Rattle.request_room.specs.Book.{event_facts as added_in_room}
+use Rattle.request_room.specs.Unpriced.{unpriced as unpriced_in_room}
+use Rattle.request_room.specs.Unpriced.{unpriced_event as unpriced_to_room}
 use Rattle.request_room.specs.declared.events.RoomEvent.{RoomEvent}
-use Rattle.step_replay.specs.DealerTrail.{DealerEntry, book_by, rooms_by, entries_of}
+use Rattle.request_room.proofs.UnpricedRooms.{kept_same as kept_in_room}
+use Rattle.step_replay.specs.DealerTrail.{DealerEntry, AtDesk, Sent, book_by, entries_of, rooms_by}
 use Rattle.step_replay.specs.InvestorTrail as investor_trail
-use Rattle.step_replay.specs.InvestorTrail.{InvestorEntry}
-use Rattle.step_replay.specs.VenueFacts.{Fact, AtDealer, InRoom, AtInvestor, entry_at_dealer}
-use Rattle.step_replay.specs.VenueFacts.{fact_in_room, entry_at_investor, of_dealer, of_room}
-use Rattle.step_replay.specs.VenueFacts.{of_investor}
-use Rattle.step_replay.specs.Actions.{Effect, Dealer, nothing, done_by, done_for, at_dealer}
-use Rattle.step_replay.specs.Actions.{in_room, at_market, where_known, shown_to, told_of, told_to}
-use Rattle.venue_laws.proofs.Erasing.{erase, erase_close, erase_entry, erase_book, erase_duty}
-use Rattle.venue_laws.proofs.Erasing.{erase_room_fact, erase_investor_entry}
-use Rattle.venue_laws.proofs.ErasedLists.{filter_map_erased, map_along, map_cond}
-use Rattle.venue_laws.proofs.ErasedRules.{closable_same}
-use Rattle.venue_laws.proofs.ErasedEntries as entries
-use Rattle.venue_laws.proofs.ErasedInvestor.{knows_same}
-use Rattle.venue_laws.proofs.ErasedEvents.{erase_event, event_same}
-use Rattle.venue_laws.proofs.ErasedEvents.{book_by_same as investor_book_same}
+use Rattle.step_replay.specs.InvestorTrail.{AtDesk as AtInvestorsDesk, Sent as SentToInvestor}
+use Rattle.step_replay.specs.VenueFacts.{Fact, AtDealer, InRoom, AtInvestor, of_dealer, of_investor}
+use Rattle.step_replay.specs.VenueFacts.{of_room}
+use Rattle.step_replay.specs.Actions.{Effect, Dealer, at_dealer, at_market, done_by, done_for}
+use Rattle.step_replay.specs.Actions.{in_room, nothing, shown_to, told_of, told_to, where_known}
+use Rattle.venue_laws.proofs.Erasing.{bare, book_left, erase, erase_entry, erase_investor_entry}
+use Rattle.venue_laws.proofs.Erasing.{investor_book_left, left, room_left, rooms_left}
+use Rattle.std.proofs.lemmas.List.Elements.{filter_map-append}
+use Rattle.venue_laws.proofs.ErasedLists.{all_along, left_all, left_at, left_none}
 
 -- two actions add and leave the same, but for what is erased
-
 pub record AreAlike (own : ℕ) (one other : Effect) : Type 0 where
-  pub facts_are : map (erase own) one.facts ≡ map (erase own) other.facts
-  pub duties_are : map erase_duty one.duties ≡ map erase_duty other.duties
-
-pub same_alike : (own : ℕ) (effect : Effect) → AreAlike own effect effect
-same_alike own effect = record { facts_are = refl; duties_are = refl }
+  pub same : left own one ≡ left own other
 
 -- Forms of actions.
+
+pub both_alike : (own : ℕ) (one other : Effect) → bare own one.facts ≡ bare own other.facts
+    → map unpriced_duty one.duties ≡ map unpriced_duty other.duties → AreAlike own one other
+both_alike own one other facts duties = record { same = rw (facts, duties) }
+
+pub same_alike : {own : ℕ} {effect : Effect} → AreAlike own effect effect
+same_alike = record { same = refl }
 
 pub either_alike : {own : ℕ} {one other one' other' : Effect} (b c : Bool) → b ≡ c
     → AreAlike own one one' → AreAlike own other other'
@@ -56,192 +62,154 @@ either_alike false false same first second = second
 
 pub if_alike : {own : ℕ} {one other : Effect} (b c : Bool) → b ≡ c → AreAlike own one other
     → AreAlike own (if b then one else nothing) (if c then other else nothing)
-if_alike {own} b c same alike = either_alike b c same alike (same_alike own nothing)
+if_alike b c same alike = either_alike b c same alike same_alike
 
 pub done_alike : {own : ℕ} (found : Option Dealer) {one other : Dealer → Effect}
     → ((dealer : Dealer) → AreAlike own (one dealer) (other dealer))
     → AreAlike own (done_by found one) (done_by found other)
-done_alike {own} None alike = same_alike own nothing
+done_alike None alike = same_alike
 done_alike (Some dealer) alike = alike dealer
 
 pub market_alike : {own : ℕ} (found : Option InvestorMarket) {one other : InvestorMarket → Effect}
     → ((market : InvestorMarket) → AreAlike own (one market) (other market))
     → AreAlike own (done_for found one) (done_for found other)
-market_alike {own} None alike = same_alike own nothing
+market_alike None alike = same_alike
 market_alike (Some market) alike = alike market
+
+-- what is left of the entries that an event adds at a dealer's desk
+pub entries_alike : (stay : Bool) (config : Configuration) (dealer : Dealer)
+    (one other : List DealerEntry) (more later : DealerEvent)
+    → map (unpriced_at_dealer stay) (event_facts config.date dealer.row (book_by one) more)
+    ≡ map (unpriced_at_dealer stay) (event_facts config.date dealer.row (book_by other) later)
+    → shown_room more ≡ shown_room later
+    → filter_map (erase_entry stay) (entries_of config.date dealer.row one more)
+    ≡ filter_map (erase_entry stay) (entries_of config.date dealer.row other later)
+unfolding entries_of
+entries_alike stay config dealer one other more later kept rooms =
+    simp (
+      filter_map-append,
+      left_all (erase_entry stay) AtDesk (unpriced_at_dealer stay) (λ fact. refl),
+      left_none (erase_entry stay) Sent (λ message. refl),
+      kept,
+      rooms,
+    )
 
 module _ (config : Configuration) (own : ℕ) (facts : List Fact) where
   -- the facts without prices
-  abbrev pub erased : List Fact
-  erased = map (erase own) facts
+  abbrev known : List Fact
+  known = bare own facts
 
-  -- whether a dealer is the one whose messages are kept
-  abbrev pub is_own : ℕ → Bool
-  is_own dealer = dealer == own
+  -- At a dealer.
 
-  -- Places.
+  -- where what comes adds the same
+  pub desk_alike : (dealer : Dealer) (more later : DealerEvent) (duties duties_too : List Duty)
+      → map (unpriced_at_dealer (dealer.number == own))
+      (event_facts config.date dealer.row (book_by (of_dealer dealer.number known)) more)
+      ≡ map (unpriced_at_dealer (dealer.number == own))
+      (event_facts config.date dealer.row (book_by (of_dealer dealer.number facts)) later)
+      → shown_room more ≡ shown_room later
+      → map unpriced_duty duties ≡ map unpriced_duty duties_too
+      → AreAlike own (at_dealer config known dealer more duties)
+      (at_dealer config facts dealer later duties_too)
+  desk_alike dealer more later duties duties_too kept rooms same =
+      both_alike own (at_dealer config known dealer more duties)
+      (at_dealer config facts dealer later duties_too)
+      (simp (
+        left_at (erase own) (AtDealer dealer.number) (erase_entry (dealer.number == own))
+            (λ entry. refl),
+        entries_alike (dealer.number == own) config dealer (of_dealer dealer.number known)
+            (of_dealer dealer.number facts) more later kept rooms,
+      )) same
 
-  if_entry : (number dealer : ℕ) (entry : DealerEntry)
-      → entry_at_dealer number (erase own (AtDealer dealer entry))
-      ≡ option_map (erase_entry (is_own number)) (entry_at_dealer number (AtDealer dealer entry))
-  if_entry number dealer entry = by_test (dealer == number) refl
-    where
-      by_test : (b : Bool) → (dealer == number) ≡ b
-          → cond b (Some (erase_entry (is_own dealer) entry)) None
-          ≡ option_map (erase_entry (is_own number)) (cond b (Some entry) None)
-      by_test false test = refl
-      by_test true test =
-          let equal : dealer ≡ number = grind (arith, nat_tests) in
-          ap (λ (n : ℕ). Some (erase_entry (is_own n) entry)) equal
+  pub kept_alike : (dealer : Dealer) (more : DealerEvent)
+      → map (unpriced_at_dealer (dealer.number == own)) (event_facts config.date dealer.row
+      (book_by (of_dealer dealer.number known)) (unpriced_to_dealer more))
+      ≡ map (unpriced_at_dealer (dealer.number == own))
+      (event_facts config.date dealer.row (book_by (of_dealer dealer.number facts)) more)
+  kept_alike dealer more =
+      rw (book_left own facts dealer.number)
+      (kept_at_dealer config.date dealer.row (dealer.number == own)
+      (book_by (of_dealer dealer.number facts)) more)
 
-  pub dealer_same : (number : ℕ)
-      → of_dealer number erased ≡ map (erase_entry (is_own number)) (of_dealer number facts)
-  unfolding of_dealer
-  dealer_same number =
-      filter_map_erased (erase own) (entry_at_dealer number) (entry_at_dealer number)
-      (erase_entry (is_own number)) each facts
-    where
-      each : (fact : Fact)
-          → entry_at_dealer number (erase own fact)
-          ≡ option_map (erase_entry (is_own number)) (entry_at_dealer number fact)
-      each (AtDealer dealer entry) = if_entry number dealer entry
-      each (InRoom room fact) = refl
-      each (AtInvestor investor entry) = refl
+  pub shown_alike : (room : RoomRef) (ask : Ask) (moment : ℕ) (dealer : Dealer)
+      → AreAlike own (shown_to config known room ask moment dealer)
+      (shown_to config facts room ask moment dealer)
+  shown_alike room ask moment dealer =
+      let shown = at_desk.Shown room ask moment in
+      either_alike _ _
+      (ap (λ (rooms : List RoomRef). is_some (number_in rooms room))
+      (rooms_left own facts dealer.number)) same_alike
+      (desk_alike dealer shown shown [] [] (kept_alike dealer shown) refl refl)
 
-  pub room_same : (place : RoomRef)
-      → of_room place erased ≡ map erase_room_fact (of_room place facts)
-  unfolding of_room
-  room_same place =
-      filter_map_erased (erase own) (fact_in_room place) (fact_in_room place) erase_room_fact each
-      facts
-    where
-      each : (fact : Fact)
-          → fact_in_room place (erase own fact)
-          ≡ option_map erase_room_fact (fact_in_room place fact)
-      each (AtDealer dealer entry) = refl
-      each (InRoom room fact) = map_cond erase_room_fact (is_same_room room place) fact None
-      each (AtInvestor investor entry) = refl
-
-  pub investor_same : (number : ℕ)
-      → of_investor number erased ≡ map erase_investor_entry (of_investor number facts)
-  unfolding of_investor
-  investor_same number =
-      filter_map_erased (erase own) (entry_at_investor number) (entry_at_investor number)
-      erase_investor_entry each facts
-    where
-      each : (fact : Fact)
-          → entry_at_investor number (erase own fact)
-          ≡ option_map erase_investor_entry (entry_at_investor number fact)
-      each (AtDealer dealer entry) = refl
-      each (InRoom room fact) = refl
-      each (AtInvestor investor entry) =
-          map_cond erase_investor_entry (investor == number) entry None
-
-  -- at a dealer's desk
-  pub desk_alike : (dealer : Dealer) (one other : DealerEvent) (left left_too : List Duty)
-      → map (erase_entry (is_own dealer.number))
-      (entries_of config.date dealer.row (of_dealer dealer.number facts) one)
-      ≡ map (erase_entry (is_own dealer.number)) (entries_of config.date dealer.row
-      (map (erase_entry (is_own dealer.number)) (of_dealer dealer.number facts)) other)
-      → map erase_duty left ≡ map erase_duty left_too
-      → AreAlike own (at_dealer config facts dealer one left)
-      (at_dealer config erased dealer other left_too)
-  desk_alike dealer one other left left_too same duties = record {
-    facts_are = rw (dealer_same dealer.number) (map_along (erase own) (AtDealer dealer.number)
-        (erase_entry (is_own dealer.number)) (λ entry. refl) _ _ same);
-    duties_are = duties;
-  }
-
-  -- in a room
-  pub room_alike : (room : RoomRef) (may may_too : Bool) (one other : RoomEvent)
-      (left left_too : List Duty) → may ≡ may_too
-      → map erase_room_fact (event_facts (of_room room facts) one)
-      ≡ map erase_room_fact (event_facts (map erase_room_fact (of_room room facts)) other)
-      → map erase_duty left ≡ map erase_duty left_too
-      → AreAlike own (in_room config facts room may one left)
-      (in_room config erased room may_too other left_too)
-  room_alike room may may_too one other left left_too tests same duties =
+  told_alike_of : (dealer : Dealer) (close : Close) (moment : ℕ) (request : Option ℕ)
+      → AreAlike own (told_of config known dealer (uncovered close) moment request)
+      (told_of config facts dealer close moment request)
+  told_alike_of dealer close moment None = same_alike
+  told_alike_of dealer close moment (Some request) =
       if_alike _ _
-      (ap (λ (b : Bool). has_room config room.investor room.n && b) tests)
-      (record {
-        facts_are = rw (room_same room) (map_along (erase own) (InRoom room) erase_room_fact
-            (λ fact. refl) _ _ same);
-        duties_are = duties;
-      })
+      (ap (λ (b : DealerBook). is_some (closable b request)) (book_left own facts dealer.number)
+      ∙ ap (λ o. is_some o) (closable_same (book_by (of_dealer dealer.number facts)) request))
+      (desk_alike dealer (at_desk.Told request (uncovered close) moment)
+      (at_desk.Told request close moment) [] []
+      (kept_alike dealer (at_desk.Told request close moment)) refl refl)
 
-  -- at an investor's desk
-  pub investor_alike : (market : InvestorMarket) (more : InvestorEvent) (left left_too : List Duty)
-      → map erase_duty left ≡ map erase_duty left_too
-      → AreAlike own (at_market facts market more left)
-      (at_market erased market (erase_event more) left_too)
-  investor_alike market more left left_too duties = record {
-    facts_are = rw (investor_same market.firm) (map_along (erase own) (AtInvestor market.firm)
-        erase_investor_entry (λ entry. refl) _ _
-        (event_same market (of_investor market.firm facts) more));
-    duties_are = duties;
-  }
+  pub told_alike : (room : RoomRef) (close : Close) (moment : ℕ) (dealer : Dealer)
+      → AreAlike own (told_to config known room (uncovered close) moment dealer)
+      (told_to config facts room close moment dealer)
+  told_alike room close moment dealer =
+      rw (rooms_left own facts dealer.number) (told_alike_of dealer close moment
+      (number_in (rooms_by (of_dealer dealer.number facts)) room))
+
+  -- In a room: an event of which the test asks no price, and what it leaves only the price that it
+  -- bears.
+
+  pub event_alike : (room : RoomRef) (may : List RoomFact → Bool) (event : RoomEvent) (price : ℕ)
+      (duties : ℕ → List RoomFact → List Duty)
+      → ((l : List RoomFact) → may (map unpriced_in_room l) ≡ may l)
+      → ((l : List RoomFact)
+      → map unpriced_duty (duties 0 (map unpriced_in_room l)) ≡ map unpriced_duty (duties price l))
+      → AreAlike own (in_room config known room (may (of_room room known)) (unpriced_to_room event)
+      (duties 0 (of_room room known)))
+      (in_room config facts room (may (of_room room facts)) event
+      (duties price (of_room room facts)))
+  event_alike room may event price duties tests same =
+      let bare_room = room_left own facts room in
+      if_alike _ _
+      (ap (λ (l : List RoomFact). has_room config room.investor room.n && may l) bare_room
+      ∙ ap (λ (b : Bool). has_room config room.investor room.n && b) (tests (of_room room facts)))
+      (both_alike own _ _
+      (all_along (erase own) (InRoom room) unpriced_in_room (λ fact. refl) _ _
+      (ap (λ (l : List RoomFact). map unpriced_in_room (added_in_room l (unpriced_to_room event)))
+      bare_room ∙ kept_in_room (of_room room facts) event))
+      (ap (λ (l : List RoomFact). map unpriced_duty (duties 0 l)) bare_room
+      ∙ same (of_room room facts)))
+
+  -- At an investor.
+
+  pub investor_alike : (market : InvestorMarket) (more : InvestorEvent)
+      (duties duties_too : List Duty) → map unpriced_duty duties ≡ map unpriced_duty duties_too
+      → AreAlike own (at_market known market (unpriced_to_investor more) duties)
+      (at_market facts market more duties_too)
+  unfolding investor_trail.entries_of
+  investor_alike market more duties duties_too same =
+      both_alike own (at_market known market (unpriced_to_investor more) duties)
+      (at_market facts market more duties_too)
+      (simp (
+        left_at (erase own) (AtInvestor market.firm) erase_investor_entry (λ entry. refl),
+        filter_map-append,
+        left_all erase_investor_entry AtInvestorsDesk unpriced_at_investor (λ fact. refl),
+        left_none erase_investor_entry SentToInvestor (λ message. refl),
+        investor_book_left own facts market.firm,
+        kept_at_investor market (investor_trail.book_by (of_investor market.firm facts)) more,
+      )) same
 
   -- where an investor knows a request
   pub known_alike : (request : ℕ) (quote : Option ℕ) (more : InvestorEvent)
       (market : InvestorMarket)
-      → AreAlike own (where_known facts request quote more market)
-      (where_known erased request quote (erase_event more) market)
+      → AreAlike own (where_known known request quote (unpriced_to_investor more) market)
+      (where_known facts request quote more market)
   known_alike request quote more market =
       if_alike _ _
-      (sym (ap (λ (l : List InvestorEntry). knows (investor_trail.book_by l) request quote)
-      (investor_same market.firm)
-      ∙ ap (λ (b : InvestorBook). knows b request quote)
-      (investor_book_same (of_investor market.firm facts))
-      ∙ knows_same (investor_trail.book_by (of_investor market.firm facts)) request quote))
+      (ap (λ (b : InvestorBook). knows b request quote) (investor_book_left own facts market.firm)
+      ∙ knows_same (investor_trail.book_by (of_investor market.firm facts)) request quote)
       (investor_alike market more [] [] refl)
-
-  -- A dealer is shown a request, and told how it ended.
-
-  pub rooms_known : (dealer : ℕ)
-      → rooms_by (of_dealer dealer erased) ≡ rooms_by (of_dealer dealer facts)
-  rooms_known dealer =
-      rw (dealer_same dealer) (entries.rooms_same (is_own dealer) (of_dealer dealer facts))
-
-  pub book_known : (dealer : ℕ)
-      → book_by (of_dealer dealer erased) ≡ erase_book (book_by (of_dealer dealer facts))
-  book_known dealer =
-      ap (λ (l : List DealerEntry). book_by l) (dealer_same dealer)
-      ∙ entries.book_by_same (is_own dealer) (of_dealer dealer facts)
-
-  pub shown_alike : (room : RoomRef) (ask : Ask) (moment : ℕ) (dealer : Dealer)
-      → AreAlike own (shown_to config facts room ask moment dealer)
-      (shown_to config erased room ask moment dealer)
-  shown_alike room ask moment dealer =
-      either_alike _ _
-      (ap (λ (rooms : List RoomRef). is_some (number_in rooms room))
-      (sym (rooms_known dealer.number))) (same_alike own nothing)
-      (desk_alike dealer (at_desk.Shown room ask moment) (at_desk.Shown room ask moment) [] []
-      (entries.shown_same (is_own dealer.number) config.date dealer.row
-      (of_dealer dealer.number facts) room ask moment) refl)
-
-  told_alike_of : (dealer : Dealer) (close : Close) (moment : ℕ) (request : Option ℕ)
-      → AreAlike own (told_of config facts dealer close moment request)
-      (told_of config erased dealer (erase_close close) moment request)
-  told_alike_of dealer close moment None = same_alike own nothing
-  told_alike_of dealer close moment (Some request) =
-      if_alike _ _
-      (ap (λ o. is_some o) (sym (closable_same (book_by (of_dealer dealer.number facts)) request))
-      ∙ ap (λ (b : DealerBook). is_some (closable b request)) (sym (book_known dealer.number)))
-      (desk_alike dealer (at_desk.Told request close moment)
-      (at_desk.Told request (erase_close close) moment) [] []
-      (entries.told_same (is_own dealer.number) config.date dealer.row
-      (of_dealer dealer.number facts) request close moment) refl)
-
-  pub told_alike : (room : RoomRef) (close : Close) (moment : ℕ) (dealer : Dealer)
-      → AreAlike own (told_to config facts room close moment dealer)
-      (told_to config erased room (erase_close close) moment dealer)
-  told_alike room close moment dealer =
-      let number = number_in (rooms_by (of_dealer dealer.number facts)) room in
-      let of_number = λ (n : Option ℕ). told_of config erased dealer (erase_close close) moment n in
-      let is = ap (λ (rooms : List RoomRef). of_number (number_in rooms room))
-      (sym (rooms_known dealer.number)) in
-      let alike = told_alike_of dealer close moment number in
-      record {
-        facts_are = alike.facts_are ∙ ap (λ (e : Effect). map (erase own) e.facts) is;
-        duties_are = alike.duties_are ∙ ap (λ (e : Effect). map erase_duty e.duties) is;
-      }

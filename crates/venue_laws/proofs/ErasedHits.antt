@@ -1,196 +1,192 @@
--- A drop and a hit, without prices, are those of the day without prices.
-use Rattle.std.proofs.Common.{◌≡◌, ℕ, Bool, true, false, List, [], ◌++◌, map, Option, Some, None}
-use Rattle.std.proofs.Common.{option_map, refl, sym, ap, ◌∙◌, if◌then◌else◌, ◌&&◌, subst, Result}
-use Rattle.std.proofs.Common.{Ok, Err}
-use Rattle.std.specs.Option.{option_to_list}
-use Rattle.market_terms.specs.declared.closes.Close.{Close}
+-- A post, a drop and a hit in a day without prices: what they leave, and what they do.
+use Rattle.std.proofs.Common.{◌≡◌, ℕ, Bool, true, false, ◌&&◌, List, [], ◌∷◌, map, Option, None}
+use Rattle.std.proofs.Common.{refl, sym, ap, ◌∙◌, Result, Ok, Err, if◌then◌else◌, ◌==◌, ◌++◌}
+use Rattle.std.proofs.Common.{filter_map, Some, option_map}
+use Rattle.market_terms.specs.Unpriced.{uncovered, unpriced_duty, unpriced_offer}
 use Rattle.market_terms.specs.declared.closes.Close.TheVariants as closes
-use Rattle.market_terms.specs.declared.duties.Duty.{Duty}
+use Rattle.market_terms.specs.declared.closes.HitRefusal.{HitRefusal}
 use Rattle.market_terms.specs.declared.duties.Duty.TheVariants as duty
+use Rattle.market_terms.specs.declared.rooms.Offer.{Offer}
+use Rattle.market_terms.specs.declared.rooms.ResponseRef.{ResponseRef}
 use Rattle.market_terms.specs.declared.rooms.RoomRef.{RoomRef}
 use Rattle.quote_word.specs.declared.settled.Settled.{Settled}
-use Rattle.venue_rows.specs.Rows.{Configuration, has_room}
-use Rattle.dealer_desk.specs.DealerFacts.{DealerFact, DealerBook, Came, Quoted, Told}
-use Rattle.dealer_desk.specs.DealerFacts.{number_to_drop, quote_to_drop}
-use Rattle.dealer_desk.specs.DealerOutput.{unpost_dropped, further_drop}
-use Rattle.dealer_desk.specs.declared.standing.StandingQuote.{StandingQuote}
-use Rattle.dealer_desk.specs.declared.events.DealerEvent.TheVariants as at_desk
-use Rattle.venue_steps.specs.Words.{has_word}
-use Rattle.step_replay.specs.DealerTrail.{DealerEntry, AtDesk, Sent, book_by, rooms_by, entries_of}
-use Rattle.step_replay.specs.VenueFacts.{Fact, of_dealer, InRoom, of_room}
-use Rattle.step_replay.specs.Actions.{Dealer, words_of, word_for, answer_to_drop, drop_at}
-use Rattle.step_replay.specs.Actions.{left_by_drop, dropped_by, QuoteRef, quote_with_word}
-use Rattle.step_replay.specs.Actions.{quote_asked, answer_to_hit, lifting, hit_with, hit_in}
-use Rattle.venue_laws.proofs.Erasing.{erase_close, erase_fact, erase_entry, erase_book, erase_duty}
-use Rattle.venue_laws.proofs.Erasing.{erase_standing, erase, erase_room_fact}
-use Rattle.venue_laws.proofs.ErasedLists.{map_map, append_along, map_along}
-use Rattle.venue_laws.proofs.ErasedRules.{to_drop, number_to_drop_same, none_to_drop}
-use Rattle.venue_laws.proofs.ErasedEntries as entries
-use Rattle.venue_laws.proofs.ErasedActions.{AreAlike, erased, is_own, dealer_same, if_alike}
-use Rattle.venue_laws.proofs.ErasedActions.{desk_alike, rooms_known, book_known, room_same}
-use Rattle.market_terms.specs.declared.closes.HitRefusal.{HitRefusal}
-use Rattle.market_terms.specs.declared.rooms.ResponseRef.{ResponseRef}
-use Rattle.request_room.specs.RoomFacts.{RoomFact}
-use Rattle.request_room.specs.Book.{hit_outcome}
+use Rattle.request_room.proofs.UnpricedRooms.{outcome_same, request_same, kept_same as kept_in_room}
+use Rattle.request_room.proofs.UnpricedRooms.{question_same}
+use Rattle.request_room.specs.RoomFacts.{RoomFact, hears, request_of, takes_quotes}
+use Rattle.request_room.specs.Book.{event_facts as added_in_room, hit_outcome}
+use Rattle.request_room.specs.declared.events.RoomEvent.{RoomEvent}
+use Rattle.request_room.specs.Unpriced.{uncovered as uncovered_outcome, uncovered_end}
+use Rattle.request_room.specs.Unpriced.{unpriced as unpriced_in_room}
 use Rattle.request_room.specs.declared.ends.End.{End}
+use Rattle.request_room.specs.declared.ends.EndKind.{EndKind}
+use Rattle.request_room.specs.declared.ends.EndKind.TheVariants as ends
+use Rattle.venue_steps.specs.RoomSteps.{close_for, dealers_of, duties_of_hit, duties_of_post}
+use Rattle.venue_steps.specs.RoomSteps.{hit_duties, is_cover, is_winner, told_to_each}
+use Rattle.venue_steps.specs.RoomSteps.{where_follows, hit_word, word_asked_by}
+use Rattle.market_terms.proofs.ErasedLists.{by_erased}
+use Rattle.venue_rows.specs.Rows.{Configuration, has_room}
+use Rattle.dealer_desk.specs.DealerFacts.{number_to_drop}
+use Rattle.dealer_desk.specs.DealerOutput.{event_facts, further_drop}
+use Rattle.dealer_desk.specs.Unpriced.{unpriced}
+use Rattle.dealer_desk.proofs.UnpricedVerdicts.{number_same, some_to_drop, unposted_same}
 use Rattle.request_room.specs.declared.events.RoomEvent.TheVariants as at_room
-use Rattle.venue_steps.specs.RoomSteps.{hit_word, duties_of_hit}
-use Rattle.venue_laws.proofs.ErasedRoom.{happens_same, hit_word_same, outcome_same, erase_outcome}
-use Rattle.venue_laws.proofs.ErasedDuties.{hit_duties_same}
+use Rattle.venue_steps.specs.Words.{has_word}
+use Rattle.step_replay.specs.DealerTrail.{DealerEntry, answer_to_dealer, book_by, entries_of}
+use Rattle.step_replay.specs.DealerTrail.{rooms_by}
+use Rattle.step_replay.specs.VenueFacts.{Fact, InRoom, of_dealer, of_room}
+use Rattle.step_replay.specs.Actions.{Dealer, QuoteRef, answer_to_drop, answer_to_hit, drop_at}
+use Rattle.step_replay.specs.Actions.{dropped_by, hit_in, hit_with, left_by_drop, lifting}
+use Rattle.step_replay.specs.Actions.{quote_asked, quote_with_word, word_for, words_of}
+use Rattle.venue_laws.proofs.Erasing.{bare, book_is, book_left, erase, erase_entry, lifted_left}
+use Rattle.venue_laws.proofs.Erasing.{once_left, room_left, rooms_left, trail_left, withdrawn_left}
+use Rattle.venue_laws.proofs.ErasedActions.{AreAlike, both_alike, desk_alike, entries_alike}
+use Rattle.venue_laws.proofs.ErasedActions.{if_alike, kept_alike}
+use Rattle.std.proofs.lemmas.List.Elements.{filter_map-append}
+use Rattle.venue_laws.proofs.ErasedLists.{filter_along, left_all}
 
--- What is erased once is erased.
+-- How a request ended for a dealer, whoever was the cover.
 
-close_twice : (close : Close) → erase_close (erase_close close) ≡ erase_close close
-close_twice closes.Cover = refl
-close_twice other = refl
+award_close : (won cover : Bool)
+    → uncovered (if won then closes.Hit else if cover then closes.Cover else closes.DoneAway)
+    ≡ uncovered (if won then closes.Hit else closes.DoneAway)
+award_close true cover = refl
+award_close false true = refl
+award_close false false = refl
 
-kept_twice : (own : Bool) (bytes : List ℕ)
-    → (if own then (if own then bytes else []) else []) ≡ (if own then bytes else [])
-kept_twice true bytes = refl
-kept_twice false bytes = refl
+close_of_kind : (kind : EndKind) (winner : Option (ℕ × ℕ)) (cover : Option ℕ) (dealer : ℕ)
+    → uncovered (close_for (record { kind = kind; winner = winner; cover = cover }) dealer)
+    ≡ uncovered (close_for (record { kind = kind; winner = winner; cover = None }) dealer)
+close_of_kind ends.Awarded winner cover dealer =
+    award_close (is_winner winner dealer) (is_cover cover dealer)
+close_of_kind ends.Passed winner cover dealer = refl
+close_of_kind ends.Expired winner cover dealer = refl
 
-fact_twice : (own : Bool) (fact : DealerFact)
-    → erase_fact own (erase_fact own fact) ≡ erase_fact own fact
-fact_twice own (Came moment bytes used) =
-    ap (λ (kept : List ℕ). Came moment kept used) (kept_twice own bytes)
-fact_twice own (Quoted quote) = refl
-fact_twice own (Told request close moment) =
-    ap (λ (c : Close). Told request c moment) (close_twice close)
-fact_twice own fact = refl
+told_each : (at : RoomRef) (end : End) (moment : ℕ) (dealers : List ℕ)
+    → map unpriced_duty (told_to_each at end dealers moment)
+    ≡ map unpriced_duty (told_to_each at (uncovered_end end) dealers moment)
+told_each at end moment [] = refl
+told_each at end moment (dealer ∷ dealers) =
+    rw (
+      close_of_kind end.kind end.winner end.cover dealer,
+      told_each at end moment dealers,
+    )
 
-entry_twice : (own : Bool) (entry : DealerEntry)
-    → erase_entry own (erase_entry own entry) ≡ erase_entry own entry
-entry_twice own (AtDesk fact) = ap (λ (f : DealerFact). AtDesk f) (fact_twice own fact)
-entry_twice own (Sent message) = refl
-entry_twice own entry = refl
+module _ (facts : List RoomFact) (at : RoomRef) where
+  pub post_left : (dealer : ℕ) (offer later : Offer) (moment : ℕ)
+      → unpriced_offer offer ≡ unpriced_offer later
+      → map unpriced_duty (duties_of_post facts at dealer offer moment)
+      ≡ map unpriced_duty (duties_of_post facts at dealer later moment)
+  post_left dealer offer later moment offers = follows (hears facts dealer && takes_quotes facts)
+    where
+      follows : (b : Bool)
+          → map unpriced_duty (where_follows b (duty.Relay at offer moment))
+          ≡ map unpriced_duty (where_follows b (duty.Relay at later moment))
+      follows true = ap (λ (o : Offer). duty.Relay at o moment ∷ []) offers
+      follows false = refl
 
-trail_twice : (own : Bool) (trail : List DealerEntry)
-    → map (erase_entry own) (map (erase_entry own) trail) ≡ map (erase_entry own) trail
-trail_twice own trail =
-    map_map (erase_entry own) (erase_entry own) (erase_entry own) (entry_twice own) trail
+  pub hit_left : (response : ResponseRef) (word moment : ℕ) (settlement : Option Settled)
+      → map unpriced_duty
+      (duties_of_hit (map unpriced_in_room facts) at response word moment true settlement)
+      ≡ map unpriced_duty (duties_of_hit facts at response word moment true settlement)
+  hit_left response word moment settlement =
+      ap (map unpriced_duty) (requests (hit_outcome (map unpriced_in_room facts) word moment settlement))
+      ∙ whoever (hit_outcome (map unpriced_in_room facts) word moment settlement)
+      ∙ ap (λ (o : Result End HitRefusal). map unpriced_duty (hit_duties facts at response moment o))
+      (outcome_same facts word moment settlement)
+      ∙ sym (whoever (hit_outcome facts word moment settlement))
+    where
+      requests : (outcome : Result End HitRefusal)
+          → hit_duties (map unpriced_in_room facts) at response moment outcome
+          ≡ hit_duties facts at response moment outcome
+      requests (Ok award) = rw (request_same facts)
+      requests (Err refused) = refl
+
+      whoever : (outcome : Result End HitRefusal)
+          → map unpriced_duty (hit_duties facts at response moment outcome)
+          ≡ map unpriced_duty (hit_duties facts at response moment (uncovered_outcome outcome))
+      whoever (Ok award) = rw (told_each at award moment (dealers_of (request_of facts)))
+      whoever (Err refused) = refl
+
+-- the answer to the word that a dealer asks, where it asks one
+pub answers_same : (own : ℕ) (facts : List Fact) (number : ℕ) (asked : Option ℕ)
+    → option_map (answer_to_dealer (of_dealer number (bare own facts))) asked
+    ≡ option_map (answer_to_dealer (of_dealer number facts)) asked
+answers_same own facts number None = refl
+answers_same own facts number (Some quote) = rw (lifted_left own facts number quote)
 
 -- A drop.
-
-unposted_same : (rooms : List RoomRef) (moment : ℕ) (settlement : Option Settled)
-    (found : Option StandingQuote)
-    → unpost_dropped rooms moment settlement (option_map erase_standing found)
-    ≡ unpost_dropped rooms moment settlement found
-unposted_same rooms moment settlement None = refl
-unposted_same rooms moment settlement (Some own) = refl
-
-further_same : (book : DealerBook) (last moment : ℕ)
-    → further_drop (erase_book book) last moment ≡ further_drop book last moment
-further_same book last moment =
-    ap (λ (b : Bool). if b then Some (duty.Drop last moment) else None) (none_to_drop book last)
-
 module _ (config : Configuration) (own : ℕ) (facts : List Fact) (dealer : Dealer)
     (last moment : ℕ) where
-  -- whether the dealer's messages are kept
-  abbrev own_dealer : Bool
-  own_dealer = is_own config own facts dealer.number
+  -- the dealer's trail in the day without prices, and in the day
+  abbrev known : List DealerEntry
+  known = of_dealer dealer.number (bare own facts)
 
-  -- the dealer's trail
   abbrev trail : List DealerEntry
   trail = of_dealer dealer.number facts
 
-  -- the same of the facts without prices
-  abbrev known : List DealerEntry
-  known = of_dealer dealer.number (erased config own facts)
-
-  known_is : known ≡ map (erase_entry own_dealer) trail
-  known_is = dealer_same config own facts dealer.number
+  -- whether the bytes that came to it stay
+  abbrev stay : Bool
+  stay = dealer.number == own
 
   number_known : number_to_drop (book_by known) last ≡ number_to_drop (book_by trail) last
-  number_known =
-      ap (λ (b : DealerBook). number_to_drop b last) (book_known config own facts dealer.number)
-      ∙ number_to_drop_same (book_by trail) last
+  number_known = rw (book_left own facts dealer.number) (number_same (book_by trail) last)
 
   answer_known : answer_to_drop known last ≡ answer_to_drop trail last
   answer_known =
-      rw (number_known, known_is)
-      (entries.answers_same own_dealer trail (number_to_drop (book_by trail) last))
+      rw (number_known) (answers_same own facts dealer.number (number_to_drop (book_by trail) last))
 
-  -- the drop adds the same without prices
-  added_same : map (erase_entry own_dealer)
-      (entries_of config.date dealer.row trail (drop_at trail last moment))
-      ≡ map (erase_entry own_dealer) (entries_of config.date dealer.row
-      (map (erase_entry own_dealer) trail) (drop_at known last moment))
-  added_same =
-      entries.drop_same own_dealer config.date dealer.row trail last moment
-      (answer_to_drop trail last)
-      ∙ ap (λ (settlement : Option Settled). map (erase_entry own_dealer) (entries_of config.date
-      dealer.row (map (erase_entry own_dealer) trail) (at_desk.Drop last moment settlement)))
-      (sym answer_known)
+  kept : map (unpriced stay)
+      (event_facts config.date dealer.row (book_by known) (drop_at known last moment))
+      ≡ map (unpriced stay)
+      (event_facts config.date dealer.row (book_by trail) (drop_at trail last moment))
+  kept = rw (answer_known) (kept_alike config own facts dealer (drop_at trail last moment))
 
   -- a trail after the drop
   abbrev after : List DealerEntry → List DealerEntry
   after l = l ++ entries_of config.date dealer.row l (drop_at l last moment)
 
-  after_same : map (erase_entry own_dealer) (after trail)
-      ≡ map (erase_entry own_dealer) (after known)
-  after_same =
-      append_along (erase_entry own_dealer) trail _ known _
-      (sym (trail_twice own_dealer trail) ∙ ap (map (erase_entry own_dealer)) (sym known_is))
-      (added_same
-      ∙ ap (λ (l : List DealerEntry). map (erase_entry own_dealer)
-      (entries_of config.date dealer.row l (drop_at known last moment))) (sym known_is))
+  after_left : filter_map (erase_entry stay) (after known)
+      ≡ filter_map (erase_entry stay) (after trail)
+  after_left =
+      filter_along (erase_entry stay) known _ trail _
+      (ap (filter_map (erase_entry stay)) (trail_left own facts dealer.number)
+      ∙ once_left stay trail)
+      (entries_alike stay config dealer known trail (drop_at known last moment)
+      (drop_at trail last moment) kept refl)
 
-  -- what is dropped next after a trail
-  abbrev next : List DealerEntry → List Duty
-  next l = option_to_list (further_drop (book_by (after l)) last moment)
+  further_same : further_drop (book_by (after known)) last moment
+      ≡ further_drop (book_by (after trail)) last moment
+  further_same =
+      by_erased (filter_map (erase_entry stay))
+      (λ (l : List DealerEntry). further_drop (book_by l) last moment)
+      (λ (l : List DealerEntry). further_drop (book_by l) last moment)
+      (λ l. rw (book_is stay l, some_to_drop (book_by l) last)) (after known) (after trail) after_left
 
-  next_as : (l : List DealerEntry)
-      → next l ≡ option_to_list
-      (further_drop (book_by (map (erase_entry own_dealer) (after l))) last moment)
-  next_as l =
-      ap (λ (d : Option Duty). option_to_list d)
-      (sym (further_same (book_by (after l)) last moment)
-      ∙ ap (λ (b : DealerBook). further_drop b last moment)
-      (sym (entries.book_by_same own_dealer (after l))))
-
-  next_same : next trail ≡ next known
-  next_same =
-      next_as trail
-      ∙ ap (λ (l : List DealerEntry). option_to_list (further_drop (book_by l) last moment))
-      after_same
-      ∙ sym (next_as known)
-
-  unposted_known : unpost_dropped (rooms_by trail) moment (answer_to_drop trail last)
-      (quote_to_drop (book_by trail) last)
-      ≡ unpost_dropped (rooms_by known) moment (answer_to_drop known last)
-      (quote_to_drop (book_by known) last)
-  unposted_known =
-      rw (
-        rooms_known config own facts dealer.number,
-        answer_known,
-        book_known config own facts dealer.number,
-        to_drop (book_by trail) last,
-      )
-      (sym (unposted_same (rooms_by trail) moment (answer_to_drop trail last)
-      (quote_to_drop (book_by trail) last)))
-
-  left_same : left_by_drop config facts last moment dealer
-      ≡ left_by_drop config (erased config own facts) last moment dealer
+  left_same : left_by_drop config (bare own facts) last moment dealer
+      ≡ left_by_drop config facts last moment dealer
   left_same =
-      ap (λ (d : Option Duty). option_to_list d ++ next trail) unposted_known
-      ∙ ap (λ (l : List Duty). option_to_list (unpost_dropped (rooms_by known) moment
-      (answer_to_drop known last) (quote_to_drop (book_by known) last)) ++ l) next_same
+      rw (
+        further_same,
+        rooms_left own facts dealer.number,
+        answer_known,
+        book_left own facts dealer.number,
+        unposted_same (book_by trail) (rooms_by trail) last moment (answer_to_drop trail last),
+      )
 
-  pub dropped_alike : AreAlike own (dropped_by config facts last moment dealer)
-      (dropped_by config (erased config own facts) last moment dealer)
+  pub dropped_alike : AreAlike own (dropped_by config (bare own facts) last moment dealer)
+      (dropped_by config facts last moment dealer)
   dropped_alike =
       if_alike _ _
       (ap (λ (q : Option ℕ). has_word (words_of config) (option_map (word_for config dealer) q))
-      (sym number_known))
-      (desk_alike config own facts dealer (drop_at trail last moment) (drop_at known last moment)
-      (left_by_drop config facts last moment dealer)
-      (left_by_drop config (erased config own facts) last moment dealer) added_same
-      (ap (map erase_duty) left_same))
+      number_known)
+      (desk_alike config own facts dealer (drop_at known last moment) (drop_at trail last moment)
+      (left_by_drop config (bare own facts) last moment dealer)
+      (left_by_drop config facts last moment dealer) kept refl (ap (map unpriced_duty) left_same))
 
 -- A hit.
 
 lifting_same : (found : Option QuoteRef) (outcome : Result End HitRefusal)
-    → lifting found (erase_outcome outcome) ≡ lifting found outcome
+    → lifting found (uncovered_outcome outcome) ≡ lifting found outcome
 lifting_same None outcome = refl
 lifting_same (Some hit) (Ok award) = refl
 lifting_same (Some hit) (Err refused) = refl
@@ -201,65 +197,53 @@ module _ (config : Configuration) (own : ℕ) (facts : List Fact) (room : RoomRe
   abbrev here : List RoomFact
   here = of_room room facts
 
-  -- the same of the facts without prices
-  abbrev there : List RoomFact
-  there = of_room room (erased config own facts)
-
-  there_is : there ≡ map erase_room_fact here
-  there_is = room_same config own facts room
-
   with_alike : (settlement : Option Settled)
-      → AreAlike own (hit_with config facts room response word moment settlement)
-      (hit_with config (erased config own facts) room response word moment settlement)
-  with_alike settlement = record {
-    facts_are = append_along (erase own) _ _ _ _
-        (ap (map (erase own)) (sym (lifting_same found (hit_outcome here word moment settlement))
-        ∙ ap (lifting found) outcome_is
-        ∙ lifting_same found (hit_outcome there word moment settlement)))
-        (map_along (erase own) (InRoom room) erase_room_fact (λ fact. refl) _ _
-        (rw there_is (happens_same here (at_room.Hit word moment settlement))));
-    duties_are = hit_duties_same here room response word moment settlement
-        ∙ ap (λ (l : List RoomFact).
-        map erase_duty (duties_of_hit l room response word moment true settlement)) (sym there_is);
-  }
+      → AreAlike own (hit_with config (bare own facts) room response word moment settlement)
+      (hit_with config facts room response word moment settlement)
+  with_alike settlement =
+      rw (room_left own facts room) (both_alike own _ _ (added) (hit_left here room response word
+      moment settlement))
     where
-      found : Option QuoteRef
-      found = quote_with_word config word
+      hit : RoomEvent
+      hit = at_room.Hit word moment settlement
 
-      outcome_is : erase_outcome (hit_outcome here word moment settlement)
-          ≡ erase_outcome (hit_outcome there word moment settlement)
-      outcome_is = rw there_is (sym (outcome_same here word moment settlement))
+      lifted : lifting (quote_with_word config word)
+          (hit_outcome (map unpriced_in_room here) word moment settlement)
+          ≡ lifting (quote_with_word config word) (hit_outcome here word moment settlement)
+      lifted =
+          by_erased uncovered_outcome (lifting (quote_with_word config word))
+          (lifting (quote_with_word config word)) (lifting_same (quote_with_word config word))
+          (hit_outcome (map unpriced_in_room here) word moment settlement)
+          (hit_outcome here word moment settlement) (outcome_same here word moment settlement)
 
-  asked_known : hit_word there word moment ≡ hit_word here word moment
-  asked_known =
-      rw there_is (hit_word_same here word moment)
+      added : bare own (lifting (quote_with_word config word)
+          (hit_outcome (map unpriced_in_room here) word moment settlement)
+          ++ map (InRoom room) (added_in_room (map unpriced_in_room here) hit))
+          ≡ bare own (lifting (quote_with_word config word)
+          (hit_outcome here word moment settlement)
+          ++ map (InRoom room) (added_in_room here hit))
+      added =
+          simp (
+            lifted,
+            filter_map-append,
+            left_all (erase own) (InRoom room) unpriced_in_room (λ fact. refl),
+            kept_in_room here hit,
+          )
 
-  answer_same : (hit : QuoteRef)
-      → answer_to_hit (erased config own facts) hit ≡ answer_to_hit facts hit
-  answer_same hit =
-      rw (dealer_same config own facts hit.dealer) (entries.hit_answer_same
-      (is_own config own facts hit.dealer) (of_dealer hit.dealer facts) hit.quote)
+  asked_same : hit_word (of_room room (bare own facts)) word moment ≡ hit_word here word moment
+  asked_same =
+      rw (room_left own facts room) (ap word_asked_by (question_same here word moment))
 
-  answers_same : (found : Option QuoteRef)
-      → option_map (answer_to_hit (erased config own facts)) found
-      ≡ option_map (answer_to_hit facts) found
-  answers_same None = refl
-  answers_same (Some hit) = ap (λ (s : Settled). Some s) (answer_same hit)
+  settled_same : (found : Option QuoteRef)
+      → option_map (answer_to_hit (bare own facts)) found ≡ option_map (answer_to_hit facts) found
+  settled_same None = refl
+  settled_same (Some hit) = rw (withdrawn_left own facts hit.dealer hit.quote)
 
-  -- the settlement of the word that a hit asks
-  abbrev answer_by : List Fact → Option ℕ → Option Settled
-  answer_by l asked = option_map (answer_to_hit l) (quote_asked config asked)
-
-  pub hit_alike : AreAlike own (hit_in config facts room response word moment)
-      (hit_in config (erased config own facts) room response word moment)
+  pub hit_alike : AreAlike own (hit_in config (bare own facts) room response word moment)
+      (hit_in config facts room response word moment)
   hit_alike =
-      if_alike _ _
-      (ap (λ (q : Option ℕ).
-      has_room config room.investor room.n && has_word (words_of config) q) (sym asked_known))
-      (subst (λ (settlement : Option Settled).
-      AreAlike own (hit_with config facts room response word moment
-      (answer_by facts (hit_word here word moment)))
-      (hit_with config (erased config own facts) room response word moment settlement))
-      (sym (answers_same (quote_asked config (hit_word here word moment)))
-      ∙ ap (answer_by (erased config own facts)) (sym asked_known))
-      (with_alike (answer_by facts (hit_word here word moment))))
+      rw (asked_same, settled_same (quote_asked config (hit_word here word moment)))
+      (if_alike (has_room config room.investor room.n
+      && has_word (words_of config) (hit_word here word moment)) _ refl
+      (with_alike (option_map (answer_to_hit facts)
+      (quote_asked config (hit_word here word moment)))))

@@ -1,105 +1,79 @@
--- Lists from whose items something is erased: whoever does not ask for it finds the same.
-use Rattle.std.proofs.Common.{◌≡◌, ℕ, ◌+◌, Bool, true, false, cond, List, [], ◌∷◌, map, fold}
-use Rattle.std.proofs.Common.{filter_map, sum_by, count_by, Option, Some, None, option_map, is_some}
-use Rattle.std.proofs.Common.{find, refl, ap, ◌∙◌, sym, ◌++◌}
+-- Lists of which some items are left out, and of the others something is erased.
+use Rattle.std.proofs.Common.{◌≡◌, Bool, false, ◌||◌, List, [], ◌∷◌, ◌++◌, map, filter_map, Option}
+use Rattle.std.proofs.Common.{Some, None, option_map, option_and_then, unwrap_or, refl, sym, ap}
+use Rattle.std.proofs.Common.{◌∙◌}
 use Rattle.std.specs.List.{list_any, cons_option}
-use Rattle.std.specs.Option.{option_to_list, option_or}
-use Rattle.std.proofs.lemmas.List.{map-append}
+use Rattle.std.proofs.lemmas.List.Elements.{filter_map-append}
 
--- Options.
+-- What is found in what is left of a list: one walk.
 
-pub map_cond : {X Y : Type 0} (e : X → Y) (b : Bool) (x : X) (rest : Option X)
-    → cond b (Some (e x)) (option_map e rest) ≡ option_map e (cond b (Some x) rest)
-map_cond e true x rest = refl
-map_cond e false x rest = refl
+map_cons : {X Y : Type 0} (f : X → Y) (o : Option X) (rest : List X)
+    → map f (cons_option o rest) ≡ cons_option (option_map f o) (map f rest)
+map_cons f None rest = refl
+map_cons f (Some x) rest = refl
 
-pub or_map : {X Y : Type 0} (e : X → Y) (one other : Option X)
-    → option_or (option_map e one) (option_map e other) ≡ option_map e (option_or one other)
-or_map e None other = refl
-or_map e (Some x) other = refl
+filter_cons : {X Y : Type 0} (g : X → Option Y) (o : Option X) (rest : List X)
+    → filter_map g (cons_option o rest) ≡ cons_option (option_and_then g o) (filter_map g rest)
+filter_cons g None rest = refl
+filter_cons g (Some x) rest = refl
 
-pub map_cons : {X Y : Type 0} (e : X → Y) (o : Option X) (rest : List X)
-    → cons_option (option_map e o) (map e rest) ≡ map e (cons_option o rest)
-map_cons e None rest = refl
-map_cons e (Some x) rest = refl
+any_cons : {X : Type 0} (p : X → Bool) (o : Option X) (rest : List X)
+    → list_any p (cons_option o rest) ≡ (unwrap_or (option_map p o) false || list_any p rest)
+any_cons p None rest = refl
+any_cons p (Some x) rest = refl
 
-pub some_map : {X Y : Type 0} (e : X → Y) (o : Option X) → is_some (option_map e o) ≡ is_some o
-some_map e None = refl
-some_map e (Some x) = refl
+pub fuse : {X Y Z : Type 0} (e : X → Option Y) (g : Y → Option Z) (xs : List X)
+    → filter_map g (filter_map e xs) ≡ filter_map (λ x. option_and_then g (e x)) xs
+fuse e g [] = refl
+fuse e g (x ∷ xs) = rw (filter_cons g (e x) (filter_map e xs), fuse e g xs)
 
-pub map_twice : {X Y Z : Type 0} (e : X → Y) (f : Y → Z) (g : X → Z) → ((x : X) → f (e x) ≡ g x)
-    → (o : Option X) → option_map f (option_map e o) ≡ option_map g o
-map_twice e f g same None = refl
-map_twice e f g same (Some x) = ap (λ z. Some z) (same x)
+pub map_fuse : {X Y Z : Type 0} (h : X → Option Y) (f : Y → Z) (xs : List X)
+    → map f (filter_map h xs) ≡ filter_map (λ x. option_map f (h x)) xs
+map_fuse h f [] = refl
+map_fuse h f (x ∷ xs) = rw (map_cons f (h x) (filter_map h xs), map_fuse h f xs)
 
-pub list_of : {X Y : Type 0} (e : X → Y) (o : Option X)
-    → map e (option_to_list o) ≡ option_to_list (option_map e o)
-list_of e None = refl
-list_of e (Some x) = refl
+pub any_fuse : {X Y : Type 0} (e : X → Option Y) (p : Y → Bool) (xs : List X)
+    → list_any p (filter_map e xs) ≡ list_any (λ x. unwrap_or (option_map p (e x)) false) xs
+any_fuse e p [] = refl
+any_fuse e p (x ∷ xs) = rw (any_cons p (e x) (filter_map e xs), any_fuse e p xs)
 
--- Lists.
+pub filter_fuse : {X Y Z : Type 0} (k : X → Y) (g : Y → Option Z) (xs : List X)
+    → filter_map g (map k xs) ≡ filter_map (λ x. g (k x)) xs
+filter_fuse k g [] = refl
+filter_fuse k g (x ∷ xs) = rw (filter_fuse k g xs)
 
-pub find_erased : {X Y : Type 0} (e : X → Y) (p : X → Bool) (q : Y → Bool)
-    → ((x : X) → q (e x) ≡ p x) → (xs : List X) → find q (map e xs) ≡ option_map e (find p xs)
-find_erased e p q same [] = refl
-find_erased e p q same (x ∷ xs) =
-    rw (same x, find_erased e p q same xs) (map_cond e (p x) x (find p xs))
+filter_some : {X Y : Type 0} (f : X → Y) (xs : List X) → filter_map (λ x. Some (f x)) xs ≡ map f xs
+filter_some f [] = refl
+filter_some f (x ∷ xs) = rw (filter_some f xs)
 
-pub any_erased : {X Y : Type 0} (e : X → Y) (p : X → Bool) (q : Y → Bool)
-    → ((x : X) → q (e x) ≡ p x) → (xs : List X) → list_any q (map e xs) ≡ list_any p xs
-any_erased e p q same [] = refl
-any_erased e p q same (x ∷ xs) = rw (same x, any_erased e p q same xs) refl
+-- What is left of what is added.
 
-pub filter_map_erased : {X Y Z W : Type 0} (e : X → Y) (h : X → Option Z) (g : Y → Option W)
-    (f : Z → W) → ((x : X) → g (e x) ≡ option_map f (h x))
-    → (xs : List X) → filter_map g (map e xs) ≡ map f (filter_map h xs)
-filter_map_erased e h g f same [] = refl
-filter_map_erased e h g f same (x ∷ xs) =
-    rw (same x, filter_map_erased e h g f same xs) (map_cons f (h x) (filter_map h xs))
+pub filter_along : {X Y : Type 0} (e : X → Option Y) (xs ys xs' ys' : List X)
+    → filter_map e xs ≡ filter_map e xs' → filter_map e ys ≡ filter_map e ys'
+    → filter_map e (xs ++ ys) ≡ filter_map e (xs' ++ ys')
+filter_along e xs ys xs' ys' first second =
+    rw (filter_map-append e xs ys, filter_map-append e xs' ys', first, second)
 
-pub filter_map_same : {X Y Z : Type 0} (e : X → Y) (h : X → Option Z) (g : Y → Option Z)
-    → ((x : X) → g (e x) ≡ h x) → (xs : List X) → filter_map g (map e xs) ≡ filter_map h xs
-filter_map_same e h g same [] = refl
-filter_map_same e h g same (x ∷ xs) = rw (same x, filter_map_same e h g same xs) refl
+-- items at a place
+pub left_at : {X Y : Type 0} (e : Y → Option Y) (k : X → Y) (u : X → Option X)
+    → ((x : X) → e (k x) ≡ option_map k (u x)) → (xs : List X)
+    → filter_map e (map k xs) ≡ map k (filter_map u xs)
+left_at e k u same xs = simp (filter_fuse, map_fuse, same)
 
-pub map_map : {X Y Z : Type 0} (e : X → Y) (f : Y → Z) (g : X → Z) → ((x : X) → f (e x) ≡ g x)
-    → (xs : List X) → map f (map e xs) ≡ map g xs
-map_map e f g same [] = refl
-map_map e f g same (x ∷ xs) =
-    ap (λ z. z ∷ map f (map e xs)) (same x) ∙ ap (λ l. g x ∷ l) (map_map e f g same xs)
+-- each is left, without what is erased
+pub left_all : {X Y : Type 0} (e : Y → Option Y) (k : X → Y) (u : X → X)
+    → ((x : X) → e (k x) ≡ Some (k (u x))) → (xs : List X)
+    → filter_map e (map k xs) ≡ map k (map u xs)
+left_all e k u same [] = refl
+left_all e k u same (x ∷ xs) = rw (same x, left_all e k u same xs)
 
--- the same function on both sides of a constructor
-pub map_swap : {X Y Z W : Type 0} (e : X → Y) (f : Y → Z) (g : X → W) (h : W → Z)
-    → ((x : X) → f (e x) ≡ h (g x)) → (xs : List X) → map f (map e xs) ≡ map h (map g xs)
-map_swap e f g h same [] = refl
-map_swap e f g h same (x ∷ xs) =
-    ap (λ z. z ∷ map f (map e xs)) (same x) ∙ ap (λ l. h (g x) ∷ l) (map_swap e f g h same xs)
+pub all_along : {X Y : Type 0} (e : Y → Option Y) (k : X → Y) (u : X → X)
+    → ((x : X) → e (k x) ≡ Some (k (u x))) → (xs ys : List X)
+    → map u xs ≡ map u ys → filter_map e (map k xs) ≡ filter_map e (map k ys)
+all_along e k u same xs ys alike =
+    left_all e k u same xs ∙ ap (map k) alike ∙ sym (left_all e k u same ys)
 
--- on two lists that are one without what is erased
-pub map_along : {X Y : Type 0} (e : Y → Y) (f : X → Y) (g : X → X) → ((x : X) → e (f x) ≡ f (g x))
-    → (xs ys : List X) → map g xs ≡ map g ys → map e (map f xs) ≡ map e (map f ys)
-map_along e f g same xs ys alike =
-    map_swap f e g f same xs ∙ ap (map f) alike ∙ sym (map_swap f e g f same ys)
-
-pub append_along : {X Y : Type 0} (e : X → Y) (xs ys xs' ys' : List X) → map e xs ≡ map e xs'
-    → map e ys ≡ map e ys' → map e (xs ++ ys) ≡ map e (xs' ++ ys')
-append_along e xs ys xs' ys' first second =
-    rw (map-append e xs ys, map-append e xs' ys', first, second) refl
-
-fold_erased : {X Y : Type 0} (e : X → Y) (f : X → ℕ) (g : Y → ℕ) → ((x : X) → g (e x) ≡ f x)
-    → (a : ℕ) (xs : List X)
-    → fold (λ (a : ℕ) (y : Y). a + g y) a (map e xs) ≡ fold (λ (a : ℕ) (x : X). a + f x) a xs
-fold_erased e f g same a [] = refl
-fold_erased e f g same a (x ∷ xs) =
-    ap (λ (n : ℕ). fold (λ (a : ℕ) (y : _). a + g y) (a + n) (map e xs)) (same x)
-    ∙ fold_erased e f g same (a + f x) xs
-
-pub sum_erased : {X Y : Type 0} (e : X → Y) (f : X → ℕ) (g : Y → ℕ) → ((x : X) → g (e x) ≡ f x)
-    → (xs : List X) → sum_by g (map e xs) ≡ sum_by f xs
-sum_erased e f g same xs = fold_erased e f g same 0 xs
-
-pub count_erased : {X Y : Type 0} (e : X → Y) (p : X → Bool) (q : Y → Bool)
-    → ((x : X) → q (e x) ≡ p x) → (xs : List X) → count_by q (map e xs) ≡ count_by p xs
-count_erased e p q same xs =
-    sum_erased e (λ x. cond (p x) 1 0) (λ y. cond (q y) 1 0)
-    (λ x. ap (λ (b : Bool). cond b 1 0) (same x)) xs
+pub left_none : {X Y : Type 0} (e : Y → Option Y) (k : X → Y) → ((x : X) → e (k x) ≡ None)
+    → (xs : List X) → filter_map e (map k xs) ≡ []
+left_none e k same [] = refl
+left_none e k same (x ∷ xs) = rw (same x) (left_none e k same xs)

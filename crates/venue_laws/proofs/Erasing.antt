@@ -1,150 +1,230 @@
--- A day of which the prices are erased, who was the cover, the bytes of what was sent, and the
--- bytes of what dealers sent, but for one dealer: what is left is what that dealer's due list
--- can tell of, but for the cover.
-use Rattle.std.specs.Prelude.{ℕ, ◌==◌, Bool, [], map, None, if◌then◌else◌, option_map}
+-- A day of which the prices are erased, who was the cover, what was sent, and the bytes of what
+-- dealers sent, but for one dealer: what is left is what that dealer's due list can tell of, but
+-- for the cover. At each place of the day what is left stands as it does without prices.
+use Rattle.std.proofs.Common.{◌≡◌, ℕ, ◌==◌, Bool, true, false, List, [], map, filter_map, Option}
+use Rattle.std.proofs.Common.{Some, None, option_map, option_and_then, unwrap_or, refl, sym, ap}
+use Rattle.std.proofs.Common.{◌∙◌, arith, if◌then◌else◌}
+use Rattle.std.proofs.lemmas.Bool.Decides.{nat_tests}
+use Rattle.market_terms.proofs.ErasedLists.{map_cond, twice}
+use Rattle.market_terms.specs.Unpriced.{uncovered, unpriced_duty}
 use Rattle.market_terms.specs.declared.closes.Close.{Close}
-use Rattle.market_terms.specs.declared.closes.Close.TheVariants as closes
-use Rattle.market_terms.specs.declared.duties.Duty.{Duty}
-use Rattle.market_terms.specs.declared.duties.Duty.TheVariants as duty
-use Rattle.market_terms.specs.declared.rooms.Offer.{Offer}
-use Rattle.dealer_desk.specs.DealerFacts.{DealerFact, DealerBook, Came, Quoted, Told}
-use Rattle.dealer_desk.specs.declared.accepted.AcceptedQuote.{AcceptedQuote}
-use Rattle.dealer_desk.specs.declared.standing.QuoteEnd.{QuoteEnd}
-use Rattle.dealer_desk.specs.declared.standing.QuoteEnd.TheVariants as end
-use Rattle.dealer_desk.specs.declared.standing.StandingQuote.{StandingQuote}
-use Rattle.dealer_desk.specs.declared.verdicts.DealerVerdict.{DealerVerdict}
-use Rattle.dealer_desk.specs.declared.verdicts.DealerVerdict.TheVariants as verdict
-use Rattle.investor_desk.specs.InvestorFacts.{InvestorFact, InvestorBook, StandingRequest, Offered}
-use Rattle.investor_desk.specs.InvestorFacts.{Closed}
-use Rattle.investor_desk.specs.declared.standing.RequestClose.{RequestClose}
-use Rattle.investor_desk.specs.declared.standing.RequestClose.TheVariants as request_close
-use Rattle.investor_desk.specs.declared.standing.ShownOffer.{ShownOffer}
-use Rattle.request_room.specs.RoomFacts.{RoomFact, Posted, Ended}
-use Rattle.request_room.specs.declared.ends.End.{End}
-use Rattle.request_room.specs.declared.quotes.PostedQuote.{PostedQuote}
-use Rattle.step_replay.specs.DealerTrail.{DealerEntry, AtDesk, Sent}
+use Rattle.market_terms.specs.declared.rooms.RoomRef.{RoomRef}
+use Rattle.dealer_desk.specs.DealerFacts.{DealerFact, Came, Told}
+use Rattle.dealer_desk.specs.DealerOutput.{is_same_room}
+use Rattle.dealer_desk.specs.Unpriced.{unpriced as unpriced_at_dealer, unpriced_book}
+use Rattle.dealer_desk.proofs.UnpricedBooks.{book_same, withdrawn_same}
+use Rattle.investor_desk.specs.Unpriced.{unpriced as unpriced_at_investor}
+use Rattle.investor_desk.specs.Unpriced.{unpriced_book as unpriced_investor_book}
+use Rattle.investor_desk.proofs.UnpricedDesks.{book_same as investor_book_same}
+use Rattle.request_room.specs.Unpriced.{unpriced as unpriced_in_room}
+use Rattle.step_replay.specs.AuditTrail.{Caused}
+use Rattle.step_replay.specs.DealerTrail.{DealerEntry, AtDesk, Sent, book_by, fact_in, facts_of}
+use Rattle.step_replay.specs.DealerTrail.{lifts, room_in, rooms_by, was_lifted, was_withdrawn}
+use Rattle.step_replay.specs.InvestorTrail as investor_trail
 use Rattle.step_replay.specs.InvestorTrail.{InvestorEntry, AtDesk as AtInvestorsDesk}
 use Rattle.step_replay.specs.InvestorTrail.{Sent as SentToInvestor}
-use Rattle.step_replay.specs.VenueFacts.{Fact, AtDealer, InRoom, AtInvestor}
-use Rattle.step_replay.specs.AuditTrail.{Caused}
+use Rattle.step_replay.specs.VenueFacts.{Fact, AtDealer, InRoom, AtInvestor, entry_at_dealer}
+use Rattle.step_replay.specs.VenueFacts.{entry_at_investor, fact_in_room, of_dealer, of_investor}
+use Rattle.step_replay.specs.VenueFacts.{of_room}
+use Rattle.step_replay.specs.Actions.{Effect}
 use Rattle.step_replay.specs.declared.dues.Due.{Due}
 use Rattle.step_replay.specs.declared.dues.Due.TheVariants as due
+use Rattle.venue_laws.proofs.ErasedLists.{any_fuse, fuse, map_fuse}
 
--- how a request ended for a dealer, whether or not its quote was the cover
+-- What is left of a fact, where anything is.
 
-abbrev pub erase_close : Close → Close
-erase_close closes.Cover = closes.DoneAway
-erase_close other = other
+-- at a dealer: the bytes that came stay or do not
+abbrev pub erase_entry : Bool → DealerEntry → Option DealerEntry
+erase_entry stay (AtDesk fact) = Some (AtDesk (unpriced_at_dealer stay fact))
+erase_entry stay (Sent message) = None
+erase_entry stay entry = Some entry
 
--- At a dealer.
+-- at an investor
+abbrev pub erase_investor_entry : InvestorEntry → Option InvestorEntry
+erase_investor_entry (AtInvestorsDesk fact) = Some (AtInvestorsDesk (unpriced_at_investor fact))
+erase_investor_entry (SentToInvestor message) = None
 
-abbrev pub erase_quote : AcceptedQuote → AcceptedQuote
-erase_quote quote = record quote { price = 0 }
+-- in the venue: the bytes stay that the dealer with this number sent
+abbrev pub erase : ℕ → Fact → Option Fact
+erase own (AtDealer number entry) = option_map (AtDealer number) (erase_entry (number == own) entry)
+erase own (InRoom room fact) = Some (InRoom room (unpriced_in_room fact))
+erase own (AtInvestor number entry) = option_map (AtInvestor number) (erase_investor_entry entry)
 
--- whose bytes are kept is the dealer's own
-abbrev pub erase_fact : Bool → DealerFact → DealerFact
-erase_fact own (Came moment bytes used) = Came moment (if own then bytes else []) used
-erase_fact own (Quoted quote) = Quoted (erase_quote quote)
-erase_fact own (Told request close moment) = Told request (erase_close close) moment
-erase_fact own fact = fact
+-- what is left of facts, of what an action adds and leaves, of a duty that was caused, and of an
+-- item that is due
 
-abbrev pub erase_entry : Bool → DealerEntry → DealerEntry
-erase_entry own (AtDesk fact) = AtDesk (erase_fact own fact)
-erase_entry own (Sent message) = Sent []
-erase_entry own entry = entry
+abbrev pub bare : ℕ → List Fact → List Fact
+bare own facts = filter_map (erase own) facts
 
-abbrev pub erase_end : QuoteEnd → QuoteEnd
-erase_end (end.Withdrawn by) = end.Withdrawn by
-erase_end (end.Closed close) = end.Closed (erase_close close)
-
-abbrev pub erase_standing : StandingQuote → StandingQuote
-erase_standing own = record {
-  quote = erase_quote own.quote;
-  is_known_lifted = own.is_known_lifted;
-  end = option_map erase_end own.end;
-}
-
-abbrev pub erase_book : DealerBook → DealerBook
-erase_book book = record {
-  used = book.used;
-  notices = book.notices;
-  requests = book.requests;
-  quotes = map erase_standing book.quotes;
-}
-
-abbrev pub erase_verdict : DealerVerdict → DealerVerdict
-erase_verdict (verdict.QuoteAccepted request id quote replaced) =
-    verdict.QuoteAccepted request id (erase_quote quote) replaced
-erase_verdict other = other
-
--- In a room.
-
-abbrev pub erase_posted : PostedQuote → PostedQuote
-erase_posted quote = record quote { price = 0 }
-
-abbrev pub erase_cover : End → End
-erase_cover end = record end { cover = None }
-
-abbrev pub erase_room_fact : RoomFact → RoomFact
-erase_room_fact (Posted quote) = Posted (erase_posted quote)
-erase_room_fact (Ended end moment) = Ended (erase_cover end) moment
-erase_room_fact fact = fact
-
--- At an investor.
-
-abbrev pub erase_offer : Offer → Offer
-erase_offer offer = record offer { price = 0 }
-
-abbrev pub erase_shown : ShownOffer → ShownOffer
-erase_shown shown = record shown { offer = erase_offer shown.offer }
-
-abbrev pub erase_request_close : RequestClose → RequestClose
-erase_request_close (request_close.Awarded quote dealer price) =
-    request_close.Awarded quote dealer 0
-erase_request_close request_close.Passed = request_close.Passed
-erase_request_close request_close.Expired = request_close.Expired
-
-abbrev pub erase_investor_fact : InvestorFact → InvestorFact
-erase_investor_fact (Offered shown) = Offered (erase_shown shown)
-erase_investor_fact (Closed request close) = Closed request (erase_request_close close)
-erase_investor_fact fact = fact
-
-abbrev pub erase_investor_entry : InvestorEntry → InvestorEntry
-erase_investor_entry (AtInvestorsDesk fact) = AtInvestorsDesk (erase_investor_fact fact)
-erase_investor_entry (SentToInvestor message) = SentToInvestor []
-
-abbrev pub erase_request : StandingRequest → StandingRequest
-erase_request own = record {
-  request = own.request;
-  close = option_map erase_request_close own.close;
-  standing = map erase_shown own.standing;
-}
-
-abbrev pub erase_investor_book : InvestorBook → InvestorBook
-erase_investor_book book = record {
-  used = book.used;
-  requests = map erase_request book.requests;
-  offers = map erase_shown book.offers;
-}
-
--- In the venue.
-
-abbrev pub erase_duty : Duty → Duty
-erase_duty (duty.Post room quote price valid_until moment) =
-    duty.Post room quote 0 valid_until moment
-erase_duty (duty.Relay room offer moment) = duty.Relay room (erase_offer offer) moment
-erase_duty (duty.Tell dealer room close moment) = duty.Tell dealer room (erase_close close) moment
-erase_duty other = other
-
-abbrev pub erase : ℕ → Fact → Fact
-erase own (AtDealer dealer entry) = AtDealer dealer (erase_entry (dealer == own) entry)
-erase own (InRoom room fact) = InRoom room (erase_room_fact fact)
-erase own (AtInvestor investor entry) = AtInvestor investor (erase_investor_entry entry)
+abbrev pub left : ℕ → Effect → Effect
+left own effect =
+    record { facts = bare own effect.facts; duties = map unpriced_duty effect.duties }
 
 abbrev pub erase_caused : Caused → Caused
-erase_caused caused = record { by = caused.by; duty = erase_duty caused.duty }
+erase_caused caused = record { by = caused.by; duty = unpriced_duty caused.duty }
 
--- an item that is due
 abbrev pub erase_due : Due → Due
-erase_due (due.Closed request close moment) = due.Closed request (erase_close close) moment
+erase_due (due.Closed request close moment) = due.Closed request (uncovered close) moment
 erase_due other = other
+
+-- Places.
+
+-- what is left of something at a place
+at_place : {E : Type 0} (read : Fact → Option E) (place : E → Fact) (b : Bool) (left : Option E)
+    → ((entry : E) → read (place entry) ≡ (if b then Some entry else None))
+    → option_and_then read (option_map place left) ≡ (if b then left else None)
+at_place read place true None is = refl
+at_place read place false None is = refl
+at_place read place b (Some entry) is = is entry
+
+if_left : {E : Type 0} (left : E → Option E) (b : Bool) (entry : E)
+    → (if b then left entry else None) ≡ option_and_then left (if b then Some entry else None)
+if_left left true entry = refl
+if_left left false entry = refl
+
+pub trail_left : (own : ℕ) (facts : List Fact) (number : ℕ)
+    → of_dealer number (bare own facts)
+    ≡ filter_map (erase_entry (number == own)) (of_dealer number facts)
+unfolding of_dealer
+trail_left own facts number = simp (fuse, each)
+  where
+    each : (fact : Fact)
+        → option_and_then (entry_at_dealer number) (erase own fact)
+        ≡ option_and_then (erase_entry (number == own)) (entry_at_dealer number fact)
+    each (AtDealer dealer entry) =
+        at_place (entry_at_dealer number) (AtDealer dealer) (dealer == number)
+        (erase_entry (dealer == own) entry) (λ kept. refl)
+        ∙ by_test (dealer == number) refl
+        ∙ if_left (erase_entry (number == own)) (dealer == number) entry
+      where
+        by_test : (b : Bool) → (dealer == number) ≡ b
+            → (if b then erase_entry (dealer == own) entry else None)
+            ≡ (if b then erase_entry (number == own) entry else None)
+        by_test false test = refl
+        by_test true test =
+            let equal : dealer ≡ number = grind (arith, nat_tests) in
+            ap (λ (n : ℕ). erase_entry (n == own) entry) equal
+    each (InRoom room fact) = refl
+    each (AtInvestor investor (SentToInvestor message)) = refl
+    each (AtInvestor investor entry) = refl
+
+pub room_left : (own : ℕ) (facts : List Fact) (place : RoomRef)
+    → of_room place (bare own facts) ≡ map unpriced_in_room (of_room place facts)
+unfolding of_room
+room_left own facts place = simp (fuse, map_fuse, each)
+  where
+    each : (fact : Fact)
+        → option_and_then (fact_in_room place) (erase own fact)
+        ≡ option_map unpriced_in_room (fact_in_room place fact)
+    each (AtDealer dealer (Sent message)) = refl
+    each (AtDealer dealer entry) = refl
+    each (InRoom room fact) = map_cond unpriced_in_room (is_same_room room place) fact None
+    each (AtInvestor investor (SentToInvestor message)) = refl
+    each (AtInvestor investor entry) = refl
+
+investor_left : (own : ℕ) (facts : List Fact) (number : ℕ)
+    → of_investor number (bare own facts)
+    ≡ filter_map erase_investor_entry (of_investor number facts)
+unfolding of_investor
+investor_left own facts number = simp (fuse, each)
+  where
+    each : (fact : Fact)
+        → option_and_then (entry_at_investor number) (erase own fact)
+        ≡ option_and_then erase_investor_entry (entry_at_investor number fact)
+    each (AtDealer dealer (Sent message)) = refl
+    each (AtDealer dealer entry) = refl
+    each (InRoom room fact) = refl
+    each (AtInvestor investor entry) =
+        at_place (entry_at_investor number) (AtInvestor investor) (investor == number)
+        (erase_investor_entry entry) (λ kept. refl)
+        ∙ if_left erase_investor_entry (investor == number) entry
+
+pub investor_book_left : (own : ℕ) (facts : List Fact) (number : ℕ)
+    → investor_trail.book_by (of_investor number (bare own facts))
+    ≡ unpriced_investor_book (investor_trail.book_by (of_investor number facts))
+investor_book_left own facts number =
+    rw (investor_left own facts number, facts_left (of_investor number facts))
+    (investor_book_same (investor_trail.facts_of (of_investor number facts)))
+  where
+    fact_left : (entry : InvestorEntry)
+        → option_and_then investor_trail.fact_in (erase_investor_entry entry)
+        ≡ option_map unpriced_at_investor (investor_trail.fact_in entry)
+    fact_left (AtInvestorsDesk fact) = refl
+    fact_left (SentToInvestor message) = refl
+
+    facts_left : (trail : List InvestorEntry)
+        → investor_trail.facts_of (filter_map erase_investor_entry trail)
+        ≡ map unpriced_at_investor (investor_trail.facts_of trail)
+    facts_left trail = simp (fuse, map_fuse, fact_left)
+
+-- A dealer's trail.
+
+module _ (stay : Bool) (trail : List DealerEntry) where
+  facts_left : facts_of (filter_map (erase_entry stay) trail)
+      ≡ map (unpriced_at_dealer stay) (facts_of trail)
+  facts_left = simp (fuse, map_fuse, each)
+    where
+      each : (entry : DealerEntry)
+          → option_and_then fact_in (erase_entry stay entry)
+          ≡ option_map (unpriced_at_dealer stay) (fact_in entry)
+      each (AtDesk fact) = refl
+      each (Sent message) = refl
+      each entry = refl
+
+  pub book_is : book_by (filter_map (erase_entry stay) trail) ≡ unpriced_book (book_by trail)
+  book_is = rw (facts_left) (book_same stay (facts_of trail))
+
+  -- what is left once is left
+  pub once_left : filter_map (erase_entry stay) (filter_map (erase_entry stay) trail)
+      ≡ filter_map (erase_entry stay) trail
+  once_left = simp (fuse, each)
+    where
+      bytes_twice : (b : Bool) (bytes : List ℕ)
+          → (if b then (if b then bytes else []) else []) ≡ (if b then bytes else [])
+      bytes_twice true bytes = refl
+      bytes_twice false bytes = refl
+
+      fact_twice : (fact : DealerFact)
+          → unpriced_at_dealer stay (unpriced_at_dealer stay fact) ≡ unpriced_at_dealer stay fact
+      fact_twice (Came moment bytes used) =
+          ap (λ (l : List ℕ). Came moment l used) (bytes_twice stay bytes)
+      fact_twice (Told request close moment) =
+          ap (λ (c : Close). Told request c moment) (sym (twice close))
+      fact_twice fact = refl
+
+      each : (entry : DealerEntry)
+          → option_and_then (erase_entry stay) (erase_entry stay entry) ≡ erase_entry stay entry
+      each (AtDesk fact) = ap (λ (f : DealerFact). Some (AtDesk f)) (fact_twice fact)
+      each (Sent message) = refl
+      each entry = refl
+
+module _ (own : ℕ) (facts : List Fact) (number : ℕ) where
+  pub book_left : book_by (of_dealer number (bare own facts))
+      ≡ unpriced_book (book_by (of_dealer number facts))
+  book_left = rw (trail_left own facts number) (book_is (number == own) (of_dealer number facts))
+
+  pub rooms_left : rooms_by (of_dealer number (bare own facts)) ≡ rooms_by (of_dealer number facts)
+  rooms_left = rw (trail_left own facts number) (simp (fuse, each))
+    where
+      each : (entry : DealerEntry)
+          → option_and_then room_in (erase_entry (number == own) entry) ≡ room_in entry
+      each (AtDesk fact) = refl
+      each (Sent message) = refl
+      each entry = refl
+
+  pub lifted_left : (quote : ℕ) → was_lifted (of_dealer number (bare own facts)) quote
+      ≡ was_lifted (of_dealer number facts) quote
+  lifted_left quote = rw (trail_left own facts number) (simp (any_fuse, each))
+    where
+      each : (entry : DealerEntry)
+          → unwrap_or (option_map (lifts quote) (erase_entry (number == own) entry)) false
+          ≡ lifts quote entry
+      each (AtDesk fact) = refl
+      each (Sent message) = refl
+      each entry = refl
+
+  pub withdrawn_left : (quote : ℕ) → was_withdrawn (of_dealer number (bare own facts)) quote
+      ≡ was_withdrawn (of_dealer number facts) quote
+  withdrawn_left quote =
+      rw (trail_left own facts number, facts_left (number == own) (of_dealer number facts))
+      (withdrawn_same (number == own) quote (facts_of (of_dealer number facts)))

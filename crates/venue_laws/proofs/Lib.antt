@@ -5,16 +5,9 @@ mod ConditionMet
 mod ConditionMetOnce
 mod CountLemmas
 mod ErasedActions
-mod ErasedDuties
-mod ErasedEntries
-mod ErasedEvents
 mod ErasedHits
-mod ErasedInvestor
 mod ErasedLists
-mod ErasedRoom
-mod ErasedRules
 mod ErasedSteps
-mod ErasedVerdicts
 mod Erasing
 mod InvestorVerdicts
 mod KnownDesks

@@ -2,26 +2,25 @@
 -- no line of the session checks tells them apart.
 use Rattle.std.proofs.Common.{◌≡◌, ℕ, ◌==◌, Bool, true, false, nat_lt, List, [], ◌∷◌, map, length}
 use Rattle.std.proofs.Common.{Option, Some, None, count_by, refl, sym, ap, ◌∙◌, arith}
-use Rattle.std.proofs.Common.{if◌then◌else◌, Ok, ◌⊎◌, inl, inr, subst}
+use Rattle.std.proofs.Common.{if◌then◌else◌, Ok, ◌⊎◌, inl, inr}
 use Rattle.std.specs.List.{AllZip}
 use Rattle.std.proofs.lemmas.Bool.Decides.{nat_tests}
 use Rattle.bond_prices.specs.Price.{price_of}
 use Rattle.fix_fields.specs.Frame.{Field, value_of, times_of}
 use Rattle.venue_rows.specs.declared.bond_rows.BondRow.{BondRow}
-use Rattle.quote_messages.specs.ValueForms.{ValueRule, APrice, value_fault}
-use Rattle.quote_messages.specs.SessionLines.{Line, occurrence_fault, at_tag, tag_fault}
-use Rattle.quote_messages.specs.SessionLines.{required_where, required, optional, first_fault}
-use Rattle.quote_messages.specs.SessionLines.{has_number}
+use Rattle.quote_messages.specs.ValueForms.{APrice, value_fault}
+use Rattle.quote_messages.specs.SessionLines.{occurrence_fault, at_tag, tag_fault, optional}
+use Rattle.quote_messages.specs.SessionLines.{first_fault}
 use Rattle.quote_messages.specs.SessionChecks.{header_lines, quote_lines, cancel_lines}
 use Rattle.quote_messages.specs.SessionChecks.{decline_lines}
-use Rattle.quote_messages.specs.declared.session_faults.SessionRejectReason.{SessionRejectReason}
 use Rattle.quote_messages.specs.declared.session_faults.SessionRejectReason.TheVariants as reason
-use Rattle.step_replay.specs.EachLemmas.{Every}
-use Rattle.venue_laws.specs.PriceAlike.{is_price_tag, IsPriceOf, ArePricesOf, IsOneOrPriced}
-use Rattle.venue_laws.proofs.ErasedLists.{count_erased}
+use Rattle.venue_laws.specs.PriceAlike.{is_price_tag, IsPriceOf, IsOneOrPriced}
+use Rattle.market_terms.proofs.ErasedLists.{count_map}
 
--- two values of a tag are lawful prices
-pub record ArePrices (bond : Option BondRow) (one other : Option (List ℕ)) : Type 0 where
+-- two values of a price's tag are lawful prices
+pub record ArePrices (bond : Option BondRow) (tag : ℕ) (one other : Option (List ℕ))
+    : Type 0 where
+  pub is_price : is_price_tag tag ≡ true
   pub text : List ℕ
   pub priced : List ℕ
   pub one_is : one ≡ Some text
@@ -47,88 +46,62 @@ module _ (bond : Option BondRow) where
   pub times_same : (one other : List Field) → AllZip (IsOneOrPriced bond) one other → (tag : ℕ)
       → times_of tag one ≡ times_of tag other
   times_same one other alike tag =
-      sym (count_erased (λ (field : Field). field.0) (λ (field : Field). field.0 == tag)
-      (λ (t : ℕ). t == tag) (λ field. refl) one)
+      sym (count_map (λ (field : Field). field.0) (λ (t : ℕ). t == tag) one)
       ∙ ap (count_by (λ (t : ℕ). t == tag)) (tags_same one other alike)
-      ∙ count_erased (λ (field : Field). field.0) (λ (field : Field). field.0 == tag)
-      (λ (t : ℕ). t == tag) (λ field. refl) other
+      ∙ count_map (λ (field : Field). field.0) (λ (t : ℕ). t == tag) other
 
   -- Values.
 
-  -- another tag than that of a price
-  other_tag : (one other : Field) (tag : ℕ) → ArePricesOf bond one other
-      → is_price_tag tag ≡ false → (one.0 == tag) ≡ false
-  other_tag one other tag prices is_none = by_test (one.0 == tag) refl
-    where
-      by_test : (b : Bool) → (one.0 == tag) ≡ b → (one.0 == tag) ≡ false
-      by_test false test = test
-      by_test true test =
-          let equal : one.0 ≡ tag = grind (arith, nat_tests) in
-          let never : true ≡ false =
-          sym prices.is_price ∙ ap is_price_tag equal ∙ is_none in cc
-
-  first_same : (x y : Field) (tag : ℕ) (rest rest_too : Option (List ℕ))
-      → IsOneOrPriced bond x y → is_price_tag tag ≡ false → rest ≡ rest_too
-      → (if x.0 == tag then Some x.1 else rest) ≡ (if y.0 == tag then Some y.1 else rest_too)
-  first_same x y tag rest rest_too (inl same) is_none later =
-      ap (λ (field : Field). if field.0 == tag then Some field.1 else rest) same
-      ∙ ap (λ (o : Option (List ℕ)). if y.0 == tag then Some y.1 else o) later
-  first_same x y tag rest rest_too (inr prices) is_none later =
-      let here : (x.0 == tag) ≡ false = other_tag x y tag prices is_none in
-      let there : (y.0 == tag) ≡ false = ap (λ (t : ℕ). t == tag) (sym prices.tag) ∙ here in
-      rw (here, there) later
-
-  pub value_same : (one other : List Field) → AllZip (IsOneOrPriced bond) one other → (tag : ℕ)
-      → is_price_tag tag ≡ false → value_of tag one ≡ value_of tag other
-  value_same [] [] alike tag is_none = refl
-  value_same [] (y ∷ ys) alike tag is_none = elim alike [ ]
-  value_same (x ∷ xs) [] alike tag is_none = elim alike [ ]
-  value_same (x ∷ xs) (y ∷ ys) alike tag is_none =
-      first_same x y tag (value_of tag xs) (value_of tag ys) alike.0 is_none
-      (value_same xs ys alike.1 tag is_none)
-
   -- two values are one, or lawful prices
-  abbrev pub AreValues : Option (List ℕ) → Option (List ℕ) → Type 0
-  AreValues one other = (one ≡ other) ⊎ ArePrices bond one other
+  abbrev pub AreValues : ℕ → Option (List ℕ) → Option (List ℕ) → Type 0
+  AreValues tag one other = (one ≡ other) ⊎ ArePrices bond tag one other
 
   first_price : (x y : Field) (tag : ℕ) (rest rest_too : Option (List ℕ))
-      → IsOneOrPriced bond x y → AreValues rest rest_too
-      → AreValues (if x.0 == tag then Some x.1 else rest)
+      → IsOneOrPriced bond x y → AreValues tag rest rest_too
+      → AreValues tag (if x.0 == tag then Some x.1 else rest)
       (if y.0 == tag then Some y.1 else rest_too)
-  first_price x y tag rest rest_too (inl same) later =
-      subst (λ (field : Field).
-      AreValues (if x.0 == tag then Some x.1 else rest)
-      (if field.0 == tag then Some field.1 else rest_too)) same (by_test (x.0 == tag))
+  first_price x y tag rest rest_too (inl same) later = rw same (by_test (y.0 == tag))
     where
       by_test : (b : Bool)
-          → AreValues (if b then Some x.1 else rest) (if b then Some x.1 else rest_too)
+          → AreValues tag (if b then Some y.1 else rest) (if b then Some y.1 else rest_too)
       by_test true = inl refl
       by_test false = later
   first_price x y tag rest rest_too (inr prices) later =
-      subst (λ (t : ℕ).
-      AreValues (if x.0 == tag then Some x.1 else rest)
-      (if t == tag then Some y.1 else rest_too)) prices.tag (by_test (x.0 == tag))
+      rw (prices.tag) (by_test (y.0 == tag) refl)
     where
-      by_test : (b : Bool)
-          → AreValues (if b then Some x.1 else rest) (if b then Some y.1 else rest_too)
-      by_test true = inr (record {
-        text = x.1;
-        priced = y.1;
-        one_is = refl;
-        other_is = refl;
-        one_price = prices.one_price;
-        other_price = prices.other_price;
-      })
-      by_test false = later
+      by_test : (b : Bool) → (y.0 == tag) ≡ b
+          → AreValues tag (if b then Some x.1 else rest) (if b then Some y.1 else rest_too)
+      by_test true test =
+          let equal : y.0 ≡ tag = grind (arith, nat_tests) in
+          inr (record {
+            is_price = ap is_price_tag (sym equal ∙ sym prices.tag) ∙ prices.is_price;
+            text = x.1;
+            priced = y.1;
+            one_is = refl;
+            other_is = refl;
+            one_price = prices.one_price;
+            other_price = prices.other_price;
+          })
+      by_test false test = later
 
   pub price_value : (one other : List Field) → AllZip (IsOneOrPriced bond) one other → (tag : ℕ)
-      → AreValues (value_of tag one) (value_of tag other)
+      → AreValues tag (value_of tag one) (value_of tag other)
   price_value [] [] alike tag = inl refl
   price_value [] (y ∷ ys) alike tag = elim alike [ ]
   price_value (x ∷ xs) [] alike tag = elim alike [ ]
   price_value (x ∷ xs) (y ∷ ys) alike tag =
       first_price x y tag (value_of tag xs) (value_of tag ys) alike.0
       (price_value xs ys alike.1 tag)
+
+  pub value_same : (one other : List Field) → AllZip (IsOneOrPriced bond) one other → (tag : ℕ)
+      → is_price_tag tag ≡ false → value_of tag one ≡ value_of tag other
+  value_same one other alike tag is_none = by_values (price_value one other alike tag)
+    where
+      by_values : AreValues tag (value_of tag one) (value_of tag other)
+          → value_of tag one ≡ value_of tag other
+      by_values (inl same) = same
+      by_values (inr prices) =
+          let never : true ≡ false = sym prices.is_price ∙ is_none in cc
 
 -- Lines of the session checks.
 
@@ -143,48 +116,23 @@ price_fine date (c ∷ text) price is =
 
 module _ (bond : Option BondRow) (one other : List Field)
     (alike : AllZip (IsOneOrPriced bond) one other) (date : List ℕ) where
-  -- a line that both keep or both do not keep
-  abbrev pub IsSame : Line → Type 0
-  IsSame line = line date one ≡ line date other
-
-  line_where : (is_required : List Field → Bool) (tag : ℕ) (rule : ValueRule)
-      → is_price_tag tag ≡ false → is_required one ≡ is_required other
-      → IsSame (required_where is_required tag rule)
-  line_where is_required tag rule is_none same =
-      rw (same, value_same bond one other alike tag is_none, times_same bond one other alike tag) refl
-
-  line : (tag : ℕ) (rule : ValueRule) → is_price_tag tag ≡ false → IsSame (required tag rule)
-  line tag rule is_none = line_where (λ fields. true) tag rule is_none refl
-
-  line_if : (tag : ℕ) (rule : ValueRule) → is_price_tag tag ≡ false → IsSame (optional tag rule)
-  line_if tag rule is_none = line_where (λ fields. false) tag rule is_none refl
-
-  number_same : (tag n : ℕ) → is_price_tag tag ≡ false
-      → has_number tag n one ≡ has_number tag n other
-  number_same tag n is_none = rw (value_same bond one other alike tag is_none) refl
-
   -- the fault of a price that stands so
   price_fault_same : (tag : ℕ) (repeated : Bool) (value value_too : Option (List ℕ))
-      → AreValues bond value value_too
+      → AreValues bond tag value value_too
       → at_tag tag (occurrence_fault date
       (record { tag = tag; is_required = false; value = APrice }) value repeated)
       ≡ at_tag tag (occurrence_fault date
       (record { tag = tag; is_required = false; value = APrice }) value_too repeated)
-  price_fault_same tag repeated value value_too (inl same) =
-      ap (λ (v : Option (List ℕ)). at_tag tag (occurrence_fault date
-      (record { tag = tag; is_required = false; value = APrice }) v repeated)) same
+  price_fault_same tag repeated value value_too (inl same) = rw same
   price_fault_same tag repeated value value_too (inr prices) =
-      let found = λ (v : Option (List ℕ)). at_tag tag (occurrence_fault date
-      (record { tag = tag; is_required = false; value = APrice }) v repeated) in
-      let fine = λ (f : Option SessionRejectReason).
-      at_tag tag (if repeated then Some reason.TagMoreThanOnce else f) in
-      ap found prices.one_is
-      ∙ ap fine (price_fine date prices.text prices.one_price.price prices.one_price.is_read)
-      ∙ sym (ap fine
-      (price_fine date prices.priced prices.other_price.price prices.other_price.is_read))
-      ∙ sym (ap found prices.other_is)
+      rw (
+        prices.one_is,
+        prices.other_is,
+        price_fine date prices.text prices.one_price.price prices.one_price.is_read,
+        price_fine date prices.priced prices.other_price.price prices.other_price.is_read,
+      )
 
-  price_line : (tag : ℕ) → IsSame (optional tag APrice)
+  price_line : (tag : ℕ) → optional tag APrice date one ≡ optional tag APrice date other
   unfolding tag_fault
   price_line tag =
       rw (times_same bond one other alike tag)
@@ -193,51 +141,19 @@ module _ (bond : Option BondRow) (one other : List Field)
 
   -- Tables.
 
-  pub faults_same : (lines : List Line) → Every IsSame lines
-      → first_fault lines date one ≡ first_fault lines date other
-  faults_same [] same = refl
-  faults_same (line ∷ lines) same =
-      rw (same.0, faults_same lines same.1) refl
-
   pub header_same : (name : List ℕ) (traders types : List (List ℕ))
       → first_fault (header_lines name traders types) date one
       ≡ first_fault (header_lines name traders types) date other
   header_same name traders types =
-      faults_same (header_lines name traders types)
-      (line 49 _ refl, (line 56 _ refl, (line 52 _ refl, (line 50 _ refl, (line 35 _ refl, tt)))))
+      simp (times_same bond one other alike, value_same bond one other alike)
 
   pub quote_same : first_fault quote_lines date one ≡ first_fault quote_lines date other
   quote_same =
-      faults_same quote_lines (
-        line 117 _ refl,
-        (
-          line 131 _ refl,
-          (
-            line 48 _ refl,
-            (
-              line 22 _ refl,
-              (
-                price_line 132,
-                (
-                  price_line 133,
-                  (
-                    line_if 134 _ refl,
-                    (
-                      line_if 135 _ refl,
-                      (line_if 537 _ refl, (line_if 62 _ refl, tt)),
-                    ),
-                  ),
-                ),
-              ),
-            ),
-          ),
-        ),
-      )
+      rw (price_line 132, price_line 133)
+      (simp (times_same bond one other alike, value_same bond one other alike))
 
   pub cancel_same : first_fault cancel_lines date one ≡ first_fault cancel_lines date other
-  cancel_same =
-      faults_same cancel_lines
-      (line 298 _ refl, (line_where (has_number 298 5) 117 _ refl (number_same 298 5 refl), tt))
+  cancel_same = simp (times_same bond one other alike, value_same bond one other alike)
 
   pub decline_same : first_fault decline_lines date one ≡ first_fault decline_lines date other
-  decline_same = faults_same decline_lines (line 131 _ refl, (line 658 _ refl, tt))
+  decline_same = simp (times_same bond one other alike, value_same bond one other alike)

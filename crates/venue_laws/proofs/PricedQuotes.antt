@@ -1,9 +1,9 @@
 -- Two quotes that differ in lawful prices alone: the market's verdicts on them are one but for the
 -- price.
 use Rattle.std.proofs.Common.{◌≡◌, ℕ, Bool, true, false, Option, Some, None, option_map, is_some}
-use Rattle.std.proofs.Common.{refl, sym, ap, ◌∙◌, subst, Result, Ok, Err, ◌⊎◌, inl, inr, IfSome}
+use Rattle.std.proofs.Common.{List, refl, sym, ap, ◌∙◌, subst, Result, Ok, Err, inl, inr, IfSome}
 use Rattle.std.proofs.lemmas.Slice.Eq.{bytes_eq-Decides}
-use Rattle.bond_prices.specs.Grid.{on_grid}
+use Rattle.bond_prices.specs.Price.{price_of}
 use Rattle.bond_prices.specs.declared.fault.PriceFault.{PriceFault}
 use Rattle.market_terms.specs.declared.asks.Ask.{Ask}
 use Rattle.market_terms.specs.declared.asks.Side.{Side}
@@ -16,157 +16,149 @@ use Rattle.venue_rows.specs.Texts.{same_text}
 use Rattle.venue_rows.specs.declared.bond_rows.BondRow.{BondRow}
 use Rattle.venue_rows.specs.declared.dealer_rows.DealerRow.{DealerRow}
 use Rattle.dealer_desk.specs.DealerFacts.{DealerBook, request_named}
-use Rattle.dealer_desk.specs.DealerRules.{asked_price, other_price, lone_price, if_on_grid}
-use Rattle.dealer_desk.specs.DealerRules.{price_for, quote_refusal, quote_answer, quote_on}
+use Rattle.dealer_desk.specs.DealerRules.{asked_price, if_on_grid, lone_price, other_price}
+use Rattle.dealer_desk.specs.DealerRules.{price_for, quote_answer, quote_on, quote_refusal}
 use Rattle.dealer_desk.specs.DealerRules.{quote_verdict}
+use Rattle.dealer_desk.specs.Unpriced.{unpriced_verdict}
 use Rattle.dealer_desk.specs.declared.standing.StandingRequest.{StandingRequest}
-use Rattle.venue_laws.proofs.Erasing.{erase_verdict}
 use Rattle.step_replay.specs.EachLemmas.{Every}
 use Rattle.venue_laws.proofs.ListLemmas.{first_of_every}
+use Rattle.venue_laws.proofs.PricedFields.{AreValues}
 use Rattle.venue_laws.proofs.VenueParts.{BearsGrid}
 
--- a price as a quote has it: none, a number, or a text that is none
-abbrev pub Reading : Type 0
-Reading = Option (Result ℕ PriceFault)
+-- the text of a price, where a field bears one, and what is read there
+abbrev Text : Type 0
+Text = Option (List ℕ)
 
--- two readings are prices on a grid
-pub record AreOnGrid (grid : ℕ) (one other : Reading) : Type 0 where
-  pub price : ℕ
-  pub priced : ℕ
-  pub one_is : one ≡ Some (Ok price)
-  pub other_is : other ≡ Some (Ok priced)
-  pub one_on : on_grid price grid ≡ true
-  pub other_on : on_grid priced grid ≡ true
-
--- two readings are one, or prices on a grid
-abbrev pub AreReadings : ℕ → Reading → Reading → Type 0
-AreReadings grid one other = (one ≡ other) ⊎ AreOnGrid grid one other
+abbrev reading : Text → Option (Result ℕ PriceFault)
+reading text = option_map price_of text
 
 -- Whether a quote has a lawful price.
 
 -- whether the price on the asked side is lawful, with this one on the other side
-abbrev is_lawful : ℕ → Reading → Reading → Bool
+abbrev is_lawful : ℕ → Option (Result ℕ PriceFault) → Option (Result ℕ PriceFault) → Bool
 is_lawful grid asked other = is_some (if_on_grid grid (lone_price asked other))
 
-lone_some : (asked : Reading) (price priced : Result ℕ PriceFault)
-    → lone_price asked (Some price) ≡ lone_price asked (Some priced)
-lone_some None price priced = refl
-lone_some (Some (Ok own)) price priced = refl
-lone_some (Some (Err fault)) price priced = refl
+asked_same : (bond : BondRow) (tag : ℕ) (one other : Text) (beside : Option (Result ℕ PriceFault))
+    → AreValues (Some bond) tag one other
+    → is_lawful bond.grid (reading one) beside ≡ is_lawful bond.grid (reading other) beside
+asked_same bond tag one other beside (inl same) = rw same
+asked_same bond tag one other beside (inr prices) =
+    rw (
+      prices.one_is,
+      prices.other_is,
+      prices.one_price.is_read,
+      prices.other_price.is_read,
+    ) (by_other beside)
+  where
+    by_other : (o : Option (Result ℕ PriceFault))
+        → is_lawful bond.grid (Some (Ok prices.one_price.price)) o
+        ≡ is_lawful bond.grid (Some (Ok prices.other_price.price)) o
+    by_other None = rw (prices.one_price.is_on_grid, prices.other_price.is_on_grid)
+    by_other (Some o) = refl
 
-on_grid_lawful : (grid price : ℕ) → on_grid price grid ≡ true
-    → is_some (if_on_grid grid (Some price)) ≡ true
-on_grid_lawful grid price on = rw on refl
-
-two_lawful : (grid price priced : ℕ) (other : Reading) → on_grid price grid ≡ true
-    → on_grid priced grid ≡ true
-    → is_lawful grid (Some (Ok price)) other ≡ is_lawful grid (Some (Ok priced)) other
-two_lawful grid price priced None one_on other_on =
-    on_grid_lawful grid price one_on ∙ sym (on_grid_lawful grid priced other_on)
-two_lawful grid price priced (Some other) one_on other_on = refl
-
-asked_same : (grid : ℕ) (asked priced other : Reading) → AreReadings grid asked priced
-    → is_lawful grid asked other ≡ is_lawful grid priced other
-asked_same grid asked priced other (inl same) = ap (λ (r : Reading). is_lawful grid r other) same
-asked_same grid asked priced other (inr prices) =
-    rw (prices.one_is, prices.other_is)
-    (two_lawful grid prices.price prices.priced other prices.one_on prices.other_on)
-
-other_same : (grid : ℕ) (asked other priced : Reading) → AreReadings grid other priced
-    → is_lawful grid asked other ≡ is_lawful grid asked priced
-other_same grid asked other priced (inl same) = ap (λ (r : Reading). is_lawful grid asked r) same
-other_same grid asked other priced (inr prices) =
-    rw (prices.one_is, prices.other_is) (ap (λ (o : Option ℕ). is_some (if_on_grid grid o))
-    (lone_some asked (Ok prices.price) (Ok prices.priced)))
-
-lawful_same : (grid : ℕ) (asked asked_too other other_too : Reading)
-    → AreReadings grid asked asked_too → AreReadings grid other other_too
-    → is_lawful grid asked other ≡ is_lawful grid asked_too other_too
-lawful_same grid asked asked_too other other_too first second =
-    asked_same grid asked asked_too other first ∙ other_same grid asked_too other other_too second
+other_same : (grid : ℕ) (bond : BondRow) (tag : ℕ) (asked : Option (Result ℕ PriceFault))
+    (one other : Text) → AreValues (Some bond) tag one other
+    → is_lawful grid asked (reading one) ≡ is_lawful grid asked (reading other)
+other_same grid bond tag asked one other (inl same) = rw same
+other_same grid bond tag asked one other (inr prices) =
+    rw (prices.one_is, prices.other_is) (by_asked asked)
+  where
+    by_asked : (o : Option (Result ℕ PriceFault))
+        → is_lawful grid o (reading (Some prices.text))
+        ≡ is_lawful grid o (reading (Some prices.priced))
+    by_asked None = refl
+    by_asked (Some (Ok price)) = refl
+    by_asked (Some (Err fault)) = refl
 
 -- The verdicts.
 
-module _ (quote : Quote) (bid offer : Reading) where
-  -- the quote at these prices
-  abbrev pub priced : Quote
-  priced = record quote { bid = bid; offer = offer }
+-- a quote at the prices that these texts bear
+abbrev pub priced : Quote → Option (List ℕ) → Option (List ℕ) → Quote
+priced quote bid offer =
+    record quote { bid = option_map price_of bid; offer = option_map price_of offer }
 
-  lawful_for : (ask : Ask) → AreReadings ask.grid quote.bid bid
-      → AreReadings ask.grid quote.offer offer
-      → is_some (price_for ask quote) ≡ is_some (price_for ask priced)
+module _ (quote : Quote) (bid bid_too offer offer_too : Option (List ℕ)) where
+  -- the quote at the prices of both messages
+  abbrev one : Quote
+  one = priced quote bid offer
+
+  abbrev other : Quote
+  other = priced quote bid_too offer_too
+
+  lawful_for : (bond : BondRow) (ask : Ask) → bond.grid ≡ ask.grid
+      → AreValues (Some bond) 132 bid bid_too → AreValues (Some bond) 133 offer offer_too
+      → is_some (price_for ask one) ≡ is_some (price_for ask other)
   unfolding price_for
-  lawful_for ask bids offers = by_side ask.side
+  lawful_for bond ask grid bids offers =
+      subst (λ (g : ℕ). is_lawful g (asked_price ask.side one) (other_price ask.side one)
+      ≡ is_lawful g (asked_price ask.side other) (other_price ask.side other)) grid
+      (by_side ask.side)
     where
       by_side : (s : Side)
-          → is_lawful ask.grid (asked_price s quote) (other_price s quote)
-          ≡ is_lawful ask.grid (asked_price s priced) (other_price s priced)
-      by_side side.Buy = lawful_same ask.grid quote.offer offer quote.bid bid offers bids
-      by_side side.Sell = lawful_same ask.grid quote.bid bid quote.offer offer bids offers
+          → is_lawful bond.grid (asked_price s one) (other_price s one)
+          ≡ is_lawful bond.grid (asked_price s other) (other_price s other)
+      by_side side.Buy =
+          asked_same bond 133 offer offer_too (reading bid) offers
+          ∙ other_same bond.grid bond 132 (reading offer_too) bid bid_too bids
+      by_side side.Sell =
+          asked_same bond 132 bid bid_too (reading offer) bids
+          ∙ other_same bond.grid bond 133 (reading bid_too) offer offer_too offers
 
-  module _ (row : DealerRow) (book : DealerBook) (moment : ℕ) where
+  -- where each request bears the grid of its bond, and the prices are lawful prices of the bond
+  -- that the quote names
+  module _ (row : DealerRow) (book : DealerBook) (moment : ℕ) (config : Configuration)
+      (bear : Every (λ (own : StandingRequest). BearsGrid config own.ask) book.requests)
+      (values : (bond : BondRow) → bond_with_id config quote.bond ≡ Some bond
+      → AreValues (Some bond) 132 bid bid_too × AreValues (Some bond) 133 offer offer_too) where
     refusal_by : (shown : StandingRequest) (b : Bool) → same_text quote.bond shown.ask.bond ≡ b
-        → (b ≡ true → is_some (price_for shown.ask quote) ≡ is_some (price_for shown.ask priced))
-        → quote_refusal row book moment quote (Some shown)
-        ≡ quote_refusal row book moment priced (Some shown)
+        → (b ≡ true → is_some (price_for shown.ask one) ≡ is_some (price_for shown.ask other))
+        → quote_refusal row book moment one (Some shown)
+        ≡ quote_refusal row book moment other (Some shown)
     unfolding quote_refusal
-    refusal_by shown true test same = rw (same refl) refl
-    refusal_by shown false test same = rw test refl
+    refusal_by shown true test same = rw (same refl)
+    refusal_by shown false test same = rw test
 
-    answer_same : (request : Option StandingRequest) (refused : Option QuoteRejectReason)
-        → erase_verdict (quote_answer book moment quote request refused)
-        ≡ erase_verdict (quote_answer book moment priced request refused)
-    answer_same request (Some reason) = refl
-    answer_same None None = refl
-    answer_same (Some shown) None = refl
+    answer_same : (shown : StandingRequest) (refused : Option QuoteRejectReason)
+        → unpriced_verdict (quote_answer book moment one (Some shown) refused)
+        ≡ unpriced_verdict (quote_answer book moment other (Some shown) refused)
+    answer_same shown (Some reason) = refl
+    answer_same shown None = refl
 
     on_request : (request : Option StandingRequest)
-        → quote_refusal row book moment quote request
-        ≡ quote_refusal row book moment priced request
-        → erase_verdict (quote_on row book moment quote request)
-        ≡ erase_verdict (quote_on row book moment priced request)
-    on_request request same =
-        rw same (answer_same request (quote_refusal row book moment priced request))
+        → IfSome request (λ (own : StandingRequest). BearsGrid config own.ask)
+        → unpriced_verdict (quote_on row book moment one request)
+        ≡ unpriced_verdict (quote_on row book moment other request)
+    unfolding quote_refusal
+    on_request None bears = refl
+    on_request (Some shown) bears =
+        rw (refusal_by shown (same_text quote.bond shown.ask.bond) refl
+        (λ test. by_bond ((bytes_eq-Decides quote.bond shown.ask.bond).0 test)
+        (bond_with_id config quote.bond) refl))
+        (answer_same shown (quote_refusal row book moment other (Some shown)))
+      where
+        -- the grid of the bond that is found is that of the request
+        grids : quote.bond ≡ shown.ask.bond → (found : Option BondRow)
+            → bond_with_id config quote.bond ≡ found
+            → option_map (λ (bond : BondRow). bond.grid) found ≡ Some shown.ask.grid
+        grids same found is =
+            sym (ap (option_map (λ (bond : BondRow). bond.grid))
+            (ap (bond_with_id config) (sym same) ∙ is)) ∙ bears
 
-    -- where each request bears the grid of its bond, and the prices are on the grid of the bond
-    -- that the quote names
-    module _ (config : Configuration)
-        (bear : Every (λ (own : StandingRequest). BearsGrid config own.ask) book.requests)
-        (readings : (bond : BondRow) → bond_with_id config quote.bond ≡ Some bond
-        → AreReadings bond.grid quote.bid bid × AreReadings bond.grid quote.offer offer) where
-      on_shown : (request : Option StandingRequest)
-          → IfSome request (λ (own : StandingRequest). BearsGrid config own.ask)
-          → erase_verdict (quote_on row book moment quote request)
-          ≡ erase_verdict (quote_on row book moment priced request)
-      unfolding quote_refusal
-      on_shown None bears = refl
-      on_shown (Some shown) bears =
-          on_request (Some shown)
-          (refusal_by shown (same_text quote.bond shown.ask.bond) refl
-          (λ test. by_bond ((bytes_eq-Decides quote.bond shown.ask.bond).0 test)
-          (bond_with_id config quote.bond) refl))
-        where
-          by_bond : quote.bond ≡ shown.ask.bond → (found : Option BondRow)
-              → bond_with_id config quote.bond ≡ found
-              → is_some (price_for shown.ask quote) ≡ is_some (price_for shown.ask priced)
-          by_bond same None is =
-              let never : None ≡ Some shown.ask.grid =
-              sym (ap (option_map (λ (bond : BondRow). bond.grid))
-              (ap (bond_with_id config) (sym same) ∙ is)) ∙ bears in cc
-          by_bond same (Some bond) is =
-              let grids : Some bond.grid ≡ Some shown.ask.grid =
-              sym (ap (option_map (λ (bond : BondRow). bond.grid))
-              (ap (bond_with_id config) (sym same) ∙ is)) ∙ bears in
-              let grid : bond.grid ≡ shown.ask.grid = cc in
-              let both = readings bond is in
-              lawful_for shown.ask (subst (λ (g : ℕ). AreReadings g quote.bid bid) grid both.0)
-              (subst (λ (g : ℕ). AreReadings g quote.offer offer) grid both.1)
+        by_bond : quote.bond ≡ shown.ask.bond → (found : Option BondRow)
+            → bond_with_id config quote.bond ≡ found
+            → is_some (price_for shown.ask one) ≡ is_some (price_for shown.ask other)
+        by_bond same None is = let never : None ≡ Some shown.ask.grid = grids same None is in cc
+        by_bond same (Some bond) is =
+            let found : Some bond.grid ≡ Some shown.ask.grid = grids same (Some bond) is in
+            let grid : bond.grid ≡ shown.ask.grid = cc in
+            lawful_for bond shown.ask grid (values bond is).0 (values bond is).1
 
-      pub verdict_alike : erase_verdict (quote_verdict row book moment quote)
-          ≡ erase_verdict (quote_verdict row book moment priced)
-      unfolding quote_verdict request_named
-      verdict_alike =
-          on_shown (request_named book quote.request)
-          (first_of_every (λ (own : StandingRequest). BearsGrid config own.ask)
-          (λ (request : StandingRequest). same_text (request_name request.number) quote.request)
-          book.requests bear)
+    pub verdict_alike : unpriced_verdict (quote_verdict row book moment one)
+        ≡ unpriced_verdict (quote_verdict row book moment other)
+    unfolding quote_verdict request_named
+    verdict_alike =
+        on_request (request_named book quote.request)
+        (first_of_every (λ (own : StandingRequest). BearsGrid config own.ask)
+        (λ (request : StandingRequest). same_text (request_name request.number) quote.request)
+        book.requests bear)

@@ -148,6 +148,8 @@ fn fault_name(fault: DayFault) -> &'static str {
         DayFault::Told(_) => "a notice",
         DayFault::Sweep(_) => "a sweep",
         DayFault::Shown(_) => "a request that is shown",
+        DayFault::Relayed(_) => "a quote that is relayed",
+        DayFault::Answered(_) => "a reply",
     }
 }
 

@@ -1,7 +1,9 @@
-use Rattle.std.proofs.Common.{rules, ◌≡◌, ◌∙◌, sym, ap, subst, None}
+use Rattle.std.proofs.Common.{rules, ◌≡◌, ◌∙◌, sym, ap, subst, length, None}
 use Rattle.std.specs.Option.{option_map}
+use Rattle.session_worker.specs.AnsweredResponses.{first_unanswered}
 use Rattle.session_worker.specs.DayActions.{EventsAreOfActions, first_unleft, number_at}
 use Rattle.session_worker.specs.DayChecks.{first_unswept, first_untold}
+use Rattle.session_worker.specs.RelayedQuotes.{first_unrelayed}
 use Rattle.session_worker.specs.ShownRequests.{first_unshown}
 use Rattle.session_worker.proofs.ActionLemmas.{events_are_left}
 use Rattle.session_worker.proofs.FaultLemmas.{day_read}
@@ -16,6 +18,10 @@ returns-in-Some-action_fault-clause-first c =
     let told : first_untold c.args.rooms.items dealers ≡ None = search rules in
     let swept : first_unswept c.args.sweeps.now c.args.rooms.items ≡ None = search rules in
     let shown : first_unshown c.args.rooms.items dealers ≡ None = search rules in
+    let relayed : first_unrelayed c.args.config.now (length c.args.config.now.dealers)
+    c.args.investors.items c.args.rooms.items ≡ None = search rules in
+    let answered : first_unanswered (length c.args.config.now.dealers) c.args.investors.items
+    c.args.rooms.items ≡ None = search rules in
     let dealers_read : c.deref.result.now ≡ dealers = search rules in
     let whole_read : c.deref-2.result.now ≡ whole = search rules in
     let clock_read : c.deref-3.result.now ≡ clock = search rules in
@@ -24,6 +30,8 @@ returns-in-Some-action_fault-clause-first c =
       told,
       swept,
       shown,
+      relayed,
+      answered,
       record {
         whole = whole;
         have_rooms = record {
@@ -44,6 +52,10 @@ returns-clause-agrees c =
     let told : first_untold c.args.rooms.items dealers ≡ None = search rules in
     let swept : first_unswept c.args.sweeps.now c.args.rooms.items ≡ None = search rules in
     let shown : first_unshown c.args.rooms.items dealers ≡ None = search rules in
+    let relayed : first_unrelayed c.args.config.now (length c.args.config.now.dealers)
+    c.args.investors.items c.args.rooms.items ≡ None = search rules in
+    let answered : first_unanswered (length c.args.config.now.dealers) c.args.investors.items
+    c.args.rooms.items ≡ None = search rules in
     let none : c.action_fault.result ≡ None = search rules in
     let dealers_read : c.deref.result.now ≡ dealers = search rules in
     let whole_read : c.deref-2.result.now ≡ whole = search rules in
@@ -60,6 +72,8 @@ returns-clause-agrees c =
       told = told;
       swept = swept;
       shown = shown;
+      relayed = relayed;
+      answered = answered;
       of_actions = subst EventsAreOfActions (read ∙ sym c.new.ensures)
           (events_are_left (record {
             dealers = c.deref.result.now;

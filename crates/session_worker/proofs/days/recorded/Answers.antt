@@ -1,15 +1,16 @@
-use Rattle.std.proofs.Common.{rules, ◌≡◌, ◌∙◌, ◌-◌, sym, ap, subst, length, map}
-use Rattle.std.proofs.Common.{arith, length-drop}
+use Rattle.std.proofs.Common.{rules, ◌≡◌, ◌∙◌, ◌-◌, sym, ap, subst, length, map, None, arith}
+use Rattle.std.proofs.Common.{length-drop}
 use Rattle.std.proofs.lemmas.List.{length-map}
 use Rattle.venue_rows.specs.Rows.{Configuration}
 use Rattle.venue_rows.specs.declared.investor_rows.InvestorRow.{InvestorRow}
 use Rattle.recorded_days.specs.Records.{InvestorLists}
 use Rattle.session_worker.specs.DayActions.{EventsAreOfActions}
-use Rattle.session_worker.specs.DayFaults.{IsFirstOf, IsJoinedOf, JoinedDay}
+use Rattle.session_worker.specs.DayFaults.{IsFirstOf, IsJoinedOf, JoinedDay, unanswered_of}
+use Rattle.session_worker.specs.DayFaults.{unrelayed_of}
 use Rattle.session_worker.specs.KeptDays.{KeepsDay, rooms_of}
+use Rattle.session_worker.proofs.DayLemmas.{Joined, day_is_kept}
 use Rattle.session_worker.proofs.FaultLemmas.{dealer_is_of, first_is_of, investor_is_of}
 use Rattle.session_worker.proofs.FaultLemmas.{joined_is_of, same_fault}
-use Rattle.session_worker.proofs.KeepLemmas.{Joined, day_is_kept}
 use Rattle.session_worker.proofs.days.recorded.Goals as goal
 
 -- a session for each investor
@@ -146,6 +147,10 @@ returns-clause-keeps g c =
       told = agrees.told;
       swept = agrees.swept;
       shown = agrees.shown;
+      relayed = subst (λ (own : Configuration). unrelayed_of own joined_day ≡ None)
+          c.args.venue.config_is agrees.relayed;
+      answered = subst (λ (own : Configuration). unanswered_of own joined_day ≡ None)
+          c.args.venue.config_is agrees.answered;
       dealers_stand = c.in_ok-dealers.ensures.stand;
       rooms_stand = c.in_ok-investors.ensures.stand;
       goes_on = c.in_ok-investors.ensures.later;

@@ -3,7 +3,7 @@ use Rattle.std.specs.Iterator.Adapters.{zip_first, zip_second}
 use Rattle.std.specs.Vec.Iter.{into_iter_items}
 use Rattle.quote_word.specs.SettleLog.{IsLegal}
 use Rattle.session_worker.specs.KeptDays.{DealersKeep, DealersStand}
-use Rattle.session_worker.proofs.KeepLemmas.{dealer_inboxes}
+use Rattle.session_worker.proofs.DayLemmas.{dealer_inboxes}
 use Rattle.session_worker.proofs.joined.dealer_days.Given as goal
 
 abbrev pub invariant-loop-place : goal.invariant-loop-place

@@ -4,7 +4,7 @@ use Rattle.std.specs.Vec.Iter.{into_iter_items}
 use mathlib.Core.List.{IsPrefix}
 use Rattle.quote_word.specs.SettleLog.{IsLegal}
 use Rattle.session_worker.specs.KeptDays.{InvestorsKeep, RoomsStand, names_by, names_of}
-use Rattle.session_worker.proofs.KeepLemmas.{investor_inboxes}
+use Rattle.session_worker.proofs.DayLemmas.{investor_inboxes}
 use Rattle.session_worker.proofs.joined.investor_days.Given as goal
 
 abbrev pub invariant-loop-place : goal.invariant-loop-place

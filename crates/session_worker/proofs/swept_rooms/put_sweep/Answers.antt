@@ -1,7 +1,7 @@
 use Rattle.std.proofs.Common.{rules, ◌≡◌, ◌∙◌, ◌∷◌, ◌++◌, [], ap, unwrap_or}
 use Rattle.std.specs.BTreeMap.{get}
 use Rattle.std.specs.BTreeMap.Entry.{map_with_value}
-use Rattle.session_worker.specs.SweptRooms.{times_of}
+use Rattle.session_worker.specs.SweptRooms.{list_of}
 use Rattle.session_worker.specs.ToldRooms.{room_cmp}
 use Rattle.session_worker.proofs.SweptLemmas.{list_under, put_under}
 use Rattle.session_worker.proofs.swept_rooms.put_sweep.Goals as goal
@@ -15,10 +15,10 @@ returns c =
     let entry = c.in_ok-by_room.field-0 in
     let found : c.or_insert-times.result.now
     ≡ unwrap_or (get room_cmp was sweep.room) c.new.result = search rules in
-    let more : times.items ≡ times_of was sweep.room ++ sweep.moment ∷ [] =
+    let more : times.items ≡ list_of was sweep.room ++ sweep.moment ∷ [] =
     c.in_ok-push.ensures.items
     ∙ ap (λ items. items ++ sweep.moment ∷ []) (ap (λ own. own.items) found
     ∙ list_under (get room_cmp was sweep.room) c.new.result c.new.ensures.items) in
-    let put = put_under was (map_with_value entry times) sweep times
+    let put = put_under was (map_with_value entry times) sweep.room sweep.moment times
     (c.in_ok-by_room.ensures.update.0 times).0 more in
     λ room. search (rules, put room)

@@ -1,6 +1,6 @@
 use Rattle.std.proofs.Common.{rules, ◌≡◌, ◌∷◌, ◌++◌, ◌∙◌, sym, ap}
 use Rattle.session_worker.specs.DayChecks.{times_for}
-use Rattle.session_worker.specs.SweptRooms.{times_of}
+use Rattle.session_worker.specs.SweptRooms.{list_of}
 use Rattle.session_worker.proofs.SweptLemmas.{sweep_more}
 use Rattle.session_worker.proofs.swept_rooms.times_by_room.Goals as goal
 
@@ -13,7 +13,7 @@ loop-sweep-preserved c =
     record {
       same = λ room.
           ap (λ times. times ++ times_for room later) (c.in_ok-put_sweep.ensures room)
-          ∙ sweep_more room sweep later (times_of c.loop-sweep.by_room room)
-          ∙ ap (λ rest. times_of c.loop-sweep.by_room room ++ times_for room rest) (sym first)
+          ∙ sweep_more room sweep later (list_of c.loop-sweep.by_room room)
+          ∙ ap (λ rest. list_of c.loop-sweep.by_room room ++ times_for room rest) (sym first)
           ∙ c.loop-sweep.invariant.same room;
     }

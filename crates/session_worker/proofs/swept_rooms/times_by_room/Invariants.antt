@@ -1,13 +1,13 @@
 use Rattle.std.proofs.Common.{◌≡◌, ◌++◌, length}
 use Rattle.market_terms.specs.declared.rooms.RoomRef.{RoomRef}
 use Rattle.session_worker.specs.DayChecks.{times_for}
-use Rattle.session_worker.specs.SweptRooms.{times_of}
+use Rattle.session_worker.specs.SweptRooms.{list_of}
 use Rattle.session_worker.proofs.swept_rooms.times_by_room.Given as goal
 
 abbrev pub invariant-loop-sweep : goal.invariant-loop-sweep
 invariant-loop-sweep l = record {
   same : (room : RoomRef)
-      → times_of l.by_room room ++ times_for room l.rest ≡ times_for room l.sweeps;
+      → list_of l.by_room room ++ times_for room l.rest ≡ times_for room l.sweeps;
 }
 
 abbrev pub decreases-loop-sweep : goal.decreases-loop-sweep

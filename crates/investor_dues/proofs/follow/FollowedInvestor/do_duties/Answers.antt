@@ -21,7 +21,7 @@ returns-in_default-clause-ok c row steps known had =
     let so_far = c.loop.invariant.is row steps had in
     turns_done config c.args.self.now.firm row c.args.by steps c.loop.counter c.loop.self
     c.loop.invariant.within
-    (c.in_default.ensures config (steps ++ replicate c.loop.counter (step.Turn c.args.by))
+    (c.in_default.ensures.duty config (steps ++ replicate c.loop.counter (step.Turn c.args.by))
     so_far.venue_is known)
     so_far
 
