@@ -8,7 +8,6 @@ use Rattle.std.specs.Option.{option_map}
 use Rattle.std.proofs.lemmas.Bool.Decides.{nat_tests}
 use Rattle.std.proofs.lemmas.List.{take_more}
 use Rattle.std.proofs.lemmas.Option.{get_or_from_slice_get, slice_get_within}
-use Rattle.std.proofs.lemmas.List.Elements.{AllZip-push}
 use Rattle.market_terms.specs.declared.rooms.RoomRef.{RoomRef}
 use Rattle.venue_rows.specs.Rows.{Configuration, has_room}
 use Rattle.step_replay.specs.StepFaults.{fault_of, fault_of_firm, first_fault, first_fault_from}
@@ -45,6 +44,13 @@ pub taken_more : (slots : List Slot) (place : ℕ) (now : Slot) → slice_get sl
 taken_more slots place now is =
     take_more slots place now (slice_get_within slots place now is)
     ∙ ap (λ (found : Slot). take place slots ++ found ∷ []) (got slots place now is)
+
+pub pairs_more : {A B : Type 0} (R : A → B → Type 0) (xs : List A) (ys : List B) (x : A) (y : B)
+    → AllZip R xs ys → R x y → AllZip R (xs ++ x ∷ []) (ys ++ y ∷ [])
+pairs_more R [] [] x y all one = (one, tt)
+pairs_more R [] (b ∷ ys) x y all one = absurd all
+pairs_more R (a ∷ xs) [] x y all one = absurd all
+pairs_more R (a ∷ xs) (b ∷ ys) x y all one = (all.0, pairs_more R xs ys x y all.1 one)
 
 -- The steps so far.
 
@@ -83,7 +89,7 @@ steps_more day slots index one came after steps now keeps within are stand step 
   subst (λ (l : List Slot). AllZip (IsStepOf day) l now) (sym more)
       (subst (λ (l : List Step). AllZip (IsStepOf day) (take index slots ++ slot ∷ []) l)
       (sym told.1)
-      (AllZip-push (IsStepOf day) (take index slots) steps slot told.0 are told.2)),
+      (pairs_more (IsStepOf day) (take index slots) steps slot told.0 are told.2)),
   subst (λ (l : List Slot). AreOfInboxes day after l) (sym more)
       (counted (take index slots) stand next),
 )
