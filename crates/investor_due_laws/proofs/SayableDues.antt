@@ -1,5 +1,5 @@
 -- After every list of steps whose messages have bytes, what is due to each investor can be said.
-use Rattle.std.proofs.Common.{◌≡◌, ℕ, ◌==◌, ◌&&◌, Bool, true, false, List, [], ◌∷◌, ◌++◌, fold, IfSome}
+use Rattle.std.proofs.Common.{◌≡◌, ℕ, ◌==◌, Bool, true, false, List, [], ◌∷◌, ◌++◌, fold, IfSome}
 use Rattle.std.proofs.Common.{option_map, Option, Some, None, if◌then◌else◌, refl, sym, ap, ◌∙◌, subst}
 use Rattle.std.specs.List.{list_all}
 use Rattle.std.specs.Option.{option_to_list}
@@ -12,8 +12,6 @@ use Rattle.venue_rows.specs.declared.investor_rows.InvestorRow.{InvestorRow}
 use Rattle.investor_desk.specs.InvestorDesk.{DeskEvents, book_at, market_of, no_events}
 use Rattle.investor_desk.specs.InvestorFacts.{InvestorBook, book_of}
 use Rattle.investor_desk.specs.InvestorRules.{InvestorMarket}
-use Rattle.venue_places.specs.Placed.{placed}
-use Rattle.venue_places.specs.declared.actors.Actor.{Actor}
 use Rattle.step_replay.specs.AuditTrail.{AuditTrail, after_step, audit_trail, no_steps, pending}
 use Rattle.step_replay.specs.EachLemmas.{Every}
 use Rattle.step_replay.specs.InvestorTrail.{book_by}
@@ -26,7 +24,6 @@ use Rattle.investor_views.specs.InvestorDues.{due_by, due_to_investor, dues_from
 use Rattle.investor_texts.specs.ReadBack.{is_sayable}
 use Rattle.due_laws.specs.SaidSteps.{has_bytes}
 use Rattle.due_laws.proofs.SayableEffects.{AcceptsFew}
-use Rattle.investor_due_laws.proofs.NumberedCounts.{DayNumbers}
 use Rattle.investor_due_laws.proofs.NumberedDays.{day_stands, pending_numbers}
 use Rattle.investor_due_laws.proofs.NumberedDuties.{DutyNumbers}
 use Rattle.investor_due_laws.proofs.NumberedEffects.{desk_facts}
