@@ -1,28 +1,23 @@
 -- Every duty, message and sweep, line by line of the market's table, by what it adds at investors'
 -- desks and by what it leaves.
-use Rattle.std.proofs.Common.{◌≡◌, ◌<◌, ◌≤◌, ℕ, ◌+◌, ◌&&◌, Bool, true, false, List, [], ◌∷◌, ◌++◌, map}
-use Rattle.std.proofs.Common.{option_map, option_to_list, Option, Some, None, is_some, nat_lt}
-use Rattle.std.proofs.Common.{if◌then◌else◌, refl, sym, ap, ◌∙◌, subst, arith}
+use Rattle.std.proofs.Common.{◌≡◌, ◌<◌, ◌≤◌, ℕ, ◌+◌, ◌&&◌, true, List, []}
+use Rattle.std.proofs.Common.{option_map, Option, Some, None, is_some}
+use Rattle.std.proofs.Common.{if◌then◌else◌, refl, arith}
 use Rattle.std.proofs.lemmas.Bool.{and_parts}
 use Rattle.std.proofs.lemmas.Bool.Decides.{nat_tests}
 use Rattle.market_terms.specs.declared.closes.Close.{Close}
 use Rattle.market_terms.specs.declared.duties.Duty.{Duty}
 use Rattle.market_terms.specs.declared.duties.Duty.TheVariants as duty
 use Rattle.market_terms.specs.declared.rooms.RoomRef.{RoomRef}
-use Rattle.venue_rows.specs.Rows.{Configuration, dealer_numbered, has_room, investor_numbered}
+use Rattle.venue_rows.specs.Rows.{Configuration, has_room}
 use Rattle.venue_rows.specs.declared.dealer_rows.DealerRow.{DealerRow}
-use Rattle.venue_rows.specs.declared.investor_rows.InvestorRow.{InvestorRow}
-use Rattle.dealer_desk.specs.DealerFacts.{Came, quote_to_drop}
-use Rattle.dealer_desk.specs.DealerOutput as dealer_output
-use Rattle.dealer_desk.specs.DealerOutput.{closable, number_in, uses_number, verdict_facts}
+use Rattle.dealer_desk.specs.DealerFacts.{quote_to_drop}
+use Rattle.dealer_desk.specs.DealerOutput.{closable, number_in}
 use Rattle.dealer_desk.specs.declared.events.DealerEvent.TheVariants as at_desk
 use Rattle.investor_desk.specs.InvestorDesk.{market_for, market_of}
 use Rattle.investor_desk.specs.InvestorFacts.{offers_shown, open_request, request_numbered}
 use Rattle.investor_desk.specs.InvestorOutput as investor_output
-use Rattle.investor_desk.specs.InvestorRules.{investor_verdict}
 use Rattle.investor_desk.specs.declared.events.InvestorEvent.TheVariants as at_investor
-use Rattle.investor_desk.specs.declared.verdicts.InvestorVerdict.{InvestorVerdict}
-use Rattle.investor_desk.specs.declared.verdicts.InvestorVerdict.TheVariants as answer
 use Rattle.request_room.specs.Book.{event_facts, hit_outcome}
 use Rattle.request_room.specs.RoomFacts.{hears}
 use Rattle.request_room.specs.declared.events.RoomEvent.TheVariants as at_room
@@ -31,34 +26,31 @@ use Rattle.venue_steps.specs.RoomSteps.{duties_of_decline, duties_of_expire, dut
 use Rattle.venue_steps.specs.RoomSteps.{duties_of_open, duties_of_pass, duties_of_post}
 use Rattle.venue_steps.specs.RoomSteps.{duties_of_unpost, hit_word}
 use Rattle.venue_steps.specs.Words.{has_word}
-use Rattle.venue_places.specs.Dealers.{Dealer, dealer_at, dealer_of, has_word_for, offer_of}
+use Rattle.venue_places.specs.Dealers.{Dealer, dealer_of, has_word_for, offer_of}
 use Rattle.venue_places.specs.Dealers.{quote_with_word, word_for, words_of}
 use Rattle.venue_places.specs.declared.actors.Actor.{Actor}
 use Rattle.venue_places.specs.declared.actors.Actor.TheVariants as actor
 use Rattle.step_replay.specs.Actions.{Effect, answer_to_hit, answered_by, at_dealer, declined_by}
-use Rattle.step_replay.specs.Actions.{done_by, done_for, drop_at, dropped_by, hit_with, left_by}
-use Rattle.step_replay.specs.Actions.{left_by_drop, left_by_investor, nothing, posted_by, quote_asked}
-use Rattle.step_replay.specs.Actions.{received_by_dealer, received_by_investor, settlement_of}
-use Rattle.step_replay.specs.Actions.{shown_to, told_of, told_to, unposted_by, verdict_on, where_known}
+use Rattle.step_replay.specs.Actions.{done_for, drop_at, dropped_by, hit_with}
+use Rattle.step_replay.specs.Actions.{left_by_drop, nothing, posted_by, quote_asked}
+use Rattle.step_replay.specs.Actions.{shown_to, told_of, told_to, unposted_by, where_known}
 use Rattle.step_replay.specs.Actions.{answer_to_drop}
 use Rattle.step_replay.specs.DealerTrail as dealer_trail
 use Rattle.step_replay.specs.DealerTrail.{DealerEntry, book_by, entries_of, message_by, rooms_by}
-use Rattle.step_replay.specs.DutyEffects.{duty_effect, message_effect, sweep_effect}
+use Rattle.step_replay.specs.DutyEffects.{duty_effect, sweep_effect}
 use Rattle.step_replay.specs.EachLemmas.{Every}
-use Rattle.step_replay.specs.PlaceLemmas.{own_trail}
-use Rattle.step_replay.specs.TrailLemmas.{facts_added}
-use Rattle.step_replay.specs.VenueFacts.{AtDealer, Fact, of_dealer, of_room}
+use Rattle.step_replay.specs.VenueFacts.{Fact, of_dealer, of_room}
 use Rattle.venue_text.specs.ReadBack.{is_short}
-use Rattle.investor_due_laws.proofs.NumberedDesks.{FactNumbers, VerdictNumbers, answer_plain}
-use Rattle.investor_due_laws.proofs.NumberedDesks.{expiry_plain, offer_few, own_plain, plain_few}
-use Rattle.investor_due_laws.proofs.NumberedDesks.{verdict_numbers, withdrawal_plain}
-use Rattle.investor_due_laws.proofs.NumberedDuties.{AreFew, DutyNumbers, brings, declined_few}
+use Rattle.investor_due_laws.proofs.NumberedDesks.{FactNumbers, answer_plain}
+use Rattle.investor_due_laws.proofs.NumberedDesks.{expiry_plain, offer_few, plain_few}
+use Rattle.investor_due_laws.proofs.NumberedDesks.{withdrawal_plain}
+use Rattle.investor_due_laws.proofs.NumberedDuties.{DutyNumbers, brings, declined_few}
 use Rattle.investor_due_laws.proofs.NumberedDuties.{drop_few, expire_few, hit_few, leaves, none_few}
-use Rattle.investor_due_laws.proofs.NumberedDuties.{open_few, pass_few, post_few, said_few, taken_few}
+use Rattle.investor_due_laws.proofs.NumberedDuties.{open_few, pass_few, post_few, taken_few}
 use Rattle.investor_due_laws.proofs.NumberedEffects.{EffectNumbers, acting_numbers, at_dealer_numbers}
 use Rattle.investor_due_laws.proofs.NumberedEffects.{book_at, dealer_numbers, desk_facts, hit_numbers}
 use Rattle.investor_due_laws.proofs.NumberedEffects.{in_room_numbers, investor_numbers, known_numbers}
-use Rattle.investor_due_laws.proofs.NumberedEffects.{market_numbers, nothing_numbers, unless_numbers}
+use Rattle.investor_due_laws.proofs.NumberedEffects.{nothing_numbers, unless_numbers}
 use Rattle.investor_due_laws.proofs.NumberedEffects.{when_numbers}
 use Rattle.investor_due_laws.proofs.OfferCounts.{count, is_quoted}
 

@@ -20,7 +20,7 @@ use Rattle.step_replay.specs.PlaceLemmas.{dealer_grown}
 use Rattle.step_replay.specs.QueueLemmas.{one_actor, other_pending, other_turned, other_within}
 use Rattle.step_replay.specs.QueueLemmas.{own_pending, own_turned, own_within, same_either, turned}
 use Rattle.step_replay.specs.SeenLemmas.{Seen}
-use Rattle.step_replay.specs.VenueFacts.{Fact, of_dealer, of_investor}
+use Rattle.step_replay.specs.VenueFacts.{Fact, of_dealer}
 use Rattle.due_laws.proofs.SayableEffects.{AcceptsFew}
 use Rattle.investor_due_laws.proofs.DealerNames.{none_brought, taken_more}
 use Rattle.investor_due_laws.proofs.NumberedActions.{no_quote, quoted_at}
@@ -147,12 +147,12 @@ module _ (config : Configuration) (limits : KeepsLimits config) (accepts : Accep
   within_more venue by effect within other =
       let more = left_by by effect.duties in
       let grown : length (filter_map (duty_of other) (venue.caused ++ more))
-          ≡ length (filter_map (duty_of other) venue.caused)
-          + length (filter_map (duty_of other) more) =
+      ≡ length (filter_map (duty_of other) venue.caused)
+      + length (filter_map (duty_of other) more) =
       ap length (filter_map-append (duty_of other) venue.caused more)
       ∙ length-append (filter_map (duty_of other) venue.caused) (filter_map (duty_of other) more) in
       let before : count_by (is_same_actor other) venue.done
-          ≤ length (filter_map (duty_of other) venue.caused) = within other in
+      ≤ length (filter_map (duty_of other) venue.caused) = within other in
       omega arith
 
   -- what is counted after it, of one dealer
@@ -168,7 +168,7 @@ module _ (config : Configuration) (limits : KeepsLimits config) (accepts : Accep
     offers_most : offers_now ≤ offers_before + shows row.name
     offers_most =
         let grown : offers_now
-            ≡ offers_before + count (is_offer_of row.name) (desk_facts effect.facts investor) =
+        ≡ offers_before + count (is_offer_of row.name) (desk_facts effect.facts investor) =
         offered_grown venue.facts effect.facts investor row.name in
         let more : count (is_offer_of row.name) (desk_facts effect.facts investor) ≤ shows row.name =
         (numbers.shown investor).few row.name in
@@ -178,7 +178,7 @@ module _ (config : Configuration) (limits : KeepsLimits config) (accepts : Accep
         → count is_quoting (queue ++ effect.duties) ≤ count is_quoting queue + most
     queue_most queue =
         let grown : count is_quoting (queue ++ effect.duties)
-            ≡ count is_quoting queue + count is_quoting effect.duties =
+        ≡ count is_quoting queue + count is_quoting effect.duties =
         count_append is_quoting queue effect.duties in
         let left : count is_quoting effect.duties ≤ most = numbers.left.few in
         omega arith
@@ -186,7 +186,7 @@ module _ (config : Configuration) (limits : KeepsLimits config) (accepts : Accep
     quotes_least : quoted_at venue.facts dealer ≤ quoted_at (venue.facts ++ effect.facts) dealer
     quotes_least =
         let grown : quoted_at (venue.facts ++ effect.facts) dealer
-            ≡ quoted_at venue.facts dealer + quoted_at effect.facts dealer =
+        ≡ quoted_at venue.facts dealer + quoted_at effect.facts dealer =
         quoted_grown venue.facts effect.facts dealer in
         omega arith
 
@@ -204,32 +204,32 @@ module _ (config : Configuration) (limits : KeepsLimits config) (accepts : Accep
           ≤ quoted_at (venue.facts ++ effect.facts) dealer
       by_test true same =
           let before : count (is_offer_of row.name) (desk_facts venue.facts investor)
-              + count is_quoting (pending (actor.Firm dealer) venue)
-              ≤ quoted_at venue.facts dealer = day.few investor dealer row is in
+          + count is_quoting (pending (actor.Firm dealer) venue)
+          ≤ quoted_at venue.facts dealer = day.few investor dealer row is in
           let offers = offers_most venue by most no_quote effect numbers investor dealer row in
           let queue : pending (actor.Firm dealer) (with_effect by venue effect)
-              ≡ pending (actor.Firm dealer) venue ++ effect.duties =
+          ≡ pending (actor.Firm dealer) venue ++ effect.duties =
           subst (λ (a : Actor). pending a (with_effect by venue effect)
           ≡ pending a venue ++ effect.duties) (one_actor by (actor.Firm dealer) same)
           (own_pending by venue effect (day.within by)) in
           let counted : count is_quoting (pending (actor.Firm dealer) (with_effect by venue effect))
-              ≡ count is_quoting (pending (actor.Firm dealer) venue ++ effect.duties) =
+          ≡ count is_quoting (pending (actor.Firm dealer) venue ++ effect.duties) =
           ap (count is_quoting) queue in
           let left = queue_most venue by most no_quote effect numbers investor dealer row
           (pending (actor.Firm dealer) venue) in
           let grown : quoted_at (venue.facts ++ effect.facts) dealer
-              ≡ quoted_at venue.facts dealer + quoted_at effect.facts dealer =
+          ≡ quoted_at venue.facts dealer + quoted_at effect.facts dealer =
           quoted_grown venue.facts effect.facts dealer in
           let enough : most ≤ quoted_at effect.facts dealer = paid dealer same in
           omega arith
       by_test false differs =
           let before : count (is_offer_of row.name) (desk_facts venue.facts investor)
-              + count is_quoting (pending (actor.Firm dealer) venue)
-              ≤ quoted_at venue.facts dealer = day.few investor dealer row is in
+          + count is_quoting (pending (actor.Firm dealer) venue)
+          ≤ quoted_at venue.facts dealer = day.few investor dealer row is in
           let offers = offers_most venue by most no_quote effect numbers investor dealer row in
           let counted : count is_quoting (pending (actor.Firm dealer) (with_effect by venue effect))
-              ≡ count is_quoting (pending (actor.Firm dealer) venue) = ap (count is_quoting)
-              (other_pending by (actor.Firm dealer) venue effect differs) in
+          ≡ count is_quoting (pending (actor.Firm dealer) venue) = ap (count is_quoting)
+          (other_pending by (actor.Firm dealer) venue effect differs) in
           let quotes = quotes_least venue by most no_quote effect numbers investor dealer row in
           omega arith
 
@@ -264,17 +264,17 @@ module _ (config : Configuration) (limits : KeepsLimits config) (accepts : Accep
       by_test true same =
           let who = one_actor by (actor.Firm dealer) same in
           let before : count (is_offer_of row.name) (desk_facts venue.facts investor)
-              + count is_quoting (pending (actor.Firm dealer) venue)
-              ≤ quoted_at venue.facts dealer = day.few investor dealer row is in
+          + count is_quoting (pending (actor.Firm dealer) venue)
+          ≤ quoted_at venue.facts dealer = day.few investor dealer row is in
           let offers = offers_most venue by (leaves left) (brings left) effect numbers investor
           dealer row in
           let had : count is_quoting (pending (actor.Firm dealer) venue)
-              ≡ bit (is_quoting left) + count is_quoting rest =
+          ≡ bit (is_quoting left) + count is_quoting rest =
           ap (count is_quoting) (subst (λ (a : Actor). pending a venue ≡ left ∷ rest) who next) in
           let counted : count is_quoting (pending (actor.Firm dealer) (turned by venue effect))
-              ≡ count is_quoting (rest ++ effect.duties) = ap (count is_quoting)
-              (subst (λ (a : Actor). pending a (turned by venue effect) ≡ rest ++ effect.duties) who
-              (own_turned by venue effect left rest next)) in
+          ≡ count is_quoting (rest ++ effect.duties) = ap (count is_quoting)
+          (subst (λ (a : Actor). pending a (turned by venue effect) ≡ rest ++ effect.duties) who
+          (own_turned by venue effect left rest next)) in
           let queue = queue_most venue by (leaves left) (brings left) effect numbers investor dealer
           row rest in
           let quotes = quotes_least venue by (leaves left) (brings left) effect numbers investor
@@ -284,16 +284,16 @@ module _ (config : Configuration) (limits : KeepsLimits config) (accepts : Accep
           omega arith
       by_test false differs =
           let before : count (is_offer_of row.name) (desk_facts venue.facts investor)
-              + count is_quoting (pending (actor.Firm dealer) venue)
-              ≤ quoted_at venue.facts dealer = day.few investor dealer row is in
+          + count is_quoting (pending (actor.Firm dealer) venue)
+          ≤ quoted_at venue.facts dealer = day.few investor dealer row is in
           let offers = offers_most venue by (leaves left) (brings left) effect numbers investor
           dealer row in
           let none : brings left row.name ≡ 0 =
           none_brought config limits by left dealer row says is differs in
           let counted : count is_quoting (pending (actor.Firm dealer) (turned by venue effect))
-              ≡ count is_quoting (pending (actor.Firm dealer) venue) = ap (count is_quoting)
-              (other_turned by (actor.Firm dealer) venue effect differs
-              (same_either by (actor.Firm dealer) differs)) in
+          ≡ count is_quoting (pending (actor.Firm dealer) venue) = ap (count is_quoting)
+          (other_turned by (actor.Firm dealer) venue effect differs
+          (same_either by (actor.Firm dealer) differs)) in
           let quotes = quotes_least venue by (leaves left) (brings left) effect numbers investor
           dealer row in
           omega arith

@@ -1,9 +1,8 @@
 -- What an event adds at an investor's desk: the quotes that it is shown have names of dealers and
 -- short numbers.
-use Rattle.std.proofs.Common.{◌≡◌, ◌<◌, ◌≤◌, ℕ, ◌+◌, ◌&&◌, ◌==◌, not, Bool, true, false, cond, List}
-use Rattle.std.proofs.Common.{[], ◌∷◌, ◌++◌, find, IfSome, Option, Some, None, is_none}
-use Rattle.std.proofs.Common.{option_and_then, if◌then◌else◌, refl, sym, ap, ◌∙◌, subst, arith}
-use Rattle.std.specs.List.{list_any}
+use Rattle.std.proofs.Common.{◌≡◌, ◌≤◌, ℕ, ◌+◌, ◌==◌, Bool, true, false, cond, List}
+use Rattle.std.proofs.Common.{[], ◌∷◌, ◌++◌, find, IfSome, Option, Some, None}
+use Rattle.std.proofs.Common.{option_and_then, if◌then◌else◌, refl, arith}
 use Rattle.market_terms.specs.declared.closes.Reply.{Reply}
 use Rattle.market_terms.specs.declared.rooms.Offer.{Offer}
 use Rattle.market_terms.specs.declared.rooms.ResponseRef.{ResponseRef}
@@ -22,12 +21,12 @@ use Rattle.venue_rows.specs.declared.dealer_rows.DealerRow.{DealerRow}
 use Rattle.investor_desk.specs.InvestorFacts.{Asked, InvestorBook, InvestorFact, Offered}
 use Rattle.investor_desk.specs.InvestorFacts.{StandingRequest, book_of, expected_number}
 use Rattle.investor_desk.specs.InvestorFacts.{is_open, offer_named, offer_of_dealer, offer_with_word}
-use Rattle.investor_desk.specs.InvestorFacts.{offers_of, offers_shown, open_request, request_numbered}
+use Rattle.investor_desk.specs.InvestorFacts.{offers_of, offers_shown, request_numbered}
 use Rattle.investor_desk.specs.InvestorFacts.{request_with_id, requests_of, standing_on, stands_on}
-use Rattle.investor_desk.specs.InvestorFacts.{standing_request, while_open}
+use Rattle.investor_desk.specs.InvestorFacts.{while_open}
 use Rattle.investor_desk.specs.InvestorOutput.{answer_facts, close_by_answer, closed_facts}
 use Rattle.investor_desk.specs.InvestorOutput.{expiry_facts, gone_facts, next_offer, offer_facts}
-use Rattle.investor_desk.specs.InvestorOutput.{own_facts, refusal_of, verdict_facts, withdrawal_facts}
+use Rattle.investor_desk.specs.InvestorOutput.{own_facts, refusal_of, withdrawal_facts}
 use Rattle.investor_desk.specs.InvestorRules.{InvestorMarket, arrival_verdict, hit_of, hit_verdict}
 use Rattle.investor_desk.specs.InvestorRules.{investor_verdict, message_verdict, pass_of}
 use Rattle.investor_desk.specs.InvestorRules.{pass_verdict, request_answer, request_verdict}
@@ -249,7 +248,7 @@ offer_few rows facts number offer by short (Some own) =
           (plain_numbers rows gone plain) ((by, short), tt);
       few = λ name.
           let sum : count (is_offer_of name) (gone ++ Offered shown ∷ [])
-              ≡ count (is_offer_of name) gone + count (is_offer_of name) (Offered shown ∷ []) =
+          ≡ count (is_offer_of name) gone + count (is_offer_of name) (Offered shown ∷ []) =
           count_append (is_offer_of name) gone (Offered shown ∷ []) in
           let none : count (is_offer_of name) gone ≡ 0 =
           count_none (is_offer_of name) gone (plain_count name gone plain) in

@@ -1,9 +1,8 @@
 -- What is left to be done, by the rooms, the names and the numbers that it says, and by the quotes
 -- that it brings to investors.
-use Rattle.std.proofs.Common.{◌≡◌, ◌≤◌, ℕ, ◌+◌, ◌&&◌, Bool, true, false, List, [], ◌∷◌, ◌++◌, map}
+use Rattle.std.proofs.Common.{◌≡◌, ◌≤◌, ℕ, ◌+◌, ◌&&◌, Bool, true, false, List, [], ◌∷◌, ◌++◌}
 use Rattle.std.proofs.Common.{option_map, option_to_list, Option, Some, None, Result, Ok, Err}
-use Rattle.std.proofs.Common.{if◌then◌else◌, refl, sym, ap, ◌∙◌, arith}
-use Rattle.std.specs.List.{list_any}
+use Rattle.std.proofs.Common.{if◌then◌else◌, refl, ap, ◌∙◌, arith}
 use Rattle.market_terms.specs.declared.asks.Ask.{Ask}
 use Rattle.market_terms.specs.declared.closes.HitRefusal.{HitRefusal}
 use Rattle.market_terms.specs.declared.duties.Duty.{Duty}
@@ -22,7 +21,6 @@ use Rattle.dealer_desk.specs.declared.standing.StandingQuote.{StandingQuote}
 use Rattle.dealer_desk.specs.declared.standing.Withdrawal.TheVariants as by_way
 use Rattle.dealer_desk.specs.declared.verdicts.DealerVerdict.{DealerVerdict}
 use Rattle.dealer_desk.specs.declared.verdicts.DealerVerdict.TheVariants as verdict
-use Rattle.dealer_desk.specs.declared.accepted.AcceptedQuote.{AcceptedQuote}
 use Rattle.request_room.specs.RoomFacts.{RoomFact, hears, is_open, is_vacant, takes_quotes}
 use Rattle.request_room.specs.Book.{expired, may_expire, may_unpost, passed}
 use Rattle.request_room.specs.declared.ends.End.{End}
@@ -217,14 +215,14 @@ module _ (config : Configuration) (by : Actor) where
       accepted goes =
           let front = settled_facts replaced by_way.Replacement settlement in
           let sum : count is_quoted
-              (front ++ (if goes_through replaced settlement then Quoted quote ∷ [] else []))
-              ≡ count is_quoted front
-              + count is_quoted (if goes_through replaced settlement then Quoted quote ∷ [] else []) =
+          (front ++ (if goes_through replaced settlement then Quoted quote ∷ [] else []))
+          ≡ count is_quoted front
+          + count is_quoted (if goes_through replaced settlement then Quoted quote ∷ [] else []) =
           count_append is_quoted front
           (if goes_through replaced settlement then Quoted quote ∷ [] else []) in
           let own : count is_quoted (if goes_through replaced settlement then Quoted quote ∷ [] else [])
-              ≡ 1 = ap (λ (b : Bool). count is_quoted (if b then Quoted quote ∷ [] else [])) goes
-              ∙ one in
+          ≡ 1 = ap (λ (b : Bool). count is_quoted (if b then Quoted quote ∷ [] else [])) goes
+          ∙ one in
           omega arith
         where
           one : count is_quoted (Quoted quote ∷ []) ≡ 1

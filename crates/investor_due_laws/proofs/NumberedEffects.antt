@@ -1,6 +1,6 @@
 -- What each kind of effect adds at investors' desks, and what it leaves.
-use Rattle.std.proofs.Common.{◌≡◌, ◌≤◌, ℕ, ◌+◌, ◌==◌, ◌&&◌, Bool, true, false, List, [], ◌∷◌, ◌++◌, map}
-use Rattle.std.proofs.Common.{filter_map, length, option_map, Option, Some, None, Result, Ok, Err}
+use Rattle.std.proofs.Common.{◌≡◌, ℕ, ◌+◌, ◌==◌, ◌&&◌, Bool, true, false, List, [], ◌∷◌, ◌++◌, map}
+use Rattle.std.proofs.Common.{length, option_map, Option, Some, None, Result, Ok, Err}
 use Rattle.std.proofs.Common.{if◌then◌else◌, refl, sym, ap, ◌∙◌, subst, arith}
 use Rattle.std.proofs.lemmas.Bool.{and_parts}
 use Rattle.std.proofs.lemmas.Bool.Decides.{nat_tests}
@@ -13,8 +13,7 @@ use Rattle.venue_rows.specs.Rows.{Configuration, dealer_numbered, has_room, inve
 use Rattle.venue_rows.specs.declared.dealer_rows.DealerRow.{DealerRow}
 use Rattle.venue_rows.specs.declared.investor_rows.InvestorRow.{InvestorRow}
 use Rattle.investor_desk.specs.InvestorDesk.{market_for, market_of}
-use Rattle.investor_desk.specs.InvestorFacts.{InvestorBook, InvestorFact, open_request}
-use Rattle.investor_desk.specs.InvestorFacts.{offers_shown, request_numbered}
+use Rattle.investor_desk.specs.InvestorFacts.{InvestorBook, InvestorFact}
 use Rattle.investor_desk.specs.InvestorOutput as investor_output
 use Rattle.investor_desk.specs.InvestorOutput.{event_messages, moment_of, written_from}
 use Rattle.investor_desk.specs.InvestorRules.{InvestorMarket}
@@ -29,7 +28,6 @@ use Rattle.venue_places.specs.declared.actors.Actor.TheVariants as actor
 use Rattle.step_replay.specs.Actions.{Effect, at_market, done_by, done_for, in_room, lifting, nothing}
 use Rattle.step_replay.specs.Actions.{where_known}
 use Rattle.step_replay.specs.DealerTrail.{DealerEntry}
-use Rattle.step_replay.specs.EachLemmas.{Every}
 use Rattle.step_replay.specs.InvestorTrail as investor_trail
 use Rattle.step_replay.specs.InvestorTrail.{InvestorEntry, entries_of, fact_in}
 use Rattle.step_replay.specs.PlaceLemmas.{investor_at_dealer, investor_grown, investor_in_room}

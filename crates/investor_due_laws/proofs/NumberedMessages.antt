@@ -1,10 +1,8 @@
 -- A message of a firm, by what it adds at investors' desks and by what it leaves: a dealer's leaves a
 -- post only with a quote that it accepts.
-use Rattle.std.proofs.Common.{◌≡◌, ◌≤◌, ℕ, ◌+◌, Bool, true, false, List, [], ◌∷◌, ◌++◌, map}
-use Rattle.std.proofs.Common.{filter_map, option_map, option_to_list, Option, Some, None, is_some}
-use Rattle.std.proofs.Common.{if◌then◌else◌, refl, sym, ap, ◌∙◌, subst, arith}
-use Rattle.market_terms.specs.declared.duties.Duty.{Duty}
-use Rattle.market_terms.specs.declared.duties.Duty.TheVariants as duty
+use Rattle.std.proofs.Common.{◌≡◌, ℕ, ◌+◌, Bool, true, false, List, [], ◌∷◌, map}
+use Rattle.std.proofs.Common.{option_map, option_to_list, Option, Some, None, is_some}
+use Rattle.std.proofs.Common.{if◌then◌else◌, sym, ap, ◌∙◌, subst, arith}
 use Rattle.venue_rows.specs.Rows.{Configuration, dealer_numbered, investor_numbered}
 use Rattle.venue_rows.specs.declared.dealer_rows.DealerRow.{DealerRow}
 use Rattle.venue_rows.specs.declared.investor_rows.InvestorRow.{InvestorRow}
@@ -18,10 +16,10 @@ use Rattle.investor_desk.specs.InvestorRules.{InvestorMarket, investor_verdict}
 use Rattle.investor_desk.specs.declared.events.InvestorEvent.TheVariants as at_investor
 use Rattle.investor_desk.specs.declared.verdicts.InvestorVerdict.{InvestorVerdict}
 use Rattle.investor_desk.specs.declared.verdicts.InvestorVerdict.TheVariants as answer
-use Rattle.venue_places.specs.Dealers.{Dealer, dealer_at, dealer_of}
+use Rattle.venue_places.specs.Dealers.{dealer_at, dealer_of}
 use Rattle.venue_places.specs.declared.actors.Actor.{Actor}
 use Rattle.venue_places.specs.declared.actors.Actor.TheVariants as actor
-use Rattle.step_replay.specs.Actions.{Effect, at_dealer, at_market, done_by, done_for, left_by}
+use Rattle.step_replay.specs.Actions.{Effect, at_dealer, done_by, done_for, left_by}
 use Rattle.step_replay.specs.Actions.{left_by_investor, nothing, received_by_dealer}
 use Rattle.step_replay.specs.Actions.{received_by_investor, settlement_of, verdict_on}
 use Rattle.step_replay.specs.DealerTrail as dealer_trail
@@ -70,8 +68,8 @@ module _ (config : Configuration) (facts : List Fact)
       let same : dealer_trail.facts_of (of_dealer firm (map (AtDealer firm) entries)) ≡ desk =
       ap dealer_trail.facts_of (own_trail firm entries) ∙ facts_added desk [] messages in
       let counted : quoted_at (map (AtDealer firm) entries) firm
-          ≡ count is_quoted (verdict_facts v settlement) = ap (count is_quoted) same
-          ∙ first (count is_quoted (verdict_facts v settlement)) in
+      ≡ count is_quoted (verdict_facts v settlement) = ap (count is_quoted) same
+      ∙ first (count is_quoted (verdict_facts v settlement)) in
       if_brings _ (at_dealer config facts (dealer_of firm row) received (left_by own moment v))
       (at_dealer_numbers config facts (actor.Firm firm) _ no_quote firm entries
       (left_by own moment v)

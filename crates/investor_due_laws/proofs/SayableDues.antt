@@ -1,5 +1,5 @@
 -- After every list of steps whose messages have bytes, what is due to each investor can be said.
-use Rattle.std.proofs.Common.{◌≡◌, ℕ, ◌==◌, ◌&&◌, Bool, true, false, List, [], ◌∷◌, ◌++◌, fold, IfSome}
+use Rattle.std.proofs.Common.{◌≡◌, ℕ, ◌==◌, Bool, true, false, List, [], ◌∷◌, ◌++◌, fold, IfSome}
 use Rattle.std.proofs.Common.{option_map, Option, Some, None, if◌then◌else◌, refl, sym, ap, ◌∙◌, subst}
 use Rattle.std.specs.List.{list_all}
 use Rattle.std.specs.Option.{option_to_list}
@@ -12,8 +12,6 @@ use Rattle.venue_rows.specs.declared.investor_rows.InvestorRow.{InvestorRow}
 use Rattle.investor_desk.specs.InvestorDesk.{DeskEvents, book_at, market_of, no_events}
 use Rattle.investor_desk.specs.InvestorFacts.{InvestorBook, book_of}
 use Rattle.investor_desk.specs.InvestorRules.{InvestorMarket}
-use Rattle.venue_places.specs.Placed.{placed}
-use Rattle.venue_places.specs.declared.actors.Actor.{Actor}
 use Rattle.step_replay.specs.AuditTrail.{AuditTrail, after_step, audit_trail, no_steps, pending}
 use Rattle.step_replay.specs.EachLemmas.{Every}
 use Rattle.step_replay.specs.InvestorTrail.{book_by}
@@ -26,7 +24,6 @@ use Rattle.investor_views.specs.InvestorDues.{due_by, due_to_investor, dues_from
 use Rattle.investor_texts.specs.ReadBack.{is_sayable}
 use Rattle.due_laws.specs.SaidSteps.{has_bytes}
 use Rattle.due_laws.proofs.SayableEffects.{AcceptsFew}
-use Rattle.investor_due_laws.proofs.NumberedCounts.{DayNumbers}
 use Rattle.investor_due_laws.proofs.NumberedDays.{day_stands, pending_numbers}
 use Rattle.investor_due_laws.proofs.NumberedDuties.{DutyNumbers}
 use Rattle.investor_due_laws.proofs.NumberedEffects.{desk_facts}
@@ -121,16 +118,21 @@ module _ (config : Configuration) (limits : KeepsLimits config) (accepts : Accep
     said_from [] done said = refl
     said_from (next ∷ rest) done said =
         by_found (comes_by config investor (audit_trail config done) next) refl
-        (step_said done next said.0)
+        (step_said done next said.0) (said_from rest (done ++ next ∷ []) said.1)
       where
+        Onward : Type 0
+        Onward = list_all is_sayable (dues_from
+            (desk_by (market_of config investor row) (comings config investor (done ++ next ∷ [])))
+            (comings_from config investor (audit_trail config (done ++ next ∷ [])) rest)) ≡ true
+
         later : (came : Option Coming)
-            → comes_by config investor (audit_trail config done) next ≡ came
+            → comes_by config investor (audit_trail config done) next ≡ came → Onward
             → list_all is_sayable (dues_from
             (fold after_coming (desk_by (market_of config investor row)
             (comings config investor done)) (option_to_list came))
             (comings_from config investor (after_step config (audit_trail config done) next) rest))
             ≡ true
-        later came found =
+        later came found onward =
             subst (λ (t : AuditTrail). list_all is_sayable (dues_from
             (fold after_coming (desk_by (market_of config investor row)
             (comings config investor done)) (option_to_list came))
@@ -139,28 +141,28 @@ module _ (config : Configuration) (limits : KeepsLimits config) (accepts : Accep
             (comings_from config investor (audit_trail config (done ++ next ∷ [])) rest)) ≡ true)
             (desk_more done next ∙ ap (λ (c : Option Coming). fold after_coming
             (desk_by (market_of config investor row) (comings config investor done))
-            (option_to_list c)) found)
-            (said_from rest (done ++ next ∷ []) said.1))
+            (option_to_list c)) found) onward)
 
         by_found : (came : Option Coming)
             → comes_by config investor (audit_trail config done) next ≡ came
             → IfSome came (λ coming. is_sayable (due_by
             (book_of (desk_facts (audit_trail config done).facts investor)) coming) ≡ true)
-            → list_all is_sayable (dues_from
+            → Onward → list_all is_sayable (dues_from
             (desk_by (market_of config investor row) (comings config investor done))
             (option_to_list came
             ++ comings_from config investor (after_step config (audit_trail config done) next) rest))
             ≡ true
-        by_found None found item = later None found
-        by_found (Some coming) found item =
+        by_found None found item onward = later None found onward
+        by_found (Some coming) found item onward =
             and_from (is_sayable (due_by (book_at
             (desk_by (market_of config investor row) (comings config investor done))) coming))
             _ (ap (λ (b : InvestorBook). is_sayable (due_by b coming))
-            (books config done investor row is) ∙ item) (later (Some coming) found)
+            (books config done investor row is) ∙ item) (later (Some coming) found onward)
 
   pub investor_sayable : BooksAreOne → (steps : List Step)
       → Every (λ s. has_bytes s ≡ true) steps
       → list_all is_sayable (due_to_investor config investor steps) ≡ true
+  unfolding audit_trail
   investor_sayable books steps said = by_row (investor_numbered config investor) refl
     where
       by_row : (found : Option InvestorRow) → investor_numbered config investor ≡ found
@@ -174,5 +176,4 @@ module _ (config : Configuration) (limits : KeepsLimits config) (accepts : Accep
               (comings_from config investor (audit_trail config []) steps)) ≡ true
               → list_all is_sayable (dues_from (no_events (market_of config investor row))
               (comings config investor steps)) ≡ true
-          unfolding audit_trail
           start all = all
