@@ -8,7 +8,6 @@ ghost use Rattle.session_worker.specs.NextItems.{with_next};
 ghost use Rattle.session_worker.specs.RoomOutputs as spec;
 ghost use Rattle.venue_steps.specs.RoomSteps.{reply_to_pass};
 
-use bond_prices::Ticks;
 use fix_fields::{Memory, Moment};
 use market_terms::{HitRefusal, Reply};
 use quote_word::Settled;
@@ -123,7 +122,19 @@ fn try_event(
             word,
             price,
             valid_until,
-        } => try_post(room, outputs, *dealer, *word, *price, valid_until),
+        } => {
+            let takes_effect = room.post(*dealer, *word, *price, *valid_until)?;
+            if !takes_effect {
+                return Ok(());
+            }
+            let posted = PostedQuote {
+                dealer: *dealer,
+                word: *word,
+                price: *price,
+                valid_until: *valid_until,
+            };
+            push_behind(outputs, RoomOutput::Quote(RoomQuote { posted }))
+        }
         RoomEvent::Unpost { dealer, word } => try_unpost(room, *dealer, *word),
         RoomEvent::Decline { dealer } => try_decline(room, *dealer),
         RoomEvent::Hit {
@@ -149,34 +160,6 @@ fn try_open(room: &mut Room, request: &RoomRequest) -> Result<(), Memory>
 {
     room.open(request.ask.copy(), request.dealers.copy())?;
     Ok(())
-}
-
-/// Tries a post, and puts the quote behind the others where it takes effect.
-fn try_post(
-    room: &mut Room,
-    outputs: &mut Vec<RoomOutput>,
-    dealer: u16,
-    word: u32,
-    price: Ticks,
-    valid_until: &Option<Moment>,
-) -> Result<(), Memory>
-    requires { IsTrue (facts.hears (room_after room.old) dealer) }
-    ensures room { OnOk result
-        (room.new ≡ room.old ++ RoomEvent.Post dealer word price valid_until.now ∷ []) }
-    ensures outputs { OnOk result (outputs.new.items ≡ with_next outputs.old.items
-        (spec.output_of (room_after room.old) (RoomEvent.Post dealer word price valid_until.now))) }
-{
-    let takes_effect = room.post(dealer, word, price, *valid_until)?;
-    if !takes_effect {
-        return Ok(());
-    }
-    let posted = PostedQuote {
-        dealer,
-        word,
-        price,
-        valid_until: *valid_until,
-    };
-    push_behind(outputs, RoomOutput::Quote(RoomQuote { posted }))
 }
 
 /// Tries an unpost, which leaves no quote and no reply.
