@@ -1,11 +1,13 @@
 -- What the verdict of a dealer's desk says where it accepts a quote.
-use Rattle.std.proofs.Common.{◌≡◌, ◌≤◌, ℕ, ◌+◌, Bool, true, false, ◌&&◌, nat_le, List, [], ◌∷◌}
-use Rattle.std.proofs.Common.{find, Option, Some, None, if◌then◌else◌, cond, refl, ap, arith}
+use Rattle.std.proofs.Common.{Bool, List, None, Option, Some, ℕ, [], ap, arith, false, find}
+use Rattle.std.proofs.Common.{if◌then◌else◌, inl, inr, nat_le, refl, true, ◌&&◌, ◌+◌, ◌∷◌, ◌≡◌, ◌≤◌}
+use Rattle.std.proofs.lemmas.Bool.{cases_Bool}
 use Rattle.std.proofs.lemmas.Bool.Decides.{nat_tests}
+use Rattle.std.proofs.lemmas.Option.{same_Some}
 use Rattle.market_terms.specs.Checks.{first_refusal}
+use Rattle.quote_messages.specs.Arrivals.{dealer_arrival}
 use Rattle.quote_messages.specs.declared.arrivals.Arrival.{Arrival}
 use Rattle.quote_messages.specs.declared.arrivals.Arrival.TheVariants as arrival
-use Rattle.quote_messages.specs.Arrivals.{dealer_arrival}
 use Rattle.quote_messages.specs.declared.quotes.CancelScope.{CancelScope}
 use Rattle.quote_messages.specs.declared.quotes.CancelScope.TheVariants as cancels
 use Rattle.quote_messages.specs.declared.quotes.DealerMessage.{DealerMessage}
@@ -13,19 +15,18 @@ use Rattle.quote_messages.specs.declared.quotes.DealerMessage.TheVariants as mes
 use Rattle.quote_messages.specs.declared.quotes.Quote.{Quote}
 use Rattle.quote_messages.specs.declared.reject_reasons.QuoteRejectReason.{QuoteRejectReason}
 use Rattle.venue_rows.specs.declared.dealer_rows.DealerRow.{DealerRow}
-use Rattle.dealer_desk.specs.DealerFacts.{DealerBook, DealerFact, Shown, book_of, standing_request}
-use Rattle.dealer_desk.specs.DealerFacts.{requests_from, request_named, quotes_accepted}
-use Rattle.dealer_desk.specs.DealerFacts.{expected_number}
-use Rattle.dealer_desk.specs.DealerRules.{dealer_verdict, arrival_verdict, message_verdict}
-use Rattle.dealer_desk.specs.DealerRules.{quote_verdict, quote_refusal, quote_answer, quote_checks}
-use Rattle.dealer_desk.specs.DealerRules.{cancel_verdict, cancel_of, cancel_answer, cancel_checks}
-use Rattle.dealer_desk.specs.DealerRules.{decline_verdict, decline_answer}
+use Rattle.dealer_desk.specs.DealerFacts.{DealerBook, DealerFact, Shown, book_of, expected_number}
+use Rattle.dealer_desk.specs.DealerFacts.{quotes_accepted, request_named, requests_from}
+use Rattle.dealer_desk.specs.DealerFacts.{standing_request}
+use Rattle.dealer_desk.specs.DealerRules.{arrival_verdict, cancel_answer, cancel_checks, cancel_of}
+use Rattle.dealer_desk.specs.DealerRules.{cancel_verdict, dealer_verdict, decline_answer}
+use Rattle.dealer_desk.specs.DealerRules.{decline_verdict, message_verdict, quote_answer}
+use Rattle.dealer_desk.specs.DealerRules.{quote_checks, quote_refusal, quote_verdict}
 use Rattle.dealer_desk.specs.declared.standing.StandingQuote.{StandingQuote}
 use Rattle.dealer_desk.specs.declared.standing.StandingRequest.{StandingRequest}
 use Rattle.dealer_desk.specs.declared.verdicts.DealerVerdict.{DealerVerdict}
 use Rattle.dealer_desk.specs.declared.verdicts.DealerVerdict.TheVariants as verdict
 use Rattle.step_replay.specs.EachLemmas.{Every}
-use Rattle.std.proofs.lemmas.Option.{same_Some}
 
 -- What an accepted quote says.
 
@@ -33,15 +34,10 @@ use Rattle.std.proofs.lemmas.Option.{same_Some}
 pub none_holds : {A : Type 0} (checks : List (Bool × A)) → first_refusal checks ≡ None
     → Every (λ (check : Bool × A). check.0 ≡ false) checks
 none_holds [] none = tt
-none_holds {A} (check ∷ checks) none =
-    by_test check.0 refl none (λ later. none_holds checks later)
-  where
-    by_test : (b : Bool) → check.0 ≡ b
-        → (if b then Some check.1 else first_refusal checks) ≡ None
-        → (first_refusal checks ≡ None → Every (λ (c : Bool × A). c.0 ≡ false) checks)
-        → (check.0 ≡ false) × Every (λ (c : Bool × A). c.0 ≡ false) checks
-    by_test true test found later = cc
-    by_test false test found later = (test, later found)
+none_holds (check ∷ checks) none = elim (cases_Bool check.0) [
+  | inl holds ↦ cc (rw holds at none)
+  | inr fails ↦ (fails, none_holds checks (rw fails at none))
+]
 
 -- an accepted quote is one of the day's, on a request from 1 on
 abbrev pub AcceptOk : DealerRow → DealerVerdict → Type 0
@@ -54,23 +50,16 @@ least_number : (first : ℕ) (test : StandingRequest → Bool) (facts : List Dea
     → first ≤ request.number
 least_number first test [] request is = cc
 least_number first test (Shown ask moment ∷ later) request is =
-    by_test (test shown) refl is (λ found. least_number (first + 1) test later request found)
-  where
-    shown : StandingRequest
-    shown = standing_request first ask later
-
-    by_test : (b : Bool) → test shown ≡ b
-        → cond b (Some shown) (find test (requests_from (first + 1) later)) ≡ Some request
-        → (find test (requests_from (first + 1) later) ≡ Some request
-        → first + 1 ≤ request.number)
-        → first ≤ request.number
-    by_test true is_it found later_on =
-        let same : first ≡ request.number =
-        ap (λ (r : StandingRequest). r.number) (same_Some shown request found) in
-        omega arith
-    by_test false is_it found later_on =
-        let least : first + 1 ≤ request.number = later_on found in
-        omega arith
+    elim (cases_Bool (test (standing_request first ask later))) [
+      | inl passes ↦
+          let same : first ≡ request.number = ap (λ (r : StandingRequest). r.number)
+          (same_Some (standing_request first ask later) request (rw passes at is)) in
+          omega arith
+      | inr fails ↦
+          let least : first + 1 ≤ request.number =
+          least_number (first + 1) test later request (rw fails at is) in
+          omega arith
+    ]
 least_number first test (fact ∷ later) request is = least_number first test later request is
 
 module _ (row : DealerRow) (facts : List DealerFact) (moment : ℕ) where
@@ -89,11 +78,7 @@ module _ (row : DealerRow) (facts : List DealerFact) (moment : ℕ) where
   quote_accepts quote (Some request) named None refused =
       let least : 1 ≤ request.number = least_number 1 _ facts request named in
       let checks = none_holds (quote_checks row book moment quote (Some request)) refused in
-      let few : nat_le row.quotes (quotes_accepted book) ≡ false =
-      checks.1.1.1.1.1.1.1.1.1.1.0 in
-      let within : (nat_le 1 (quotes_accepted book + 1)
-      && nat_le (quotes_accepted book + 1) row.quotes) ≡ true = of_day (quotes_accepted book) few in
-      (least, within)
+      (least, of_day (quotes_accepted book) checks.1.1.1.1.1.1.1.1.1.1.0)
     where
       of_day : (n : ℕ) → nat_le row.quotes n ≡ false
           → (nat_le 1 (n + 1) && nat_le (n + 1) row.quotes) ≡ true

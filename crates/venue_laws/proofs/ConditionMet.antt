@@ -1,16 +1,19 @@
 -- A duty that is left meets the test of its action, by what stands in a venue.
-use Rattle.std.proofs.Common.{Bool, IfSome, List, None, Option, Some, [], ap, arith, false, is_none}
-use Rattle.std.proofs.Common.{is_some, nat_le, nat_lt, option_map, refl, subst, suc, sym, take}
-use Rattle.std.proofs.Common.{true, zero, ℕ, ◌&&◌, ◌+◌, ◌-◌, ◌∙◌, ◌∷◌, ◌≡◌}
+use Rattle.std.proofs.Common.{Bool, IfSome, List, None, Option, Some, ℕ, [], ap, arith, false}
+use Rattle.std.proofs.Common.{is_none, is_some, nat_le, nat_lt, option_map, refl, subst, suc, sym}
+use Rattle.std.proofs.Common.{take, true, zero, ◌&&◌, ◌+◌, ◌-◌, ◌∙◌, ◌∷◌, ◌≡◌}
+use Rattle.std.proofs.lemmas.Bool.{and_from, or_right}
 use Rattle.std.proofs.lemmas.Bool.Decides.{nat_tests}
 use Rattle.std.proofs.lemmas.List.Sums.{sum_by-cons}
+use Rattle.std.proofs.lemmas.Option.{same_Some}
 use Rattle.std.specs.Prelude.{slice_get}
 use Rattle.market_terms.specs.declared.closes.HitRefusal.{HitRefusal}
 use Rattle.market_terms.specs.declared.duties.Duty.{Duty}
 use Rattle.market_terms.specs.declared.duties.Duty.TheVariants as duty
 use Rattle.market_terms.specs.declared.rooms.RoomRef.{RoomRef}
-use Rattle.venue_rows.specs.Rows.{Configuration, dealer_numbered}
+use Rattle.venue_rows.specs.Rows.{Configuration, dealer_numbered, investor_numbered}
 use Rattle.venue_rows.specs.declared.dealer_rows.DealerRow.{DealerRow}
+use Rattle.venue_rows.specs.declared.investor_rows.InvestorRow.{InvestorRow}
 use Rattle.dealer_desk.specs.DealerFacts.{number_to_drop}
 use Rattle.investor_desk.specs.InvestorFacts.{knows}
 use Rattle.request_room.specs.Book.{book_of, hit_checks, hit_refusal, quote_meant, word_or}
@@ -24,18 +27,16 @@ use Rattle.step_replay.specs.Actions.{Dealer, acting_dealer, dealer_of, has_word
 use Rattle.step_replay.specs.Actions.{word_for, words_of}
 use Rattle.step_replay.specs.AuditTrail.{AuditTrail}
 use Rattle.step_replay.specs.DealerTrail.{book_by}
-use Rattle.std.proofs.lemmas.Option.{same_Some}
-use Rattle.std.proofs.lemmas.Bool.{and_from, or_right}
 use Rattle.step_replay.specs.VenueFacts.{of_dealer, of_room}
-use Rattle.venue_laws.specs.Conditions.{has_word_asked, holds_for, is_heard, is_heard_on, is_known}
-use Rattle.venue_laws.specs.Conditions.{is_met, is_room, may_drop}
 use Rattle.venue_laws.proofs.AcceptedQuotes.{none_holds}
 use Rattle.venue_laws.proofs.ConditionMetOnce.{open_met, ready_met, show_met, tell_met}
-use Rattle.venue_laws.proofs.VenueHits.{posted_fact}
 use Rattle.venue_laws.proofs.VenueDesk.{OfRow, WordsOfDay, asks_of_day, drops_of_day, within_row}
-use Rattle.venue_laws.proofs.VenueInvariant.{ByDealer, ByNamed, DutyOk, KnownIn, VenueOk}
-use Rattle.venue_laws.proofs.VenueKnown.{RoomStands, all_known, known_named, known_opened}
-use Rattle.venue_laws.proofs.VenueParts.{InOrder, did_in}
+use Rattle.venue_laws.proofs.VenueInvariant.{ByDealer, ByNamed, DutyOk, VenueOk}
+use Rattle.venue_laws.proofs.VenueKnown.{known_named, known_opened, known_room, posted_in}
+use Rattle.venue_laws.proofs.VenueParts.{KnownIn, Mark, Opening, Readying, Showing, Telling}
+use Rattle.venue_laws.proofs.VenueParts.{WasDone, mark_of}
+use Rattle.venue_laws.specs.Conditions.{has_word_asked, holds_for, is_heard, is_heard_on, is_known}
+use Rattle.venue_laws.specs.Conditions.{is_met, is_room, may_drop}
 
 -- Words.
 
@@ -71,9 +72,14 @@ module _ (config : Configuration) (venue : AuditTrail) (stood : VenueOk config v
   abbrev known : RoomRef → List RoomFact
   known room = of_room room venue.facts
 
-  pub is_known_in : (room : RoomRef) (quote : Option ℕ) → KnownIn config venue.facts room quote
+  pub is_known_in : (room : RoomRef) (quote : Option ℕ) → KnownIn room quote venue.facts
       → is_known config venue.facts room quote ≡ true
-  is_known_in room quote knows = rw knows.row_is knows.knows_is
+  is_known_in room quote knows = by_row (investor_numbered config room.investor) refl
+    where
+      by_row : (found : Option InvestorRow) → investor_numbered config room.investor ≡ found
+          → is_known config venue.facts room quote ≡ true
+      by_row None is = cc (rw is at (known_room config venue stood room quote knows))
+      by_row (Some row) is = rw is knows
 
   acts : (by : Actor) (who : ByDealer config by) (test : Dealer → Bool)
       → test (dealer_of who.dealer who.row) ≡ true
@@ -83,14 +89,15 @@ module _ (config : Configuration) (venue : AuditTrail) (stood : VenueOk config v
   is_acting : (by : Actor) → ByDealer config by → is_some (acting_dealer config by) ≡ true
   is_acting by who = rw (who.by_is, who.row_is) refl
 
-  heard : (by : Actor) (room : RoomRef) (named : ByNamed config venue.facts by room)
+  heard : (by : Actor) (room : RoomRef) (named : ByNamed config by room venue.facts)
       → is_heard config venue.facts room (dealer_of named.who.dealer named.who.row) ≡ true
   heard by room named =
       and_from (is_room config room) _
-      (known_named config venue stood room named.who.dealer named.named).has
+      (known_room config venue stood room None
+      (known_named config venue stood room named.who.dealer named.named))
       (or_right (is_vacant (known room)) (is_named (known room) named.who.dealer) named.named)
 
-  heard_on : (by : Actor) (room : RoomRef) (named : ByNamed config venue.facts by room)
+  heard_on : (by : Actor) (room : RoomRef) (named : ByNamed config by room venue.facts)
       (quote : ℕ) → (nat_le 1 quote && nat_le quote named.who.row.quotes) ≡ true
       → holds_for (acting_dealer config by) (is_heard_on config venue.facts room quote) ≡ true
   heard_on by room named quote within =
@@ -110,12 +117,10 @@ module _ (config : Configuration) (venue : AuditTrail) (stood : VenueOk config v
           → is_none found ≡ false → nat_lt word (words_of config) ≡ true
       of_quote None found none = cc
       of_quote (Some quote) found none =
-          let stands = posted_fact (RoomStands config venue stood room) word (known room) quote
-          found (all_known config venue stood room) in
-          let posted = stands.1 in
-          subst (λ (w : ℕ). nat_lt w (words_of config) ≡ true) (sym posted.word_is ∙ stands.0)
-          (word_in_rows config.dealers quote.dealer posted.row posted.quote posted.row_is
-          posted.within)
+          let posted = posted_in config venue stood room word quote found in
+          subst (λ (w : ℕ). nat_lt w (words_of config) ≡ true) (sym posted.1.word_is ∙ posted.0)
+          (word_in_rows config.dealers quote.dealer posted.1.row posted.1.quote posted.1.row_is
+          posted.1.within)
 
       by_refusal : (refused : Option HitRefusal) → hit_refusal (known room) word moment ≡ refused
           → has_word (words_of config) (word_asked_by (word_or word refused)) ≡ true
@@ -125,44 +130,41 @@ module _ (config : Configuration) (venue : AuditTrail) (stood : VenueOk config v
           (none_holds (hit_checks (known room) word moment) refused).1.1.0
 
   -- every duty, as its turn comes
-  pub met : (by : Actor) (left : Duty) (rest : List Duty) → DutyOk config venue.facts by left
-      → InOrder venue.facts (did_in venue by) left rest
+  pub met : (by : Actor) (left : Duty) → DutyOk config by left venue
+      → ((mark : Mark) → mark_of left ≡ Some mark → WasDone venue by mark → ⊥)
       → is_met config venue.facts by left ≡ true
   unfolding is_met
-  met by (duty.Open room ask dealers moment) rest fits first =
-      open_met config venue stood by room ask dealers fits first
-  met by (duty.Show dealer room ask moment) rest fits first =
-      show_met config venue stood by dealer room ask fits first
-  met by (duty.Ready room moment) rest fits order =
-      ready_met config venue stood by room fits order.first
-  met by (duty.Post room quote price valid_until moment) rest fits order =
+  met by (duty.Open room ask dealers moment) fits undone =
+      open_met config venue stood by room ask dealers fits (undone (Opening room) refl)
+  met by (duty.Show dealer room ask moment) fits undone =
+      show_met config venue stood by dealer room ask fits (undone (Showing dealer room) refl)
+  met by (duty.Ready room moment) fits undone =
+      ready_met config venue stood by room fits (undone (Readying room) refl)
+  met by (duty.Post room quote price valid_until moment) fits undone =
       heard_on by room fits.named quote fits.within
-  met by (duty.Relay room offer moment) rest fits order =
+  met by (duty.Relay room offer moment) fits undone =
       is_known_in room None (known_opened config venue stood room fits)
-  met by (duty.Unpost room quote moment) rest fits order =
+  met by (duty.Unpost room quote moment) fits undone =
       heard_on by room fits.named quote fits.within
-  met by (duty.Gone room word moment) rest fits order =
+  met by (duty.Gone room word moment) fits undone =
       is_known_in room None (known_opened config venue stood room fits)
-  met by (duty.Decline room moment) rest fits order =
+  met by (duty.Decline room moment) fits undone =
       acts by fits.who (is_heard config venue.facts room) (heard by room fits)
-  met by (duty.Declined room moment) rest fits order =
-      and_from (is_some (acting_dealer config by)) (is_known config venue.facts room None)
-      (is_acting by fits.who)
-      (is_known_in room None
-      (known_named config venue stood room fits.who.dealer fits.named))
-  met by (duty.Hit room response word moment) rest fits order =
-      and_from (is_room config room)
-      (has_word (words_of config) (hit_word (known room) word moment))
-      fits.known.has (hit_asks room word moment)
-  met by (duty.Pass room response moment) rest fits order = fits.known.has
-  met by (duty.Answer room response reply moment) rest fits order =
-      and_from (replies_to response.k reply) (is_known config venue.facts room response.k)
-      fits.answers_it (is_known_in room response.k fits.known)
-  met by (duty.Close room moment) rest fits order =
+  met by (duty.Declined room moment) fits undone =
+      and_from (is_some (acting_dealer config by)) _ (is_acting by fits.who)
+      (is_known_in room None (known_named config venue stood room fits.who.dealer fits.named))
+  met by (duty.Hit room response word moment) fits undone =
+      and_from (is_room config room) _ (known_room config venue stood room response.k fits.known)
+      (hit_asks room word moment)
+  met by (duty.Pass room response moment) fits undone =
+      known_room config venue stood room response.k fits.known
+  met by (duty.Answer room response reply moment) fits undone =
+      and_from (replies_to response.k reply) _ fits.0 (is_known_in room response.k fits.1)
+  met by (duty.Close room moment) fits undone =
       is_known_in room None (known_opened config venue stood room fits)
-  met by (duty.Tell dealer room close moment) rest fits first =
-      tell_met config venue stood by dealer room close fits first
-  met by (duty.Drop last moment) rest fits order =
+  met by (duty.Tell dealer room close moment) fits undone =
+      tell_met config venue stood by dealer room close fits (undone (Telling dealer room) refl)
+  met by (duty.Drop last moment) fits undone =
       acts by fits (may_drop config venue.facts last)
       (has_asked config fits.dealer fits.row fits.row_is
       (number_to_drop (book_by (of_dealer fits.dealer venue.facts)) last)

@@ -1,31 +1,34 @@
 -- A dealer was shown as many requests as rooms.
-use Rattle.std.proofs.Common.{◌≡◌, ◌≤◌, ℕ, suc, ◌+◌, ◌==◌, Bool, true, false, List, [], ◌∷◌, ◌++◌}
-use Rattle.std.proofs.Common.{length, filter_map, find, option_to_list, Option, Some, None, is_some}
-use Rattle.std.proofs.Common.{if◌then◌else◌, cond, refl, sym, ap, ◌∙◌, subst, arith}
+use Rattle.std.proofs.Common.{List, None, Option, Some, ℕ, [], ap, arith, filter_map, find, inl}
+use Rattle.std.proofs.Common.{inr, is_some, length, option_to_list, refl, subst, suc, true, ◌++◌}
+use Rattle.std.proofs.Common.{◌+◌, ◌<◌, ◌==◌, ◌∷◌, ◌≡◌, ◌≤◌}
+use Rattle.std.proofs.lemmas.Bool.{cases_Bool}
 use Rattle.std.proofs.lemmas.Bool.Decides.{nat_tests}
 use Rattle.std.proofs.lemmas.List.{append-nil, length-append}
 use Rattle.std.proofs.lemmas.List.Elements.{filter_map-append}
+use Rattle.std.proofs.lemmas.Option.{same_Some, slice_get_within}
+use Rattle.std.specs.Prelude.{slice_get}
 use Rattle.market_terms.specs.declared.asks.Ask.{Ask}
 use Rattle.market_terms.specs.declared.rooms.RoomRef.{RoomRef}
 use Rattle.venue_rows.specs.declared.dealer_rows.DealerRow.{DealerRow}
-use Rattle.dealer_desk.specs.DealerFacts.{DealerFact, Shown, Told, number_to_drop, requests_from}
-use Rattle.dealer_desk.specs.DealerFacts.{request_numbered, standing_request}
-use Rattle.dealer_desk.specs.DealerRules.{dealer_verdict}
+use Rattle.dealer_desk.specs.DealerFacts.{DealerFact, Shown, number_to_drop, request_numbered}
+use Rattle.dealer_desk.specs.DealerFacts.{requests_from}
 use Rattle.dealer_desk.specs.DealerOutput.{event_facts, is_same_room, number_from, number_in}
 use Rattle.dealer_desk.specs.DealerOutput.{settled_facts, shown_room, verdict_facts}
-use Rattle.dealer_desk.specs.declared.standing.StandingRequest.{StandingRequest}
-use Rattle.dealer_desk.specs.declared.standing.Withdrawal.TheVariants as by
+use Rattle.dealer_desk.specs.DealerRules.{dealer_verdict}
 use Rattle.dealer_desk.specs.declared.events.DealerEvent.{DealerEvent}
 use Rattle.dealer_desk.specs.declared.events.DealerEvent.TheVariants as event
-use Rattle.step_replay.specs.Actions.{settlement_of, drop_at}
-use Rattle.step_replay.specs.DealerTrail.{DealerEntry, Lifted, book_by, entries_of, facts_of}
-use Rattle.step_replay.specs.DealerTrail.{fact_in, room_in, rooms_by}
-use Rattle.venue_laws.specs.Notices.{was_shown}
-use Rattle.step_replay.specs.EachLemmas.{Every}
-use Rattle.venue_laws.proofs.NoticedLemmas.{settled_each, verdict_each}
+use Rattle.dealer_desk.specs.declared.standing.StandingRequest.{StandingRequest}
+use Rattle.dealer_desk.specs.declared.standing.Withdrawal.TheVariants as by
+use Rattle.step_replay.specs.Actions.{drop_at, settlement_of}
 use Rattle.step_replay.specs.DealerGrowth.{facts_grown, rooms_grown}
+use Rattle.step_replay.specs.DealerTrail.{DealerEntry, Lifted, book_by, entries_of, fact_in}
+use Rattle.step_replay.specs.DealerTrail.{facts_of, room_in, rooms_by}
+use Rattle.step_replay.specs.EachLemmas.{Every}
+use Rattle.step_replay.specs.GrowthLemmas.{same_room}
 use Rattle.step_replay.specs.TrailKept.{IsKept}
-use Rattle.std.proofs.lemmas.Option.{same_Some}
+use Rattle.venue_laws.proofs.PlainFacts.{IsPlain, settled_plain, verdict_plain}
+use Rattle.venue_laws.specs.Notices.{was_shown}
 
 -- what a fact shows
 abbrev shown_in : DealerFact → Option Ask
@@ -36,10 +39,15 @@ shown_in fact = None
 abbrev pub AreCounted : List DealerEntry → Type 0
 AreCounted trail = length (rooms_by trail) ≡ length (filter_map shown_in (facts_of trail))
 
-none_shown : (facts : List DealerFact) → Every (λ fact. shown_in fact ≡ None) facts
-    → filter_map shown_in facts ≡ []
-none_shown [] none = refl
-none_shown (fact ∷ facts) none = rw (none.0) (none_shown facts none.1)
+unshown : (fact : DealerFact) → IsPlain fact → shown_in fact ≡ None
+unshown (Shown ask moment) plain = cc
+unshown fact plain = refl
+
+-- facts that neither show nor tell anything
+none_counted : (facts : List DealerFact) → Every IsPlain facts
+    → 0 ≡ length (filter_map shown_in facts)
+none_counted [] plain = refl
+none_counted (fact ∷ facts) plain = rw (unshown fact plain.0) (none_counted facts plain.1)
 
 module _ (date : List ℕ) (row : DealerRow) where
   event_counted : (trail : List DealerEntry) (more : DealerEvent) → AreCounted trail
@@ -57,10 +65,6 @@ module _ (date : List ℕ) (row : DealerRow) where
         as_many,
       ) refl
 
-  none_counted : (facts : List DealerFact) → Every (λ fact. shown_in fact ≡ None) facts
-      → 0 ≡ length (filter_map shown_in facts)
-  none_counted facts none = ap length (sym (none_shown facts none))
-
   pub counted_is_kept : IsKept date row AreCounted
   unfolding event_facts
   counted_is_kept = record {
@@ -68,55 +72,44 @@ module _ (date : List ℕ) (row : DealerRow) where
         let v = dealer_verdict date row (book_by trail) moment bytes in
         event_counted trail (event.Received moment bytes (settlement_of trail v)) before
         (none_counted (verdict_facts v (settlement_of trail v))
-        (verdict_each (λ fact. shown_in fact ≡ None) (λ quote how. refl) (λ quote. refl)
-        (λ quote. refl) (λ request. refl) v (settlement_of trail v)));
+        (verdict_plain v (settlement_of trail v)));
     drop = λ trail last moment before.
         let asked = number_to_drop (book_by trail) last in
         event_counted trail (drop_at trail last moment) before
-        (none_counted (settled_facts asked by.Cancel _)
-        (settled_each (λ fact. shown_in fact ≡ None) (λ quote how. refl) (λ quote. refl)
-        (λ quote. refl) (λ request. refl) asked by.Cancel _));
+        (none_counted (settled_facts asked by.Cancel _) (settled_plain asked by.Cancel _));
     shown = λ trail room ask moment before.
         event_counted trail (event.Shown room ask moment) before refl;
     told = λ trail request close moment may before.
         event_counted trail (event.Told request close moment) before
-        (ap (λ (b : Bool). length (filter_map shown_in
-        (if b then Told request close moment ∷ [] else []))) (sym may));
+        (rw may refl);
     lifted = λ trail quote within still before.
-        ap length (filter_map-append room_in trail (Lifted quote ∷ [])
-        ∙ append-nil (rooms_by trail))
-        ∙ before
-        ∙ ap (λ l. length (filter_map shown_in l)) (sym (filter_map-append fact_in trail
-        (Lifted quote ∷ []) ∙ append-nil (facts_of trail)));
+        rw (
+          filter_map-append room_in trail (Lifted quote ∷ []),
+          append-nil (rooms_by trail),
+          filter_map-append fact_in trail (Lifted quote ∷ []),
+          append-nil (facts_of trail),
+        ) before;
   }
 
 -- A number of a room is that of a request.
 
-pub number_within : (first : ℕ) (rooms : List RoomRef) (room : RoomRef) (number : ℕ)
+-- the place of a room in which a request was shown
+pub number_place : (first : ℕ) (rooms : List RoomRef) (room : RoomRef) (number : ℕ)
     → number_from first rooms room ≡ Some number
-    → (first ≤ number) × (suc number ≤ first + length rooms)
-number_within first [] room number is = cc
-number_within first (shown ∷ rooms) room number is =
-    by_test (is_same_room shown room) refl
-    (λ found. number_within (first + 1) rooms room number found)
-  where
-    by_test : (b : Bool) → is_same_room shown room ≡ b
-        → (number_from (first + 1) rooms room ≡ Some number
-        → (first + 1 ≤ number) × (suc number ≤ first + 1 + length rooms))
-        → (first ≤ number) × (suc number ≤ first + length (shown ∷ rooms))
-    by_test true test later =
-        let found : Some first ≡ Some number = rw test at is in
-        let same : first ≡ number = same_Some first number found in
-        let low : first ≤ number = omega arith in
-        let high : suc number ≤ first + length (shown ∷ rooms) = omega arith in
-        (low, high)
-    by_test false test later =
-        let bounds = later (rw test at is) in
-        let least : first + 1 ≤ number = bounds.0 in
-        let most : suc number ≤ first + 1 + length rooms = bounds.1 in
-        let low : first ≤ number = omega arith in
-        let high : suc number ≤ first + length (shown ∷ rooms) = omega arith in
-        (low, high)
+    → (place : ℕ) × (number ≡ first + place) × (slice_get rooms place ≡ Some room)
+number_place first [] room number is = cc
+number_place first (shown ∷ rooms) room number is =
+    elim (cases_Bool (is_same_room shown room)) [
+      | inl same ↦
+          let here : first ≡ number = same_Some first number (rw same at is) in
+          let sum : number ≡ first + 0 = omega arith in
+          (0, sum, ap (λ (r : RoomRef). Some r) (same_room shown room same))
+      | inr other ↦
+          let later = number_place (first + 1) rooms room number (rw other at is) in
+          let behind : number ≡ first + 1 + later.0 = later.1 in
+          let sum : number ≡ first + suc later.0 = omega arith in
+          (suc later.0, sum, later.2)
+    ]
 
 request_within : (first : ℕ) (facts : List DealerFact) (number : ℕ) → first ≤ number
     → suc number ≤ first + length (filter_map shown_in facts)
@@ -124,27 +117,24 @@ request_within : (first : ℕ) (facts : List DealerFact) (number : ℕ) → firs
     (requests_from first facts)) ≡ true
 request_within first [] number low high = absurd (omega arith)
 request_within first (Shown ask moment ∷ later) number low high =
-    by_test (first == number) refl
-    (λ least most. request_within (first + 1) later number least most)
-  where
-    by_test : (b : Bool) → (first == number) ≡ b
-        → (first + 1 ≤ number → suc number ≤ first + 1 + length (filter_map shown_in later)
-        → is_some (find (λ (request : StandingRequest). request.number == number)
-        (requests_from (first + 1) later)) ≡ true)
-        → is_some (cond (first == number) (Some (standing_request first ask later))
-        (find (λ (request : StandingRequest). request.number == number)
-        (requests_from (first + 1) later))) ≡ true
-    by_test true test again = rw test refl
-    by_test false test again =
-        let least : first + 1 ≤ number = grind (arith, nat_tests) in
-        let most : suc number ≤ first + 1 + length (filter_map shown_in later) = omega arith in
-        rw test (again least most)
+    elim (cases_Bool (first == number)) [
+      | inl same ↦ rw same refl
+      | inr differs ↦
+          let test = differs in
+          let least : first + 1 ≤ number = grind (arith, nat_tests) in
+          let most : suc number ≤ first + 1 + length (filter_map shown_in later) = omega arith in
+          rw differs (request_within (first + 1) later number least most)
+    ]
 request_within first (fact ∷ later) number low high = request_within first later number low high
 
 pub numbered_shown : (trail : List DealerEntry) (room : RoomRef) (number : ℕ) → AreCounted trail
     → number_in (rooms_by trail) room ≡ Some number → was_shown trail number ≡ true
 unfolding request_numbered
 numbered_shown trail room number counted is =
-    let within = number_within 1 (rooms_by trail) room number is in
-    request_within 1 (facts_of trail) number within.0
-    (subst (λ n. suc number ≤ 1 + n) counted within.1)
+    let place = number_place 1 (rooms_by trail) room number is in
+    let number_is : number ≡ 1 + place.0 = place.1 in
+    let within : place.0 < length (rooms_by trail) =
+    slice_get_within (rooms_by trail) place.0 room place.2 in
+    let low : 1 ≤ number = omega arith in
+    let high : suc number ≤ 1 + length (rooms_by trail) = omega arith in
+    request_within 1 (facts_of trail) number low (subst (λ n. suc number ≤ 1 + n) counted high)

@@ -1,12 +1,16 @@
 -- What a verdict of an investor's desk says, and what comes to the desk brings of what stands of
 -- its requests and quotes.
-use Rattle.std.proofs.Common.{Bool, List, None, Option, Some, [], ap, arith, eq-eqb, false, is_some}
-use Rattle.std.proofs.Common.{length, nat_le, option_map, refl, sym, true, ℕ, ◌&&◌, ◌++◌, ◌+◌, ◌<◌}
-use Rattle.std.proofs.Common.{◌==◌, ◌||◌, ◌∙◌, ◌∷◌, ◌≡◌}
+use Rattle.std.proofs.Common.{Bool, List, None, Option, Some, ℕ, [], ap, arith, eq-eqb, false}
+use Rattle.std.proofs.Common.{is_some, length, nat_le, option_map, refl, sym, true, ◌&&◌, ◌++◌, ◌+◌}
+use Rattle.std.proofs.Common.{◌<◌, ◌==◌, ◌∙◌, ◌∷◌, ◌≡◌}
+use Rattle.std.proofs.lemmas.Bool.{not-false, or_left, or_right}
 use Rattle.std.proofs.lemmas.Bool.Decides.{nat_tests}
 use Rattle.std.proofs.lemmas.List.{length-map}
 use Rattle.std.proofs.lemmas.Slice.Eq.{bytes_eq-Decides}
-use Rattle.std.proofs.lemmas.Bool.{not-false, or_right}
+use Rattle.market_terms.specs.Dealers.{are_distinct}
+use Rattle.market_terms.specs.declared.closes.Reply.{Reply}
+use Rattle.market_terms.specs.declared.rooms.Offer.{Offer}
+use Rattle.market_terms.specs.declared.rooms.ResponseRef.{ResponseRef}
 use Rattle.quote_messages.specs.Arrivals.{investor_arrival}
 use Rattle.quote_messages.specs.declared.arrivals.Arrival.{Arrival}
 use Rattle.quote_messages.specs.declared.arrivals.Arrival.TheVariants as arrival
@@ -16,14 +20,11 @@ use Rattle.quote_messages.specs.declared.requests.InvestorMessage.TheVariants as
 use Rattle.quote_messages.specs.declared.requests.QuoteHit.{QuoteHit}
 use Rattle.quote_messages.specs.declared.requests.QuoteRequest.{QuoteRequest}
 use Rattle.quote_messages.specs.declared.requests.RequestPass.{RequestPass}
-use Rattle.market_terms.specs.Dealers.{are_distinct}
-use Rattle.market_terms.specs.declared.closes.Reply.{Reply}
-use Rattle.market_terms.specs.declared.rooms.Offer.{Offer}
-use Rattle.market_terms.specs.declared.rooms.ResponseRef.{ResponseRef}
 use Rattle.venue_rows.specs.Rows.{Configuration, bond_with_id}
 use Rattle.venue_rows.specs.Texts.{same_text}
 use Rattle.venue_rows.specs.declared.bond_rows.BondRow.{BondRow}
 use Rattle.venue_rows.specs.declared.investor_rows.InvestorRow.{InvestorRow}
+use Rattle.investor_desk.specs.InvestorDesk.{market_of}
 use Rattle.investor_desk.specs.InvestorFacts.{Asked, Came, InvestorBook, InvestorFact}
 use Rattle.investor_desk.specs.InvestorFacts.{StandingRequest, book_of, expected_number, knows}
 use Rattle.investor_desk.specs.InvestorFacts.{offer_named, offer_of_dealer, offer_with_word}
@@ -33,7 +34,6 @@ use Rattle.investor_desk.specs.InvestorOutput.{answer_facts, close_by_answer, cl
 use Rattle.investor_desk.specs.InvestorOutput.{event_facts, expiry_facts, gone_facts, next_offer}
 use Rattle.investor_desk.specs.InvestorOutput.{offer_facts, own_facts, refusal_of, uses_number}
 use Rattle.investor_desk.specs.InvestorOutput.{withdrawal_facts}
-use Rattle.investor_desk.specs.InvestorDesk.{market_of}
 use Rattle.investor_desk.specs.InvestorRules as rules
 use Rattle.investor_desk.specs.InvestorRules.{InvestorMarket, arrival_verdict, dealer_named}
 use Rattle.investor_desk.specs.InvestorRules.{dealer_numbers, hit_of, hit_verdict, investor_verdict}
@@ -48,14 +48,13 @@ use Rattle.investor_desk.specs.declared.standing.ShownOffer.{ShownOffer}
 use Rattle.investor_desk.specs.declared.verdicts.InvestorVerdict.{InvestorVerdict}
 use Rattle.investor_desk.specs.declared.verdicts.InvestorVerdict.TheVariants as verdict
 use Rattle.step_replay.specs.EachLemmas.{Every, every_weaker}
+use Rattle.step_replay.specs.PlaceLemmas.{has_item}
 use Rattle.venue_laws.proofs.AcceptedQuotes.{none_holds}
-use Rattle.venue_laws.proofs.KnownDesks.{DeskFit, asked_fit, offered_fit, plain_fit, shown_known}
-use Rattle.venue_laws.proofs.KnownDesks.{asked, asked_is, asked_known}
-use Rattle.venue_laws.proofs.ListLemmas.{found_holds, every_found, every_unit, found_passes}
-use Rattle.venue_laws.proofs.ListLemmas.{position_within}
+use Rattle.venue_laws.proofs.KnownDesks.{DeskFit, asked, asked_fit, asked_is, asked_known}
+use Rattle.venue_laws.proofs.KnownDesks.{offered_fit, plain_fit}
+use Rattle.venue_laws.proofs.ListLemmas.{found_all, found_holds, found_passes, position_within}
 use Rattle.venue_laws.proofs.VenueInvariant.{IsDealer}
 use Rattle.venue_laws.proofs.VenueParts.{BearsGrid}
-use Rattle.step_replay.specs.PlaceLemmas.{has_item}
 
 -- What a verdict says.
 
@@ -69,29 +68,26 @@ pub record RequestFit (config : Configuration) (row : InvestorRow) (facts : List
   pub are_dealers : Every (IsDealer config) request.dealers
   pub bears : BearsGrid config request.ask
 
--- a hit means a quote that the investor was shown
-pub record HitFit (facts : List InvestorFact) (request : ℕ) (response : ResponseRef) : Type 0 where
-  pub quote : ℕ
-  pub quote_is : response.k ≡ Some quote
-  pub knows_is : knows (book_of facts) request response.k ≡ true
-
--- a pass means a request of the investor
-pub record PassFit (facts : List InvestorFact) (request : ℕ) (response : ResponseRef) : Type 0 where
-  pub none : response.k ≡ None
+-- a response means a quote that the investor was shown, or none, on a request of its
+pub record ResponseFit (facts : List InvestorFact) (request : ℕ) (response : ResponseRef)
+    (some : Bool) : Type 0 where
+  pub some_is : is_some response.k ≡ some
   pub knows_is : knows (book_of facts) request response.k ≡ true
 
 abbrev pub VerdictFit : Configuration → InvestorRow → List InvestorFact → InvestorVerdict → Type 0
 VerdictFit config row facts (verdict.RequestAccepted id request) =
     RequestFit config row facts request
-VerdictFit config row facts (verdict.Hits request response word) = HitFit facts request response
-VerdictFit config row facts (verdict.Passes request response) = PassFit facts request response
+VerdictFit config row facts (verdict.Hits request response word) =
+    ResponseFit facts request response true
+VerdictFit config row facts (verdict.Passes request response) =
+    ResponseFit facts request response false
 VerdictFit config row facts other = Unit {0}
 
 requests_asked : (facts : List InvestorFact)
     → Every (λ (own : StandingRequest). asked facts own.request.number ≡ true) (requests_of facts)
 requests_asked [] = tt
 requests_asked (Asked request ∷ facts) = (
-  ap (λ b. b || asked facts request.number) (eq-eqb request.number request.number refl),
+  or_left _ _ (eq-eqb request.number request.number refl),
   every_weaker (λ (own : StandingRequest). asked facts own.request.number ≡ true)
       (λ (own : StandingRequest). asked (Asked request ∷ facts) own.request.number ≡ true)
       (λ own is. or_right (request.number == own.request.number) _ is)
@@ -110,12 +106,10 @@ module _ (config : Configuration) (firm : ℕ) (row : InvestorRow) (may : ℕ �
   are_dealers : (names : List (List ℕ)) → Every (IsDealer config) (dealer_numbers market names)
   unfolding dealer_named
   are_dealers names =
-      every_found (λ (name : List ℕ). Unit {0}) (IsDealer config) (dealer_named market)
-      (λ name dealer found trivial.
+      found_all (IsDealer config) (dealer_named market) (λ name dealer found.
       let within : dealer < length market.dealers =
       position_within (λ own. same_text own name) market.dealers dealer found in
-      has_item config.dealers dealer (rw length-map at within))
-      names (every_unit names)
+      has_item config.dealers dealer (rw length-map at within)) names
 
   -- the bond that is found by its identifier is found by the identifier that it has
   found_again : (id : List ℕ) (bond : BondRow) → bond_with_id config id ≡ Some bond
@@ -152,9 +146,9 @@ module _ (config : Configuration) (firm : ℕ) (row : InvestorRow) (may : ℕ �
     unfolding offer_named
     hit_fits hit None is = tt
     hit_fits hit (Some shown) is = record {
-      quote = shown.number;
-      quote_is = refl;
-      knows_is = shown_known may facts fit _ shown is;
+      some_is = refl;
+      knows_is = found_holds (λ (s : ShownOffer).
+          knows book s.request (Some s.number) ≡ true) _ (offers_of facts) shown is fit.known;
     }
 
     pass_fits : (pass : RequestPass) (own : Option StandingRequest)
@@ -162,7 +156,7 @@ module _ (config : Configuration) (firm : ℕ) (row : InvestorRow) (may : ℕ �
     unfolding request_with_id
     pass_fits pass None is = tt
     pass_fits pass (Some own) is = record {
-      none = refl;
+      some_is = refl;
       knows_is = asked_known facts own.request.number
           (found_holds (λ (o : StandingRequest). asked facts o.request.number ≡ true) _
           (requests_of facts) own is (requests_asked facts));
@@ -202,9 +196,6 @@ module _ (config : Configuration) (firm : ℕ) (row : InvestorRow) (may : ℕ �
   none_plain : ArePlain []
   none_plain = record { no_offers = refl; no_requests = λ number. refl }
 
-  own_plain : (moment : ℕ) (bytes : List ℕ) (used : Bool) → ArePlain (Came moment bytes used ∷ [])
-  own_plain moment bytes used = record { no_offers = refl; no_requests = λ number. refl }
-
   gone_plain : (number : ℕ) (shown : Option ShownOffer) → ArePlain (gone_facts number shown)
   gone_plain number None = none_plain
   gone_plain number (Some shown) = record { no_offers = refl; no_requests = λ other. refl }
@@ -214,15 +205,15 @@ module _ (config : Configuration) (firm : ℕ) (row : InvestorRow) (may : ℕ �
   withdrawn_plain number word None = none_plain
   withdrawn_plain number word (Some own) = gone_plain number (offer_with_word own word)
 
-  closed_plain : (number : ℕ) (close : Option RequestClose) → ArePlain (closed_facts number close)
-  closed_plain number None = none_plain
-  closed_plain number (Some close) = record { no_offers = refl; no_requests = λ other. refl }
-
   answered_plain : (number : ℕ) (response : ResponseRef) (reply : Reply)
       (own : Option StandingRequest) → ArePlain (answer_facts book number response reply own)
   answered_plain number response reply None = none_plain
   answered_plain number response reply (Some own) =
-      closed_plain number (close_by_answer book response (refusal_of reply))
+      closed_plain (close_by_answer book response (refusal_of reply))
+    where
+      closed_plain : (close : Option RequestClose) → ArePlain (closed_facts number close)
+      closed_plain None = none_plain
+      closed_plain (Some close) = record { no_offers = refl; no_requests = λ other. refl }
 
   expired_plain : (number : ℕ) (own : Option StandingRequest) → ArePlain (expiry_facts number own)
   expired_plain number None = none_plain
@@ -252,7 +243,7 @@ module _ (config : Configuration) (firm : ℕ) (row : InvestorRow) (may : ℕ �
       (day request.number fits.within)
   said_desk moment bytes other fits day =
       fits_plain (Came moment bytes (uses_number other) ∷ [])
-      (own_plain moment bytes (uses_number other))
+      (record { no_offers = refl; no_requests = λ number. refl })
 
   pub event_fits : ((number : ℕ) → (nat_le 1 number && nat_le number row.requests) ≡ true
       → may number ≡ true)

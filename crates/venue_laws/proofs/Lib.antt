@@ -14,7 +14,6 @@ mod KnownDesks
 mod ListLemmas
 mod LiveQuotes
 mod NoticeLemmas
-mod NoticedLemmas
 mod PlainFacts
 mod PriceLemmas
 mod PricedFields

@@ -1,20 +1,17 @@
--- Tests, options and lists: what the lemmas on a venue take of them.
-use Rattle.std.proofs.Common.{Bool, IfSome, List, None, Option, Some, [], ap, arith, cond, eq-eqb}
-use Rattle.std.proofs.Common.{false, filter_map, find, inl, inr, is_none, is_some, length, map}
-use Rattle.std.proofs.Common.{nat_lt, position, refl, suc, sym, take, true, zero, ℕ, ◌++◌, ◌<◌}
-use Rattle.std.proofs.Common.{◌==◌, ◌||◌, ◌∙◌, ◌∷◌, ◌≡◌, subst}
+-- Options and lists: what the lemmas on a venue take of them.
+use Rattle.std.proofs.Common.{Bool, IfSome, List, None, Option, Some, ℕ, [], ap, arith, cond}
+use Rattle.std.proofs.Common.{eq-eqb, false, filter, filter_map, find, inl, inr, is_none, is_some}
+use Rattle.std.proofs.Common.{length, map, nat_lt, position, refl, subst, suc, sym, true, zero}
+use Rattle.std.proofs.Common.{◌++◌, ◌<◌, ◌==◌, ◌∙◌, ◌∷◌, ◌≡◌, ◌≤◌, ◌⊎◌}
+use Rattle.std.proofs.lemmas.Bool.{cases_Bool, eqb-true, or_cases, or_left, or_right}
 use Rattle.std.proofs.lemmas.Bool.Decides.{nat_tests}
+use Rattle.std.proofs.lemmas.List.Folds.{find-append}
+use Rattle.std.proofs.lemmas.Option.{cond_some, same_Some}
 use Rattle.std.specs.List.{list_any, position_or_len}
+use Rattle.std.specs.Option.{option_or}
+use Rattle.std.specs.Prelude.{slice_get}
 use Rattle.step_replay.specs.EachLemmas.{Every}
 use Rattle.step_replay.specs.GrowthLemmas.{In}
-use Rattle.std.proofs.lemmas.Option.{same_Some}
-use Rattle.std.proofs.lemmas.Bool.{or_right}
-
--- Tests.
-
-pub not_both : {A : Type 0} (b : Bool) → b ≡ true → b ≡ false → A
-not_both true is never = cc
-not_both false is never = cc
 
 -- Options.
 
@@ -30,104 +27,128 @@ pub some_of : {A : Type 0} (o : Option A) → is_some o ≡ true → (x : A) × 
 some_of None is = cc
 some_of (Some x) is = (x, refl)
 
--- Lists.
+-- What holds of each item.
 
 pub every_map : {A B : Type 0} (P : B → Type 0) (f : A → B) (xs : List A)
     → ((x : A) → In x xs → P (f x)) → Every P (map f xs)
 every_map P f [] each = tt
 every_map P f (x ∷ xs) each = (each x (inl refl), every_map P f xs (λ y is. each y (inr is)))
 
-pub every_unit : {A : Type 0} (xs : List A) → Every (λ x. Unit {0}) xs
-every_unit [] = tt
-every_unit (x ∷ xs) = (tt, every_unit xs)
-
 pub every_mapped : {A B : Type 0} (P : B → Type 0) (f : A → B) (xs : List A)
     → Every (λ x. P (f x)) xs → Every P (map f xs)
 every_mapped P f [] all = tt
 every_mapped P f (x ∷ xs) all = (all.0, every_mapped P f xs all.1)
-
-pub every_take : {A : Type 0} (P : A → Type 0) (n : ℕ) (xs : List A) → Every P xs
-    → Every P (take n xs)
-every_take P zero [] all = tt
-every_take P zero (x ∷ xs) all = tt
-every_take P (suc n) [] all = tt
-every_take P (suc n) (x ∷ xs) all = (all.0, every_take P n xs all.1)
 
 pub at_split : {A : Type 0} (P : A → Type 0) (front : List A) (x : A) (rest : List A)
     → Every P (front ++ x ∷ rest) → P x
 at_split P [] x rest every = every.0
 at_split P (y ∷ front) x rest every = at_split P front x rest every.1
 
--- what holds of each item holds of each that is found in one
-pub every_found : {A B : Type 0} (P : A → Type 0) (Q : B → Type 0) (says : A → Option B)
-    → ((x : A) (y : B) → says x ≡ Some y → P x → Q y) → (xs : List A) → Every P xs
-    → Every Q (filter_map says xs)
-every_found P Q says each [] every = tt
-every_found {A} {B} P Q says each (x ∷ xs) every =
-    by_found (says x) refl (every_found P Q says each xs every.1)
+pub slice_holds : {A : Type 0} (P : A → Type 0) (xs : List A) (place : ℕ) (x : A)
+    → slice_get xs place ≡ Some x → Every P xs → P x
+slice_holds P [] place x is all = cc
+slice_holds P (y ∷ xs) zero x is all = subst P (same_Some y x is) all.0
+slice_holds P (y ∷ xs) (suc place) x is all = slice_holds P xs place x is all.1
+
+pub found_all : {A B : Type 0} (Q : B → Type 0) (says : A → Option B)
+    → ((x : A) (y : B) → says x ≡ Some y → Q y) → (xs : List A) → Every Q (filter_map says xs)
+found_all Q says each [] = tt
+found_all {A} {B} Q says each (x ∷ xs) = by_found (says x) refl (found_all Q says each xs)
   where
     by_found : (found : Option B) → says x ≡ found → Every Q (filter_map says xs)
         → Every Q (filter_map says (x ∷ xs))
     by_found None found later = rw found later
-    by_found (Some y) found later = rw found (each x y found every.0, later)
+    by_found (Some y) found later = rw found (each x y found, later)
 
-pub none_any : {A : Type 0} (test : A → Bool) (xs : List A) → Every (λ x. test x ≡ false) xs
-    → list_any test xs ≡ false
-none_any test [] none = refl
-none_any test (x ∷ xs) none = rw (none.0) (none_any test xs none.1)
+-- What stands in a list.
 
 pub in_map : {A B : Type 0} (f : A → B) (x : A) (xs : List A) → In x xs → In (f x) (map f xs)
 in_map f x [] is = absurd is
 in_map f x (y ∷ xs) (inl is) = inl (ap f is)
 in_map f x (y ∷ xs) (inr is) = inr (in_map f x xs is)
 
+pub in_mapped : {A B : Type 0} (f : A → B) (y : B) (xs : List A) → In y (map f xs)
+    → (x : A) × (f x ≡ y)
+in_mapped f y [] is = absurd is
+in_mapped f y (x ∷ xs) (inl is) = (x, is)
+in_mapped f y (x ∷ xs) (inr is) = in_mapped f y xs is
+
+pub in_both : {A : Type 0} (x : A) (xs ys : List A) → In x (xs ++ ys) → In x xs ⊎ In x ys
+in_both x [] ys is = inr is
+in_both x (y ∷ xs) ys (inl is) = inl (inl is)
+in_both x (y ∷ xs) ys (inr is) =
+    elim (in_both x xs ys is) [ inl before ↦ inl (inr before) | inr behind ↦ inr behind ]
+
+pub in_one : {A : Type 0} (x y : A) → In x (y ∷ []) → y ≡ x
+in_one x y (inl is) = is
+in_one x y (inr is) = absurd is
+
+-- what is found in an item
+pub in_found : {A B : Type 0} (says : A → Option B) (y : B) (xs : List A)
+    → In y (filter_map says xs) → (x : A) × (says x ≡ Some y) × In x xs
+in_found says y [] is = absurd is
+in_found {A} {B} says y (x ∷ xs) is =
+    by_found (says x) refl is (λ later. in_found says y xs later)
+  where
+    by_found : (found : Option B) → says x ≡ found → In y (filter_map says (x ∷ xs))
+        → (In y (filter_map says xs) → (one : A) × (says one ≡ Some y) × In one xs)
+        → (one : A) × (says one ≡ Some y) × In one (x ∷ xs)
+    by_found None found among later =
+        let further = later (rw found at among) in (further.0, further.1, inr further.2)
+    by_found (Some z) found among later = elim (rw found at among) [
+      | inl here ↦ (x, found ∙ ap (λ (b : B). Some b) here, inl refl)
+      | inr behind ↦ let further = later behind in (further.0, further.1, inr further.2)
+    ]
+
+-- one that passes a test is left
+pub in_filter : {A : Type 0} (test : A → Bool) (x : A) (xs : List A) → In x xs → test x ≡ true
+    → In x (filter test xs)
+in_filter test x [] is passes = absurd is
+in_filter test x (y ∷ xs) (inl is) passes = rw (ap test is, passes) (inl is)
+in_filter test x (y ∷ xs) (inr is) passes = elim (cases_Bool (test y)) [
+  | inl also ↦ rw also (inr (in_filter test x xs is passes))
+  | inr fails ↦ rw fails (in_filter test x xs is passes)
+]
+
+pub only_one : {A : Type 0} (x : A) (xs : List A) → In x xs → length xs ≤ 1 → xs ≡ x ∷ []
+only_one x [] is few = absurd is
+only_one x (y ∷ []) (inl is) few = ap (λ z. z ∷ []) is
+only_one x (y ∷ []) (inr is) few = absurd is
+only_one x (y ∷ z ∷ xs) is few = absurd (omega arith)
+
 pub named_in : (dealer : ℕ) (dealers : List ℕ) → In dealer dealers
     → list_any (λ (named : ℕ). named == dealer) dealers ≡ true
 named_in dealer [] is = absurd is
-named_in dealer (other ∷ dealers) (inl is) =
-    let same : (other == dealer) ≡ true = eq-eqb other dealer is in
-    rw same refl
+named_in dealer (other ∷ dealers) (inl is) = or_left _ _ (eq-eqb other dealer is)
 named_in dealer (other ∷ dealers) (inr is) =
     or_right (other == dealer) _ (named_in dealer dealers is)
 
 pub in_named : (dealer : ℕ) (dealers : List ℕ)
     → list_any (λ (named : ℕ). named == dealer) dealers ≡ true → In dealer dealers
 in_named dealer [] is = cc
-in_named dealer (other ∷ dealers) is =
-    by_test (other == dealer) refl is (λ later. in_named dealer dealers later)
-  where
-    by_test : (b : Bool) → (other == dealer) ≡ b
-        → (b || list_any (λ (named : ℕ). named == dealer) dealers) ≡ true
-        → (list_any (λ (named : ℕ). named == dealer) dealers ≡ true → In dealer dealers)
-        → In dealer (other ∷ dealers)
-    by_test true test found later =
-        let same : other ≡ dealer = grind (arith, nat_tests) in
-        inl same
-    by_test false test found later = inr (later found)
+in_named dealer (other ∷ dealers) is = elim (or_cases (other == dealer) _ is) [
+  | inl test ↦ inl (eqb-true other dealer test)
+  | inr later ↦ inr (in_named dealer dealers later)
+]
+
+-- What is found first.
 
 pub position_within : {A : Type 0} (test : A → Bool) (xs : List A) (i : ℕ)
     → position test xs ≡ Some i → i < length xs
 position_within test xs i is =
-    by_test (nat_lt (position_or_len test xs) (length xs)) refl is
-  where
-    by_test : (b : Bool) → nat_lt (position_or_len test xs) (length xs) ≡ b
-        → cond b (Some (position_or_len test xs)) None ≡ Some i → i < length xs
-    by_test true within found =
-        let same : position_or_len test xs ≡ i = same_Some (position_or_len test xs) i found in
-        grind (arith, nat_tests)
-    by_test false within found = cc
+    let parts = cond_some (nat_lt (position_or_len test xs) (length xs)) _ i is in
+    let within : nat_lt (position_or_len test xs) (length xs) ≡ true = parts.0 in
+    let same : position_or_len test xs ≡ i = parts.1 in
+    grind (arith, nat_tests)
 
 -- the first that is found passes the test
 pub found_passes : {X : Type 0} (test : X → Bool) (xs : List X) (x : X) → find test xs ≡ Some x
     → test x ≡ true
 found_passes test [] x is = cc
-found_passes test (y ∷ ys) x is = by_test (test y) refl is (found_passes test ys x)
-  where
-    by_test : (b : Bool) → test y ≡ b → cond b (Some y) (find test ys) ≡ Some x
-        → (find test ys ≡ Some x → test x ≡ true) → test x ≡ true
-    by_test true passes found later =
-        let same : y ≡ x = cc in ap test (sym same) ∙ passes
-    by_test false passes found later = later found
+found_passes test (y ∷ ys) x is = elim (cases_Bool (test y)) [
+  | inl passes ↦ rw (same_Some y x (rw passes at is)) at passes
+  | inr fails ↦ found_passes test ys x (rw fails at is)
+]
 
 -- what is found, if something is, is one of the list
 pub first_of_every : {X : Type 0} (P : X → Type 0) (test : X → Bool) (xs : List X) → Every P xs
@@ -141,24 +162,24 @@ first_of_every {X} P test (x ∷ xs) all = by_test (test x) (first_of_every P te
 
 pub find_grown : {A : Type 0} (test : A → Bool) (xs ys : List A) (x : A)
     → find test xs ≡ Some x → find test (xs ++ ys) ≡ Some x
-find_grown test [] ys x is = cc
-find_grown test (y ∷ xs) ys x is =
-    by_test (test y) refl (λ found. find_grown test xs ys x found)
-  where
-    by_test : (b : Bool) → test y ≡ b
-        → (find test xs ≡ Some x → find test (xs ++ ys) ≡ Some x)
-        → find test (y ∷ xs ++ ys) ≡ Some x
-    by_test true is_it later = rw is_it (rw is_it at is)
-    by_test false is_it later = rw is_it (later (rw is_it at is))
+find_grown test xs ys x is = rw (find-append test xs ys, is) refl
 
 -- what is found is one of the list
 pub found_holds : {A : Type 0} (P : A → Type 0) (test : A → Bool) (xs : List A) (x : A)
     → find test xs ≡ Some x → Every P xs → P x
-found_holds P test [] x is all = cc
-found_holds P test (y ∷ xs) x is all =
-    by_test (test y) refl is (λ found. found_holds P test xs x found all.1)
+found_holds P test xs x is all = rw is at (first_of_every P test xs all)
+
+-- the first that some items say stays the first
+pub first_grown : {E A : Type 0} (first : List E → Option A) (says : E → Option A)
+    → ((x : E) (xs : List E) → first (x ∷ xs) ≡ option_or (says x) (first xs)) → first [] ≡ None
+    → (y : A) (xs more : List E) → first xs ≡ Some y → first (xs ++ more) ≡ Some y
+first_grown first says step none y [] more is = cc
+first_grown {E} {A} first says step none y (x ∷ xs) more is =
+    step x (xs ++ more) ∙ by_said (says x) (sym (step x xs) ∙ is)
+    (λ found. first_grown first says step none y xs more found)
   where
-    by_test : (b : Bool) → test y ≡ b → cond b (Some y) (find test xs) ≡ Some x
-        → (find test xs ≡ Some x → P x) → P x
-    by_test true is_it found later = subst P (same_Some y x found) all.0
-    by_test false is_it found later = later found
+    by_said : (said : Option A) → option_or said (first xs) ≡ Some y
+        → (first xs ≡ Some y → first (xs ++ more) ≡ Some y)
+        → option_or said (first (xs ++ more)) ≡ Some y
+    by_said (Some z) found later = found
+    by_said None found later = later found

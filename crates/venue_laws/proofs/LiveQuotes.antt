@@ -1,10 +1,12 @@
 -- The live quote of a dealer on a request, and what the notice of a hit names.
-use Rattle.std.proofs.Common.{◌≡◌, ◌≤◌, ℕ, ◌==◌, Bool, true, false, ◌&&◌, List, [], ◌∷◌, map}
-use Rattle.std.proofs.Common.{filter, find, length, option_to_list, Option, Some, None, option_map}
-use Rattle.std.proofs.Common.{is_none, is_some, if◌then◌else◌, cond, inl, inr, refl, sym, ap, ◌∙◌}
-use Rattle.std.proofs.Common.{subst, arith, eq-eqb}
+use Rattle.std.proofs.Common.{Bool, List, None, Option, Some, ℕ, [], ap, eq-eqb, false, filter}
+use Rattle.std.proofs.Common.{find, if◌then◌else◌, inl, inr, is_none, is_some, length, map}
+use Rattle.std.proofs.Common.{option_map, option_to_list, refl, subst, sym, true, ◌&&◌, ◌==◌, ◌∙◌}
+use Rattle.std.proofs.Common.{◌∷◌, ◌≡◌, ◌≤◌}
+use Rattle.std.proofs.lemmas.Bool.{cases_Bool, eqb-true, or_parts}
+use Rattle.std.proofs.lemmas.Option.{same_Some}
 use Rattle.std.specs.List.{list_any}
-use Rattle.std.proofs.lemmas.Bool.Decides.{nat_tests}
+use Rattle.std.specs.Prelude.{slice_get}
 use Rattle.market_terms.specs.declared.closes.Close.TheVariants as closes
 use Rattle.market_terms.specs.declared.rooms.RoomRef.{RoomRef}
 use Rattle.venue_rows.specs.Rows.{Configuration}
@@ -22,14 +24,13 @@ use Rattle.dealer_desk.specs.declared.standing.QuoteEnd.{QuoteEnd}
 use Rattle.dealer_desk.specs.declared.standing.StandingQuote.{StandingQuote}
 use Rattle.dealer_desk.specs.declared.standing.StandingRequest.{StandingRequest}
 use Rattle.step_replay.specs.DealerTrail.{DealerEntry, Sent, book_by, facts_of, message_by, sent_by}
-use Rattle.step_replay.specs.DealerTrail.{was_lifted, was_withdrawn}
-use Rattle.venue_laws.specs.Notices.{NamesLiftedQuote, next_sent}
-use Rattle.step_replay.specs.VenueFacts.{Fact, of_dealer}
+use Rattle.step_replay.specs.DealerTrail.{was_lifted}
 use Rattle.step_replay.specs.GrowthLemmas.{In}
-use Rattle.std.proofs.lemmas.Option.{same_Some}
-use Rattle.std.proofs.lemmas.Bool.{or_parts}
+use Rattle.step_replay.specs.VenueFacts.{Fact, of_dealer}
+use Rattle.venue_laws.proofs.ListLemmas.{found_passes, in_filter, only_one, some_of}
 use Rattle.venue_laws.proofs.VenueInvariant.{DeskOk}
 use Rattle.venue_laws.proofs.VenueParts.{LiftedIn, number_for}
+use Rattle.venue_laws.specs.Notices.{NamesLiftedQuote, next_sent}
 
 -- The quotes of a dealer on one request: at most one is live.
 abbrev pub LoneQuotes : Type 0
@@ -83,46 +84,19 @@ not_ended own (Told request close moment ∷ facts) still untold =
 not_ended own (fact ∷ facts) still untold = not_ended own facts still untold
 
 -- the one that passes a test is found
-in_filter : {A : Type 0} (test : A → Bool) (x : A) (xs : List A) → In x xs → test x ≡ true
-    → In x (filter test xs)
-in_filter test x [] is passes = absurd is
-in_filter test x (y ∷ xs) (inl is) passes =
-    let y_passes : test y ≡ true = ap test is ∙ passes in
-    rw y_passes (inl is)
-in_filter {A} test x (y ∷ xs) (inr is) passes =
-    by_test (test y) (in_filter test x xs is passes)
-  where
-    by_test : (b : Bool) → In x (filter test xs)
-        → In x (cond b (y ∷ filter test xs) (filter test xs))
-    by_test true further = inr further
-    by_test false further = further
 
-none_in : {A : Type 0} (x : A) (xs : List A) → length xs ≤ 0 → In x xs → ⊥
-none_in x [] few is = is
-none_in x (y ∷ xs) few is = absurd (omega arith)
+find_filtered : {A : Type 0} (test : A → Bool) (xs : List A)
+    → find test xs ≡ slice_get (filter test xs) 0
+find_filtered test [] = refl
+find_filtered test (x ∷ xs) = elim (cases_Bool (test x)) [
+  | inl passes ↦ rw passes refl
+  | inr fails ↦ rw fails (find_filtered test xs)
+]
 
 lone_found : {A : Type 0} (test : A → Bool) (x : A) (xs : List A) → In x xs → test x ≡ true
     → length (filter test xs) ≤ 1 → find test xs ≡ Some x
-lone_found test x [] is passes few = absurd is
-lone_found test x (y ∷ xs) (inl is) passes few =
-    let y_passes : test y ≡ true = ap test is ∙ passes in
-    rw y_passes (ap (λ z. Some z) is)
-lone_found {A} test x (y ∷ xs) (inr is) passes few =
-    by_test (test y) refl few (λ fewer. lone_found test x xs is passes fewer)
-  where
-    by_test : (b : Bool) → test y ≡ b
-        → length (cond b (y ∷ filter test xs) (filter test xs)) ≤ 1
-        → (length (filter test xs) ≤ 1 → find test xs ≡ Some x)
-        → cond (test y) (Some y) (find test xs) ≡ Some x
-    by_test true y_passes at_most further =
-        let none : length (filter test xs) ≤ 0 = omega arith in
-        absurd (none_in x (filter test xs) none (in_filter test x xs is passes))
-    by_test false y_fails at_most further = rw y_fails (further at_most)
-
--- neither, of two of which one is
-is_other : (b c : Bool) → b ≡ true → (b && c) ≡ false → c ≡ false
-is_other true c is one = one
-is_other false c is one = cc
+lone_found test x xs is passes few =
+    rw (find_filtered test xs, only_one x (filter test xs) (in_filter test x xs is passes) few) refl
 
 module _ (lone : LoneQuotes) (config : Configuration) (facts : List Fact) (dealer : ℕ)
     (row : DealerRow) (desk : DeskOk config facts dealer row) where
@@ -139,7 +113,7 @@ module _ (lone : LoneQuotes) (config : Configuration) (facts : List Fact) (deale
   live_lifted : (room : RoomRef) (request : ℕ) → LiftedIn facts dealer room
       → number_for facts dealer room ≡ Some request
       → is_some (closable (book_by trail) request) ≡ true → LiveLifted request
-  unfolding live_quote_on
+  unfolding live_quote_on closable request_numbered
   live_lifted room request hit is may =
       record {
         own = standing;
@@ -161,12 +135,13 @@ module _ (lone : LoneQuotes) (config : Configuration) (facts : List Fact) (deale
       standing = standing_quote own stands.later
 
       still : list_any (withdraws own.number) (facts_of trail) ≡ false
-      still = is_other (was_lifted trail own.number) (was_withdrawn trail own.number)
-          (ap (was_lifted trail) hit.quoted.number_is ∙ hit.lifted) (desk.one_of own.number)
+      still =
+          let lifted : was_lifted trail own.number ≡ true =
+          ap (was_lifted trail) hit.quoted.number_is ∙ hit.lifted in
+          rw lifted at (desk.one_of own.number)
 
       untold_yet : list_any (tells own.request) (facts_of trail) ≡ false
-      untold_yet = ap (λ (n : ℕ). list_any (tells n) (facts_of trail)) request_is
-          ∙ desk.noticed.closed request may
+      untold_yet = rw request_is (desk.noticed.closed request may)
 
       end_is : standing.end ≡ None
       end_is = not_ended own stands.later
@@ -184,31 +159,22 @@ module _ (lone : LoneQuotes) (config : Configuration) (facts : List Fact) (deale
   number_is : (request : ℕ) (found : StandingRequest)
       → closable (book_by trail) request ≡ Some found → found.number ≡ request
   unfolding closable request_numbered
-  number_is request found is = of_found (book_by trail).requests is
+  number_is request found is = of_found (find same (book_by trail).requests) refl is
     where
       same : StandingRequest → Bool
       same other = other.number == request
 
-      of_one : (other : StandingRequest) (b : Bool) → other.is_told ≡ b
+      of_one : (other : StandingRequest) (b : Bool)
           → (if b then None else Some other) ≡ Some found → other ≡ found
-      of_one other true told closes_it = cc
-      of_one other false told closes_it = same_Some other found closes_it
+      of_one other true closed = cc
+      of_one other false closed = same_Some other found closed
 
-      of_found : (requests : List StandingRequest)
-          → untold (find same requests) ≡ Some found → found.number ≡ request
-      of_found [] closes_it = cc
-      of_found (other ∷ requests) closes_it =
-          by_test (same other) refl closes_it (λ further. of_found requests further)
-        where
-          by_test : (b : Bool) → same other ≡ b
-              → untold (cond b (Some other) (find same requests)) ≡ Some found
-              → (untold (find same requests) ≡ Some found → found.number ≡ request)
-              → found.number ≡ request
-          by_test true test closed further =
-              let number : other.number ≡ request = grind (arith, nat_tests) in
-              ap (λ (r : StandingRequest). r.number)
-              (sym (of_one other other.is_told refl closed)) ∙ number
-          by_test false test closed further = further closed
+      of_found : (one : Option StandingRequest) → find same (book_by trail).requests ≡ one
+          → untold one ≡ Some found → found.number ≡ request
+      of_found None is closed = cc
+      of_found (Some other) is closed =
+          rw (of_one other other.is_told closed) at (eqb-true other.number request
+          (found_passes same (book_by trail).requests other is))
 
   -- the notice of a hit
   pub hit_names : (room : RoomRef) (request moment : ℕ) → LiftedIn facts dealer room
@@ -219,27 +185,17 @@ module _ (lone : LoneQuotes) (config : Configuration) (facts : List Fact) (deale
       (event.Told request closes.Hit moment))))
   unfolding event_message
   hit_names room request moment hit is may =
-      by_found (closable (book_by trail) request) refl may
-    where
-      live : LiveLifted request
-      live = live_lifted room request hit is may
-
-      by_found : (found : Option StandingRequest) → closable (book_by trail) request ≡ found
-          → is_some found ≡ true
-          → NamesLiftedQuote config.date row trail request moment
-          (map Sent (option_to_list (message_by config.date row trail
-          (event.Told request closes.Hit moment))))
-      by_found None found some = cc
-      by_found (Some request_found) found some = record {
+      let live = live_lifted room request hit is may in
+      let found = some_of (closable (book_by trail) request) may in
+      record {
         own = live.own;
-        notice = notice_of (book_by trail) closes.Hit request_found;
+        notice = notice_of (book_by trail) closes.Hit found.0;
         live = live.live;
         lifted = live.lifted;
-        written = ap (option_map (notice_of (book_by trail) closes.Hit)) found;
-        named = ap (λ (n : ℕ). option_map quoted_price (live_quote_on (book_by trail) n))
-            (number_is request request_found found)
-            ∙ ap (option_map quoted_price) live.live;
+        written = ap (option_map (notice_of (book_by trail) closes.Hit)) found.1;
+        named = rw (number_is request found.0 found.1)
+            (ap (option_map quoted_price) live.live);
         sent = ap (λ (o : Option StandingRequest). next_sent (map Sent (option_to_list
             (option_map (next_message config.date row (sent_by trail) moment)
-            (option_map (notice_of (book_by trail) closes.Hit) o))))) found;
+            (option_map (notice_of (book_by trail) closes.Hit) o))))) found.1;
       }

@@ -1,166 +1,159 @@
 -- A closing notice comes after its request was shown, and at most once.
-use Rattle.std.proofs.Common.{◌≡◌, ◌≤◌, ℕ, ◌==◌, Bool, true, false, ◌||◌, List, [], ◌∷◌, ◌++◌, map}
-use Rattle.std.proofs.Common.{option_to_list, filter, length, Some, None, is_some, if◌then◌else◌}
-use Rattle.std.proofs.Common.{refl, sym, ap, ◌∙◌, subst, arith}
-use Rattle.std.proofs.lemmas.Bool.Decides.{nat_tests}
-use Rattle.std.proofs.lemmas.List.{append_assoc}
-use Rattle.std.proofs.lemmas.List.Elements.{filter_map-append}
+use Rattle.std.proofs.Common.{List, Some, ℕ, [], ap, arith, eq-eqb, false, filter, inl, inr}
+use Rattle.std.proofs.Common.{is_some, length, refl, subst, true, ◌++◌, ◌∙◌, ◌∷◌, ◌≡◌, ◌≤◌}
+use Rattle.std.proofs.lemmas.Bool.{cases_Bool, eqb-true, false_from_ne_true, or_cases, or_parts}
+use Rattle.std.proofs.lemmas.List.{append-nil, append_assoc}
+use Rattle.std.proofs.lemmas.List.Elements.{filter-append, filter_map-append}
+use Rattle.std.proofs.lemmas.List.Folds.{list_any-append}
+use Rattle.std.specs.List.{list_any}
 use Rattle.market_terms.specs.declared.closes.Close.{Close}
 use Rattle.venue_rows.specs.Rows.{Configuration, dealer_numbered}
 use Rattle.venue_rows.specs.declared.dealer_rows.DealerRow.{DealerRow}
-use Rattle.dealer_desk.specs.DealerFacts.{DealerFact, Told, number_to_drop, tells, request_numbered}
+use Rattle.dealer_desk.specs.DealerFacts.{DealerFact, Shown, Told, number_to_drop, request_numbered}
+use Rattle.dealer_desk.specs.DealerFacts.{tells}
+use Rattle.dealer_desk.specs.DealerOutput.{closable, event_facts, untold}
 use Rattle.dealer_desk.specs.DealerRules.{dealer_verdict}
-use Rattle.dealer_desk.specs.DealerOutput.{event_facts, closable, shown_room}
-use Rattle.dealer_desk.specs.declared.standing.Withdrawal.TheVariants as by
 use Rattle.dealer_desk.specs.declared.events.DealerEvent.{DealerEvent}
 use Rattle.dealer_desk.specs.declared.events.DealerEvent.TheVariants as event
-use Rattle.step_replay.specs.Actions.{settlement_of, drop_at}
+use Rattle.dealer_desk.specs.declared.standing.Withdrawal.TheVariants as by
+use Rattle.step_replay.specs.Actions.{drop_at, settlement_of}
 use Rattle.step_replay.specs.AuditTrail.{audit_trail}
-use Rattle.step_replay.specs.DealerTrail.{DealerEntry, AtDesk, ShownIn, Lifted, Sent, book_by}
-use Rattle.step_replay.specs.DealerTrail.{entries_of, message_by, facts_of, fact_in}
-use Rattle.venue_laws.specs.Notices.{was_shown}
-use Rattle.step_replay.specs.VenueFacts.{of_dealer}
-use Rattle.step_replay.specs.declared.steps.Step.{Step}
-use Rattle.step_replay.specs.EachLemmas.{Each, Every, each_of, every_both}
 use Rattle.step_replay.specs.DealerGrowth.{facts_grown}
+use Rattle.step_replay.specs.DealerTrail.{AtDesk, DealerEntry, Lifted, book_by, entries_of, fact_in}
+use Rattle.step_replay.specs.DealerTrail.{facts_of}
+use Rattle.step_replay.specs.EachLemmas.{Each, Every, each_append, each_of}
 use Rattle.step_replay.specs.StepLemmas.{kept_by_all}
 use Rattle.step_replay.specs.TrailKept.{IsKept}
-use Rattle.venue_laws.proofs.ShownRequests.{closable_shown}
-use Rattle.venue_laws.proofs.NoticedLemmas.{told_in, told_by, IsAfterShown, Noticed, none_filtered}
-use Rattle.venue_laws.proofs.NoticedLemmas.{noticed_more, each_silent, rest_silent, facts_tell_none}
-use Rattle.venue_laws.proofs.NoticedLemmas.{settled_silent, verdict_silent}
-use Rattle.venue_laws.proofs.ListLemmas.{every_mapped}
-use Rattle.std.proofs.lemmas.Option.{same_Some}
+use Rattle.step_replay.specs.VenueFacts.{of_dealer}
+use Rattle.step_replay.specs.declared.steps.Step.{Step}
+use Rattle.venue_laws.proofs.PlainFacts.{IsPlain, settled_plain, verdict_plain}
+use Rattle.venue_laws.proofs.ShownRequests.{found, found_grown, still_untold, untold_found}
+use Rattle.venue_laws.specs.Notices.{was_shown}
+
+-- a notice stands behind the request that was shown
+abbrev pub IsAfterShown : List DealerFact → DealerFact → List DealerFact → Type 0
+IsAfterShown before fact after =
+    (request : ℕ) → tells request fact ≡ true → is_some (found request 1 before) ≡ true
+
+-- what is kept of the facts of a desk
+pub record Noticed (facts : List DealerFact) : Type 0 where
+  pub after_shown : Each IsAfterShown [] facts
+  pub shown : (request : ℕ) → list_any (tells request) facts ≡ true
+      → is_some (found request 1 facts) ≡ true
+  pub closed : (request : ℕ) → is_some (untold (found request 1 facts)) ≡ true
+      → list_any (tells request) facts ≡ false
+  pub once : (request : ℕ) → length (filter (tells request) facts) ≤ 1
+
+-- a list in which none is
+none_filtered : (request : ℕ) (facts : List DealerFact) → list_any (tells request) facts ≡ false
+    → filter (tells request) facts ≡ []
+none_filtered request [] none = refl
+none_filtered request (fact ∷ facts) none =
+    let parts = or_parts (tells request fact) (list_any (tells request) facts) none in
+    rw (parts.0) (none_filtered request facts parts.1)
+
+-- One fact more, that tells of a request of which a notice may be sent, if it tells of one.
+
+module _ (facts : List DealerFact) (fact : DealerFact) (before : Noticed facts)
+    (may : (request : ℕ) → tells request fact ≡ true
+    → is_some (untold (found request 1 facts)) ≡ true) where
+  told_so : (request : ℕ) → list_any (tells request) (facts ++ fact ∷ []) ≡ true
+      → is_some (found request 1 facts) ≡ true
+  told_so request is = elim (or_cases _ _ (rw list_any-append at is)) [
+    | inl was ↦ before.shown request was
+    | inr now ↦ elim (or_cases (tells request fact) false now) [
+      | inl tells_it ↦ untold_found _ (may request tells_it)
+      | inr never ↦ cc
+    ]
+  ]
+
+  closed_then : (request : ℕ) → is_some (untold (found request 1 (facts ++ fact ∷ []))) ≡ true
+      → list_any (tells request) (facts ++ fact ∷ []) ≡ false
+  closed_then request unclosed = elim (cases_Bool (is_some (found request 1 facts))) [
+    | inl was ↦
+        let still = still_untold request 1 facts (fact ∷ []) was unclosed in
+        rw (list_any-append, before.closed request still.before) still.silent
+    | inr none ↦ false_from_ne_true _ (λ told. cc (none, told_so request told))
+  ]
+
+  once_then : (request : ℕ) → length (filter (tells request) (facts ++ fact ∷ [])) ≤ 1
+  once_then request = elim (cases_Bool (tells request fact)) [
+    | inl now ↦ rw (
+      filter-append,
+      none_filtered request facts (before.closed request (may request now)),
+      now,
+    ) (omega arith)
+    | inr none ↦ rw (filter-append, none, append-nil) (before.once request)
+  ]
+
+  noticed_then : Noticed (facts ++ fact ∷ [])
+  noticed_then = record {
+    after_shown = each_append IsAfterShown (λ front one rest last holds. holds) [] facts (fact ∷ [])
+        before.after_shown (λ request is. untold_found _ (may request is), tt);
+    shown = λ request is. found_grown request 1 facts (fact ∷ []) (told_so request is);
+    closed = closed_then;
+    once = once_then;
+  }
+
+plain_silent : (request : ℕ) (fact : DealerFact) → IsPlain fact → tells request fact ≡ false
+plain_silent request (Told told close moment) plain = cc
+plain_silent request fact plain = refl
+
+-- more facts, none of which tells or shows anything
+noticed_still : (facts more : List DealerFact) → Noticed facts → Every IsPlain more
+    → Noticed (facts ++ more)
+noticed_still facts [] before plain = rw append-nil before
+noticed_still facts (fact ∷ more) before plain =
+    subst Noticed (append_assoc facts (fact ∷ []) more)
+    (noticed_still (facts ++ fact ∷ []) more
+    (noticed_then facts fact before (λ request is. cc (plain_silent request fact plain.0, is)))
+    plain.1)
 
 -- Events.
 
 module _ (date : List ℕ) (row : DealerRow) where
-  event_noticed : (trail : List DealerEntry) (more : DealerEvent) → Noticed trail
-      → Every (λ fact. told_in fact ≡ None) (event_facts date row (book_by trail) more)
-      → Noticed (trail ++ entries_of date row trail more)
-  unfolding entries_of
-  event_noticed trail more before silent =
-      noticed_more trail (entries_of date row trail more) facts (facts_grown date row trail more)
-      before
-      (λ request is. cc (sym (facts_tell_none request facts silent) ∙ is))
-      (λ request. subst (λ (l : List DealerFact). length l ≤ 1)
-      (sym (none_filtered request facts (facts_tell_none request facts silent))) few)
-      (each_silent trail (entries_of date row trail more)
-      (subst (λ (l : List DealerEntry). Every (λ entry. told_by entry ≡ None) l)
-      (sym (append_assoc (map AtDesk facts)
-      (map ShownIn (option_to_list (shown_room more)))
-      (map Sent (option_to_list (message_by date row trail more)))))
-      (every_both (λ entry. told_by entry ≡ None) (map AtDesk facts) _
-      (every_mapped (λ entry. told_by entry ≡ None) AtDesk facts silent)
-      (rest_silent (option_to_list (shown_room more))
-      (option_to_list (message_by date row trail more))))))
-    where
-      facts : List DealerFact
-      facts = event_facts date row (book_by trail) more
+  event_noticed : (trail : List DealerEntry) (more : DealerEvent)
+      → Noticed (facts_of trail ++ event_facts date row (book_by trail) more)
+      → Noticed (facts_of (trail ++ entries_of date row trail more))
+  event_noticed trail more after = rw (facts_grown date row trail more) after
 
-      few : 0 ≤ 1
-      few = omega arith
-
-  told_noticed : (trail : List DealerEntry) (request : ℕ) (close : Close) (moment : ℕ)
-      → is_some (closable (book_by trail) request) ≡ true → Noticed trail
-      → Noticed (trail ++ entries_of date row trail (event.Told request close moment))
-  unfolding entries_of event_facts
-  told_noticed trail request close moment may before =
-      noticed_more trail (entries_of date row trail more) (Told request close moment ∷ [])
-      (facts_grown date row trail more ∙ ap (λ l. facts_of trail ++ l) facts_are)
-      before
-      (λ other is. by_number other (request == other) refl is)
-      (λ other. few other (request == other) refl)
-      (subst (Each IsAfterShown trail) (sym entries_are) (
-        λ other is. ap (was_shown trail) (sym (same_Some request other is))
-            ∙ closable_shown trail request may,
-        each_silent (trail ++ AtDesk (Told request close moment) ∷ []) (map Sent messages)
-            (rest_silent [] messages),
-      ))
-    where
-      more : DealerEvent
-      more = event.Told request close moment
-
-      messages : List (List ℕ)
-      messages = option_to_list (message_by date row trail more)
-
-      facts_if : Bool → List DealerFact
-      facts_if b = if b then Told request close moment ∷ [] else []
-
-      facts_are : event_facts date row (book_by trail) more ≡ Told request close moment ∷ []
-      facts_are = ap facts_if may
-
-      entries_are : entries_of date row trail more
-          ≡ AtDesk (Told request close moment) ∷ map Sent messages
-      entries_are = ap (λ b. map AtDesk (facts_if b) ++ [] ++ map Sent messages) may
-
-      by_number : (other : ℕ) (b : Bool) → (request == other) ≡ b
-          → ((request == other) || false) ≡ true
-          → is_some (closable (book_by trail) other) ≡ true
-      by_number other true test is =
-          let same : request ≡ other = grind (arith, nat_tests) in
-          ap (λ (n : ℕ). is_some (closable (book_by trail) n)) (sym same) ∙ may
-      by_number other false test is =
-          let clash : (false || false) ≡ true = ap (λ b. b || false) (sym test) ∙ is in
-          cc
-
-      few : (other : ℕ) (b : Bool) → (request == other) ≡ b
-          → length (filter (tells other) (Told request close moment ∷ [])) ≤ 1
-      few other true test =
-          let one : 1 ≤ 1 = omega arith in
-          rw test one
-      few other false test =
-          let one : 0 ≤ 1 = omega arith in
-          rw test one
-
-  lifted_noticed : (trail : List DealerEntry) (quote : ℕ) → Noticed trail
-      → Noticed (trail ++ Lifted quote ∷ [])
-  lifted_noticed trail quote before =
-      noticed_more trail (Lifted quote ∷ []) []
-      (filter_map-append fact_in trail (Lifted quote ∷ []))
-      before
-      (λ request is. cc)
-      (λ request. few)
-      (each_silent trail (Lifted quote ∷ []) (refl, tt))
-    where
-      few : 0 ≤ 1
-      few = omega arith
-
-  pub noticed_is_kept : IsKept date row Noticed
-  unfolding event_facts
+  pub noticed_is_kept : IsKept date row (λ trail. Noticed (facts_of trail))
+  unfolding event_facts closable request_numbered
   noticed_is_kept = record {
     own = λ trail moment bytes before.
         let v = dealer_verdict date row (book_by trail) moment bytes in
-        event_noticed trail (event.Received moment bytes (settlement_of trail v)) before
-        (refl, verdict_silent v (settlement_of trail v));
+        event_noticed trail (event.Received moment bytes (settlement_of trail v))
+        (noticed_still (facts_of trail) _ before (refl, verdict_plain v (settlement_of trail v)));
     drop = λ trail last moment before.
-        event_noticed trail (drop_at trail last moment) before
-        (refl, settled_silent (number_to_drop (book_by trail) last) by.Cancel _);
+        event_noticed trail (drop_at trail last moment)
+        (noticed_still (facts_of trail) _ before
+        (refl, settled_plain (number_to_drop (book_by trail) last) by.Cancel _));
     shown = λ trail room ask moment before.
-        event_noticed trail (event.Shown room ask moment) before (refl, tt);
+        event_noticed trail (event.Shown room ask moment)
+        (noticed_then (facts_of trail) (Shown ask moment) before (λ request is. cc));
     told = λ trail request close moment may before.
-        told_noticed trail request close moment may before;
-    lifted = λ trail quote within still before. lifted_noticed trail quote before;
+        event_noticed trail (event.Told request close moment)
+        (rw may (noticed_then (facts_of trail) (Told request close moment) before
+        (λ other is. rw (eqb-true request other is) at may)));
+    lifted = λ trail quote within still before.
+        rw (filter_map-append fact_in trail (Lifted quote ∷ []), append-nil) before;
   }
 
 -- at the start of the day nothing was told
 pub start_noticed : Noticed []
-unfolding closable request_numbered
 start_noticed = record {
   after_shown = tt;
   shown = λ request is. cc;
   closed = λ request is. refl;
-  once = λ request. few;
+  once = λ request. omega arith;
 }
-  where
-    few : 0 ≤ 1
-    few = omega arith
 
 pub is_noticed : (config : Configuration) (steps : List Step) (dealer : ℕ) (row : DealerRow)
     → dealer_numbered config dealer ≡ Some row
-    → Noticed (of_dealer dealer (audit_trail config steps).facts)
+    → Noticed (facts_of (of_dealer dealer (audit_trail config steps).facts))
 is_noticed config steps dealer row is =
-    kept_by_all config dealer row is Noticed (noticed_is_kept config.date row) start_noticed steps
+    kept_by_all config dealer row is (λ trail. Noticed (facts_of trail))
+    (noticed_is_kept config.date row) start_noticed steps
 
 -- a notice stands behind its request
 pub is_after_shown : (config : Configuration) (steps : List Step) (dealer : ℕ) (row : DealerRow)
@@ -169,7 +162,11 @@ pub is_after_shown : (config : Configuration) (steps : List Step) (dealer : ℕ)
     → of_dealer dealer (audit_trail config steps).facts
     ≡ before ++ AtDesk (Told request close moment) ∷ after
     → was_shown before request ≡ true
+unfolding request_numbered
 is_after_shown config steps dealer row before after request close moment is splits =
-    each_of IsAfterShown (of_dealer dealer (audit_trail config steps).facts) before
-    (AtDesk (Told request close moment)) after
-    (is_noticed config steps dealer row is).after_shown splits request refl
+    each_of IsAfterShown (facts_of (of_dealer dealer (audit_trail config steps).facts))
+    (facts_of before) (Told request close moment) (facts_of after)
+    (is_noticed config steps dealer row is).after_shown
+    (ap facts_of splits
+    ∙ filter_map-append fact_in before (AtDesk (Told request close moment) ∷ after))
+    request (eq-eqb request request refl)

@@ -1,22 +1,21 @@
 -- What a dealer says and drops brings what stands in a venue.
-use Rattle.std.proofs.Common.{Bool, IfSome, List, None, Option, Some, [], ap, arith, false}
+use Rattle.std.proofs.Common.{Bool, IfSome, List, None, Option, Some, ℕ, [], ap, arith, false}
 use Rattle.std.proofs.Common.{if◌then◌else◌, inl, inr, map, nat_le, option_map, option_to_list}
-use Rattle.std.proofs.Common.{refl, subst, suc, sym, true, zero, ℕ, ◌&&◌, ◌++◌, ◌+◌, ◌-◌, ◌∙◌, ◌∷◌}
-use Rattle.std.proofs.Common.{◌≡◌, ◌≤◌}
+use Rattle.std.proofs.Common.{refl, subst, sym, true, ◌&&◌, ◌++◌, ◌+◌, ◌-◌, ◌∙◌, ◌∷◌, ◌≡◌, ◌≤◌}
 use Rattle.std.proofs.lemmas.Bool.Decides.{nat_tests}
-use Rattle.std.specs.Prelude.{slice_get}
+use Rattle.std.proofs.lemmas.List.Elements.{filter_map-append}
 use Rattle.market_terms.specs.declared.duties.Duty.{Duty}
 use Rattle.market_terms.specs.declared.duties.Duty.TheVariants as duty
 use Rattle.market_terms.specs.declared.rooms.RoomRef.{RoomRef}
 use Rattle.quote_word.specs.declared.settled.Settled.{Settled}
 use Rattle.venue_rows.specs.Rows.{dealer_numbered}
 use Rattle.venue_rows.specs.declared.dealer_rows.DealerRow.{DealerRow}
+use Rattle.dealer_desk.specs.DealerDesk.{DeskEvents, book_at, verdict_at}
 use Rattle.dealer_desk.specs.DealerFacts.{Came, DealerFact, Dropped, Quoted, book_of}
 use Rattle.dealer_desk.specs.DealerFacts.{number_to_drop, quote_to_drop}
 use Rattle.dealer_desk.specs.DealerOutput.{DeskState, event_facts, goes_through, is_withdrawn}
 use Rattle.dealer_desk.specs.DealerOutput.{post_of, room_of, settled_facts, unpost_dropped}
 use Rattle.dealer_desk.specs.DealerOutput.{uses_number, verdict_duty, verdict_facts, word_asked}
-use Rattle.dealer_desk.specs.DealerDesk.{DeskEvents, verdict_at, book_at}
 use Rattle.dealer_desk.specs.DealerRules.{dealer_verdict}
 use Rattle.dealer_desk.specs.declared.accepted.AcceptedQuote.{AcceptedQuote}
 use Rattle.dealer_desk.specs.declared.events.DealerEvent.{DealerEvent}
@@ -25,27 +24,26 @@ use Rattle.dealer_desk.specs.declared.standing.StandingQuote.{StandingQuote}
 use Rattle.dealer_desk.specs.declared.standing.Withdrawal.TheVariants as by_way
 use Rattle.dealer_desk.specs.declared.verdicts.DealerVerdict.{DealerVerdict}
 use Rattle.dealer_desk.specs.declared.verdicts.DealerVerdict.TheVariants as verdict
-use Rattle.request_room.specs.RoomFacts.{is_named}
 use Rattle.venue_places.specs.declared.actors.Actor.TheVariants as actor
-use Rattle.step_replay.specs.Actions.{answer_to_drop, dealer_of, drop_at, dropped_by, left_by}
-use Rattle.step_replay.specs.Actions.{left_by_drop, received_by_dealer, settlement_of}
-use Rattle.step_replay.specs.DealerTrail.{AtDesk, DealerEntry, Sent, book_by, entries_of, facts_of}
-use Rattle.step_replay.specs.DealerTrail.{message_by, rooms_by}
+use Rattle.step_replay.specs.Actions.{Effect, answer_to_drop, dealer_of, drop_at, dropped_by}
+use Rattle.step_replay.specs.Actions.{left_by, left_by_drop, received_by_dealer, settlement_of}
+use Rattle.step_replay.specs.DealerTrail.{AtDesk, DealerEntry, Sent, book_by, entries_of, fact_in}
+use Rattle.step_replay.specs.DealerTrail.{facts_of, message_by, rooms_by}
 use Rattle.step_replay.specs.EachLemmas.{Every, every_both}
 use Rattle.step_replay.specs.GrowthLemmas.{In, in_right}
-use Rattle.std.proofs.lemmas.Option.{same_Some}
-use Rattle.step_replay.specs.PlaceLemmas.{own_trail}
+use Rattle.step_replay.specs.PlaceLemmas.{dealer_grown, own_trail}
 use Rattle.step_replay.specs.SeenLemmas.{Seen}
 use Rattle.step_replay.specs.TrailLemmas.{facts_added}
-use Rattle.step_replay.specs.VenueFacts.{AtDealer, Fact, of_dealer}
+use Rattle.step_replay.specs.VenueFacts.{AtDealer, of_dealer}
 use Rattle.venue_laws.proofs.AcceptedQuotes.{AcceptOk, verdict_accepts}
-use Rattle.venue_laws.proofs.PlainFacts.{at_dealer_all, event_plain, rooms_all, settled_plain}
-use Rattle.venue_laws.proofs.PlainFacts.{verdict_plain}
-use Rattle.venue_laws.proofs.VenueGrowth.{facts_later, named_later, number_for_grown}
-use Rattle.venue_laws.proofs.VenueInvariant.{ByDealer, ByNamed, DeskOk, FactOk}
-use Rattle.venue_laws.proofs.VenueKinds.{Brings, FineThen, Here, Now, desk_plain, known, trail_of}
-use Rattle.venue_laws.proofs.VenueKinds.{when_brings}
-use Rattle.venue_laws.proofs.VenueParts.{did_in}
+use Rattle.venue_laws.proofs.ListLemmas.{slice_holds}
+use Rattle.venue_laws.proofs.PlainFacts.{event_plain, settled_plain, verdict_plain}
+use Rattle.venue_laws.proofs.VenueGrowth.{later_both, named_later, number_later, quoted_later}
+use Rattle.venue_laws.proofs.VenueInvariant.{ByDealer, ByNamed, DeskOk, ShownTo}
+use Rattle.venue_laws.proofs.VenueKinds.{Fine, at_desk, desk_plain, when_brings}
+use Rattle.venue_laws.proofs.VenueKnown.{rooms_shown}
+use Rattle.venue_laws.proofs.VenueParts.{Still}
+use Rattle.venue_laws.proofs.VenueSteps.{Brings, Here, day, since, trail_of}
 
 -- The words of a dealer's day.
 
@@ -85,12 +83,6 @@ module _ (words : WordsOfDay) (date : List ℕ) (row : DealerRow) (trail : List 
       subst (λ (state : DeskState). IfSome (number_to_drop (book_of state.facts) last) (OfRow row))
       seen.state_is (words.drops desk_seen last)
 
-slice_holds : {A : Type 0} (P : A → Type 0) (xs : List A) (place : ℕ) (x : A)
-    → slice_get xs place ≡ Some x → Every P xs → P x
-slice_holds P [] place x is all = cc
-slice_holds P (y ∷ xs) zero x is all = subst P (same_Some y x is) all.0
-slice_holds P (y ∷ xs) (suc place) x is all = slice_holds P xs place x is all.1
-
 -- What the dealer's desk leaves.
 
 module _ (words : WordsOfDay) (h : Here) (dealer : ℕ) (row : DealerRow)
@@ -107,25 +99,17 @@ module _ (words : WordsOfDay) (h : Here) (dealer : ℕ) (row : DealerRow)
   abbrev who : ByDealer h.config h.by
   who = record { dealer = dealer; row = row; by_is = by_is; row_is = is }
 
-  module _ (entries : List DealerEntry) where
-    abbrev more : List Fact
-    more = map (AtDealer dealer) entries
-
+  module _ (effect : Effect) where
     abbrev FineNow : Duty → Type 0
-    FineNow left = FineThen h more left
+    FineNow left = Fine h effect left
 
-    named_now : (number : ℕ) (room : RoomRef) → room_of rooms number ≡ Some room
-        → ByNamed h.config (Now h more) h.by room
-    named_now number room found = record {
+    named_then : (number : ℕ) (room : RoomRef) → room_of rooms number ≡ Some room
+        → Still (λ now. ByNamed h.config h.by room now.facts) (day h effect)
+    named_then number room found now later = record {
       who = who;
-      named = named_later h.venue.facts more room dealer
-          (slice_holds (λ (r : RoomRef). is_named (known h r) dealer ≡ true) rooms _ room found
-          (rooms_all (λ (entry : DealerEntry). FactOk h.config h.venue.facts h.venue.caused
-          (did_in h.venue) (AtDealer dealer entry))
-          (λ (r : RoomRef). is_named (known h r) dealer ≡ true)
-          (λ r stands. stands.named) trail
-          (at_dealer_all (FactOk h.config h.venue.facts h.venue.caused (did_in h.venue)) dealer
-          h.venue.facts h.stood.facts)));
+      named = named_later (later_both (since h effect) later) room dealer
+          (slice_holds (λ r. ShownTo h.config dealer r h.venue) rooms (number - 1) room found
+          (rooms_shown h.config h.venue h.stood dealer)).named;
     }
 
     map_fine : (found : Option RoomRef) (left : RoomRef → Duty)
@@ -141,22 +125,22 @@ module _ (words : WordsOfDay) (h : Here) (dealer : ℕ) (row : DealerRow)
 
     post_fine : (quote : AcceptedQuote) (room : RoomRef) → 1 ≤ quote.request
         → (nat_le 1 quote.number && nat_le quote.number row.quotes) ≡ true
-        → In (Quoted quote) (facts_of (of_dealer dealer (Now h more)))
+        → In (Quoted quote) (facts_of (of_dealer dealer (day h effect).facts))
         → room_of rooms quote.request ≡ Some room → FineNow (post_of quote room)
-    unfolding named_now
+    unfolding named_then
     post_fine quote room least within quoted found =
         let place : quote.request - 1 + 1 ≡ quote.request = omega arith in (
-          record {
-            named = named_now quote.request room found;
+          λ now later. record {
+            named = named_then quote.request room found now later;
             within = within;
-            quoted = record {
+            quoted = quoted_later later dealer room quote.number (record {
               own = quote;
               quoted = quoted;
               number_is = refl;
-              request_is = number_for_grown h.venue.facts more dealer room quote.request
+              request_is = number_later (since h effect) dealer room quote.request
                   (desk.numbered (quote.request - 1) room found
                   ∙ ap (λ (n : ℕ). Some n) place);
-            };
+            });
           },
           refl,
         )
@@ -164,16 +148,20 @@ module _ (words : WordsOfDay) (h : Here) (dealer : ℕ) (row : DealerRow)
     unpost_fine : (number quote moment : ℕ) → OfRow row quote
         → Every FineNow (option_to_list (option_map (λ room. duty.Unpost room quote moment)
         (room_of rooms number)))
-    unfolding named_now
+    unfolding named_then
     unpost_fine number quote moment of_day =
-        map_fine (room_of rooms number) (λ room. duty.Unpost room quote moment)
-        (λ room found.
-        (record { named = named_now number room found; within = within_row row quote of_day }, refl))
+        map_fine (room_of rooms number) (λ room. duty.Unpost room quote moment) (λ room found. (
+          λ now later. record {
+            named = named_then number room found now later;
+            within = within_row row quote of_day;
+          },
+          refl,
+        ))
 
     said_fine : (moment : ℕ) (v : DealerVerdict) (settlement : Option Settled) → AcceptOk row v
         → IfSome (word_asked v) (OfRow row)
         → ((quote : AcceptedQuote) → In (Quoted quote) (verdict_facts v settlement)
-        → In (Quoted quote) (facts_of (of_dealer dealer (Now h more))))
+        → In (Quoted quote) (facts_of (of_dealer dealer (day h effect).facts)))
         → Every FineNow (option_to_list (verdict_duty rooms moment v settlement))
     said_fine moment (verdict.QuoteAccepted name id quote old) settlement accepts of_day quoted =
         if_fine (goes_through old settlement)
@@ -181,17 +169,16 @@ module _ (words : WordsOfDay) (h : Here) (dealer : ℕ) (row : DealerRow)
         (λ goes. map_fine (room_of rooms quote.request) (post_of quote)
         (λ room found. post_fine quote room accepts.0 accepts.1
         (quoted quote (in_right (Quoted quote) (settled_facts old by_way.Replacement settlement) _
-        (subst (λ (b : Bool). In (Quoted quote) (if b then Quoted quote ∷ [] else [])) (sym goes)
-        (inl refl)))) found))
+        (rw goes (inl refl)))) found))
     said_fine moment (verdict.CancelAccepted id quote request) settlement accepts of_day quoted =
         if_fine (is_withdrawn settlement)
         (option_map (λ room. duty.Unpost room quote moment) (room_of rooms request))
         (λ goes. unpost_fine request quote moment of_day)
     said_fine moment (verdict.DeclineAccepted name number) settlement accepts of_day quoted =
         map_fine (room_of rooms number) (λ room. duty.Decline room moment)
-        (λ room found. (named_now number room found, refl))
+        (λ room found. (named_then number room found, refl))
     said_fine moment (verdict.DropsFollow last) settlement accepts of_day quoted =
-        ((who, refl), tt)
+        ((λ now later. who, refl), tt)
     said_fine moment other settlement accepts of_day quoted = tt
 
     -- A drop.
@@ -208,7 +195,7 @@ module _ (words : WordsOfDay) (h : Here) (dealer : ℕ) (row : DealerRow)
 
     further_fine : (b : Bool) (last moment : ℕ)
         → Every FineNow (option_to_list (if b then Some (duty.Drop last moment) else None))
-    further_fine true last moment = ((who, refl), tt)
+    further_fine true last moment = ((λ now later. who, refl), tt)
     further_fine false last moment = tt
 
   -- the entries of an event that shows no room
@@ -226,15 +213,17 @@ module _ (words : WordsOfDay) (h : Here) (dealer : ℕ) (row : DealerRow)
       let facts = Came moment bytes (uses_number v) ∷ verdict_facts v settlement in
       let messages = option_to_list (message_by h.config.date row trail more) in
       let entries = entries_with facts more in
+      let effect = at_desk h dealer entries (left_by trail moment v) in
       when_brings h _ _ (λ test.
-      desk_plain h dealer row (left_by trail moment v) entries is
+      desk_plain h dealer row is entries (left_by trail moment v)
       (event_plain facts messages (refl, verdict_plain v settlement))
-      (said_fine entries moment v settlement
+      (said_fine effect moment v settlement
       (verdict_accepts row (facts_of trail) moment h.config.date bytes)
       (asks_of_day words h.config.date row trail desk.seen moment bytes)
       (λ quote quoted. subst (In (Quoted quote))
-      (sym (facts_later h.venue.facts (map (AtDealer dealer) entries) dealer
-      ∙ ap (λ l. facts_of trail ++ facts_of l) (own_trail dealer entries)
+      (sym (ap facts_of (dealer_grown dealer h.venue.facts (map (AtDealer dealer) entries)
+      ∙ ap (λ l. trail ++ l) (own_trail dealer entries))
+      ∙ filter_map-append fact_in trail entries
       ∙ ap (λ l. facts_of trail ++ l) (facts_added facts [] messages)))
       (in_right (Quoted quote) (facts_of trail) facts (inr quoted)))))
 
@@ -247,12 +236,13 @@ module _ (words : WordsOfDay) (h : Here) (dealer : ℕ) (row : DealerRow)
       let more = drop_at trail last moment in
       let facts = Dropped last moment ∷ settled_facts asked by_way.Cancel settlement in
       let entries = entries_with facts more in
+      let left = left_by_drop h.config h.venue.facts last moment (dealer_of dealer row) in
+      let effect = at_desk h dealer entries left in
       when_brings h _ _ (λ test.
-      desk_plain h dealer row
-      (left_by_drop h.config h.venue.facts last moment (dealer_of dealer row)) entries is
+      desk_plain h dealer row is entries left
       (event_plain facts (option_to_list (message_by h.config.date row trail more))
       (refl, settled_plain asked by_way.Cancel settlement))
-      (every_both (FineNow entries) _ _
-      (dropped_fine entries moment settlement (quote_to_drop (book_by trail) last)
+      (every_both (FineNow effect) _ _
+      (dropped_fine effect moment settlement (quote_to_drop (book_by trail) last)
       (drops_of_day words h.config.date row trail desk.seen last))
-      (further_fine entries _ last moment)))
+      (further_fine effect _ last moment)))

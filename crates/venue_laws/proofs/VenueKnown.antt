@@ -1,37 +1,40 @@
 -- What stands of a room in a venue, by its facts: its request, that it is ready, its end.
-use Rattle.std.proofs.Common.{Bool, List, None, Option, Some, [], ap, arith, eq-eqb, false}
-use Rattle.std.proofs.Common.{if◌then◌else◌, is_some, refl, subst, sym, true, ℕ, ◌&&◌, ◌+◌, ◌==◌}
-use Rattle.std.proofs.Common.{◌||◌, ◌∙◌, ◌∷◌, ◌≡◌, ◌≤◌}
-use Rattle.std.proofs.lemmas.Bool.Decides.{nat_tests}
+use Rattle.std.proofs.Common.{List, None, Option, Some, ℕ, [], ap, arith, eq-eqb, inl, inr, refl}
+use Rattle.std.proofs.Common.{subst, sym, true, ◌++◌, ◌+◌, ◌==◌, ◌∙◌, ◌∷◌, ◌≡◌}
+use Rattle.std.proofs.lemmas.Bool.{and_from, cases_Bool, eqb-true}
+use Rattle.std.proofs.lemmas.Option.{same_Some}
 use Rattle.std.specs.List.{list_any}
+use Rattle.std.specs.Prelude.{slice_get}
 use Rattle.market_terms.specs.declared.duties.Duty.{Duty}
-use Rattle.market_terms.specs.declared.duties.Duty.TheVariants as duty
 use Rattle.market_terms.specs.declared.rooms.RoomRef.{RoomRef}
-use Rattle.venue_rows.specs.Rows.{Configuration, dealer_numbered}
+use Rattle.venue_rows.specs.Rows.{Configuration, dealer_numbered, has_room}
 use Rattle.venue_rows.specs.declared.dealer_rows.DealerRow.{DealerRow}
 use Rattle.dealer_desk.specs.DealerFacts.{DealerFact, Shown, requests_from}
-use Rattle.dealer_desk.specs.DealerOutput.{is_same_room, number_from}
+use Rattle.dealer_desk.specs.DealerOutput.{is_same_room, number_in}
 use Rattle.dealer_desk.specs.declared.standing.StandingRequest.{StandingRequest}
-use Rattle.request_room.specs.RoomFacts.{Ended, Opened, Readied, RoomFact, end_of, ended_as}
+use Rattle.request_room.specs.Book.{book_of, quote_meant, takes_out}
+use Rattle.request_room.specs.RoomFacts.{Ended, Opened, Posted, Readied, RoomFact, end_of, ended_as}
 use Rattle.request_room.specs.RoomFacts.{first_said, is_named, is_readied, is_ready, names}
 use Rattle.request_room.specs.RoomFacts.{opened_for, request_of}
 use Rattle.request_room.specs.declared.ends.End.{End}
+use Rattle.request_room.specs.declared.quotes.PostedQuote.{PostedQuote as BookQuote}
 use Rattle.request_room.specs.declared.requests.RoomRequest.{RoomRequest}
 use Rattle.venue_places.specs.declared.actors.Actor.{Actor}
 use Rattle.step_replay.specs.AuditTrail.{AuditTrail, pending}
-use Rattle.step_replay.specs.DealerTrail.{AtDesk, DealerEntry, Lifted, Sent, ShownIn, book_by}
-use Rattle.step_replay.specs.DealerTrail.{fact_in, facts_of}
+use Rattle.step_replay.specs.DealerTrail.{AtDesk, DealerEntry, book_by, facts_of, rooms_by}
 use Rattle.step_replay.specs.EachLemmas.{Every, each_of}
-use Rattle.step_replay.specs.GrowthLemmas.{all_in, names_some, same_room}
-use Rattle.std.proofs.lemmas.Option.{same_Some}
-use Rattle.step_replay.specs.VenueFacts.{AtDealer, Fact, of_dealer, of_room}
-use Rattle.venue_laws.proofs.CountLemmas.{number_within}
-use Rattle.venue_laws.proofs.ListLemmas.{at_split, every_found, in_named, some_of}
-use Rattle.venue_laws.proofs.PlainFacts.{at_dealer_all, in_room_all}
-use Rattle.venue_laws.proofs.VenueInvariant.{DutyOk, EndedIn, FactOk, IsDealer, KnownIn, OpenedIn}
-use Rattle.venue_laws.proofs.VenueInvariant.{ReadyIn, RoomOk, VenueOk}
-use Rattle.venue_laws.proofs.VenueParts.{BearsGrid, DoneOk, InOrder, IsOpened, did_in, duties_by}
-use Rattle.venue_laws.proofs.VenueParts.{number_for, shows}
+use Rattle.step_replay.specs.GrowthLemmas.{all_in, names_some}
+use Rattle.step_replay.specs.VenueFacts.{AtDealer, Fact, InRoom, of_dealer, of_room}
+use Rattle.venue_laws.proofs.CountLemmas.{number_place}
+use Rattle.venue_laws.proofs.KnownDesks.{known_asked}
+use Rattle.venue_laws.proofs.ListLemmas.{at_split, in_named, some_of}
+use Rattle.venue_laws.proofs.PlainFacts.{at_dealer_all, in_room_all, rooms_all}
+use Rattle.venue_laws.proofs.VenueGrowth.{later_same, marks_both}
+use Rattle.venue_laws.proofs.VenueInvariant.{DutyOk, EndedIn, FactOk, IsDealer, OpenedIn, PostedIn}
+use Rattle.venue_laws.proofs.VenueInvariant.{ReadyIn, ShownTo, VenueOk}
+use Rattle.venue_laws.proofs.VenueParts.{BearsGrid, InOrder, IsOpened, KnownIn, Mark, OrderOk}
+use Rattle.venue_laws.proofs.VenueParts.{Still, WasDone, did_in, duties_by, investor_facts, mark_of}
+use Rattle.venue_laws.proofs.VenueParts.{marks, number_for}
 use Rattle.venue_laws.proofs.VenueTurns.{duties_hold, pending_next}
 
 -- Facts of a room.
@@ -56,64 +59,40 @@ ready_fact P [] is every = cc
 ready_fact P (Readied ∷ facts) is every = every.0
 ready_fact P (fact ∷ facts) is every = ready_fact P facts is every.1
 
+-- a quote of the book was posted
+posted_fact : (P : RoomFact → Type 0) (word : ℕ) (facts : List RoomFact) (quote : BookQuote)
+    → quote_meant (book_of facts) word ≡ Some quote → Every P facts
+    → (quote.word ≡ word) × P (Posted quote)
+posted_fact P word [] quote is every = cc
+posted_fact P word (Posted other ∷ facts) quote is every =
+    elim (cases_Bool (list_any (takes_out other) facts)) [
+      | inl out ↦ posted_fact P word facts quote (rw out at is) every.1
+      | inr stays ↦ elim (cases_Bool (other.word == word)) [
+        | inr differs ↦ posted_fact P word facts quote (rw (stays, differs) at is) every.1
+        | inl test ↦
+            let same : other ≡ quote = same_Some other quote (rw (stays, test) at is) in
+            let words = eqb-true other.word word test in
+            (rw same at words, subst (λ (q : BookQuote). P (Posted q)) same every.0)
+      ]
+    ]
+posted_fact P word (fact ∷ facts) quote is every = posted_fact P word facts quote is every.1
+
+-- Rooms at a desk.
+
 pub room_self : (room : RoomRef) → is_same_room room room ≡ true
 room_self room =
-    let investor : (room.investor == room.investor) ≡ true =
-    eq-eqb room.investor room.investor refl in
-    let n : (room.n == room.n) ≡ true = eq-eqb room.n room.n refl in
-    rw (investor, n) refl
+    and_from _ _ (eq-eqb room.investor room.investor refl) (eq-eqb room.n room.n refl)
 
 -- two rooms that one number names are one
-pub one_number : (first : ℕ) (rooms : List RoomRef) (one other : RoomRef) (number : ℕ)
-    → number_from first rooms one ≡ Some number → number_from first rooms other ≡ Some number
-    → one ≡ other
-one_number first [] one other number is also = cc
-one_number first (shown ∷ rooms) one other number is also =
-    by_tests (is_same_room shown one) refl (is_same_room shown other) refl is also
-    (λ found found_too. one_number (first + 1) rooms one other number found found_too)
-  where
-    -- the first number does not come again
-    never : (room : RoomRef) → Some first ≡ Some number
-        → number_from (first + 1) rooms room ≡ Some number → {A : Type 0} → A
-    never room here later =
-        let same : first ≡ number = same_Some first number here in
-        let beyond : first + 1 ≤ number = (number_within (first + 1) rooms room number later).0 in
-        absurd (omega arith)
-
-    by_tests : (b : Bool) → is_same_room shown one ≡ b → (c : Bool) → is_same_room shown other ≡ c
-        → (if b then Some first else number_from (first + 1) rooms one) ≡ Some number
-        → (if c then Some first else number_from (first + 1) rooms other) ≡ Some number
-        → (number_from (first + 1) rooms one ≡ Some number
-        → number_from (first + 1) rooms other ≡ Some number → one ≡ other)
-        → one ≡ other
-    by_tests true here true here_too found found_too later =
-        sym (same_room shown one here) ∙ same_room shown other here_too
-    by_tests true here false there found found_too later = never other found found_too
-    by_tests false there true here found found_too later = never one found_too found
-    by_tests false there false there_too found found_too later = later found found_too
-
--- what was shown by the duties that were done
-pub shown_done : (facts : List Fact) (dealer : ℕ) (room : RoomRef) (duties : List Duty)
-    → Every (DoneOk facts) duties → list_any (shows dealer room) duties ≡ true
-    → is_some (number_for facts dealer room) ≡ true
-shown_done facts dealer room [] done is = cc
-shown_done facts dealer room (duty.Show other at ask moment ∷ duties) done is =
-    by_test (other == dealer) refl (is_same_room at room) refl is
-    (λ later. shown_done facts dealer room duties done.1 later)
-  where
-    by_test : (b : Bool) → (other == dealer) ≡ b → (c : Bool) → is_same_room at room ≡ c
-        → ((b && c) || list_any (shows dealer room) duties) ≡ true
-        → (list_any (shows dealer room) duties ≡ true
-        → is_some (number_for facts dealer room) ≡ true)
-        → is_some (number_for facts dealer room) ≡ true
-    by_test true dealers true rooms found later =
-        let same : other ≡ dealer = grind (arith, nat_tests) in
-        ap (λ (r : RoomRef). is_some (number_for facts dealer r)) (sym (same_room at room rooms))
-        ∙ ap (λ (d : ℕ). is_some (number_for facts d at)) (sym same) ∙ done.0
-    by_test true dealers false rooms found later = later found
-    by_test false dealers c rooms found later = later found
-shown_done facts dealer room (other ∷ duties) done is =
-    shown_done facts dealer room duties done.1 is
+pub one_number : (rooms : List RoomRef) (one other : RoomRef) (number : ℕ)
+    → number_in rooms one ≡ Some number → number_in rooms other ≡ Some number → one ≡ other
+one_number rooms one other number is also =
+    let first = number_place 1 rooms one number is in
+    let second = number_place 1 rooms other number also in
+    let first_is : number ≡ 1 + first.0 = first.1 in
+    let second_is : number ≡ 1 + second.0 = second.1 in
+    let same : first.0 ≡ second.0 = omega arith in
+    same_Some one other (sym first.2 ∙ ap (slice_get rooms) same ∙ second.2)
 
 -- a request that a fact shows bears its grid
 abbrev DeskBears : Configuration → DealerFact → Type 0
@@ -132,39 +111,68 @@ module _ (config : Configuration) (venue : AuditTrail) (stood : VenueOk config v
   abbrev known : RoomRef → List RoomFact
   known room = of_room room venue.facts
 
-  -- what stands in a room
-  abbrev pub RoomStands : RoomRef → RoomFact → Type 0
-  RoomStands room fact = RoomOk config venue.facts venue.caused (did_in venue) room fact
+  -- what stands at a fact from this venue on
+  abbrev pub Stands : Fact → Type 0
+  Stands fact = Still (FactOk config fact) venue
 
-  pub all_known : (room : RoomRef) → Every (RoomStands room) (known room)
-  all_known room =
-      in_room_all (FactOk config venue.facts venue.caused (did_in venue)) room venue.facts
-      stood.facts
+  pub all_known : (room : RoomRef) → Every (λ fact. Stands (InRoom room fact)) (known room)
+  all_known room = in_room_all Stands room venue.facts stood.facts
+
+  pub all_there : (dealer : ℕ)
+      → Every (λ entry. Stands (AtDealer dealer entry)) (of_dealer dealer venue.facts)
+  all_there dealer = at_dealer_all Stands dealer venue.facts stood.facts
 
   pub opened_in : (room : RoomRef) (request : RoomRequest)
-      → request_of (known room) ≡ Some request
-      → OpenedIn config venue.facts venue.caused (did_in venue) room request
+      → request_of (known room) ≡ Some request → OpenedIn config room request venue
   opened_in room request is =
-      opened_fact (RoomStands room) request (known room) is (all_known room)
+      opened_fact (λ fact. Stands (InRoom room fact)) request (known room) is (all_known room) venue
+      (later_same venue)
 
-  pub ready_in : (room : RoomRef) → is_ready (known room) ≡ true
-      → ReadyIn config venue.facts venue.caused (did_in venue) room
-  ready_in room is = ready_fact (RoomStands room) (known room) is (all_known room)
+  pub ready_in : (room : RoomRef) → is_ready (known room) ≡ true → ReadyIn config room venue
+  ready_in room is =
+      ready_fact (λ fact. Stands (InRoom room fact)) (known room) is (all_known room) venue
+      (later_same venue)
 
   pub ended_in : (room : RoomRef) (end : End) → end_of (known room) ≡ Some end
-      → EndedIn config venue.facts venue.caused (did_in venue) room end
-  ended_in room end is = (ended_fact (RoomStands room) end (known room) is (all_known room)).1
+      → EndedIn config room end venue
+  ended_in room end is =
+      (ended_fact (λ fact. Stands (InRoom room fact)) end (known room) is (all_known room)).1 venue
+      (later_same venue)
 
-  pub known_opened : (room : RoomRef) → IsOpened venue.facts room
-      → KnownIn config venue.facts room None
+  -- what stands of a quote of the book
+  pub posted_in : (room : RoomRef) (word : ℕ) (quote : BookQuote)
+      → quote_meant (book_of (known room)) word ≡ Some quote
+      → (quote.word ≡ word) × PostedIn config room quote venue
+  posted_in room word quote found =
+      let posted = posted_fact (λ fact. Stands (InRoom room fact)) word (known room) quote found
+      (all_known room) in
+      (posted.0, posted.1 venue (later_same venue))
+
+  -- a room that was shown to a dealer
+  pub rooms_shown : (dealer : ℕ) → Every (λ room. ShownTo config dealer room venue)
+      (rooms_by (of_dealer dealer venue.facts))
+  rooms_shown dealer =
+      rooms_all (λ entry. Stands (AtDealer dealer entry)) (λ room. ShownTo config dealer room venue)
+      (λ room stands. stands venue (later_same venue)) (of_dealer dealer venue.facts)
+      (all_there dealer)
+
+  -- Rooms that an investor knows.
+
+  pub known_opened : (room : RoomRef) → IsOpened room venue.facts → KnownIn room None venue.facts
   known_opened room is =
       let request = some_of (request_of (known room)) is in
       (opened_in room request.0 request.1).known
 
+  pub known_room : (room : RoomRef) (quote : Option ℕ) → KnownIn room quote venue.facts
+      → has_room config room.investor room.n ≡ true
+  known_room room quote is =
+      ((stood.markets room.investor).asked_ok room.n
+      (known_asked (investor_facts venue.facts room.investor) room.n quote is)).1
+
   -- of a dealer that the request of a room names
 
   pub known_named : (room : RoomRef) (dealer : ℕ) → is_named (known room) dealer ≡ true
-      → KnownIn config venue.facts room None
+      → KnownIn room None venue.facts
   known_named room dealer named =
       let request = names_some (request_of (known room)) dealer named in
       (opened_in room request.0 request.1).known
@@ -192,36 +200,38 @@ module _ (config : Configuration) (venue : AuditTrail) (stood : VenueOk config v
       (book_by (of_dealer dealer venue.facts)).requests
   book_bears dealer =
       requests_bear config 1 (facts_of (of_dealer dealer venue.facts))
-      (every_found Stands (DeskBears config) fact_in each (of_dealer dealer venue.facts)
-      (at_dealer_all (FactOk config venue.facts venue.caused (did_in venue)) dealer venue.facts
-      stood.facts))
+      (bear (of_dealer dealer venue.facts) (all_there dealer))
     where
-      Stands : DealerEntry → Type 0
-      Stands entry = FactOk config venue.facts venue.caused (did_in venue) (AtDealer dealer entry)
+      bears : (fact : DealerFact) → Stands (AtDealer dealer (AtDesk fact)) → DeskBears config fact
+      bears (Shown ask moment) stands = stands venue (later_same venue)
+      bears fact stands = tt
 
-      by_fact : (fact : DealerFact) → Stands (AtDesk fact) → DeskBears config fact
-      by_fact (Shown ask moment) bears = bears
-      by_fact fact bears = tt
-
-      each : (entry : DealerEntry) (fact : DealerFact) → fact_in entry ≡ Some fact → Stands entry
-          → DeskBears config fact
-      each (AtDesk one) fact is stands =
-          subst (DeskBears config) (same_Some one fact is) (by_fact one stands)
-      each (ShownIn room) fact is stands = cc
-      each (Lifted quote) fact is stands = cc
-      each (Sent message) fact is stands = cc
+      bear : (trail : List DealerEntry) → Every (λ entry. Stands (AtDealer dealer entry)) trail
+          → Every (DeskBears config) (facts_of trail)
+      bear [] every = tt
+      bear (AtDesk fact ∷ trail) every = (bears fact every.0, bear trail every.1)
+      bear (entry ∷ trail) every = bear trail every.1
 
   -- The first duty that an actor has to do.
 
-  pub pending_ok : (by : Actor) (left : Duty) (rest : List Duty) → pending by venue ≡ left ∷ rest
-      → DutyOk config venue.facts by left
-  pending_ok by left rest is =
-      at_split (DutyOk config venue.facts by) (did_in venue by) left rest
-      (subst (Every (DutyOk config venue.facts by)) (pending_next venue by left rest is).parts
-      (duties_hold (DutyOk config venue.facts) by venue.caused stood.caused))
+  module _ (by : Actor) (left : Duty) (rest : List Duty) (is : pending by venue ≡ left ∷ rest)
+    where
+      pub pending_ok : DutyOk config by left venue
+      pending_ok =
+          at_split (λ left. Still (DutyOk config by left) venue) (did_in venue by) left rest
+          (subst (Every (λ left. Still (DutyOk config by left) venue))
+          (pending_next venue by left rest is).parts
+          (duties_hold (λ by left. Still (DutyOk config by left) venue) by venue.caused stood.caused))
+          venue (later_same venue)
 
-  pub pending_order : (by : Actor) (left : Duty) (rest : List Duty)
-      → pending by venue ≡ left ∷ rest → InOrder venue.facts (did_in venue by) left rest
-  pending_order by left rest is =
-      each_of (InOrder venue.facts) (duties_by by venue.caused) (did_in venue by) left rest
-      (stood.queues by).in_order (pending_next venue by left rest is).parts
+      -- what it does once was not done by it before
+      pub pending_order : (mark : Mark) → mark_of left ≡ Some mark
+          → (WasDone venue by mark → ⊥) × InOrder (marks (did_in venue by)) mark venue
+      pending_order mark does =
+          let next = pending_next venue by left rest is in
+          let parts : marks (duties_by by venue.caused)
+          ≡ marks (did_in venue by) ++ mark ∷ marks rest =
+          ap marks next.parts ∙ marks_both (did_in venue by) (left ∷ rest) ∙ rw does refl in
+          let order = each_of (OrderOk venue) (marks (duties_by by venue.caused))
+          (marks (did_in venue by)) mark (marks rest) (stood.queues by).order parts in
+          (order.0, order.1 venue (later_same venue))

@@ -1,10 +1,9 @@
--- What the invariant of a venue speaks of: desks and rooms by the facts that stand, duties that are
--- done once, and their order in a queue.
-use Rattle.std.proofs.Common.{Bool, List, Option, Some, count_by, false, filter_map, is_some}
-use Rattle.std.proofs.Common.{option_map, take, true, ℕ, ◌&&◌, ◌==◌, ◌≡◌}
+-- What the invariant of a venue speaks of: desks and rooms by the facts that stand, what is done
+-- once, and what goes on to stand.
+use Rattle.std.proofs.Common.{List, None, Option, Some, ℕ, count_by, filter_map, is_some}
+use Rattle.std.proofs.Common.{option_map, take, true, ◌++◌, ◌≡◌}
 use Rattle.std.specs.List.{list_any}
 use Rattle.market_terms.specs.declared.asks.Ask.{Ask}
-use Rattle.market_terms.specs.declared.closes.Close.{Close}
 use Rattle.market_terms.specs.declared.closes.Close.TheVariants as closes
 use Rattle.market_terms.specs.declared.duties.Duty.{Duty}
 use Rattle.market_terms.specs.declared.duties.Duty.TheVariants as duty
@@ -13,9 +12,9 @@ use Rattle.venue_rows.specs.Rows.{Configuration, bond_with_id}
 use Rattle.venue_rows.specs.declared.bond_rows.BondRow.{BondRow}
 use Rattle.venue_rows.specs.declared.dealer_rows.DealerRow.{DealerRow}
 use Rattle.dealer_desk.specs.DealerFacts.{Quoted, Told, tells}
-use Rattle.dealer_desk.specs.DealerOutput.{is_same_room, number_in}
+use Rattle.dealer_desk.specs.DealerOutput.{number_in}
 use Rattle.dealer_desk.specs.declared.accepted.AcceptedQuote.{AcceptedQuote}
-use Rattle.investor_desk.specs.InvestorFacts.{InvestorFact}
+use Rattle.investor_desk.specs.InvestorFacts.{InvestorFact, book_of, knows}
 use Rattle.request_room.specs.RoomFacts.{is_named, request_of}
 use Rattle.request_room.specs.declared.ends.EndKind.{EndKind}
 use Rattle.request_room.specs.declared.ends.EndKind.TheVariants as ends
@@ -38,8 +37,13 @@ abbrev pub investor_facts : List Fact → ℕ → List InvestorFact
 investor_facts facts investor = investor_trail.facts_of (of_investor investor facts)
 
 -- whether a room was opened
-abbrev pub IsOpened : List Fact → RoomRef → Type 0
-IsOpened facts room = is_some (request_of (of_room room facts)) ≡ true
+abbrev pub IsOpened : RoomRef → List Fact → Type 0
+IsOpened room facts = is_some (request_of (of_room room facts)) ≡ true
+
+-- whether the investor of a room knows its request, and the quote on it that is meant, if one is
+abbrev pub KnownIn : RoomRef → Option ℕ → List Fact → Type 0
+KnownIn room quote facts =
+    knows (book_of (investor_facts facts room.investor)) room.n quote ≡ true
 
 -- an ask bears the grid of its bond
 abbrev pub BearsGrid : Configuration → Ask → Type 0
@@ -59,12 +63,11 @@ pub record LiftedIn (facts : List Fact) (dealer : ℕ) (room : RoomRef) : Type 0
   pub quoted : QuotedIn facts dealer room quote
   pub lifted : was_lifted (of_dealer dealer facts) quote ≡ true
 
--- a duty that tells it so was left
-pub record IsTold (caused : List Caused) (dealer : ℕ) (room : RoomRef) (close : Close)
-    : Type 0 where
-  pub by : Actor
-  pub moment : ℕ
-  pub left : In (record { by = by; duty = duty.Tell dealer room close moment }) caused
+-- a notice that was told
+pub record WasTold (facts : List Fact) (dealer : ℕ) (room : RoomRef) : Type 0 where
+  pub request : ℕ
+  pub request_is : number_for facts dealer room ≡ Some request
+  pub told : list_any (tells request) (facts_of (of_dealer dealer facts)) ≡ true
 
 -- whose step ends a room so: its investor's, or a sweep
 abbrev pub closer : EndKind → RoomRef → Actor
@@ -72,31 +75,33 @@ closer ends.Awarded room = actor.Firm room.investor
 closer ends.Passed room = actor.Firm room.investor
 closer ends.Expired room = actor.Clock
 
--- What is done once: whether a duty opens a room, shows a dealer its request, makes it ready, or
--- tells a dealer how it ended.
-
-abbrev pub begins : RoomRef → Duty → Bool
-begins room (duty.Open at ask dealers moment) = is_same_room at room
-begins room other = false
-
-abbrev pub shows : ℕ → RoomRef → Duty → Bool
-shows dealer room (duty.Show other at ask moment) = (other == dealer) && is_same_room at room
-shows dealer room other = false
-
-abbrev pub readies : RoomRef → Duty → Bool
-readies room (duty.Ready at moment) = is_same_room at room
-readies room other = false
-
-abbrev pub tells_it : ℕ → RoomRef → Duty → Bool
-tells_it dealer room (duty.Tell other at close moment) = (other == dealer) && is_same_room at room
-tells_it dealer room other = false
-
 -- a notice of a hit names a quote that was lifted
 abbrev pub NamesLifted : List ℕ → DealerRow → List DealerEntry → DealerEntry → List DealerEntry
     → Type 0
 NamesLifted date row before (AtDesk (Told request closes.Hit moment)) after =
     NamesLiftedQuote date row before request moment after
 NamesLifted date row before entry after = Unit {0}
+
+-- What is done once.
+
+-- a room is opened, its request is shown to a dealer, it is made ready, a dealer is told its end
+pub data Mark : Type 0 where
+  Opening : RoomRef → Mark
+  Showing : ℕ → RoomRef → Mark
+  Readying : RoomRef → Mark
+  Telling : ℕ → RoomRef → Mark
+
+-- what a duty does once, if it does
+abbrev pub mark_of : Duty → Option Mark
+mark_of (duty.Open room ask dealers moment) = Some (Opening room)
+mark_of (duty.Show dealer room ask moment) = Some (Showing dealer room)
+mark_of (duty.Ready room moment) = Some (Readying room)
+mark_of (duty.Tell dealer room close moment) = Some (Telling dealer room)
+mark_of other = None
+
+-- what some duties do once
+abbrev pub marks : List Duty → List Mark
+marks duties = filter_map mark_of duties
 
 -- the duties that an actor's steps left
 abbrev pub duties_by : Actor → List Caused → List Duty
@@ -106,37 +111,43 @@ duties_by by caused = filter_map (duty_of by) caused
 abbrev pub did_in : AuditTrail → Actor → List Duty
 did_in venue by = take (count_by (is_same_actor by) venue.done) (duties_by by venue.caused)
 
--- what was done goes on to be
-abbrev pub Grows : (Actor → List Duty) → (Actor → List Duty) → Type 0
-Grows did later = (by : Actor) (test : Duty → Bool) → list_any test (did by) ≡ true
-    → list_any test (later by) ≡ true
+-- a duty with this mark was left to an actor, and was done
+abbrev pub WasLeft : AuditTrail → Actor → Mark → Type 0
+WasLeft venue by mark = In mark (marks (duties_by by venue.caused))
 
--- a notice that was told
-pub record WasTold (facts : List Fact) (dealer : ℕ) (room : RoomRef) : Type 0 where
-  pub request : ℕ
-  pub request_is : number_for facts dealer room ≡ Some request
-  pub told : list_any (tells request) (facts_of (of_dealer dealer facts)) ≡ true
+abbrev pub WasDone : AuditTrail → Actor → Mark → Type 0
+WasDone venue by mark = In mark (marks (did_in venue by))
 
--- what stands where a duty was done
-abbrev pub DoneOk : List Fact → Duty → Type 0
-DoneOk facts (duty.Show dealer room ask moment) = is_some (number_for facts dealer room) ≡ true
-DoneOk facts (duty.Tell dealer room close moment) = WasTold facts dealer room
-DoneOk facts other = Unit {0}
+-- What goes on to stand.
 
--- Behind each showing of its request a room is made ready, once.
-pub record ReadiesIn (facts : List Fact) (before : List Duty) (room : RoomRef) : Type 0 where
-  pub first : list_any (readies room) before ≡ false
+-- a venue later: more facts stand, and what was left and done stays so
+pub record Later (was now : AuditTrail) : Type 0 where
+  pub more : List Fact
+  pub facts_are : now.facts ≡ was.facts ++ more
+  pub left : (by : Actor) (mark : Mark) → WasLeft was by mark → WasLeft now by mark
+  pub did : (by : Actor) (mark : Mark) → WasDone was by mark → WasDone now by mark
+
+-- it stands from this venue on
+abbrev pub Still : (AuditTrail → Type 0) → AuditTrail → Type 0
+Still P was = (now : AuditTrail) → Later was now → P now
+
+-- what stands where something was done
+abbrev pub MarkOk : Mark → AuditTrail → Type 0
+MarkOk (Showing dealer room) venue = is_some (number_for venue.facts dealer room) ≡ true
+MarkOk (Telling dealer room) venue = WasTold venue.facts dealer room
+MarkOk other venue = Unit {0}
+
+-- behind each showing of its request a room is made ready
+pub record ReadiesIn (before : List Mark) (room : RoomRef) (venue : AuditTrail) : Type 0 where
   pub request : RoomRequest
-  pub request_is : request_of (of_room room facts) ≡ Some request
-  pub shown : (dealer : ℕ) → is_named (of_room room facts) dealer ≡ true
-      → list_any (shows dealer room) before ≡ true
+  pub request_is : request_of (of_room room venue.facts) ≡ Some request
+  pub shown : (dealer : ℕ) → is_named (of_room room venue.facts) dealer ≡ true
+      → In (Showing dealer room) before
 
--- what stands at a duty's place in the queue of its actor
-abbrev pub InOrder : List Fact → List Duty → Duty → List Duty → Type 0
-InOrder facts front (duty.Open room ask dealers moment) rest = list_any (begins room) front ≡ false
-InOrder facts front (duty.Show dealer room ask moment) rest =
-    list_any (shows dealer room) front ≡ false
-InOrder facts front (duty.Ready room moment) rest = ReadiesIn facts front room
-InOrder facts front (duty.Tell dealer room close moment) rest =
-    list_any (tells_it dealer room) front ≡ false
-InOrder facts front other rest = Unit {0}
+abbrev pub InOrder : List Mark → Mark → AuditTrail → Type 0
+InOrder before (Readying room) venue = ReadiesIn before room venue
+InOrder before other venue = Unit {0}
+
+-- what stands at the place of a mark in a queue, where it does not stand before
+abbrev pub OrderOk : AuditTrail → List Mark → Mark → List Mark → Type 0
+OrderOk venue before mark after = (In mark before → ⊥) × Still (InOrder before mark) venue

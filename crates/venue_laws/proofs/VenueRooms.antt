@@ -1,11 +1,8 @@
 -- What happens in a room brings what stands in a venue, until it ends.
-use Rattle.std.proofs.Common.{Bool, List, Option, Some, [], ap, false, is_some, map, nat_le, not}
-use Rattle.std.proofs.Common.{refl, subst, sym, true, ℕ, ◌&&◌, ◌++◌, ◌∙◌, ◌∷◌, ◌≡◌}
-use Rattle.std.specs.List.{list_any}
+use Rattle.std.proofs.Common.{Bool, None, Option, ℕ, false, is_some, not, refl, true, ◌&&◌, ◌≡◌}
+use Rattle.std.proofs.lemmas.Bool.{and_parts}
 use Rattle.market_terms.specs.declared.duties.Duty.{Duty}
 use Rattle.market_terms.specs.declared.rooms.RoomRef.{RoomRef}
-use Rattle.venue_rows.specs.Rows.{dealer_numbered}
-use Rattle.venue_rows.specs.declared.dealer_rows.DealerRow.{DealerRow}
 use Rattle.request_room.specs.Book.{book_of, event_facts, may_unpost, quote_posted, stands}
 use Rattle.request_room.specs.Book.{where_so}
 use Rattle.request_room.specs.RoomFacts.{Noted, Posted, RoomFact, Unposted, hears, is_ended}
@@ -13,121 +10,104 @@ use Rattle.request_room.specs.RoomFacts.{request_of, takes_quotes}
 use Rattle.request_room.specs.declared.events.RoomEvent.TheVariants as at_room
 use Rattle.venue_steps.specs.RoomSteps.{duties_of_decline, duties_of_post, duties_of_unpost}
 use Rattle.venue_steps.specs.RoomSteps.{where_follows}
-use Rattle.venue_places.specs.declared.actors.Actor.{Actor}
-use Rattle.venue_places.specs.declared.actors.Actor.TheVariants as actor
-use Rattle.step_replay.specs.Actions.{dealer_of, declined_by, has_word_for, offer_of, posted_by}
-use Rattle.step_replay.specs.Actions.{unposted_by, word_for}
+use Rattle.step_replay.specs.Actions.{Effect, dealer_of, declined_by, has_word_for, offer_of}
+use Rattle.step_replay.specs.Actions.{posted_by, unposted_by, word_for}
 use Rattle.step_replay.specs.EachLemmas.{Every}
-use Rattle.std.proofs.lemmas.Option.{same_Some}
-use Rattle.std.proofs.lemmas.Bool.{and_parts}
-use Rattle.step_replay.specs.PlaceLemmas.{own_room, room_grown}
-use Rattle.step_replay.specs.VenueFacts.{Fact, InRoom, of_room}
-use Rattle.venue_laws.proofs.PlainFacts.{fine_ok, fine_order, is_free}
-use Rattle.venue_laws.proofs.VenueGrowth.{named_stays, opened_stays, quoted_grown}
-use Rattle.venue_laws.proofs.VenueInvariant.{ByNamed, PostsIn}
-use Rattle.venue_laws.proofs.VenueKinds.{Brings, DutyThen, FactThen, FineThen, Here, Now}
-use Rattle.venue_laws.proofs.VenueKinds.{in_room_brings, known, queue, room_brings}
-use Rattle.venue_laws.proofs.VenueParts.{IsOpened, QuotedIn}
+use Rattle.step_replay.specs.VenueFacts.{InRoom}
+use Rattle.venue_laws.proofs.VenueGrowth.{later_both, named_later, opened_later, quoted_later}
+use Rattle.venue_laws.proofs.VenueInvariant.{ByDealer, ByNamed, PostsIn}
+use Rattle.venue_laws.proofs.VenueKinds.{OrderThen, in_it, in_room_brings, known, room_brings}
+use Rattle.venue_laws.proofs.VenueParts.{IsOpened, Still, mark_of, marks}
+use Rattle.venue_laws.proofs.VenueSteps.{Brings, DutyThen, FactThen, Here, day, since}
 
 module _ (h : Here) (room : RoomRef) where
-  pub room_now : (added : List RoomFact)
-      → of_room room (Now h (map (InRoom room) added)) ≡ known h room ++ added
-  room_now added =
-      rw (room_grown room h.venue.facts (map (InRoom room) added), own_room room added) refl
-
-  -- a duty that was done is done by the investor of the room
-  abbrev pub DidBy : (Duty → Bool) → Type 0
-  DidBy test = list_any test (h.did h.by) ≡ true
-
-  pub by_investor : (test : Duty → Bool) → h.by ≡ actor.Firm room.investor → DidBy test
-      → list_any test (h.did (actor.Firm room.investor)) ≡ true
-  by_investor test is done = subst (λ (a : Actor). list_any test (h.did a) ≡ true) is done
-
   -- Quotes and declines.
 
-  opened_then : (added : List RoomFact) → takes_quotes (known h room) ≡ true
-      → IsOpened (Now h (map (InRoom room) added)) room
-  opened_then added takes =
-      opened_stays h.venue.facts (map (InRoom room) added) room
+  opened_then : (effect : Effect) → takes_quotes (known h room) ≡ true
+      → Still (λ now. IsOpened room now.facts) (day h effect)
+  opened_then effect takes now later =
+      opened_later (later_both (since h effect) later) room
       (and_parts (is_some (request_of (known h room))) (not (is_ended (known h room))) takes).0
 
   -- a fact that may be added, and a duty that may follow
-  may_bring : (b c : Bool) (fact : RoomFact) (left : Duty) → is_free left ≡ true
-      → FactThen h (map (InRoom room) (fact ∷ [])) (where_follows c left) (InRoom room fact)
-      → ((added : List RoomFact) → c ≡ true → DutyThen h (map (InRoom room) added) left)
-      → Brings h (record {
-        facts = map (InRoom room) (where_so b fact);
-        duties = where_follows c left;
-      })
+  may_bring : (b c : Bool) (fact : RoomFact) (left : Duty) → mark_of left ≡ None
+      → ((effect : Effect) → FactThen h effect (InRoom room fact))
+      → ((effect : Effect) → c ≡ true → DutyThen h effect left)
+      → Brings h (in_it h room (where_so b fact) (where_follows c left))
   may_bring b c fact left free ok leaves =
-      let more = map (InRoom room) (where_so b fact) in
-      let fine = follows more c (leaves (where_so b fact)) in
       room_brings h room (where_so b fact) (where_follows c left) (fact_ok b)
-      (fine_ok h.config (Now h more) h.by (where_follows c left) fine)
-      (fine_order h.config (Now h more) h.by (queue h) (where_follows c left) fine)
+      (duty_ok c (leaves (in_it h room (where_so b fact) (where_follows c left)))) (order c)
     where
-      fact_ok : (may : Bool) → Every (λ f. FactThen h (map (InRoom room) (where_so may fact))
-          (where_follows c left) (InRoom room f)) (where_so may fact)
-      fact_ok true = (ok, tt)
+      effect : Effect
+      effect = in_it h room (where_so b fact) (where_follows c left)
+
+      fact_ok : (may : Bool) → Every (λ f. FactThen h effect (InRoom room f)) (where_so may fact)
+      fact_ok true = (ok effect, tt)
       fact_ok false = tt
 
-      follows : (more : List Fact) (c : Bool) → (c ≡ true → DutyThen h more left)
-          → Every (FineThen h more) (where_follows c left)
-      follows more true fits = ((fits refl, free), tt)
-      follows more false fits = tt
+      duty_ok : (follows : Bool) → (follows ≡ true → DutyThen h effect left)
+          → Every (DutyThen h effect) (where_follows follows left)
+      duty_ok true fits = (fits refl, tt)
+      duty_ok false fits = tt
 
-  module _ (dealer : ℕ) (row : DealerRow) where
-    pub posted_brings : (quote price : ℕ) (valid_until : Option ℕ) (moment : ℕ)
-        → dealer_numbered h.config dealer ≡ Some row → h.by ≡ actor.Firm dealer
-        → PostsIn h.config h.venue.facts h.by room quote
-        → Brings h (posted_by h.config h.venue.facts room quote price valid_until moment
-        (dealer_of dealer row))
-    unfolding event_facts
-    posted_brings quote price valid_until moment is by_is posts =
-        let own = dealer_of dealer row in
-        let word = word_for h.config own quote in
-        let posted = quote_posted dealer word price valid_until in
-        let added = map (InRoom room) (Posted posted ∷ []) in
-        let same : posts.named.who.dealer ≡ dealer = cc (by_is, posts.named.who.by_is) in
-        let rows : posts.named.who.row ≡ row = same_Some posts.named.who.row row
-        (sym posts.named.who.row_is ∙ ap (dealer_numbered h.config) same ∙ is) in
-        in_room_brings h room (has_word_for h.config own quote && hears (known h room) dealer)
-        (at_room.Post dealer word price valid_until)
-        (duties_of_post (known h room) room dealer (offer_of h.config own quote price valid_until)
-        moment)
-        (may_bring (takes_quotes (known h room)) _ (Posted posted) _ refl
-        (record {
-          row = row;
-          quote = quote;
-          row_is = is;
-          within = subst (λ (r : DealerRow). (nat_le 1 quote && nat_le quote r.quotes) ≡ true) rows
-              posts.within;
-          word_is = refl;
-          quoted = quoted_grown h.venue.facts added dealer room quote
-              (subst (λ (d : ℕ). QuotedIn h.venue.facts d room quote) same posts.quoted);
-        })
-        (λ more so. opened_then more
-        (and_parts (hears (known h room) dealer) (takes_quotes (known h room)) so).1))
+      order : (follows : Bool) → OrderThen h effect (marks (where_follows follows left))
+      order true = rw free tt
+      order false = tt
 
-    pub unposted_brings : (quote moment : ℕ)
-        → Brings h (unposted_by h.config h.venue.facts room quote moment (dealer_of dealer row))
-    unfolding event_facts
-    unposted_brings quote moment =
-        let own = dealer_of dealer row in
-        let word = word_for h.config own quote in
-        let may = may_unpost (known h room) dealer word in
-        in_room_brings h room (has_word_for h.config own quote && hears (known h room) dealer)
-        (at_room.Unpost dealer word) (duties_of_unpost (known h room) room dealer word moment)
-        (may_bring may _ (Unposted dealer word) _ refl tt
-        (λ more so. opened_then more
-        (and_parts (takes_quotes (known h room)) (stands (book_of (known h room)) dealer word)
-        (and_parts (hears (known h room) dealer) may so).1).0))
+  pub posted_brings : (quote price : ℕ) (valid_until : Option ℕ) (moment : ℕ)
+      (posts : PostsIn h.config h.by room quote h.venue)
+      → Brings h (posted_by h.config h.venue.facts room quote price valid_until moment
+      (dealer_of posts.named.who.dealer posts.named.who.row))
+  unfolding event_facts
+  posted_brings quote price valid_until moment posts =
+      let who = posts.named.who in
+      let own = dealer_of who.dealer who.row in
+      let word = word_for h.config own quote in
+      in_room_brings h room (has_word_for h.config own quote && hears (known h room) who.dealer)
+      (at_room.Post who.dealer word price valid_until)
+      (duties_of_post (known h room) room who.dealer (offer_of h.config own quote price valid_until)
+      moment)
+      (may_bring (takes_quotes (known h room)) _
+      (Posted (quote_posted who.dealer word price valid_until)) _ refl
+      (λ effect now later. record {
+        row = who.row;
+        quote = quote;
+        row_is = who.row_is;
+        within = posts.within;
+        word_is = refl;
+        quoted = quoted_later (later_both (since h effect) later) who.dealer room quote
+            posts.quoted;
+      })
+      (λ effect so. opened_then effect
+      (and_parts (hears (known h room) who.dealer) (takes_quotes (known h room)) so).1))
 
-    pub declined_brings : (moment : ℕ) → ByNamed h.config h.venue.facts h.by room
-        → Brings h (declined_by h.config h.venue.facts room moment (dealer_of dealer row))
-    unfolding event_facts
-    declined_brings moment named =
-        in_room_brings h room (hears (known h room) dealer) (at_room.Decline dealer)
-        (duties_of_decline (known h room) room dealer moment)
-        (may_bring (takes_quotes (known h room)) _ (Noted dealer) _ refl tt
-        (λ more so. named_stays h.venue.facts (map (InRoom room) more) h.config h.by room named))
+  pub unposted_brings : (quote moment : ℕ) (who : ByDealer h.config h.by)
+      → Brings h (unposted_by h.config h.venue.facts room quote moment
+      (dealer_of who.dealer who.row))
+  unfolding event_facts
+  unposted_brings quote moment who =
+      let own = dealer_of who.dealer who.row in
+      let word = word_for h.config own quote in
+      let may = may_unpost (known h room) who.dealer word in
+      in_room_brings h room (has_word_for h.config own quote && hears (known h room) who.dealer)
+      (at_room.Unpost who.dealer word)
+      (duties_of_unpost (known h room) room who.dealer word moment)
+      (may_bring may _ (Unposted who.dealer word) _ refl (λ effect now later. tt)
+      (λ effect so. opened_then effect
+      (and_parts (takes_quotes (known h room)) (stands (book_of (known h room)) who.dealer word)
+      (and_parts (hears (known h room) who.dealer) may so).1).0))
+
+  pub declined_brings : (moment : ℕ) (named : ByNamed h.config h.by room h.venue.facts)
+      → Brings h (declined_by h.config h.venue.facts room moment
+      (dealer_of named.who.dealer named.who.row))
+  unfolding event_facts
+  declined_brings moment named =
+      in_room_brings h room (hears (known h room) named.who.dealer)
+      (at_room.Decline named.who.dealer)
+      (duties_of_decline (known h room) room named.who.dealer moment)
+      (may_bring (takes_quotes (known h room)) _ (Noted named.who.dealer) _ refl
+      (λ effect now later. tt)
+      (λ effect so now later. record {
+        who = named.who;
+        named = named_later (later_both (since h effect) later) room named.who.dealer named.named;
+      }))

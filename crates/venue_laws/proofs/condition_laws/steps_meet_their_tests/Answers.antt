@@ -13,9 +13,8 @@ returns-clause-duties c config steps actor duty rest is =
     } in
     let day = audit_trail config steps in
     let stood = venue_ok c.limits_are_kept.ensures.lone words config steps in
-    met config day stood words actor duty rest
-    (pending_ok config day stood actor duty rest is)
-    (pending_order config day stood actor duty rest is)
+    met config day stood words actor duty (pending_ok config day stood actor duty rest is)
+    (λ mark so. (pending_order config day stood actor duty rest is mark so).0)
 
 pub returns-clause-messages : goal.returns-clause-messages
 returns-clause-messages c config steps dealer row moment bytes is =
