@@ -20,7 +20,7 @@ use Rattle.request_room.specs.Unpriced.{unpriced as unpriced_in_room}
 use Rattle.request_room.specs.declared.ends.End.{End}
 use Rattle.request_room.specs.declared.ends.EndKind.{EndKind}
 use Rattle.request_room.specs.declared.ends.EndKind.TheVariants as ends
-use Rattle.venue_steps.specs.RoomSteps.{close_for, dealers_of, duties_of_hit, duties_of_post}
+use Rattle.venue_steps.specs.RoomSteps.{close_by, dealers_of, duties_of_hit, duties_of_post}
 use Rattle.venue_steps.specs.RoomSteps.{hit_duties, is_cover, is_winner, told_to_each}
 use Rattle.venue_steps.specs.RoomSteps.{where_follows, hit_word, word_asked_by}
 use Rattle.market_terms.proofs.ErasedLists.{by_erased}
@@ -46,30 +46,25 @@ use Rattle.venue_laws.proofs.ErasedLists.{filter_along, left_all}
 
 -- How a request ended for a dealer, whoever was the cover.
 
-award_close : (won cover : Bool)
-    → uncovered (if won then closes.Hit else if cover then closes.Cover else closes.DoneAway)
-    ≡ uncovered (if won then closes.Hit else closes.DoneAway)
-award_close true cover = refl
-award_close false true = refl
-award_close false false = refl
-
-close_of_kind : (kind : EndKind) (winner : Option (ℕ × ℕ)) (cover : Option ℕ) (dealer : ℕ)
-    → uncovered (close_for (record { kind = kind; winner = winner; cover = cover }) dealer)
-    ≡ uncovered (close_for (record { kind = kind; winner = winner; cover = None }) dealer)
-close_of_kind ends.Awarded winner cover dealer =
-    award_close (is_winner winner dealer) (is_cover cover dealer)
-close_of_kind ends.Passed winner cover dealer = refl
-close_of_kind ends.Expired winner cover dealer = refl
+close_same : (kind : EndKind) (end : End) (dealer : ℕ)
+    → uncovered (close_by kind end dealer) ≡ uncovered (close_by kind (uncovered_end end) dealer)
+close_same ends.Awarded end dealer = award (is_winner end.winner dealer) (is_cover end.cover dealer)
+  where
+    award : (won cover : Bool)
+        → uncovered (if won then closes.Hit else if cover then closes.Cover else closes.DoneAway)
+        ≡ uncovered (if won then closes.Hit else closes.DoneAway)
+    award true cover = refl
+    award false true = refl
+    award false false = refl
+close_same ends.Passed end dealer = refl
+close_same ends.Expired end dealer = refl
 
 told_each : (at : RoomRef) (end : End) (moment : ℕ) (dealers : List ℕ)
     → map unpriced_duty (told_to_each at end dealers moment)
     ≡ map unpriced_duty (told_to_each at (uncovered_end end) dealers moment)
 told_each at end moment [] = refl
 told_each at end moment (dealer ∷ dealers) =
-    rw (
-      close_of_kind end.kind end.winner end.cover dealer,
-      told_each at end moment dealers,
-    )
+    rw (close_same end.kind end dealer, told_each at end moment dealers)
 
 module _ (facts : List RoomFact) (at : RoomRef) where
   pub post_left : (dealer : ℕ) (offer later : Offer) (moment : ℕ)
