@@ -13,8 +13,7 @@ use Rattle.quote_word.specs.declared.settled.Settled.{Settled}
 use Rattle.request_room.proofs.UnpricedRooms.{outcome_same, request_same, kept_same as kept_in_room}
 use Rattle.request_room.proofs.UnpricedRooms.{question_same}
 use Rattle.request_room.specs.RoomFacts.{RoomFact, hears, request_of, takes_quotes}
-use Rattle.request_room.specs.Book.{event_facts as added_in_room, hit_outcome}
-use Rattle.request_room.specs.declared.events.RoomEvent.{RoomEvent}
+use Rattle.request_room.specs.Book.{hit_outcome}
 use Rattle.request_room.specs.Unpriced.{uncovered as uncovered_outcome, uncovered_end}
 use Rattle.request_room.specs.Unpriced.{unpriced as unpriced_in_room}
 use Rattle.request_room.specs.declared.ends.End.{End}
@@ -39,8 +38,8 @@ use Rattle.step_replay.specs.Actions.{dropped_by, hit_in, hit_with, left_by_drop
 use Rattle.step_replay.specs.Actions.{quote_asked, quote_with_word, word_for, words_of}
 use Rattle.venue_laws.proofs.Erasing.{bare, book_is, book_left, erase, erase_entry, lifted_left}
 use Rattle.venue_laws.proofs.Erasing.{once_left, room_left, rooms_left, trail_left, withdrawn_left}
-use Rattle.venue_laws.proofs.ErasedActions.{AreAlike, both_alike, desk_alike, entries_alike}
-use Rattle.venue_laws.proofs.ErasedActions.{if_alike, kept_alike}
+use Rattle.venue_laws.proofs.ErasedActions.{AreAlike, desk_alike, entries_alike, if_alike}
+use Rattle.venue_laws.proofs.ErasedActions.{kept_alike}
 use Rattle.std.proofs.lemmas.List.Elements.{filter_map-append}
 use Rattle.venue_laws.proofs.ErasedLists.{filter_along, left_all}
 
@@ -196,12 +195,16 @@ module _ (config : Configuration) (own : ℕ) (facts : List Fact) (room : RoomRe
       → AreAlike own (hit_with config (bare own facts) room response word moment settlement)
       (hit_with config facts room response word moment settlement)
   with_alike settlement =
-      rw (room_left own facts room) (both_alike own _ _ (added) (hit_left here room response word
-      moment settlement))
+      rw (room_left own facts room) (record {
+        same = simp (
+          lifted,
+          filter_map-append,
+          left_all (erase own) (InRoom room) unpriced_in_room (λ fact. refl),
+          kept_in_room here (at_room.Hit word moment settlement),
+          hit_left here room response word moment settlement,
+        );
+      })
     where
-      hit : RoomEvent
-      hit = at_room.Hit word moment settlement
-
       lifted : lifting (quote_with_word config word)
           (hit_outcome (map unpriced_in_room here) word moment settlement)
           ≡ lifting (quote_with_word config word) (hit_outcome here word moment settlement)
@@ -210,20 +213,6 @@ module _ (config : Configuration) (own : ℕ) (facts : List Fact) (room : RoomRe
           (lifting (quote_with_word config word)) (lifting_same (quote_with_word config word))
           (hit_outcome (map unpriced_in_room here) word moment settlement)
           (hit_outcome here word moment settlement) (outcome_same here word moment settlement)
-
-      added : bare own (lifting (quote_with_word config word)
-          (hit_outcome (map unpriced_in_room here) word moment settlement)
-          ++ map (InRoom room) (added_in_room (map unpriced_in_room here) hit))
-          ≡ bare own (lifting (quote_with_word config word)
-          (hit_outcome here word moment settlement)
-          ++ map (InRoom room) (added_in_room here hit))
-      added =
-          simp (
-            lifted,
-            filter_map-append,
-            left_all (erase own) (InRoom room) unpriced_in_room (λ fact. refl),
-            kept_in_room here hit,
-          )
 
   asked_same : hit_word (of_room room (bare own facts)) word moment ≡ hit_word here word moment
   asked_same =
