@@ -1,14 +1,12 @@
 -- What is due to a dealer of two days that are one without prices is one but for the cover.
-use Rattle.std.proofs.Common.{◌≡◌, ℕ, ◌==◌, Bool, true, List, [], ◌∷◌, map, Some, option_map, refl}
-use Rattle.std.proofs.Common.{filter_map, option_and_then, sym, ap, ◌∙◌, ◌⊎◌, inl, inr, eq-eqb}
+use Rattle.std.proofs.Common.{◌≡◌, ℕ, ◌==◌, true, List, [], ◌∷◌, map, Some, option_map, refl}
+use Rattle.std.proofs.Common.{option_and_then, ◌⊎◌, inl, inr, eq-eqb}
 use Rattle.market_terms.proofs.ErasedLists.{by_erased}
-use Rattle.market_terms.specs.Unpriced.{uncovered}
-use Rattle.market_terms.specs.declared.closes.Close.{Close}
 use Rattle.market_terms.specs.declared.closes.Close.TheVariants as closes
 use Rattle.fix_fields.specs.Frame.{Field, IsFrame, frame_of}
 use Rattle.venue_rows.specs.Rows.{Configuration}
-use Rattle.dealer_desk.specs.DealerFacts.{Came, Shown, Told, Dropped}
-use Rattle.step_replay.specs.DealerTrail.{DealerEntry, AtDesk, Lifted}
+use Rattle.dealer_desk.specs.DealerFacts.{Told}
+use Rattle.step_replay.specs.DealerTrail.{DealerEntry, AtDesk}
 use Rattle.step_replay.specs.DueList.{due_by, due_list}
 use Rattle.step_replay.specs.VenueFacts.{Fact, of_dealer}
 use Rattle.step_replay.specs.AuditTrail.{audit_trail, due_to}
@@ -26,53 +24,35 @@ use Rattle.venue_laws.proofs.VenueDesk.{WordsOfDay}
 
 due_same : (entry : DealerEntry)
     → option_and_then due_by (erase_entry true entry) ≡ option_map erase_due (due_by entry)
-due_same (AtDesk (Came moment bytes used)) = refl
-due_same (AtDesk (Shown ask moment)) = refl
 due_same (AtDesk (Told request close moment)) = refl
-due_same (AtDesk (Dropped last moment)) = refl
 due_same (AtDesk fact) = refl
-due_same (Lifted quote) = refl
 due_same entry = refl
-
-dues_left : (trail : List DealerEntry)
-    → due_list (filter_map (erase_entry true) trail) ≡ map erase_due (due_list trail)
-dues_left trail = simp (fuse, map_fuse, due_same)
 
 due_list_is : (own : ℕ) (facts : List Fact)
     → due_list (of_dealer own (bare own facts))
     ≡ map erase_due (due_list (of_dealer own facts))
 due_list_is own facts =
     let same : (own == own) ≡ true = eq-eqb own own refl in
-    ap (λ (l : List DealerEntry). due_list l)
-    (trail_left own facts own
-    ∙ ap (λ (b : Bool). filter_map (erase_entry b) (of_dealer own facts)) same)
-    ∙ dues_left (of_dealer own facts)
+    rw (trail_left own facts own, same) (simp (fuse, map_fuse, due_same))
 
 -- two items are one, but that Cover may stand against Done Away
 abbrev pub AreItems : Due → Due → Type 0
 AreItems one other =
     (one ≡ other) ⊎ IsCoverAgainstDoneAway one other ⊎ IsCoverAgainstDoneAway other one
 
-notices : (request again moment later : ℕ) (one other : Close) → request ≡ again
-    → moment ≡ later → uncovered one ≡ uncovered other
-    → AreItems (due.Closed request one moment) (due.Closed again other later)
-notices request again moment later closes.Cover closes.Cover requests moments same = inl (cc)
-notices request again moment later closes.Cover closes.DoneAway requests moments same =
-    inr (inl (requests, moments))
-notices request again moment later closes.DoneAway closes.Cover requests moments same =
-    inr (inr (sym requests, sym moments))
-notices request again moment later closes.Cover other requests moments same = cc
-notices request again moment later one closes.Cover requests moments same = cc
-notices request again moment later one other requests moments same = inl (cc)
-
 items : (one other : Due) → erase_due one ≡ erase_due other → AreItems one other
-items (due.Closed request one moment) (due.Closed again other later) same =
+items (due.Closed request closes.Cover moment) (due.Closed again closes.Cover later) same =
+    inl (cc)
+items (due.Closed request closes.Cover moment) (due.Closed again closes.DoneAway later) same =
     let requests : request ≡ again = cc in
     let moments : moment ≡ later = cc in
-    let ends : uncovered one ≡ uncovered other = cc in
-    notices request again moment later one other requests moments ends
-items (due.Closed request one moment) other same = cc
-items one (due.Closed again other later) same = cc
+    inr (inl (requests, moments))
+items (due.Closed request closes.DoneAway moment) (due.Closed again closes.Cover later) same =
+    let requests : again ≡ request = cc in
+    let moments : later ≡ moment = cc in
+    inr (inr (requests, moments))
+items (due.Closed request closes.Cover moment) other same = cc
+items one (due.Closed again closes.Cover later) same = cc
 items one other same = inl same
 
 lists : (dues others : List Due) → map erase_due dues ≡ map erase_due others

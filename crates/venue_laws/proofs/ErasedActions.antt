@@ -22,7 +22,6 @@ use Rattle.investor_desk.specs.Unpriced.{unpriced_event as unpriced_to_investor}
 use Rattle.investor_desk.specs.declared.events.InvestorEvent.{InvestorEvent}
 use Rattle.investor_desk.proofs.UnpricedDesks.{kept_same as kept_at_investor, knows_same}
 use Rattle.request_room.specs.RoomFacts.{RoomFact}
-use Rattle.request_room.specs.Book.{event_facts as added_in_room}
 use Rattle.request_room.specs.Unpriced.{unpriced as unpriced_in_room}
 use Rattle.request_room.specs.Unpriced.{unpriced_event as unpriced_to_room}
 use Rattle.request_room.specs.declared.events.RoomEvent.{RoomEvent}
@@ -37,17 +36,13 @@ use Rattle.step_replay.specs.Actions.{in_room, nothing, shown_to, told_of, told_
 use Rattle.venue_laws.proofs.Erasing.{bare, book_left, erase, erase_entry, erase_investor_entry}
 use Rattle.venue_laws.proofs.Erasing.{investor_book_left, left, room_left, rooms_left}
 use Rattle.std.proofs.lemmas.List.Elements.{filter_map-append}
-use Rattle.venue_laws.proofs.ErasedLists.{all_along, left_all, left_at, left_none}
+use Rattle.venue_laws.proofs.ErasedLists.{left_all, left_at, left_none}
 
 -- two actions add and leave the same, but for what is erased
 pub record AreAlike (own : ℕ) (one other : Effect) : Type 0 where
   pub same : left own one ≡ left own other
 
 -- Forms of actions.
-
-pub both_alike : (own : ℕ) (one other : Effect) → bare own one.facts ≡ bare own other.facts
-    → map unpriced_duty one.duties ≡ map unpriced_duty other.duties → AreAlike own one other
-both_alike own one other facts duties = record { same = rw (facts, duties) }
 
 pub same_alike : {own : ℕ} {effect : Effect} → AreAlike own effect effect
 same_alike = record { same = refl }
@@ -112,14 +107,15 @@ module _ (config : Configuration) (own : ℕ) (facts : List Fact) where
       → AreAlike own (at_dealer config known dealer more duties)
       (at_dealer config facts dealer later duties_too)
   desk_alike dealer more later duties duties_too kept rooms same =
-      both_alike own (at_dealer config known dealer more duties)
-      (at_dealer config facts dealer later duties_too)
-      (simp (
-        left_at (erase own) (AtDealer dealer.number) (erase_entry (dealer.number == own))
-            (λ entry. refl),
-        entries_alike (dealer.number == own) config dealer (of_dealer dealer.number known)
-            (of_dealer dealer.number facts) more later kept rooms,
-      )) same
+      record {
+        same = simp (
+          left_at (erase own) (AtDealer dealer.number) (erase_entry (dealer.number == own))
+              (λ entry. refl),
+          entries_alike (dealer.number == own) config dealer (of_dealer dealer.number known)
+              (of_dealer dealer.number facts) more later kept rooms,
+          same,
+        );
+      }
 
   pub kept_alike : (dealer : Dealer) (more : DealerEvent)
       → map (unpriced_at_dealer (dealer.number == own)) (event_facts config.date dealer.row
@@ -173,16 +169,14 @@ module _ (config : Configuration) (own : ℕ) (facts : List Fact) where
       (in_room config facts room (may (of_room room facts)) event
       (duties price (of_room room facts)))
   event_alike room may event price duties tests same =
-      let bare_room = room_left own facts room in
-      if_alike _ _
-      (ap (λ (l : List RoomFact). has_room config room.investor room.n && may l) bare_room
-      ∙ ap (λ (b : Bool). has_room config room.investor room.n && b) (tests (of_room room facts)))
-      (both_alike own _ _
-      (all_along (erase own) (InRoom room) unpriced_in_room (λ fact. refl) _ _
-      (ap (λ (l : List RoomFact). map unpriced_in_room (added_in_room l (unpriced_to_room event)))
-      bare_room ∙ kept_in_room (of_room room facts) event))
-      (ap (λ (l : List RoomFact). map unpriced_duty (duties 0 l)) bare_room
-      ∙ same (of_room room facts)))
+      rw (room_left own facts room, tests (of_room room facts))
+      (if_alike (has_room config room.investor room.n && may (of_room room facts)) _ refl (record {
+        same = simp (
+          left_all (erase own) (InRoom room) unpriced_in_room (λ fact. refl),
+          kept_in_room (of_room room facts) event,
+          same (of_room room facts),
+        );
+      }))
 
   -- At an investor.
 
@@ -192,16 +186,17 @@ module _ (config : Configuration) (own : ℕ) (facts : List Fact) where
       (at_market facts market more duties_too)
   unfolding investor_trail.entries_of
   investor_alike market more duties duties_too same =
-      both_alike own (at_market known market (unpriced_to_investor more) duties)
-      (at_market facts market more duties_too)
-      (simp (
-        left_at (erase own) (AtInvestor market.firm) erase_investor_entry (λ entry. refl),
-        filter_map-append,
-        left_all erase_investor_entry AtInvestorsDesk unpriced_at_investor (λ fact. refl),
-        left_none erase_investor_entry SentToInvestor (λ message. refl),
-        investor_book_left own facts market.firm,
-        kept_at_investor market (investor_trail.book_by (of_investor market.firm facts)) more,
-      )) same
+      record {
+        same = simp (
+          left_at (erase own) (AtInvestor market.firm) erase_investor_entry (λ entry. refl),
+          filter_map-append,
+          left_all erase_investor_entry AtInvestorsDesk unpriced_at_investor (λ fact. refl),
+          left_none erase_investor_entry SentToInvestor (λ message. refl),
+          investor_book_left own facts market.firm,
+          kept_at_investor market (investor_trail.book_by (of_investor market.firm facts)) more,
+          same,
+        );
+      }
 
   -- where an investor knows a request
   pub known_alike : (request : ℕ) (quote : Option ℕ) (more : InvestorEvent)

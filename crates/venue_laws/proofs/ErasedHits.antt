@@ -13,14 +13,13 @@ use Rattle.quote_word.specs.declared.settled.Settled.{Settled}
 use Rattle.request_room.proofs.UnpricedRooms.{outcome_same, request_same, kept_same as kept_in_room}
 use Rattle.request_room.proofs.UnpricedRooms.{question_same}
 use Rattle.request_room.specs.RoomFacts.{RoomFact, hears, request_of, takes_quotes}
-use Rattle.request_room.specs.Book.{event_facts as added_in_room, hit_outcome}
-use Rattle.request_room.specs.declared.events.RoomEvent.{RoomEvent}
+use Rattle.request_room.specs.Book.{hit_outcome}
 use Rattle.request_room.specs.Unpriced.{uncovered as uncovered_outcome, uncovered_end}
 use Rattle.request_room.specs.Unpriced.{unpriced as unpriced_in_room}
 use Rattle.request_room.specs.declared.ends.End.{End}
 use Rattle.request_room.specs.declared.ends.EndKind.{EndKind}
 use Rattle.request_room.specs.declared.ends.EndKind.TheVariants as ends
-use Rattle.venue_steps.specs.RoomSteps.{close_for, dealers_of, duties_of_hit, duties_of_post}
+use Rattle.venue_steps.specs.RoomSteps.{close_by, dealers_of, duties_of_hit, duties_of_post}
 use Rattle.venue_steps.specs.RoomSteps.{hit_duties, is_cover, is_winner, told_to_each}
 use Rattle.venue_steps.specs.RoomSteps.{where_follows, hit_word, word_asked_by}
 use Rattle.market_terms.proofs.ErasedLists.{by_erased}
@@ -39,37 +38,32 @@ use Rattle.step_replay.specs.Actions.{dropped_by, hit_in, hit_with, left_by_drop
 use Rattle.step_replay.specs.Actions.{quote_asked, quote_with_word, word_for, words_of}
 use Rattle.venue_laws.proofs.Erasing.{bare, book_is, book_left, erase, erase_entry, lifted_left}
 use Rattle.venue_laws.proofs.Erasing.{once_left, room_left, rooms_left, trail_left, withdrawn_left}
-use Rattle.venue_laws.proofs.ErasedActions.{AreAlike, both_alike, desk_alike, entries_alike}
-use Rattle.venue_laws.proofs.ErasedActions.{if_alike, kept_alike}
+use Rattle.venue_laws.proofs.ErasedActions.{AreAlike, desk_alike, entries_alike, if_alike}
+use Rattle.venue_laws.proofs.ErasedActions.{kept_alike}
 use Rattle.std.proofs.lemmas.List.Elements.{filter_map-append}
 use Rattle.venue_laws.proofs.ErasedLists.{filter_along, left_all}
 
 -- How a request ended for a dealer, whoever was the cover.
 
-award_close : (won cover : Bool)
-    → uncovered (if won then closes.Hit else if cover then closes.Cover else closes.DoneAway)
-    ≡ uncovered (if won then closes.Hit else closes.DoneAway)
-award_close true cover = refl
-award_close false true = refl
-award_close false false = refl
-
-close_of_kind : (kind : EndKind) (winner : Option (ℕ × ℕ)) (cover : Option ℕ) (dealer : ℕ)
-    → uncovered (close_for (record { kind = kind; winner = winner; cover = cover }) dealer)
-    ≡ uncovered (close_for (record { kind = kind; winner = winner; cover = None }) dealer)
-close_of_kind ends.Awarded winner cover dealer =
-    award_close (is_winner winner dealer) (is_cover cover dealer)
-close_of_kind ends.Passed winner cover dealer = refl
-close_of_kind ends.Expired winner cover dealer = refl
+close_same : (kind : EndKind) (end : End) (dealer : ℕ)
+    → uncovered (close_by kind end dealer) ≡ uncovered (close_by kind (uncovered_end end) dealer)
+close_same ends.Awarded end dealer = award (is_winner end.winner dealer) (is_cover end.cover dealer)
+  where
+    award : (won cover : Bool)
+        → uncovered (if won then closes.Hit else if cover then closes.Cover else closes.DoneAway)
+        ≡ uncovered (if won then closes.Hit else closes.DoneAway)
+    award true cover = refl
+    award false true = refl
+    award false false = refl
+close_same ends.Passed end dealer = refl
+close_same ends.Expired end dealer = refl
 
 told_each : (at : RoomRef) (end : End) (moment : ℕ) (dealers : List ℕ)
     → map unpriced_duty (told_to_each at end dealers moment)
     ≡ map unpriced_duty (told_to_each at (uncovered_end end) dealers moment)
 told_each at end moment [] = refl
 told_each at end moment (dealer ∷ dealers) =
-    rw (
-      close_of_kind end.kind end.winner end.cover dealer,
-      told_each at end moment dealers,
-    )
+    rw (close_same end.kind end dealer, told_each at end moment dealers)
 
 module _ (facts : List RoomFact) (at : RoomRef) where
   pub post_left : (dealer : ℕ) (offer later : Offer) (moment : ℕ)
@@ -201,12 +195,16 @@ module _ (config : Configuration) (own : ℕ) (facts : List Fact) (room : RoomRe
       → AreAlike own (hit_with config (bare own facts) room response word moment settlement)
       (hit_with config facts room response word moment settlement)
   with_alike settlement =
-      rw (room_left own facts room) (both_alike own _ _ (added) (hit_left here room response word
-      moment settlement))
+      rw (room_left own facts room) (record {
+        same = simp (
+          lifted,
+          filter_map-append,
+          left_all (erase own) (InRoom room) unpriced_in_room (λ fact. refl),
+          kept_in_room here (at_room.Hit word moment settlement),
+          hit_left here room response word moment settlement,
+        );
+      })
     where
-      hit : RoomEvent
-      hit = at_room.Hit word moment settlement
-
       lifted : lifting (quote_with_word config word)
           (hit_outcome (map unpriced_in_room here) word moment settlement)
           ≡ lifting (quote_with_word config word) (hit_outcome here word moment settlement)
@@ -215,20 +213,6 @@ module _ (config : Configuration) (own : ℕ) (facts : List Fact) (room : RoomRe
           (lifting (quote_with_word config word)) (lifting_same (quote_with_word config word))
           (hit_outcome (map unpriced_in_room here) word moment settlement)
           (hit_outcome here word moment settlement) (outcome_same here word moment settlement)
-
-      added : bare own (lifting (quote_with_word config word)
-          (hit_outcome (map unpriced_in_room here) word moment settlement)
-          ++ map (InRoom room) (added_in_room (map unpriced_in_room here) hit))
-          ≡ bare own (lifting (quote_with_word config word)
-          (hit_outcome here word moment settlement)
-          ++ map (InRoom room) (added_in_room here hit))
-      added =
-          simp (
-            lifted,
-            filter_map-append,
-            left_all (erase own) (InRoom room) unpriced_in_room (λ fact. refl),
-            kept_in_room here hit,
-          )
 
   asked_same : hit_word (of_room room (bare own facts)) word moment ≡ hit_word here word moment
   asked_same =

@@ -1,7 +1,6 @@
 -- Lists of which some items are left out, and of the others something is erased.
 use Rattle.std.proofs.Common.{◌≡◌, Bool, false, ◌||◌, List, [], ◌∷◌, ◌++◌, map, filter_map, Option}
-use Rattle.std.proofs.Common.{Some, None, option_map, option_and_then, unwrap_or, refl, sym, ap}
-use Rattle.std.proofs.Common.{◌∙◌}
+use Rattle.std.proofs.Common.{Some, None, option_map, option_and_then, unwrap_or, refl}
 use Rattle.std.specs.List.{list_any, cons_option}
 use Rattle.std.proofs.lemmas.List.Elements.{filter_map-append}
 
@@ -66,12 +65,6 @@ pub left_all : {X Y : Type 0} (e : Y → Option Y) (k : X → Y) (u : X → X)
     → filter_map e (map k xs) ≡ map k (map u xs)
 left_all e k u same [] = refl
 left_all e k u same (x ∷ xs) = rw (same x, left_all e k u same xs)
-
-pub all_along : {X Y : Type 0} (e : Y → Option Y) (k : X → Y) (u : X → X)
-    → ((x : X) → e (k x) ≡ Some (k (u x))) → (xs ys : List X)
-    → map u xs ≡ map u ys → filter_map e (map k xs) ≡ filter_map e (map k ys)
-all_along e k u same xs ys alike =
-    left_all e k u same xs ∙ ap (map k) alike ∙ sym (left_all e k u same ys)
 
 pub left_none : {X Y : Type 0} (e : Y → Option Y) (k : X → Y) → ((x : X) → e (k x) ≡ None)
     → (xs : List X) → filter_map e (map k xs) ≡ []

@@ -30,10 +30,10 @@ use Rattle.venue_places.specs.declared.actors.Actor.{Actor}
 use Rattle.step_replay.specs.DealerTrail.{DealerEntry, answer_to_dealer, book_by, rooms_by}
 use Rattle.step_replay.specs.InvestorTrail as investor_trail
 use Rattle.step_replay.specs.VenueFacts.{Fact, of_dealer, of_investor}
-use Rattle.step_replay.specs.Actions.{Dealer, acting_dealer, at_investor_of, dealer_at, declined_by}
-use Rattle.step_replay.specs.Actions.{has_word_for, left_by, left_by_investor, offer_of, posted_by}
+use Rattle.step_replay.specs.Actions.{Dealer, acting_dealer, at_investor_of, dealer_at}
+use Rattle.step_replay.specs.Actions.{has_word_for, left_by, left_by_investor, offer_of}
 use Rattle.step_replay.specs.Actions.{received_by_dealer, received_by_investor, settlement_of}
-use Rattle.step_replay.specs.Actions.{unposted_by, verdict_on, where_known, word_for, words_of}
+use Rattle.step_replay.specs.Actions.{verdict_on, where_known, word_for, words_of}
 use Rattle.step_replay.specs.DutyEffects.{duty_effect, message_effect, sweep_effect}
 use Rattle.venue_laws.proofs.Erasing.{bare, book_left, investor_book_left, rooms_left}
 use Rattle.venue_laws.proofs.ErasedActions.{AreAlike, desk_alike, done_alike, either_alike}
@@ -45,39 +45,6 @@ module _ (config : Configuration) (own : ℕ) (facts : List Fact) where
   -- the facts without prices
   abbrev known : List Fact
   known = bare own facts
-
-  -- In a room.
-
-  posted_alike : (room : RoomRef) (quote price : ℕ) (until : Option ℕ) (moment : ℕ)
-      (dealer : Dealer)
-      → AreAlike own (posted_by config known room quote 0 until moment dealer)
-      (posted_by config facts room quote price until moment dealer)
-  posted_alike room quote price until moment dealer =
-      event_alike config own facts room
-      (λ l. has_word_for config dealer quote && hears l dealer.number)
-      (at_room.Post dealer.number (word_for config dealer quote) price until) price
-      (λ p l. duties_of_post l room dealer.number (offer_of config dealer quote p until) moment)
-      (λ l. simp asked) (λ l. simp asked (post_left l room dealer.number
-      (offer_of config dealer quote 0 until) (offer_of config dealer quote price until) moment
-      refl))
-
-  unposted_alike : (room : RoomRef) (quote moment : ℕ) (dealer : Dealer)
-      → AreAlike own (unposted_by config known room quote moment dealer)
-      (unposted_by config facts room quote moment dealer)
-  unposted_alike room quote moment dealer =
-      event_alike config own facts room
-      (λ l. has_word_for config dealer quote && hears l dealer.number)
-      (at_room.Unpost dealer.number (word_for config dealer quote)) 0
-      (λ p l. duties_of_unpost l room dealer.number (word_for config dealer quote) moment)
-      (λ l. simp asked) (λ l. simp asked_of_book)
-
-  declined_alike : (room : RoomRef) (moment : ℕ) (dealer : Dealer)
-      → AreAlike own (declined_by config known room moment dealer)
-      (declined_by config facts room moment dealer)
-  declined_alike room moment dealer =
-      event_alike config own facts room (λ l. hears l dealer.number)
-      (at_room.Decline dealer.number) 0
-      (λ p l. duties_of_decline l room dealer.number moment) (λ l. simp asked) (λ l. simp asked)
 
   -- At an investor.
 
@@ -104,15 +71,27 @@ module _ (config : Configuration) (own : ℕ) (facts : List Fact) where
       event_alike config own facts room (λ l. true) at_room.Ready 0 (λ p l. []) (λ l. refl)
       (λ l. refl)
   duty_alike by (duty.Post room quote price valid_until moment) =
-      done_alike (acting_dealer config by) (posted_alike room quote price valid_until moment)
+      done_alike (acting_dealer config by) (λ dealer. event_alike config own facts room
+      (λ l. has_word_for config dealer quote && hears l dealer.number)
+      (at_room.Post dealer.number (word_for config dealer quote) price valid_until) price
+      (λ p l. duties_of_post l room dealer.number (offer_of config dealer quote p valid_until) moment)
+      (λ l. simp asked) (λ l. simp asked (post_left l room dealer.number
+      (offer_of config dealer quote 0 valid_until) (offer_of config dealer quote price valid_until)
+      moment refl)))
   duty_alike by (duty.Relay room offer moment) =
       to_investor room (at_investor.QuoteCame room.n offer moment)
   duty_alike by (duty.Unpost room quote moment) =
-      done_alike (acting_dealer config by) (unposted_alike room quote moment)
+      done_alike (acting_dealer config by) (λ dealer. event_alike config own facts room
+      (λ l. has_word_for config dealer quote && hears l dealer.number)
+      (at_room.Unpost dealer.number (word_for config dealer quote)) 0
+      (λ p l. duties_of_unpost l room dealer.number (word_for config dealer quote) moment)
+      (λ l. simp asked) (λ l. simp asked_of_book))
   duty_alike by (duty.Gone room word moment) =
       to_investor room (at_investor.QuoteGone room.n word moment)
   duty_alike by (duty.Decline room moment) =
-      done_alike (acting_dealer config by) (declined_alike room moment)
+      done_alike (acting_dealer config by) (λ dealer. event_alike config own facts room
+      (λ l. hears l dealer.number) (at_room.Decline dealer.number) 0
+      (λ p l. duties_of_decline l room dealer.number moment) (λ l. simp asked) (λ l. simp asked))
   duty_alike by (duty.Declined room moment) =
       done_alike (acting_dealer config by)
       (λ dealer. to_investor room (at_investor.DealerDeclined room.n dealer.row.name moment))

@@ -1,7 +1,8 @@
 -- Blindness to prices: two days that are one but for the prices of other dealers stay one without
 -- prices, step by step.
 use Rattle.std.proofs.Common.{◌≡◌, ℕ, List, [], ◌∷◌, ◌++◌, map, filter_map, drop, count_by, fold}
-use Rattle.std.proofs.Common.{Some, None, option_map, refl, sym, ap, ◌∙◌, subst, ◌⊎◌, inl, inr, subst₂}
+use Rattle.std.proofs.Common.{Some, None, option_map, refl, sym, ap, ◌∙◌, subst, ◌⊎◌, inl, inr}
+use Rattle.std.proofs.Common.{subst₂}
 use Rattle.std.proofs.lemmas.List.{drop-map}
 use Rattle.market_terms.proofs.ErasedLists.{append_along, by_erased, map_cond}
 use Rattle.market_terms.specs.Unpriced.{unpriced_duty}
@@ -67,25 +68,19 @@ module _ (config : Configuration) (own : ℕ) where
   pending_same : (by : Actor) (one other : AuditTrail) → AreDays own one other
       → map unpriced_duty (pending by one) ≡ map unpriced_duty (pending by other)
   pending_same by one other before =
-      rw (pending_is one, pending_is other, before.done_are, before.caused_are) refl
+      rw (pending_is one, pending_is other, before.done_are, before.caused_are)
     where
       duty_same : (caused : Caused)
           → duty_of by (erase_caused caused) ≡ option_map unpriced_duty (duty_of by caused)
       duty_same caused = map_cond unpriced_duty (is_same_actor caused.by by) caused.duty None
-
-      duties_left : (caused : List Caused)
-          → map unpriced_duty (filter_map (duty_of by) caused)
-          ≡ filter_map (duty_of by) (map erase_caused caused)
-      duties_left caused = simp (filter_fuse, map_fuse, duty_same)
 
       pending_is : (trail : AuditTrail)
           → map unpriced_duty (pending by trail)
           ≡ drop (count_by (is_same_actor by) trail.done)
           (filter_map (duty_of by) (map erase_caused trail.caused))
       pending_is trail =
-          let count = count_by (is_same_actor by) trail.done in
-          sym (drop-map unpriced_duty count (filter_map (duty_of by) trail.caused))
-          ∙ ap (drop count) (duties_left trail.caused)
+          rw (← drop-map unpriced_duty (count_by (is_same_actor by) trail.done)
+          (filter_map (duty_of by) trail.caused)) (simp (filter_fuse, map_fuse, duty_same))
 
   -- what is alike to one action in the days without prices
   through : (action : List Fact → Effect) (one other : List Fact) {effect effect_too : Effect}

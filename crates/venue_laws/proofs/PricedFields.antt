@@ -11,8 +11,7 @@ use Rattle.venue_rows.specs.declared.bond_rows.BondRow.{BondRow}
 use Rattle.quote_messages.specs.ValueForms.{APrice, value_fault}
 use Rattle.quote_messages.specs.SessionLines.{occurrence_fault, at_tag, tag_fault, optional}
 use Rattle.quote_messages.specs.SessionLines.{first_fault}
-use Rattle.quote_messages.specs.SessionChecks.{header_lines, quote_lines, cancel_lines}
-use Rattle.quote_messages.specs.SessionChecks.{decline_lines}
+use Rattle.quote_messages.specs.SessionChecks.{quote_lines}
 use Rattle.quote_messages.specs.declared.session_faults.SessionRejectReason.TheVariants as reason
 use Rattle.venue_laws.specs.PriceAlike.{is_price_tag, IsPriceOf, IsOneOrPriced}
 use Rattle.market_terms.proofs.ErasedLists.{count_map}
@@ -139,21 +138,7 @@ module _ (bond : Option BondRow) (one other : List Field)
       (price_fault_same tag (nat_lt 1 (times_of tag other)) (value_of tag one) (value_of tag other)
       (price_value bond one other alike tag))
 
-  -- Tables.
-
-  pub header_same : (name : List ℕ) (traders types : List (List ℕ))
-      → first_fault (header_lines name traders types) date one
-      ≡ first_fault (header_lines name traders types) date other
-  header_same name traders types =
-      simp (times_same bond one other alike, value_same bond one other alike)
-
   pub quote_same : first_fault quote_lines date one ≡ first_fault quote_lines date other
   quote_same =
       rw (price_line 132, price_line 133)
       (simp (times_same bond one other alike, value_same bond one other alike))
-
-  pub cancel_same : first_fault cancel_lines date one ≡ first_fault cancel_lines date other
-  cancel_same = simp (times_same bond one other alike, value_same bond one other alike)
-
-  pub decline_same : first_fault decline_lines date one ≡ first_fault decline_lines date other
-  decline_same = simp (times_same bond one other alike, value_same bond one other alike)

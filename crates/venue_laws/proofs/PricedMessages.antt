@@ -1,8 +1,7 @@
 -- Two messages of a dealer that differ in lawful prices alone: the verdicts on them are one but for
 -- the price.
 use Rattle.std.proofs.Common.{◌≡◌, ℕ, ◌==◌, Bool, true, false, List, drop, Option, Some, None}
-use Rattle.std.proofs.Common.{option_and_then, unwrap_or, codes, refl, sym, ap, ◌∙◌, subst}
-use Rattle.std.proofs.Common.{if◌then◌else◌, Result, Ok, Err, nat_lt, []}
+use Rattle.std.proofs.Common.{codes, refl, if◌then◌else◌, Result, Ok, Err, nat_lt}
 use Rattle.std.specs.List.{AllZip}
 use Rattle.std.specs.Str.Parse.{digits_value}
 use Rattle.fix_fields.specs.Frame.{Field, frame_of, value_of, times_of}
@@ -32,7 +31,7 @@ use Rattle.dealer_desk.specs.Unpriced.{unpriced_verdict}
 use Rattle.step_replay.specs.EachLemmas.{Every}
 use Rattle.venue_laws.proofs.VenueParts.{BearsGrid}
 use Rattle.venue_laws.proofs.PricedFields.{AreValues, value_same, times_same, price_value}
-use Rattle.venue_laws.proofs.PricedFields.{header_same, quote_same, cancel_same, decline_same}
+use Rattle.venue_laws.proofs.PricedFields.{quote_same}
 use Rattle.venue_laws.proofs.PricedQuotes.{priced, verdict_alike}
 use Rattle.quote_messages.proofs.GroupLemmas.{or_next-none}
 
@@ -69,52 +68,32 @@ module _ (config : Configuration) (date : List ℕ) (row : DealerRow) (book : De
       → value_of tag one ≡ value_of tag other
   same_value tag is_none = value_same (bond_meant config one) one other alike tag is_none
 
-  -- The quote.
+  same_times : (tag : ℕ) → times_of tag one ≡ times_of tag other
+  same_times = times_same (bond_meant config one) one other alike
 
-  quote_is : quote_of date other
-      ≡ priced (quote_of date one) (value_of 132 other) (value_of 133 other)
-  quote_is =
-      simp same_value
+  -- the other message's quote, at the prices of this one
+  abbrev at_prices : Quote
+  at_prices = priced (quote_of date other) (value_of 132 one) (value_of 133 one)
 
-  quote_one : first_fault quote_lines date one ≡ None
-      → judged (Taken (message.Quote (quote_of date one)))
+  quote_one : first_fault quote_lines date other ≡ None
+      → judged (Taken (message.Quote at_prices))
       ≡ judged (Taken (message.Quote (quote_of date other)))
   quote_one fine =
-      verdict_alike (quote_of date one) (value_of 132 one) (value_of 132 other) (value_of 133 one)
-      (value_of 133 other) row book moment config bear
+      verdict_alike (quote_of date other) (value_of 132 one) (value_of 132 other)
+      (value_of 133 one) (value_of 133 other) row book moment config bear
       (λ bond found. (values bond found 132, values bond found 133))
-      ∙ ap (λ (q : Quote). judged (Taken (message.Quote q))) (sym quote_is)
     where
-      meant : (bond : BondRow) → bond_with_id config (text_at 48 one) ≡ Some bond
-          → bond_meant config one ≡ Some bond
-      meant bond found =
-          let named = names_bond date one fine in
-          ap (option_and_then (bond_with_id config)) named.1
-          ∙ sym (ap (λ (o : Option (List ℕ)). bond_with_id config (unwrap_or o [])) named.1)
-          ∙ found
+      named : (text : List ℕ) × (value_of 48 other ≡ Some text)
+      named = names_bond date other fine
 
-      values : (bond : BondRow) → bond_with_id config (text_at 48 one) ≡ Some bond → (tag : ℕ)
+      values : (bond : BondRow) → bond_with_id config (text_at 48 other) ≡ Some bond → (tag : ℕ)
           → AreValues (Some bond) tag (value_of tag one) (value_of tag other)
       values bond found tag =
-          subst (λ (b : Option BondRow). AreValues b tag (value_of tag one) (value_of tag other))
-          (meant bond found) (price_value (bond_meant config one) one other alike tag)
+          let meant : bond_meant config one ≡ Some bond =
+          rw (same_value 48 refl, named.1) (rw (named.1) at found) in
+          rw meant at (price_value (bond_meant config one) one other alike tag)
 
   -- All messages.
-
-  -- what no quote says
-  abbrev rest : List Field → Result DealerMessage SessionFault
-  rest fields = verdict_by (drop 1 dealer_tables) date fields
-
-  rest_same : rest one ≡ rest other
-  rest_same =
-      rw (
-        cancel_same (bond_meant config one) one other alike date,
-        decline_same (bond_meant config one) one other alike date,
-      ) (simp same_value)
-
-  sequence_same : sequence_number one ≡ sequence_number other
-  sequence_same =
-      rw (times_same (bond_meant config one) one other alike 34, same_value 34 refl)
 
   -- two quotes under one number, with one fault of the header and one of their own
   quotes_one : (expected : ℕ) (number : Option (List ℕ)) (header : Option SessionFault)
@@ -154,18 +133,12 @@ module _ (config : Configuration) (date : List ℕ) (row : DealerRow) (book : De
       (dealer_session_verdict date row other))
   unfolding dealer_session_verdict
   arrivals_one expected =
-      rw (
-        header_same (bond_meant config one) one other alike date row.name row.traders
-            (types_of dealer_tables),
-        quote_same (bond_meant config one) one other alike date,
-        rest_same,
-        sequence_same,
-        same_value 35 refl,
-      ) (quotes_one expected (sequence_number other)
+      rw (quote_same (bond_meant config one) one other alike date)
+      (simp (same_times, same_value) (quotes_one expected (sequence_number other)
       (first_fault (header_lines row.name row.traders (types_of dealer_tables)) date other)
       (same_text (codes "S") (text_at 35 other)) (first_fault quote_lines date other)
-      (message.Quote (quote_of date one)) (message.Quote (quote_of date other)) (rest other)
-      (λ fine. quote_one (quote_same (bond_meant config one) one other alike date ∙ fine)))
+      (message.Quote at_prices) (message.Quote (quote_of date other))
+      (verdict_by (drop 1 dealer_tables) date other) quote_one))
 
   pub verdicts_alike : (bytes others : List ℕ) → frame_of bytes ≡ Some one
       → frame_of others ≡ Some other
