@@ -79,7 +79,7 @@ fn are_same_traders(one: &Traders, other: &Traders) -> bool
 }
 
 /// Whether the same trader stands at a place, or both have ended.
-#[tactic(auto, using(crate::proofs::CompareLemmas::same_found))]
+#[tactic(auto, using(venue_text::proofs::CompareLemmas::same_found))]
 fn is_same_trader_at(one: &Traders, other: &Traders, place: usize) -> bool
     ensures { IsTrue result ↔ (slice_get one.now place ≡ slice_get other.now place) }
 {
@@ -106,7 +106,7 @@ fn are_same_bonds(one: &[BondRow], other: &[BondRow]) -> bool
 }
 
 /// Whether the same bond stands at a place, or both have ended.
-#[tactic(auto, using(crate::proofs::CompareLemmas::same_found))]
+#[tactic(auto, using(venue_text::proofs::CompareLemmas::same_found))]
 fn is_same_bond_at(one: &[BondRow], other: &[BondRow], place: usize) -> bool
     ensures { IsTrue result ↔ (slice_get one.now place ≡ slice_get other.now place) }
 {
