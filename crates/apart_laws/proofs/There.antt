@@ -1,7 +1,6 @@
 -- A day without what stands on the other side, and what keeps its sides: all that a firm of this
 -- side can depend on, as long as nobody asks across.
-use Rattle.std.proofs.Common.{◌≡◌, ◌≤◌, ℕ, Bool, List, filter, length, take}
-use Rattle.std.proofs.Common.{Option, Some, None}
+use Rattle.std.proofs.Common.{◌≡◌, ◌≤◌, ℕ, Bool, List, length, take, Option, Some, None}
 use Rattle.market_terms.specs.declared.duties.Duty.{Duty}
 use Rattle.market_terms.specs.declared.duties.Duty.TheVariants as duty
 use Rattle.market_terms.specs.declared.rooms.RoomRef.{RoomRef}
@@ -10,13 +9,14 @@ use Rattle.venue_rows.specs.Rows.{Configuration}
 use Rattle.request_room.specs.RoomFacts.{RoomFact, Opened, Posted}
 use Rattle.venue_steps.specs.Words.{word_of}
 use Rattle.step_replay.specs.Actions.{QuoteRef, quote_with_word, quotes_of}
-use Rattle.step_replay.specs.AuditTrail.{AuditTrail, Caused}
+use Rattle.step_replay.specs.AuditTrail.{AuditTrail}
 use Rattle.step_replay.specs.DealerTrail.{DealerEntry, ShownIn}
 use Rattle.step_replay.specs.EachLemmas.{Every}
 use Rattle.step_replay.specs.LiveStanding.{desk_of_duty, room_of_duty}
 use Rattle.step_replay.specs.VenueFacts.{Fact, AtDealer, InRoom, AtInvestor}
 use Rattle.venue_places.specs.declared.actors.Actor.{Actor}
 use Rattle.venue_places.specs.declared.actors.Actor.TheVariants as actor
+use Rattle.day_parts.specs.DayParts.{part}
 use Rattle.apart_laws.specs.Apart.{acts_there}
 
 -- What stays.
@@ -27,17 +27,9 @@ stays side (AtDealer dealer entry) = side dealer
 stays side (InRoom room fact) = side room.investor
 stays side (AtInvestor investor entry) = side investor
 
--- whether a duty stays in the day: that of an actor on this side
-abbrev pub caused_stays : (ℕ → Bool) → Caused → Bool
-caused_stays side caused = acts_there side caused.by
-
 -- the day of one side
 abbrev pub there : (ℕ → Bool) → AuditTrail → AuditTrail
-there side trail = record {
-  facts = filter (stays side) trail.facts;
-  caused = filter (caused_stays side) trail.caused;
-  done = filter (acts_there side) trail.done;
-}
+there side trail = part (stays side) (acts_there side) trail
 
 -- What is on one side: `own` says on which.
 
@@ -88,10 +80,6 @@ pub record IsOn (side : ℕ → Bool) (config : Configuration) (own : Bool) (by 
 abbrev pub QueuedOn : (ℕ → Bool) → Configuration → Actor → Duty → Type 0
 QueuedOn side config (actor.Firm firm) d = IsOn side config (side firm) (actor.Firm firm) d
 QueuedOn side config actor.Clock d = Unit {0}
-
--- the same of one that was left
-abbrev pub CausedOn : (ℕ → Bool) → Configuration → Caused → Type 0
-CausedOn side config caused = QueuedOn side config caused.by caused.duty
 
 -- Facts: a request is shown to dealers of its side, a room is opened for some of its side, and the
 -- quotes that are posted there are of such ones.

@@ -33,18 +33,12 @@ use Rattle.silence_laws.proofs.QuietVerdicts.{hits}
 -- whether a message that came is a hit
 abbrev ok_hit : Result InvestorMessage SessionFault → Bool
 ok_hit (Ok (message.Hit hit)) = true
-ok_hit (Ok (message.Request request)) = false
-ok_hit (Ok (message.Pass pass)) = false
-ok_hit (Err fault) = false
+ok_hit other = false
 
 -- whether what came is
 abbrev takes_hit : Arrival InvestorMessage → Bool
 takes_hit (arrival.Taken (message.Hit hit)) = true
-takes_hit (arrival.Taken (message.Request request)) = false
-takes_hit (arrival.Taken (message.Pass pass)) = false
-takes_hit arrival.Dropped = false
-takes_hit (arrival.OutOfSequence reject) = false
-takes_hit (arrival.Rejected reject) = false
+takes_hit other = false
 
 ok_unless : (fault : Option SessionFault) (v : Result InvestorMessage SessionFault)
     → ok_hit v ≡ false → ok_hit (unless_fault fault v) ≡ false
@@ -86,10 +80,8 @@ arrival_none date row expected bytes isnt = by_frame (frame_of bytes) isnt
   where
     by_verdict : (fields : List Field) (number : List ℕ) (v : Result InvestorMessage SessionFault)
         → ok_hit v ≡ false → takes_hit (in_sequence fields number v) ≡ false
-    by_verdict fields number (Err fault) is = refl
     by_verdict fields number (Ok (message.Hit hit)) is = cc
-    by_verdict fields number (Ok (message.Request request)) is = refl
-    by_verdict fields number (Ok (message.Pass pass)) is = refl
+    by_verdict fields number other is = refl
 
     by_order : (b : Bool) (one other : Arrival InvestorMessage) → takes_hit one ≡ false
         → takes_hit other ≡ false → takes_hit (if b then one else other) ≡ false
@@ -130,15 +122,13 @@ came_none : (market : InvestorMarket) (book : InvestorBook) (moment : ℕ)
     (came : Arrival InvestorMessage) → takes_hit came ≡ false
     → hits (arrival_verdict market book moment came) ≡ false
 unfolding request_verdict pass_verdict
-came_none market book moment arrival.Dropped isnt = refl
-came_none market book moment (arrival.OutOfSequence reject) isnt = refl
-came_none market book moment (arrival.Rejected reject) isnt = refl
 came_none market book moment (arrival.Taken (message.Request request)) isnt =
     request_none market book moment request (bond_with_id market request.bond)
     (request_refusal market book moment request)
 came_none market book moment (arrival.Taken (message.Hit hit)) isnt = cc
 came_none market book moment (arrival.Taken (message.Pass pass)) isnt =
     pass_none pass (request_with_id book pass.request)
+came_none market book moment other isnt = refl
 
 pub verdict_none : (market : InvestorMarket) (book : InvestorBook) (moment : ℕ) (bytes : List ℕ)
     → says_hit (frame_of bytes) ≡ false

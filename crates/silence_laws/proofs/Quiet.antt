@@ -1,7 +1,6 @@
 -- A day without what other dealers did, and without what investors were shown and sent: all of it
 -- that a dealer's own part of the day can depend on, as long as nobody hits.
-use Rattle.std.proofs.Common.{◌≡◌, ℕ, ◌==◌, Bool, true, false, not, filter}
-use Rattle.std.proofs.Common.{if◌then◌else◌}
+use Rattle.std.proofs.Common.{◌≡◌, ℕ, ◌==◌, Bool, true, false, not}
 use Rattle.market_terms.specs.declared.duties.Duty.{Duty}
 use Rattle.market_terms.specs.declared.duties.Duty.TheVariants as duty
 use Rattle.market_terms.specs.declared.closes.Reply.{Reply}
@@ -9,10 +8,11 @@ use Rattle.market_terms.specs.declared.closes.Reply.TheVariants as reply
 use Rattle.venue_rows.specs.Rows.{Configuration}
 use Rattle.investor_desk.specs.InvestorFacts.{InvestorFact, Offered, Gone}
 use Rattle.request_room.specs.RoomFacts.{RoomFact, Posted, Unposted, Noted}
-use Rattle.step_replay.specs.AuditTrail.{AuditTrail, Caused}
+use Rattle.step_replay.specs.AuditTrail.{AuditTrail}
 use Rattle.step_replay.specs.InvestorTrail.{InvestorEntry, AtDesk, Sent}
 use Rattle.step_replay.specs.VenueFacts.{Fact, AtDealer, InRoom, AtInvestor}
 use Rattle.venue_places.specs.declared.actors.Actor.{Actor}
+use Rattle.day_parts.specs.DayParts.{part}
 use Rattle.silence_laws.specs.Silence.{acts_as_another}
 
 -- Facts.
@@ -43,21 +43,13 @@ stays own (AtInvestor investor entry) = stays_there entry
 
 -- The day.
 
--- whether a duty stays in the day: those that other dealers left don't
-abbrev pub caused_stays : Configuration → ℕ → Caused → Bool
-caused_stays config own caused = not (acts_as_another config own caused.by)
-
--- whether a turn does
-abbrev pub turn_stays : Configuration → ℕ → Actor → Bool
-turn_stays config own by = not (acts_as_another config own by)
+-- whether the duties and turns of an actor stay: those of other dealers don't
+abbrev pub acts : Configuration → ℕ → Actor → Bool
+acts config own by = not (acts_as_another config own by)
 
 -- the day without what other dealers did
 abbrev pub quiet : Configuration → ℕ → AuditTrail → AuditTrail
-quiet config own trail = record {
-  facts = filter (stays own) trail.facts;
-  caused = filter (caused_stays config own) trail.caused;
-  done = filter (turn_stays config own) trail.done;
-}
+quiet config own trail = part (stays own) (acts config own) trail
 
 -- Duties.
 
@@ -90,10 +82,10 @@ IsQuoting more = is_quoting more ≡ true
 abbrev pub IsPlain : Duty → Type 0
 IsPlain more = is_plain more ≡ true
 
--- what a duty in a queue is: of another dealer, one that its steps lead to
-abbrev pub fits : Configuration → ℕ → Caused → Bool
-fits config own caused =
-    if acts_as_another config own caused.by then is_quoting caused.duty else is_plain caused.duty
+-- what a duty in the queue of an actor is: of another dealer, one that its steps lead to
+abbrev pub SuitsIf : Bool → Duty → Type 0
+SuitsIf true more = IsQuoting more
+SuitsIf false more = IsPlain more
 
-abbrev pub Fits : Configuration → ℕ → Caused → Type 0
-Fits config own caused = fits config own caused ≡ true
+abbrev pub Suits : Configuration → ℕ → Actor → Duty → Type 0
+Suits config own by more = SuitsIf (acts_as_another config own by) more

@@ -1,19 +1,20 @@
 -- The book of an investor's desk without the quotes that it was shown.
-use Rattle.std.proofs.Common.{◌≡◌, ℕ, ◌+◌, ◌==◌, Bool, true, false, cond, List, [], ◌∷◌, map}
-use Rattle.std.proofs.Common.{filter, find, count_by, Option, Some, None, option_map, is_some, refl}
-use Rattle.std.proofs.Common.{ap, ◌∙◌, ◌&&◌, fold}
+use Rattle.std.proofs.Common.{◌≡◌, ℕ, ◌==◌, Bool, true, false, cond, List, [], ◌∷◌, map, filter}
+use Rattle.std.proofs.Common.{find, length, Option, Some, None, option_map, is_some, refl, sym, ap}
+use Rattle.std.proofs.Common.{◌∙◌, ◌&&◌}
 use Rattle.std.specs.Option.{option_or}
 use Rattle.std.proofs.lemmas.List.{length-map}
-use Rattle.quote_messages.specs.declared.requests.InvestorMessage.TheVariants as message
+use Rattle.std.proofs.lemmas.List.Sums.{length-filter}
 use Rattle.venue_rows.specs.Texts.{same_text}
 use Rattle.investor_desk.specs.InvestorFacts.{InvestorFact, InvestorBook, StandingRequest, Came}
-use Rattle.investor_desk.specs.InvestorFacts.{Asked, Offered, Gone, Closed, used_number, closes}
-use Rattle.investor_desk.specs.InvestorFacts.{first_said, standing_on, requests_of, offers_of}
-use Rattle.investor_desk.specs.InvestorFacts.{book_of, requests_accepted, is_open, requests_open}
+use Rattle.investor_desk.specs.InvestorFacts.{Asked, Closed, used_number, closes, first_said}
+use Rattle.investor_desk.specs.InvestorFacts.{standing_on, requests_of, offers_of, book_of}
+use Rattle.investor_desk.specs.InvestorFacts.{requests_accepted, is_open, requests_open}
 use Rattle.investor_desk.specs.InvestorFacts.{request_with_id, request_numbered, offer_named, knows}
 use Rattle.investor_desk.specs.declared.standing.RequestClose.{RequestClose}
 use Rattle.step_replay.specs.InvestorTrail.{InvestorEntry, AtDesk, Sent, fact_in, facts_of, book_by}
-use Rattle.silence_laws.proofs.FilterLemmas.{count_kept, found_of_kept, where_kept}
+use Rattle.day_parts.specs.KeptItems.{count_kept}
+use Rattle.silence_laws.proofs.FilterLemmas.{found_of_kept, kept_in, where_kept}
 use Rattle.silence_laws.proofs.Quiet.{stays_at_desk, stays_there}
 
 -- Options and lists.
@@ -33,19 +34,6 @@ find_map e p q same [] = refl
 find_map e p q same (x ∷ xs) =
     rw (same x, find_map e p q same xs) (map_cond e (p x) x (find p xs))
 
-fold_map : {X Y : Type 0} (e : X → Y) (f : X → ℕ) (g : Y → ℕ) → ((x : X) → g (e x) ≡ f x)
-    → (a : ℕ) (xs : List X)
-    → fold (λ (a : ℕ) (y : Y). a + g y) a (map e xs) ≡ fold (λ (a : ℕ) (x : X). a + f x) a xs
-fold_map e f g same a [] = refl
-fold_map e f g same a (x ∷ xs) =
-    ap (λ (n : ℕ). fold (λ (a : ℕ) (y : _). a + g y) (a + n) (map e xs)) (same x)
-    ∙ fold_map e f g same (a + f x) xs
-
-count_map : {X Y : Type 0} (e : X → Y) (p : X → Bool) (q : Y → Bool)
-    → ((x : X) → q (e x) ≡ p x) → (xs : List X) → count_by q (map e xs) ≡ count_by p xs
-count_map e p q same xs =
-    fold_map e (λ x. cond (p x) 1 0) (λ y. cond (q y) 1 0)
-    (λ x. ap (λ (b : Bool). cond b 1 0) (same x)) 0 xs
 
 -- What stays of the book.
 
@@ -63,49 +51,32 @@ quiet_book book = record {
 
 uses_none : (fact : InvestorFact) → stays_at_desk fact ≡ false → used_number fact ≡ false
 uses_none (Came moment bytes used) is = cc
-uses_none (Asked request) is = refl
-uses_none (Offered shown) is = refl
-uses_none (Gone request quote) is = refl
-uses_none (Closed request close) is = refl
+uses_none fact is = refl
 
 close_kept : (number : ℕ) (facts : List InvestorFact)
     → first_said (closes number) (filter stays_at_desk facts) ≡ first_said (closes number) facts
 close_kept number [] = refl
-close_kept number (Offered shown ∷ later) = close_kept number later
-close_kept number (Gone request quote ∷ later) = close_kept number later
-close_kept number (Came moment bytes used ∷ later) = close_kept number later
-close_kept number (Asked request ∷ later) = close_kept number later
 close_kept number (Closed request close ∷ later) =
     ap (λ (o : Option RequestClose). option_or (closes number (Closed request close)) o)
     (close_kept number later)
+close_kept number (fact ∷ later) = close_kept number later
 
 none_stands : (number : ℕ) (facts : List InvestorFact)
     → standing_on number (filter stays_at_desk facts) ≡ []
 none_stands number [] = refl
-none_stands number (Offered shown ∷ later) = none_stands number later
-none_stands number (Gone request quote ∷ later) = none_stands number later
-none_stands number (Came moment bytes used ∷ later) = none_stands number later
-none_stands number (Asked request ∷ later) = none_stands number later
-none_stands number (Closed request close ∷ later) = none_stands number later
+none_stands number (fact ∷ later) = none_stands number later
 
 requests_kept : (facts : List InvestorFact)
     → requests_of (filter stays_at_desk facts) ≡ map quiet_request (requests_of facts)
 requests_kept [] = refl
-requests_kept (Offered shown ∷ later) = requests_kept later
-requests_kept (Gone request quote ∷ later) = requests_kept later
-requests_kept (Came moment bytes used ∷ later) = requests_kept later
 requests_kept (Asked request ∷ later) =
     rw (close_kept request.number later, none_stands request.number later, requests_kept later)
     refl
-requests_kept (Closed request close ∷ later) = requests_kept later
+requests_kept (fact ∷ later) = requests_kept later
 
 no_offers : (facts : List InvestorFact) → offers_of (filter stays_at_desk facts) ≡ []
 no_offers [] = refl
-no_offers (Offered shown ∷ later) = no_offers later
-no_offers (Gone request quote ∷ later) = no_offers later
-no_offers (Came moment bytes used ∷ later) = no_offers later
-no_offers (Asked request ∷ later) = no_offers later
-no_offers (Closed request close ∷ later) = no_offers later
+no_offers (fact ∷ later) = no_offers later
 
 book_kept : (facts : List InvestorFact)
     → book_of (filter stays_at_desk facts) ≡ quiet_book (book_of facts)
@@ -154,7 +125,11 @@ module _ (book : InvestorBook) where
   accepted_same = length-map book.requests quiet_request
 
   pub open_count_same : requests_open (quiet_book book) ≡ requests_open book
-  open_count_same = count_map quiet_request is_open is_open (λ own. refl) book.requests
+  open_count_same =
+      sym (length-filter is_open (map quiet_request book.requests))
+      ∙ ap length (kept_in is_open quiet_request is_open (λ own. refl) book.requests)
+      ∙ length-map (filter is_open book.requests) quiet_request
+      ∙ length-filter is_open book.requests
 
   -- a request that is known stays known
   pub knows_same : (number : ℕ) → knows (quiet_book book) number None ≡ knows book number None

@@ -97,9 +97,6 @@ arrival_heard : (book : InvestorBook) (market : InvestorMarket) (moment : ℕ)
     → IsHeardSo (arrival_verdict market (quiet_book book) moment came)
     (arrival_verdict market book moment came)
 unfolding hit_verdict pass_verdict
-arrival_heard book market moment arrival.Dropped = heard_same _ _ refl
-arrival_heard book market moment (arrival.OutOfSequence reject) = heard_same _ _ refl
-arrival_heard book market moment (arrival.Rejected reject) = heard_same _ _ refl
 arrival_heard book market moment (arrival.Taken (message.Request request)) =
     heard_same _ _ (request_verdict_same book market moment request)
 arrival_heard book market moment (arrival.Taken (message.Hit hit)) =
@@ -110,6 +107,7 @@ arrival_heard book market moment (arrival.Taken (message.Pass pass)) =
     heard_same _ _
     (ap (pass_of pass) (with_id book pass.request)
     ∙ pass_same book pass (request_with_id book pass.request))
+arrival_heard book market moment other = heard_same _ _ refl
 
 -- the verdict by the book without quotes
 pub verdict_heard : (book : InvestorBook) (market : InvestorMarket) (moment : ℕ) (bytes : List ℕ)
