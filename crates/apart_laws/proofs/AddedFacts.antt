@@ -1,5 +1,5 @@
--- Each fact that an action of one side adds is of that side, and so is all that it names: one line a
--- duty.
+-- Each fact that an action of one side adds is of that side, and so is all that it names: one line
+-- a duty.
 use Rattle.std.proofs.Common.{◌≡◌, ℕ, Bool, true, false, List, [], ◌++◌, map, Option, Some, None}
 use Rattle.std.proofs.Common.{IfSome, is_some, refl, sym, ◌∙◌, subst, Result, Ok, Err}
 use Rattle.std.proofs.lemmas.Bool.{cond_both}
@@ -41,9 +41,8 @@ use Rattle.venue_places.specs.declared.actors.Actor.TheVariants as actor
 use Rattle.day_parts.specs.ActionCases.{by_does, if_does, invested_does, message_of, numbered_does}
 use Rattle.day_parts.specs.ActionCases.{told_does, unless_does}
 use Rattle.day_parts.specs.KeptItems.{every_in, every_map}
-use Rattle.apart_laws.proofs.There.{AskedOn, EntryOn, FactOn, FactsOn, HappenedOn, IsOn, OwnerOn}
-use Rattle.apart_laws.proofs.There.{stays}
-use Rattle.apart_laws.proofs.ThereFacts.{RoomWith, room_on, word_on}
+use Rattle.apart_laws.proofs.ThereFacts.{AskedOn, EntryOn, FactOn, FactsOn, HappenedOn, IsOn}
+use Rattle.apart_laws.proofs.ThereFacts.{OwnerOn, stays, RoomWith, room_on, word_on}
 
 module _ (side : ℕ → Bool) (config : Configuration) (own : Bool) where
   -- a fact of one side that names what is on its side
@@ -160,7 +159,8 @@ module _ (side : ℕ → Bool) (config : Configuration) (own : Bool) where
     hit_adds : FactsOn side config facts → (word moment : ℕ) (settlement : Option Settled)
         → Every StandsOn (lifting (quote_with_word config word)
         (hit_outcome (of_room room facts) word moment settlement)
-        ++ map (InRoom room) (event_facts (of_room room facts) (at_room.Hit word moment settlement)))
+        ++ map (InRoom room)
+        (event_facts (of_room room facts) (at_room.Hit word moment settlement)))
     hit_adds on word moment settlement =
         let known = of_room room facts in
         every_both StandsOn

@@ -25,8 +25,7 @@ use Rattle.day_parts.specs.DayParts.{steps_grow}
 use Rattle.apart_laws.specs.Apart.{AreOneThere, asks_across, has_ask_across, is_there, steps_there}
 use Rattle.apart_laws.proofs.ClockTurns.{after}
 use Rattle.apart_laws.proofs.SideUnits.{Rests, unit_leaves, unit_rests, unit_there}
-use Rattle.apart_laws.proofs.There.{there}
-use Rattle.apart_laws.proofs.ThereFacts.{dealer_same, investor_same}
+use Rattle.apart_laws.proofs.ThereFacts.{there, dealer_same, investor_same}
 
 module _ (side : ℕ → Bool) (config : Configuration) where
   start_rests : Rests side config no_steps
@@ -76,7 +75,8 @@ module _ (side : ℕ → Bool) (config : Configuration) where
   day_is [] trail rests none = (refl, λ number here. refl)
   day_is (s ∷ steps) trail rests none =
       let next : AuditTrail = after config trail (with_turns s) in
-      let split : after config trail (live_steps (s ∷ steps)) ≡ after config next (live_steps steps) =
+      let split : after config trail (live_steps (s ∷ steps))
+      ≡ after config next (live_steps steps) =
       fold-append (after_step config) trail (with_turns s) (live_steps steps) in
       let none_behind : has_ask_across side (after config next (live_steps steps)) ≡ false =
       ap (has_ask_across side) (sym split) ∙ none in

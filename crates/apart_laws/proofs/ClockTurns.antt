@@ -30,7 +30,7 @@ use Rattle.day_parts.specs.LeftDuties.{duty_leaves, sweep_leaves}
 use Rattle.day_parts.specs.MayLeave.{MayLeave}
 use Rattle.apart_laws.proofs.LeftOn.{asked_there}
 use Rattle.apart_laws.proofs.SideSteps.{ClockWithin}
-use Rattle.apart_laws.proofs.There.{FactsOn}
+use Rattle.apart_laws.proofs.ThereFacts.{FactsOn}
 
 -- the day after these steps
 abbrev pub after : Configuration → AuditTrail → List Step → AuditTrail

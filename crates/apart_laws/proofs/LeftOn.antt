@@ -31,8 +31,8 @@ use Rattle.day_parts.specs.KeptItems.{every_all, every_met}
 use Rattle.day_parts.specs.LeftDuties.{Leaves, duty_leaves, message_leaves, sweep_leaves}
 use Rattle.day_parts.specs.MayLeave.{AreTold, InRooms, MayLeave, MaySay}
 use Rattle.apart_laws.specs.Apart.{are_parted, asks_across}
-use Rattle.apart_laws.proofs.There.{AskedOn, FactsOn, HappenedOn, IsOn, OwnerOn}
-use Rattle.apart_laws.proofs.ThereFacts.{RoomWith, asked_on, room_on, rooms_on}
+use Rattle.apart_laws.proofs.ThereFacts.{AskedOn, FactsOn, HappenedOn, IsOn, OwnerOn, RoomWith}
+use Rattle.apart_laws.proofs.ThereFacts.{asked_on, room_on, rooms_on}
 use Rattle.apart_laws.proofs.Verdicts.{AcceptsOfDay, AsksFew, owner_is, verdict_few, verdict_of_day}
 
 -- who is not parted is on one side
@@ -127,8 +127,8 @@ module _ (side : ℕ → Bool) (config : Configuration) (own : Bool) (facts : Li
         in_rooms Unless firm here (post_of quote) (λ room there none. record {
           desk_on = tt;
           room_on = there;
-          named_on = subst (OwnerOn side own) (sym (owner_is config firm row quote.number is within))
-              here;
+          named_on = subst (OwnerOn side own)
+              (sym (owner_is config firm row quote.number is within)) here;
         })
     dealer_may row is (verdict.CancelAccepted id quote request) within =
         in_rooms Unless firm here (λ room. duty.Unpost room quote moment)

@@ -1,12 +1,10 @@
 mod AddedFacts
 mod ApartDays
 mod ClockTurns
-mod ComesElsewhere
 mod LeftOn
 mod SameEffects
 mod SideFollows
 mod SideSteps
 mod SideUnits
-mod There
 mod ThereFacts
 mod Verdicts

@@ -31,9 +31,8 @@ use Rattle.venue_places.specs.declared.actors.Actor.{Actor}
 use Rattle.venue_places.specs.declared.actors.Actor.TheVariants as actor
 use Rattle.day_parts.specs.ActionCases.{by_both, invested_both, message_of, numbered_both}
 use Rattle.day_parts.specs.ActionCases.{told_to_same}
-use Rattle.apart_laws.proofs.There.{FactsOn, HappenedOn, IsOn, OwnerOn}
-use Rattle.apart_laws.proofs.ThereFacts.{dealer_same, investor_same, known, room_on, room_same}
-use Rattle.apart_laws.proofs.ThereFacts.{word_on}
+use Rattle.apart_laws.proofs.ThereFacts.{FactsOn, HappenedOn, IsOn, OwnerOn, dealer_same}
+use Rattle.apart_laws.proofs.ThereFacts.{investor_same, known, room_on, room_same, word_on}
 
 -- one action is another
 abbrev Same : Effect → Effect → Type 0
@@ -97,13 +96,15 @@ module _ (side : ℕ → Bool) (config : Configuration) (facts : List Fact) wher
 
   desk_same : (number : ℕ) (does : List Fact → Dealer → Effect)
       → ((row : DealerRow) → does facts (dealer_of number row) ≡ does here (dealer_of number row))
-      → done_by (dealer_at config number) (does facts) ≡ done_by (dealer_at config number) (does here)
+      → done_by (dealer_at config number) (does facts)
+      ≡ done_by (dealer_at config number) (does here)
   desk_same number does same =
       numbered_both Same refl config number (does facts) (does here) (λ row found. same row)
 
   act_same : (by : Actor) (does : List Fact → Dealer → Effect)
       → ((dealer : Dealer) → does facts dealer ≡ does here dealer)
-      → done_by (acting_dealer config by) (does facts) ≡ done_by (acting_dealer config by) (does here)
+      → done_by (acting_dealer config by) (does facts)
+      ≡ done_by (acting_dealer config by) (does here)
   act_same by does same = by_both Same refl (acting_dealer config by) (does facts) (does here) same
 
   comes_same : (number : ℕ) → side number ≡ true → (request : ℕ) (quote : Option ℕ)

@@ -1,10 +1,23 @@
 -- A step of this side does in the day of this side what it does in the day.
-use Rattle.std.proofs.Common.{◌≡◌, ℕ, Bool, true, false, List, [], ◌∷◌, ◌++◌, filter, Some, None}
-use Rattle.std.proofs.Common.{refl, sym, ap, ◌∙◌, subst, if◌then◌else◌}
-use Rattle.std.proofs.lemmas.List.Elements.{filter-append}
+use Rattle.std.proofs.Common.{◌≡◌, ℕ, Bool, true, false, Option, Some, None, is_some, refl, ap}
+use Rattle.std.proofs.Common.{if◌then◌else◌, List, [], ◌∷◌, ◌++◌, filter, sym, ◌∙◌, subst}
+use Rattle.std.specs.Prelude.{option_and_then}
 use Rattle.market_terms.specs.declared.duties.Duty.{Duty}
-use Rattle.venue_rows.specs.Rows.{Configuration}
+use Rattle.market_terms.specs.declared.duties.Duty.TheVariants as duty
+use Rattle.market_terms.specs.declared.rooms.RoomRef.{RoomRef}
+use Rattle.venue_rows.specs.Rows.{Configuration, has_room, investor_numbered}
+use Rattle.venue_places.specs.Dealers.{Dealer, acting_dealer}
+use Rattle.venue_places.specs.Placed.{at_dealer, at_investor, declined, declines, drops, in_room}
+use Rattle.venue_places.specs.Placed.{placed, posted, unposted}
 use Rattle.venue_places.specs.declared.actors.Actor.{Actor}
+use Rattle.venue_places.specs.declared.arrivals.Placement.{Placement}
+use Rattle.venue_places.specs.declared.arrivals.Placement.TheVariants as arrival
+use Rattle.venue_places.specs.declared.arrivals.ForDealer.{ForDealer}
+use Rattle.venue_places.specs.declared.arrivals.ForInvestor.{ForInvestor}
+use Rattle.venue_places.specs.declared.arrivals.ForRoom.{ForRoom}
+use Rattle.investor_views.specs.Comings.{For, at_desk_of, Own, comes_by, comes_by_turn}
+use Rattle.apart_laws.proofs.ThereFacts.{IsOn, not_one, stays, there}
+use Rattle.std.proofs.lemmas.List.Elements.{filter-append}
 use Rattle.venue_places.specs.declared.actors.Actor.TheVariants as actor
 use Rattle.step_replay.specs.Actions.{Effect}
 use Rattle.step_replay.specs.AuditTrail.{AuditTrail, after_step, after_turn, pending, with_effect}
@@ -15,16 +28,75 @@ use Rattle.step_replay.specs.QueueLemmas.{own_pending, own_turned, own_within, t
 use Rattle.step_replay.specs.VenueFacts.{Fact}
 use Rattle.step_replay.specs.declared.steps.Step.{Step}
 use Rattle.step_replay.specs.declared.steps.Step.TheVariants as step
-use Rattle.investor_views.specs.Comings.{Own, comes_by, comes_by_turn}
 use Rattle.day_parts.specs.DayParts.{did, did_same, grows, pending_same}
 use Rattle.day_parts.specs.KeptItems.{all_kept}
 use Rattle.apart_laws.specs.Apart.{acts_there}
 use Rattle.apart_laws.proofs.AddedFacts.{AddsOn, StandsOn, duty_adds, message_adds, sweep_adds}
-use Rattle.apart_laws.proofs.ComesElsewhere.{placed_elsewhere}
 use Rattle.apart_laws.proofs.SameEffects.{duty_same, message_same, sweep_same}
 use Rattle.apart_laws.proofs.SideSteps.{ActsOn, ClockWithin, Stands, StepOn, waits_on}
-use Rattle.apart_laws.proofs.There.{IsOn, stays, there}
-use Rattle.apart_laws.proofs.ThereFacts.{not_one}
+
+module _ (side : ℕ → Bool) (number : ℕ) (here : side number ≡ true) (config : Configuration) where
+  -- nothing comes to its desk
+  abbrev Elsewhere : Option Placement → Type 0
+  Elsewhere coming = at_desk_of number coming ≡ None
+
+  if_elsewhere : (b : Bool) (coming : Option Placement) → Elsewhere coming
+      → Elsewhere (if b then coming else None)
+  if_elsewhere true coming is = is
+  if_elsewhere false coming is = refl
+
+  act_elsewhere : (by : Actor) (act : Dealer → Option Placement)
+      → ((dealer : Dealer) → Elsewhere (act dealer))
+      → Elsewhere (option_and_then act (acting_dealer config by))
+  act_elsewhere by act each = by_found (acting_dealer config by)
+    where
+      by_found : (found : Option Dealer) → Elsewhere (option_and_then act found)
+      by_found None = refl
+      by_found (Some dealer) = each dealer
+
+  in_a_room : (room : RoomRef) (what : ForRoom) → Elsewhere (in_room config room what)
+  in_a_room room what = if_elsewhere _ (Some (arrival.Room room what)) refl
+
+  at_a_dealer : (firm : ℕ) (what : ForDealer) → Elsewhere (at_dealer config firm what)
+  at_a_dealer firm what = if_elsewhere _ (Some (arrival.Dealer firm what)) refl
+
+  other_investor : (firm : ℕ) (what : ForInvestor) → side firm ≡ false
+      → Elsewhere (at_investor config firm what)
+  other_investor firm what isnt =
+      if_elsewhere (is_some (investor_numbered config firm)) (Some (arrival.Investor firm what))
+      (ap (λ (b : Bool). if b then Some (For what) else None) (not_one side number firm here isnt))
+
+  pub placed_elsewhere : (by : Actor) (d : Duty) → IsOn side config false by d
+      → Elsewhere (placed config by d)
+  unfolding placed
+  placed_elsewhere by (duty.Open room ask dealers moment) is = in_a_room room _
+  placed_elsewhere by (duty.Show dealer room ask moment) is = at_a_dealer dealer _
+  placed_elsewhere by (duty.Ready room moment) is = in_a_room room _
+  placed_elsewhere by (duty.Post room quote price valid_until moment) is =
+      act_elsewhere by (posted config room quote price valid_until moment)
+      (λ dealer. if_elsewhere _ _ (in_a_room room _))
+  placed_elsewhere by (duty.Relay room offer moment) is =
+      other_investor room.investor _ is.desk_on
+  placed_elsewhere by (duty.Unpost room quote moment) is =
+      act_elsewhere by (unposted config room quote moment)
+      (λ dealer. if_elsewhere _ _ (in_a_room room _))
+  placed_elsewhere by (duty.Gone room word moment) is =
+      other_investor room.investor _ is.desk_on
+  placed_elsewhere by (duty.Decline room moment) is =
+      act_elsewhere by (declines config room moment) (λ dealer. in_a_room room _)
+  placed_elsewhere by (duty.Declined room moment) is =
+      act_elsewhere by (declined config room moment)
+      (λ dealer. other_investor room.investor _ is.desk_on)
+  placed_elsewhere by (duty.Hit room response word moment) is =
+      if_elsewhere (has_room config room.investor room.n)
+      (Some (arrival.Hit room response word moment)) refl
+  placed_elsewhere by (duty.Pass room response moment) is = in_a_room room _
+  placed_elsewhere by (duty.Answer room response reply moment) is =
+      other_investor room.investor _ is.desk_on
+  placed_elsewhere by (duty.Close room moment) is = other_investor room.investor _ is.desk_on
+  placed_elsewhere by (duty.Tell dealer room close moment) is = at_a_dealer dealer _
+  placed_elsewhere by (duty.Drop last moment) is =
+      act_elsewhere by (drops last moment) (λ dealer. refl)
 
 -- A day of this side alone goes as another one goes there.
 pub record Follows (side : ℕ → Bool) (one other : AuditTrail) : Type 0 where
@@ -51,11 +123,9 @@ module _ (side : ℕ → Bool) (config : Configuration) (one other : AuditTrail)
   module _ (effect : Effect) (adds : AddsOn side config true effect) where
     facts_kept : filter (stays side) (other.facts ++ effect.facts) ≡ other.facts ++ effect.facts
     facts_kept =
-        filter-append (stays side) other.facts effect.facts
-        ∙ ap (λ (l : List Fact). l ++ filter (stays side) effect.facts) follows.kept
-        ∙ ap (λ (l : List Fact). other.facts ++ l) (all_kept (stays side) effect.facts
-        (every_weaker (StandsOn side config true) (λ (fact : Fact). stays side fact ≡ true)
-        (λ fact on. on.1) effect.facts adds.each))
+        let all = all_kept (stays side) effect.facts (every_weaker (StandsOn side config true)
+        (λ (fact : Fact). stays side fact ≡ true) (λ fact on. on.1) effect.facts adds.each) in
+        rw (filter-append (stays side) other.facts effect.facts, follows.kept, all) refl
 
     clock_then : (by : Actor) → pending actor.Clock (with_effect by one effect)
         ≡ pending actor.Clock (with_effect by other effect)
@@ -82,7 +152,8 @@ module _ (side : ℕ → Bool) (config : Configuration) (one other : AuditTrail)
 
     clock_turned : (by : Actor) (d : Duty) (later : List Duty) → pending by one ≡ d ∷ later
         → pending by other ≡ d ∷ later
-        → (pending actor.Clock (turned by one effect) ≡ pending actor.Clock (turned by other effect))
+        → (pending actor.Clock (turned by one effect)
+        ≡ pending actor.Clock (turned by other effect))
         × ClockWithin (turned by other effect)
     clock_turned (actor.Firm firm) d later waits waits_too = (
       other_turned (actor.Firm firm) actor.Clock one effect refl refl ∙ follows.clock_is

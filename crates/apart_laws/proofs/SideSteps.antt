@@ -23,7 +23,7 @@ use Rattle.day_parts.specs.LeftDuties.{Leaves}
 use Rattle.apart_laws.specs.Apart.{acts_there, asks_across, has_ask_across}
 use Rattle.apart_laws.proofs.AddedFacts.{AddsOn, StandsOn, duty_adds, message_adds, sweep_adds}
 use Rattle.apart_laws.proofs.LeftOn.{duty_left, message_left, sweep_left}
-use Rattle.apart_laws.proofs.There.{FactOn, FactsOn, IsOn, QueuedOn, stays, there}
+use Rattle.apart_laws.proofs.ThereFacts.{FactOn, FactsOn, IsOn, QueuedOn, stays, there}
 
 -- whether an actor may act for one side
 abbrev pub ActsOn : (ℕ → Bool) → Bool → Actor → Type 0

@@ -23,7 +23,8 @@ use Rattle.apart_laws.proofs.ClockTurns.{after, unit_idle}
 use Rattle.apart_laws.proofs.SideFollows.{Follows, comes_none, comes_same, step_follows}
 use Rattle.apart_laws.proofs.SideSteps.{ActsOn, ClockWithin, Stands, StepOn, step_leaves}
 use Rattle.apart_laws.proofs.SideSteps.{step_stands}
-use Rattle.apart_laws.proofs.There.{FactsOn, IsOn, QueuedOn, stays, there}
+use Rattle.apart_laws.proofs.ThereFacts.{FactsOn, IsOn, QueuedOn, stays, there}
+use Rattle.step_replay.specs.QueueLemmas.{same_either}
 
 -- Steps of one side.
 
@@ -120,11 +121,6 @@ none_acts : (side : ℕ → Bool) (by : Actor) → acts_there side by ≡ true
 none_acts side (actor.Firm firm) here = refl
 none_acts side actor.Clock here = cc
 
-clock_none : (side : ℕ → Bool) (by : Actor) → acts_there side by ≡ true
-    → is_same_actor actor.Clock by ≡ false
-clock_none side (actor.Firm firm) here = refl
-clock_none side actor.Clock here = cc
-
 dropped : (count : ℕ) (duties : List Duty) → duties ≡ [] → drop count duties ≡ []
 dropped zero duties none = none
 dropped (suc count) [] none = refl
@@ -155,7 +151,8 @@ module _ (side : ℕ → Bool) (config : Configuration) (trail : AuditTrail)
       sym (length-filter (is_same_actor actor.Clock) done)
       ∙ ap length (none_kept (is_same_actor actor.Clock) done
       (every_weaker (λ (by : Actor). acts_there side by ≡ true)
-      (λ (by : Actor). is_same_actor actor.Clock by ≡ false) (clock_none side) done
+      (λ (by : Actor). is_same_actor actor.Clock by ≡ false)
+      (λ by here. same_either by actor.Clock (none_acts side by here)) done
       (all_pass (acts_there side) trail.done))) in
       record {
         part_is = sym (part_twice (stays side) (acts_there side) trail);

@@ -34,8 +34,8 @@ module _ (R : Effect → Type 0) (idle : R nothing) where
   unless_does true effect is = idle
   unless_does false effect is = is
 
-  pub by_does : (found : Option Dealer) (act : Dealer → Effect) → ((dealer : Dealer) → R (act dealer))
-      → R (done_by found act)
+  pub by_does : (found : Option Dealer) (act : Dealer → Effect)
+      → ((dealer : Dealer) → R (act dealer)) → R (done_by found act)
   by_does None act each = idle
   by_does (Some dealer) act each = each dealer
 
@@ -119,7 +119,8 @@ module _ (config : Configuration) (facts others : List Fact) (dealer : Dealer)
   told_of_same close moment (Some request) = rw trails refl
 
   pub told_to_same : (room : RoomRef) (close : Close) (moment : ℕ)
-      → told_to config facts room close moment dealer ≡ told_to config others room close moment dealer
+      → told_to config facts room close moment dealer
+      ≡ told_to config others room close moment dealer
   told_to_same room close moment =
       ap (λ (trail : List DealerEntry).
       told_of config facts dealer close moment (number_in (rooms_by trail) room)) (sym trails)

@@ -80,7 +80,8 @@ module _ (P : Duty → Type 0) (config : Configuration) (facts : List Fact) wher
   duty_leaves by (duty.Open room ask dealers moment) is =
       room_leaves room true _ (duties_of_open (of_room room facts) room ask dealers moment)
       (if_each P (is_vacant (of_room room facts)) (shown_then_ready room ask dealers moment)
-      (shown_each P config facts room moment (λ dealer. duty.Show dealer room ask moment) dealers is))
+      (shown_each P config facts room moment (λ dealer. duty.Show dealer room ask moment) dealers
+      is))
   duty_leaves by (duty.Show dealer room ask moment) is =
       numbered_does (Leaves P) none config dealer _ (λ row found. unless_does (Leaves P) none _ _
       (desk_leaves (dealer_of dealer row) (at_desk.Shown room ask moment)))
@@ -146,7 +147,8 @@ module _ (P : Duty → Type 0) (config : Configuration) (facts : List Fact) wher
 
   pub message_leaves : (firm moment : ℕ) (bytes : List ℕ)
       → ((row : DealerRow) → dealer_numbered config firm ≡ Some row
-      → MaySay P config facts firm moment (verdict_on config facts moment bytes (dealer_of firm row)))
+      → MaySay P config facts firm moment
+      (verdict_on config facts moment bytes (dealer_of firm row)))
       → ((row : InvestorRow) → is_some (dealer_numbered config firm) ≡ false
       → IfSome (investor_output.verdict_duty (market_of config firm row) moment
       (investor_verdict (market_of config firm row)
@@ -164,7 +166,10 @@ module _ (P : Duty → Type 0) (config : Configuration) (facts : List Fact) wher
           let v = verdict_on config facts moment bytes (dealer_of firm row) in
           if_does (Leaves P) none _ (at_dealer config facts (dealer_of firm row)
           (at_desk.Received moment bytes (settlement_of trail v)) (left_by trail moment v))
-          (record { each = verdict_each P config facts firm moment v (settlement_of trail v) (says row found) }))
+          (record {
+            each = verdict_each P config facts firm moment v (settlement_of trail v)
+                (says row found);
+          }))
       either false test =
           invested_does (Leaves P) none config firm (received_by_investor facts moment bytes)
           (λ row. record {

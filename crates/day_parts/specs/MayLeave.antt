@@ -33,7 +33,8 @@ use Rattle.step_replay.specs.VenueFacts.{Fact, of_dealer, of_room}
 use Rattle.day_parts.specs.KeptItems.{every_in}
 
 module _ (P : Duty → Type 0) where
-  pub if_each : (b : Bool) (duties : List Duty) → Every P duties → Every P (if b then duties else [])
+  pub if_each : (b : Bool) (duties : List Duty) → Every P duties
+      → Every P (if b then duties else [])
   if_each true duties each = each
   if_each false duties each = tt
 
@@ -64,7 +65,8 @@ module _ (P : Duty → Type 0) (config : Configuration) (facts : List Fact) wher
 
   -- each room of a request that a dealer was shown
   abbrev pub InRooms : ℕ → (RoomRef → Duty) → Type 0
-  InRooms dealer does = Every (λ (room : RoomRef). P (does room)) (rooms_by (of_dealer dealer facts))
+  InRooms dealer does =
+      Every (λ (room : RoomRef). P (does room)) (rooms_by (of_dealer dealer facts))
 
   -- each dealer that the request of a room names is told of its end
   abbrev pub AreTold : RoomRef → ℕ → Type 0
@@ -135,7 +137,8 @@ module _ (P : Duty → Type 0) (config : Configuration) (facts : List Fact) wher
 
   pub verdict_each : (dealer moment : ℕ) (v : DealerVerdict) (settlement : Option Settled)
       → MaySay dealer moment v
-      → Every P (option_to_list (verdict_duty (rooms_by (of_dealer dealer facts)) moment v settlement))
+      → Every P (option_to_list
+      (verdict_duty (rooms_by (of_dealer dealer facts)) moment v settlement))
   verdict_each dealer moment (verdict.QuoteAccepted request id quote replaced) settlement is =
       in_a_room P (post_of quote) (rooms_by (of_dealer dealer facts)) is
       (goes_through replaced settlement) quote.request
@@ -148,7 +151,8 @@ module _ (P : Duty → Type 0) (config : Configuration) (facts : List Fact) wher
       number
   verdict_each dealer moment other settlement is = tt
 
-  pub drop_each : (number last moment : ℕ) (row : DealerRow) → MayDrop (actor.Firm number) last moment
+  pub drop_each : (number last moment : ℕ) (row : DealerRow)
+      → MayDrop (actor.Firm number) last moment
       → Every P (left_by_drop config facts last moment (dealer_of number row))
   drop_each number last moment row is =
       let trail = of_dealer number facts in

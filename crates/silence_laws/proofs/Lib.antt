@@ -1,13 +1,9 @@
-mod FilterLemmas
 mod HitMessages
-mod HitVerdicts
 mod OthersLeave
 mod Quiet
 mod QuietActions
 mod QuietAlike
-mod QuietBook
 mod QuietInvestor
-mod QuietPlaces
 mod QuietRoom
 mod QuietSteps
 mod QuietVerdicts

@@ -1,5 +1,5 @@
--- What another dealer does adds nothing that stays in the quiet day: one line for each duty that may
--- stand in its queue.
+-- What another dealer does adds nothing that stays in the quiet day: one line for each duty that
+-- may stand in its queue.
 use Rattle.std.proofs.Common.{◌≡◌, ℕ, ◌==◌, Bool, true, not, List, None, is_some, sym, subst}
 use Rattle.std.proofs.lemmas.Bool.{and_parts}
 use Rattle.market_terms.specs.declared.duties.Duty.{Duty}

@@ -22,12 +22,12 @@ use Rattle.step_replay.specs.VenueFacts.{fact_in_room, entry_at_investor, of_dea
 use Rattle.step_replay.specs.VenueFacts.{of_investor}
 use Rattle.step_replay.specs.Actions.{Dealer, at_dealer, in_room, at_market, where_known}
 use Rattle.day_parts.specs.ActionCases.{if_both, if_does}
-use Rattle.day_parts.specs.KeptItems.{every_map, found_kept, none_kept}
-use Rattle.silence_laws.proofs.FilterLemmas.{found_of_kept, kept_in, either_same, where_kept}
+use Rattle.day_parts.specs.KeptItems.{every_map, found_kept, none_kept, found_of_kept, kept_in}
+use Rattle.day_parts.specs.KeptItems.{either_same, where_kept}
 use Rattle.silence_laws.proofs.Quiet.{stays, stays_in_room, stays_there, stays_at_desk}
 use Rattle.silence_laws.proofs.QuietRoom.{IsOfOther, is_hit_there, happens_same, other_adds}
 use Rattle.silence_laws.proofs.QuietRoom.{quiet_room}
-use Rattle.silence_laws.proofs.QuietBook.{quiet_book, book_by_kept, knows_same}
+use Rattle.silence_laws.proofs.QuietVerdicts.{quiet_book, book_by_kept, knows_same}
 use Rattle.silence_laws.proofs.QuietInvestor.{Hushes, event_kept, event_hushed}
 use Rattle.silence_laws.proofs.QuietAlike.{AreAlike, IsHushed, IsUnseen, nothing_alike}
 use Rattle.silence_laws.proofs.QuietAlike.{nothing_hushed, nothing_unseen}
@@ -52,8 +52,7 @@ module _ (own : ℕ) (facts : List Fact) where
       → of_dealer number known ≡ of_dealer number facts
   dealer_same number mine =
       let same : number ≡ own = grind (arith, nat_tests) in
-      ap (λ (n : ℕ). of_dealer n known) same ∙ own_same
-      ∙ ap (λ (n : ℕ). of_dealer n facts) (sym same)
+      rw same own_same
 
   if_kept : {Y : Type 0} (q : Y → Bool) (b : Bool) (y : Y)
       → where_kept q (cond b (Some y) None) ≡ cond (q y) (cond b (Some y) None) None
@@ -150,9 +149,7 @@ module _ (own : ℕ) (facts : List Fact) where
     book = investor_trail.book_by trail
 
     pub book_same : investor_trail.book_by (of_investor market.firm known) ≡ quiet_book book
-    book_same =
-        ap (λ (l : List InvestorEntry). investor_trail.book_by l) (investor_same market.firm)
-        ∙ book_by_kept trail
+    book_same = rw (investor_same market.firm) (book_by_kept trail)
 
     at_desk_kept : (added : List InvestorEntry)
         → filter (stays own) (map (AtInvestor market.firm) added)
@@ -167,14 +164,12 @@ module _ (own : ℕ) (facts : List Fact) where
         → left ≡ left_too
         → AreAlike own (at_market facts market more left) (at_market known market more left_too)
     investor_alike more left left_too same duties = record {
-      facts_are =
-          at_desk_kept (investor_trail.entries_of market trail more)
-          ∙ ap (map (AtInvestor market.firm)) (event_kept market trail more same)
-          ∙ ap (λ (l : List InvestorEntry). map (AtInvestor market.firm)
-          (filter stays_there (investor_trail.entries_of market l more)))
-          (sym (investor_same market.firm))
-          ∙ sym (at_desk_kept (investor_trail.entries_of market (of_investor market.firm known)
-          more));
+      facts_are = rw (
+        investor_same market.firm,
+        at_desk_kept (investor_trail.entries_of market trail more),
+        at_desk_kept (investor_trail.entries_of market (filter stays_there trail) more),
+        event_kept market trail more same,
+      ) refl;
       duties_are = duties;
     }
 

@@ -20,10 +20,9 @@ use Rattle.investor_desk.specs.declared.events.InvestorEvent.{InvestorEvent}
 use Rattle.investor_desk.specs.declared.events.InvestorEvent.TheVariants as event
 use Rattle.step_replay.specs.InvestorTrail.{InvestorEntry, AtDesk, Sent, book_by, sent_by}
 use Rattle.step_replay.specs.InvestorTrail.{entries_of}
-use Rattle.day_parts.specs.KeptItems.{every_map, none_behind, none_kept}
-use Rattle.silence_laws.proofs.FilterLemmas.{kept_in}
+use Rattle.day_parts.specs.KeptItems.{every_map, none_behind, none_kept, kept_in}
 use Rattle.silence_laws.proofs.Quiet.{stays_at_desk, stays_there}
-use Rattle.silence_laws.proofs.QuietBook.{quiet_request, quiet_book, book_by_kept, numbered}
+use Rattle.silence_laws.proofs.QuietVerdicts.{quiet_request, quiet_book, book_by_kept, numbered}
 use Rattle.silence_laws.proofs.QuietVerdicts.{verdict_heard}
 
 -- What an event adds, without quotes and messages.

@@ -16,7 +16,7 @@ use Rattle.request_room.specs.declared.ends.End.{End}
 use Rattle.request_room.specs.declared.events.RoomEvent.{RoomEvent}
 use Rattle.request_room.specs.declared.events.RoomEvent.TheVariants as event
 use Rattle.request_room.specs.declared.quotes.PostedQuote.{PostedQuote}
-use Rattle.silence_laws.proofs.FilterLemmas.{any_kept}
+use Rattle.day_parts.specs.KeptItems.{any_kept}
 use Rattle.silence_laws.proofs.Quiet.{stays_in_room}
 
 -- whether an event is a hit

@@ -1,5 +1,5 @@
--- What a dealer's steps leave leads to no more than its quotes and declines, and what any step but a
--- hit leaves is no hit and no award.
+-- What a dealer's steps leave leads to no more than its quotes and declines, and what any step but
+-- a hit leaves is no hit and no award.
 use Rattle.std.proofs.Common.{◌≡◌, ℕ, Bool, true, false, List, IfSome, is_some, refl, sym, ◌∙◌}
 use Rattle.std.specs.List.{list_any}
 use Rattle.std.specs.Option.{option_to_list}
@@ -42,6 +42,10 @@ pub plain_none : (more : Duty) → IsPlain more → is_hit more ≡ false
 plain_none (duty.Hit room response word moment) is = cc
 plain_none more is = refl
 
+pub quoting_suits : (b : Bool) (more : Duty) → IsQuoting more → SuitsIf b more
+quoting_suits true more is = is
+quoting_suits false more is = quoting_plain more is
+
 pub suits_plain : (b : Bool) (more : Duty) → SuitsIf b more → IsPlain more
 suits_plain true more is = quoting_plain more is
 suits_plain false more is = is
@@ -81,23 +85,12 @@ module _ (P : Duty → Type 0) (each : (more : Duty) → IsQuoting more → P mo
       every_all (λ (room : RoomRef). P (does room)) (λ room. each (does room) (quoting room))
       (rooms_by (of_dealer dealer facts))
 
-  pub drop_may : (by : Actor) (last moment : ℕ) → MayDrop P config facts by last moment
+  drop_may : (by : Actor) (last moment : ℕ) → MayDrop P config facts by last moment
   drop_may (actor.Firm dealer) last moment = (
     λ quote. in_rooms dealer (λ room. duty.Unpost room quote moment) (λ room. refl),
     each (duty.Drop last moment) refl,
   )
   drop_may actor.Clock last moment = tt
-
-  pub quoting_may : (by : Actor) (more : Duty) → IsQuoting more → MayLeave P config facts by more
-  quoting_may by (duty.Open room ask dealers moment) is = cc
-  quoting_may by (duty.Post room quote price valid_until moment) is =
-      λ offer. each (duty.Relay room offer moment) refl
-  quoting_may by (duty.Unpost room quote moment) is = λ word. each (duty.Gone room word moment) refl
-  quoting_may by (duty.Decline room moment) is = each (duty.Declined room moment) refl
-  quoting_may by (duty.Hit room response word moment) is = cc
-  quoting_may by (duty.Pass room response moment) is = cc
-  quoting_may by (duty.Drop last moment) is = drop_may by last moment
-  quoting_may by more is = tt
 
   pub said_may : (dealer moment : ℕ) (v : DealerVerdict) → MaySay P config facts dealer moment v
   said_may dealer moment (verdict.QuoteAccepted request id quote replaced) =
@@ -119,30 +112,31 @@ module _ (config : Configuration) (facts : List Fact) where
   no_award true = refl
   no_award false = refl
 
-  plain_may : (by : Actor) (more : Duty) → IsPlain more → MayLeave IsPlain config facts by more
-  plain_may by (duty.Open room ask dealers moment) is =
-      (every_all (λ (dealer : ℕ). IsPlain (duty.Show dealer room ask moment)) (λ dealer. refl) dealers,
-      refl)
-  plain_may by (duty.Post room quote price valid_until moment) is = λ offer. refl
-  plain_may by (duty.Unpost room quote moment) is = λ word. refl
-  plain_may by (duty.Decline room moment) is = refl
-  plain_may by (duty.Hit room response word moment) is = cc
-  plain_may by (duty.Pass room response moment) is = (no_award, told room moment)
-  plain_may by (duty.Drop last moment) is =
-      drop_may IsPlain quoting_plain config facts by last moment
-  plain_may by more is = tt
+  suits_may : (b : Bool) (by : Actor) (more : Duty) → SuitsIf b more
+      → MayLeave (SuitsIf b) config facts by more
+  suits_may true by (duty.Open room ask dealers moment) is = cc
+  suits_may false by (duty.Open room ask dealers moment) is = (
+    every_all (λ (dealer : ℕ). IsPlain (duty.Show dealer room ask moment)) (λ dealer. refl) dealers,
+    refl,
+  )
+  suits_may b by (duty.Post room quote price valid_until moment) is =
+      λ offer. quoting_suits b (duty.Relay room offer moment) refl
+  suits_may b by (duty.Unpost room quote moment) is =
+      λ word. quoting_suits b (duty.Gone room word moment) refl
+  suits_may b by (duty.Decline room moment) is = quoting_suits b (duty.Declined room moment) refl
+  suits_may true by (duty.Hit room response word moment) is = cc
+  suits_may false by (duty.Hit room response word moment) is = cc
+  suits_may true by (duty.Pass room response moment) is = cc
+  suits_may false by (duty.Pass room response moment) is = (no_award, told room moment)
+  suits_may b by (duty.Drop last moment) is =
+      drop_may (SuitsIf b) (quoting_suits b) config facts by last moment
+  suits_may b by more is = tt
 
-  -- So all that is left is of a kind.
+  -- So all that is left suits the queue of who leaves it.
 
-  pub duty_quoting : (by : Actor) (more : Duty) → IsQuoting more
-      → Leaves IsQuoting (duty_effect config facts by more)
-  duty_quoting by more is =
-      duty_leaves IsQuoting config facts by more
-      (quoting_may IsQuoting (λ d quoting. quoting) config facts by more is)
-
-  pub duty_plain : (by : Actor) (more : Duty) → IsPlain more
-      → Leaves IsPlain (duty_effect config facts by more)
-  duty_plain by more is = duty_leaves IsPlain config facts by more (plain_may by more is)
+  pub duty_suits : (b : Bool) (by : Actor) (more : Duty) → SuitsIf b more
+      → Leaves (SuitsIf b) (duty_effect config facts by more)
+  duty_suits b by more is = duty_leaves (SuitsIf b) config facts by more (suits_may b by more is)
 
   pub sweep_plain : (room : RoomRef) (moment : ℕ)
       → Leaves IsPlain (sweep_effect config facts room moment)
@@ -157,7 +151,8 @@ module _ (config : Configuration) (facts : List Fact) where
         (verdict_on config facts moment bytes (dealer_of firm row)))
         (λ row isnt. let clash : true ≡ false = sym is ∙ isnt in cc)
 
-    pub message_plain : list_any is_hit (message_effect config facts firm moment bytes).duties ≡ false
+    pub message_plain : list_any is_hit (message_effect config facts firm moment bytes).duties
+        ≡ false
         → Leaves IsPlain (message_effect config facts firm moment bytes)
     message_plain none = record {
       each = every_met is_hit IsPlain (message_effect config facts firm moment bytes).duties

@@ -31,8 +31,8 @@ use Rattle.silence_laws.proofs.Quiet.{IsPlain, IsQuoting, Suits, SuitsIf, acts, 
 use Rattle.silence_laws.proofs.QuietActions.{own_same}
 use Rattle.silence_laws.proofs.QuietAlike.{AreAlike, IsUnseen}
 use Rattle.silence_laws.proofs.QuietSteps.{duty_alike, message_alike, sweep_alike}
-use Rattle.silence_laws.proofs.QuotingDuties.{duty_plain, duty_quoting, message_plain}
-use Rattle.silence_laws.proofs.QuotingDuties.{message_quoting, sweep_plain}
+use Rattle.silence_laws.proofs.QuotingDuties.{duty_suits, message_plain, message_quoting}
+use Rattle.silence_laws.proofs.QuotingDuties.{sweep_plain}
 
 module _ (config : Configuration) (own : ℕ) where
   -- each duty that was left is what one in its queue is
@@ -53,7 +53,7 @@ module _ (config : Configuration) (own : ℕ) where
   LeavesQuiet trail after = (quiet config own after ≡ quiet config own trail) × DayFits after
 
   unseen_does : (by : Actor) → acts_as_another config own by ≡ true → (trail : AuditTrail)
-      (effect : Effect) → DayFits trail → IsUnseen own effect → Leaves IsQuoting effect
+      (effect : Effect) → DayFits trail → IsUnseen own effect → Leaves (SuitsIf true) effect
       → LeavesQuiet trail (with_effect by trail effect)
   unseen_does by is trail effect fits unseen left = (
     leaves (stays own) (acts config own) by (ap (λ (b : Bool). not b) is) trail effect
@@ -69,7 +69,7 @@ module _ (config : Configuration) (own : ℕ) where
       let quoting : IsQuoting more = subst (λ (b : Bool). SuitsIf b more) is each.0 in
       let does = unseen_does by is (did by trail) (duty_effect config trail.facts by more) fits
       (duty_unseen config own trail.facts by more is quoting)
-      (duty_quoting config trail.facts by more quoting) in (
+      (duty_suits config trail.facts true by more quoting) in (
         does.0 ∙ did_leaves (stays own) (acts config own) by (ap (λ (b : Bool). not b) is) trail,
         does.1,
       )
@@ -80,7 +80,8 @@ module _ (config : Configuration) (own : ℕ) where
   step_unseen trail (step.In firm moment bytes) is fits =
       unseen_does (actor.Firm firm) is trail (message_effect config trail.facts firm moment bytes)
       fits (message_unseen config own trail.facts firm moment bytes is)
-      (message_quoting config trail.facts firm moment bytes (is_dealer config own trail.facts firm is))
+      (message_quoting config trail.facts firm moment bytes
+      (is_dealer config own trail.facts firm is))
   step_unseen trail (step.Turn by) is fits =
       unseen_turn by is trail fits (pending by trail) (pending_ok (Suits config own) by trail fits)
   step_unseen trail (step.Expire room moment) is fits = cc
@@ -93,7 +94,7 @@ module _ (config : Configuration) (own : ℕ) where
 
   alike_does : (by : Actor) → acts_as_another config own by ≡ false → (one other : AuditTrail)
       (does too : Effect) → DayFits one → quiet config own one ≡ quiet config own other
-      → AreAlike own does too → Leaves IsPlain does
+      → AreAlike own does too → Leaves (SuitsIf false) does
       → IsOwnWay (with_effect by one does) (with_effect by other too)
   alike_does by isnt one other does too fits same alike left = (
     grows (stays own) (acts config own) by one other does too same alike.facts_are
@@ -117,7 +118,7 @@ module _ (config : Configuration) (own : ℕ) where
       (duty_effect config (quiet config own trail).facts by more) fits
       (did_same (stays own) (acts config own) by trail (quiet config own trail) (quiet_twice trail))
       (duty_alike config own trail.facts by more isnt plain)
-      (duty_plain config trail.facts by more plain)
+      (duty_suits config trail.facts false by more plain)
 
   -- whether a message leaves a hit
   abbrev pub hit_by : AuditTrail → Step → Bool
