@@ -1,7 +1,6 @@
 -- All steps of a day, and two days that have the same steps on one side.
 use Rattle.std.proofs.Common.{◌≡◌, ◌≤◌, ℕ, Bool, true, false, List, [], ◌∷◌, ◌++◌, filter_map}
-use Rattle.std.proofs.Common.{count_by, length, fold, is_some, refl, sym, ap, ◌∙◌, arith}
-use Rattle.std.proofs.Common.{if◌then◌else◌}
+use Rattle.std.proofs.Common.{count_by, length, is_some, refl, sym, ap, ◌∙◌, arith, if◌then◌else◌}
 use Rattle.std.specs.Option.{option_to_list}
 use Rattle.std.proofs.lemmas.Bool.{cond_both}
 use Rattle.std.proofs.lemmas.List.{append_assoc}
@@ -24,7 +23,7 @@ use Rattle.investor_views.specs.InvestorDues.{due_to_investor, dues_where}
 use Rattle.day_parts.specs.DayParts.{steps_grow}
 use Rattle.apart_laws.specs.Apart.{AreOneThere, asks_across, has_ask_across, is_there, steps_there}
 use Rattle.apart_laws.proofs.ClockTurns.{after}
-use Rattle.apart_laws.proofs.SideUnits.{Rests, unit_leaves, unit_rests, unit_there}
+use Rattle.apart_laws.proofs.SideUnits.{RestAlike, Rests, other_unit, own_unit}
 use Rattle.apart_laws.proofs.ThereFacts.{there, dealer_same, investor_same}
 
 module _ (side : ℕ → Bool) (config : Configuration) where
@@ -40,16 +39,6 @@ module _ (side : ℕ → Bool) (config : Configuration) where
       none_within : (count : ℕ) → count ≡ 0 → (most : ℕ) → count ≤ most
       none_within count none most = omega arith
 
-  -- the day of this side after one step more, with the turns behind it
-  abbrev one_more : AuditTrail → Step → AuditTrail
-  one_more day s = there side (after config day (with_turns s))
-
-  -- what comes to the desk of an investor by the steps of this side
-  abbrev come : ℕ → AuditTrail → List Step → List Coming
-  come number day [] = []
-  come number day (s ∷ steps) =
-      comings_from config number day (with_turns s) ++ come number (one_more day s) steps
-
   comings_append : (number : ℕ) (steps later : List Step) (trail : AuditTrail)
       → comings_from config number trail (steps ++ later)
       ≡ comings_from config number trail steps
@@ -62,47 +51,63 @@ module _ (side : ℕ → Bool) (config : Configuration) where
       ∙ sym (append_assoc first (comings_from config number (after_step config trail s) steps)
       (comings_from config number (after config trail (s ∷ steps)) later))
 
-  -- the day of one side is by the steps of that side, and so is what comes to its investors
-  abbrev IsBySteps : AuditTrail → List Step → List Step → Type 0
-  IsBySteps trail steps own =
-      (there side (after config trail (live_steps steps)) ≡ fold one_more (there side trail) own)
+  -- a day is one to this side with the day of the steps of this side alone, and the same comes to
+  -- its investors
+  abbrev IsByOwn : AuditTrail → AuditTrail → List Step → List Step → Type 0
+  IsByOwn one other steps own =
+      (there side (after config one (live_steps steps))
+      ≡ there side (after config other (live_steps own)))
       × ((number : ℕ) → side number ≡ true
-      → comings_from config number trail (live_steps steps) ≡ come number (there side trail) own)
+      → comings_from config number one (live_steps steps)
+      ≡ comings_from config number other (live_steps own))
 
-  day_is : (steps : List Step) (trail : AuditTrail) → Rests side config trail
-      → has_ask_across side (after config trail (live_steps steps)) ≡ false
-      → IsBySteps trail steps (steps_there side steps)
-  day_is [] trail rests none = (refl, λ number here. refl)
-  day_is (s ∷ steps) trail rests none =
-      let next : AuditTrail = after config trail (with_turns s) in
-      let split : after config trail (live_steps (s ∷ steps))
-      ≡ after config next (live_steps steps) =
-      fold-append (after_step config) trail (with_turns s) (live_steps steps) in
-      let none_behind : has_ask_across side (after config next (live_steps steps)) ≡ false =
-      ap (has_ask_across side) (sym split) ∙ none in
-      let none_by_it : has_ask_across side next ≡ false =
-      steps_grow (asks_across side) config (live_steps steps) next none_behind in
-      let later = day_is steps next (unit_rests side config trail rests s none_by_it) none_behind in
+  -- the steps behind one
+  split : (trail : AuditTrail) (s : Step) (steps : List Step)
+      → after config trail (live_steps (s ∷ steps))
+      ≡ after config (after config trail (with_turns s)) (live_steps steps)
+  split trail s steps = fold-append (after_step config) trail (with_turns s) (live_steps steps)
+
+  day_is : (steps : List Step) (one other : AuditTrail) → RestAlike side config one other
+      → has_ask_across side (after config one (live_steps steps)) ≡ false
+      → IsByOwn one other steps (steps_there side steps)
+  day_is [] one other alike none = (alike.part_is, λ number here. refl)
+  day_is (s ∷ steps) one other alike none =
+      let next : AuditTrail = after config one (with_turns s) in
+      let next_too : AuditTrail = after config other (with_turns s) in
       let own = steps_there side steps in
-      cond_both (is_there side s) (s ∷ own) own (IsBySteps trail (s ∷ steps))
-      (λ is. let unit = unit_there side config trail rests s none_by_it is in (
-        ap (there side) split ∙ later.0
-            ∙ ap (λ (day : AuditTrail). fold one_more day own) unit.0,
-        λ number here. comings_append number (with_turns s) (live_steps steps) trail
-            ∙ ap (λ (l : List Coming). comings_from config number trail (with_turns s) ++ l)
-            (later.1 number here ∙ ap (λ (day : AuditTrail). come number day own) unit.0)
-            ∙ ap (λ (l : List Coming). l ++ come number (one_more (there side trail) s) own)
-            (unit.1 number),
+      let behind : has_ask_across side (after config next (live_steps steps)) ≡ false =
+      ap (has_ask_across side) (sym (split one s steps)) ∙ none in
+      let by_it : has_ask_across side next ≡ false =
+      steps_grow (asks_across side) config (live_steps steps) next behind in
+      cond_both (is_there side s) (s ∷ own) own (IsByOwn one other (s ∷ steps))
+      (λ is.
+      let unit = own_unit side config one other alike s by_it is in
+      let later = day_is steps next next_too unit.0 behind in (
+        ap (there side) (split one s steps) ∙ later.0
+            ∙ ap (there side) (sym (split other s own)),
+        λ number here. comings_append number (with_turns s) (live_steps steps) one
+            ∙ ap (λ (l : List Coming). comings_from config number one (with_turns s) ++ l)
+            (later.1 number here)
+            ∙ ap (λ (l : List Coming). l ++ comings_from config number next_too (live_steps own))
+            (unit.1 number)
+            ∙ sym (comings_append number (with_turns s) (live_steps own) other),
       ))
-      (λ isnt. let unit = unit_leaves side config trail rests s none_by_it isnt in (
-        ap (there side) split ∙ later.0
-            ∙ ap (λ (day : AuditTrail). fold one_more day own) unit.0,
-        λ number here. comings_append number (with_turns s) (live_steps steps) trail
-            ∙ ap (λ (l : List Coming). comings_from config number trail (with_turns s) ++ l)
-            (later.1 number here ∙ ap (λ (day : AuditTrail). come number day own) unit.0)
-            ∙ ap (λ (l : List Coming). l ++ come number (there side trail) own)
-            (unit.1 number here),
+      (λ isnt.
+      let unit = other_unit side config one other alike s by_it isnt in
+      let later = day_is steps next other unit.0 behind in (
+        ap (there side) (split one s steps) ∙ later.0,
+        λ number here. comings_append number (with_turns s) (live_steps steps) one
+            ∙ ap (λ (l : List Coming). l ++ comings_from config number next (live_steps steps))
+            (unit.1 number here) ∙ later.1 number here,
       ))
+
+  -- a day from its start
+  from_start : (steps : List Step) → has_ask_across side (live_trail config steps) ≡ false
+      → IsByOwn no_steps no_steps steps (steps_there side steps)
+  unfolding audit_trail
+  from_start steps none =
+      day_is steps no_steps no_steps
+      (record { rests = start_rests; rests_too = start_rests; part_is = refl }) none
 
   -- Two days.
 
@@ -110,9 +115,10 @@ module _ (side : ℕ → Bool) (config : Configuration) where
     day_same : there side (live_trail config steps) ≡ there side (live_trail config others)
     unfolding audit_trail
     day_same =
-        (day_is steps no_steps start_rests alike.none_across).0
-        ∙ ap (fold one_more (there side no_steps)) alike.steps_are
-        ∙ sym (day_is others no_steps start_rests alike.none_across_too).0
+        (from_start steps alike.none_across).0
+        ∙ ap (λ (own : List Step). there side (after config no_steps (live_steps own)))
+        alike.steps_are
+        ∙ sym (from_start others alike.none_across_too).0
 
     module _ (number : ℕ) (here : side number ≡ true) where
       dealer_trails : of_dealer number (live_trail config steps).facts
@@ -148,6 +154,7 @@ module _ (side : ℕ → Bool) (config : Configuration) where
           ≡ due_to_investor config number (live_steps others)
       investor_due =
           ap (dues_where (market_for config number))
-          ((day_is steps no_steps start_rests alike.none_across).1 number here
-          ∙ ap (come number (there side no_steps)) alike.steps_are
-          ∙ sym ((day_is others no_steps start_rests alike.none_across_too).1 number here))
+          ((from_start steps alike.none_across).1 number here
+          ∙ ap (λ (own : List Step). comings_from config number no_steps (live_steps own))
+          alike.steps_are
+          ∙ sym ((from_start others alike.none_across_too).1 number here))

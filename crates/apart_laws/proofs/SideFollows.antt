@@ -1,6 +1,7 @@
--- A step of this side does in the day of this side what it does in the day.
+-- A step of this side does the same in two days that are one to it, and one of the other side brings
+-- nothing to the desk of an investor of this side.
 use Rattle.std.proofs.Common.{◌≡◌, ℕ, Bool, true, false, Option, Some, None, is_some, refl, ap}
-use Rattle.std.proofs.Common.{if◌then◌else◌, List, [], ◌∷◌, ◌++◌, filter, sym, ◌∙◌, subst}
+use Rattle.std.proofs.Common.{if◌then◌else◌, List, [], ◌∷◌, ◌++◌, sym, ◌∙◌, subst}
 use Rattle.std.specs.Prelude.{option_and_then}
 use Rattle.market_terms.specs.declared.duties.Duty.{Duty}
 use Rattle.market_terms.specs.declared.duties.Duty.TheVariants as duty
@@ -16,24 +17,25 @@ use Rattle.venue_places.specs.declared.arrivals.ForDealer.{ForDealer}
 use Rattle.venue_places.specs.declared.arrivals.ForInvestor.{ForInvestor}
 use Rattle.venue_places.specs.declared.arrivals.ForRoom.{ForRoom}
 use Rattle.investor_views.specs.Comings.{For, at_desk_of, Own, comes_by, comes_by_turn}
-use Rattle.apart_laws.proofs.ThereFacts.{IsOn, not_one, stays, there}
-use Rattle.std.proofs.lemmas.List.Elements.{filter-append}
+use Rattle.apart_laws.proofs.ThereFacts.{IsOn, not_one, stays, there, known}
 use Rattle.venue_places.specs.declared.actors.Actor.TheVariants as actor
 use Rattle.step_replay.specs.Actions.{Effect}
 use Rattle.step_replay.specs.AuditTrail.{AuditTrail, after_step, after_turn, pending, with_effect}
 use Rattle.step_replay.specs.DutyEffects.{duty_effect, message_effect, sweep_effect}
-use Rattle.step_replay.specs.EachLemmas.{Every, every_weaker}
-use Rattle.step_replay.specs.QueueLemmas.{grown_within, other_pending, other_turned, other_within}
-use Rattle.step_replay.specs.QueueLemmas.{own_pending, own_turned, own_within, turned}
+use Rattle.step_replay.specs.EachLemmas.{Every}
+use Rattle.step_replay.specs.QueueLemmas.{other_pending, other_turned, own_pending, own_turned}
+use Rattle.step_replay.specs.QueueLemmas.{turned}
 use Rattle.step_replay.specs.VenueFacts.{Fact}
 use Rattle.step_replay.specs.declared.steps.Step.{Step}
 use Rattle.step_replay.specs.declared.steps.Step.TheVariants as step
-use Rattle.day_parts.specs.DayParts.{did, did_same, grows, pending_same}
-use Rattle.day_parts.specs.KeptItems.{all_kept}
-use Rattle.apart_laws.specs.Apart.{acts_there}
-use Rattle.apart_laws.proofs.AddedFacts.{AddsOn, StandsOn, duty_adds, message_adds, sweep_adds}
+use Rattle.day_parts.specs.DayParts.{did, did_same, grows, pending_same, none_left}
+use Rattle.apart_laws.specs.Apart.{acts_there, asks_across, has_ask_across}
+use Rattle.apart_laws.proofs.AddedFacts.{AddsOn, duty_adds, message_adds, sweep_adds}
 use Rattle.apart_laws.proofs.SameEffects.{duty_same, message_same, sweep_same}
-use Rattle.apart_laws.proofs.SideSteps.{ActsOn, ClockWithin, Stands, StepOn, waits_on}
+use Rattle.apart_laws.proofs.SideSteps.{ActsOn, Stands, StepOn, waits_on, does_stands}
+use Rattle.apart_laws.proofs.SideSteps.{turned_stands}
+use Rattle.day_parts.specs.LeftDuties.{Leaves}
+use Rattle.apart_laws.proofs.LeftOn.{duty_left, message_left, sweep_left}
 
 module _ (side : ℕ → Bool) (number : ℕ) (here : side number ≡ true) (config : Configuration) where
   -- nothing comes to its desk
@@ -98,121 +100,121 @@ module _ (side : ℕ → Bool) (number : ℕ) (here : side number ≡ true) (con
   placed_elsewhere by (duty.Drop last moment) is =
       act_elsewhere by (drops last moment) (λ dealer. refl)
 
--- A day of this side alone goes as another one goes there.
-pub record Follows (side : ℕ → Bool) (one other : AuditTrail) : Type 0 where
+-- Two days are one to this side, before a step of it.
+pub record AreOne (side : ℕ → Bool) (config : Configuration) (one other : AuditTrail) : Type 0 where
+  pub stands : Stands side config true one
+  pub stands_too : Stands side config true other
   pub part_is : there side one ≡ there side other
-  pub kept : filter (stays side) other.facts ≡ other.facts
   pub clock_is : pending actor.Clock one ≡ pending actor.Clock other
-  pub clock_within : ClockWithin other
 
 module _ (side : ℕ → Bool) (config : Configuration) (one other : AuditTrail)
-    (stands : Stands side config true one) (follows : Follows side one other) where
-  -- the facts of this side
-  seen : filter (stays side) one.facts ≡ other.facts
-  seen = ap (λ (t : AuditTrail). t.facts) follows.part_is ∙ follows.kept
+    (are : AreOne side config one other) where
+  -- the facts of this side are one
+  seen : known side one.facts ≡ known side other.facts
+  seen = ap (λ (t : AuditTrail). t.facts) are.part_is
 
   waits_same : (by : Actor) → ActsOn side true by → pending by one ≡ pending by other
   waits_same (actor.Firm firm) is =
       sym (pending_same (stays side) (acts_there side) (actor.Firm firm) is one)
-      ∙ ap (pending (actor.Firm firm)) follows.part_is
+      ∙ ap (pending (actor.Firm firm)) are.part_is
       ∙ pending_same (stays side) (acts_there side) (actor.Firm firm) is other
-  waits_same actor.Clock is = follows.clock_is
+  waits_same actor.Clock is = are.clock_is
 
   -- What an actor does, and a turn of it.
 
-  module _ (effect : Effect) (adds : AddsOn side config true effect) where
-    facts_kept : filter (stays side) (other.facts ++ effect.facts) ≡ other.facts ++ effect.facts
-    facts_kept =
-        let all = all_kept (stays side) effect.facts (every_weaker (StandsOn side config true)
-        (λ (fact : Fact). stays side fact ≡ true) (λ fact on. on.1) effect.facts adds.each) in
-        rw (filter-append (stays side) other.facts effect.facts, follows.kept, all) refl
+  clock_then : (by : Actor) (effect : Effect)
+      → pending actor.Clock (with_effect by one effect)
+      ≡ pending actor.Clock (with_effect by other effect)
+  clock_then (actor.Firm firm) effect =
+      other_pending (actor.Firm firm) actor.Clock one effect refl ∙ are.clock_is
+      ∙ sym (other_pending (actor.Firm firm) actor.Clock other effect refl)
+  clock_then actor.Clock effect =
+      own_pending actor.Clock one effect are.stands.clock_within
+      ∙ ap (λ (l : List Duty). l ++ effect.duties) are.clock_is
+      ∙ sym (own_pending actor.Clock other effect are.stands_too.clock_within)
 
-    clock_then : (by : Actor) → pending actor.Clock (with_effect by one effect)
-        ≡ pending actor.Clock (with_effect by other effect)
-    clock_then (actor.Firm firm) =
-        other_pending (actor.Firm firm) actor.Clock one effect refl ∙ follows.clock_is
-        ∙ sym (other_pending (actor.Firm firm) actor.Clock other effect refl)
-    clock_then actor.Clock =
-        own_pending actor.Clock one effect stands.clock_within
-        ∙ ap (λ (l : List Duty). l ++ effect.duties) follows.clock_is
-        ∙ sym (own_pending actor.Clock other effect follows.clock_within)
-
-    does_follows : (by : Actor) (too : Effect) → effect ≡ too
-        → Follows side (with_effect by one effect) (with_effect by other too)
-    does_follows by too same =
-        subst (λ (e : Effect). Follows side (with_effect by one effect) (with_effect by other e))
-        same
-        (record {
-          part_is = grows (stays side) (acts_there side) by one other effect effect
-              follows.part_is refl refl;
-          kept = facts_kept;
-          clock_is = clock_then by;
-          clock_within = grown_within by actor.Clock other effect follows.clock_within;
-        })
-
-    clock_turned : (by : Actor) (d : Duty) (later : List Duty) → pending by one ≡ d ∷ later
-        → pending by other ≡ d ∷ later
-        → (pending actor.Clock (turned by one effect)
-        ≡ pending actor.Clock (turned by other effect))
-        × ClockWithin (turned by other effect)
-    clock_turned (actor.Firm firm) d later waits waits_too = (
-      other_turned (actor.Firm firm) actor.Clock one effect refl refl ∙ follows.clock_is
-          ∙ sym (other_turned (actor.Firm firm) actor.Clock other effect refl refl),
-      other_within (actor.Firm firm) actor.Clock other effect refl refl follows.clock_within,
-    )
-    clock_turned actor.Clock d later waits waits_too = (
+  clock_turned : (by : Actor) (effect : Effect) (d : Duty) (later : List Duty)
+      → pending by one ≡ d ∷ later → pending by other ≡ d ∷ later
+      → pending actor.Clock (turned by one effect) ≡ pending actor.Clock (turned by other effect)
+  clock_turned (actor.Firm firm) effect d later waits waits_too =
+      other_turned (actor.Firm firm) actor.Clock one effect refl refl ∙ are.clock_is
+      ∙ sym (other_turned (actor.Firm firm) actor.Clock other effect refl refl)
+  clock_turned actor.Clock effect d later waits waits_too =
       own_turned actor.Clock one effect d later waits
-          ∙ sym (own_turned actor.Clock other effect d later waits_too),
-      own_within actor.Clock other effect d later waits_too,
-    )
+      ∙ sym (own_turned actor.Clock other effect d later waits_too)
 
-    turned_follows : (by : Actor) (d : Duty) (later : List Duty) → pending by one ≡ d ∷ later
-        → pending by other ≡ d ∷ later → (too : Effect) → effect ≡ too
-        → Follows side (turned by one effect) (turned by other too)
-    turned_follows by d later waits waits_too too same =
-        let clock = clock_turned by d later waits waits_too in
-        subst (λ (e : Effect). Follows side (turned by one effect) (turned by other e)) same
+  module _ (by : Actor) (is : ActsOn side true by) (effect : Effect)
+      (adds : AddsOn side config true effect) (left : Leaves (IsOn side config true by) effect)
+      (too : Effect) (same : effect ≡ too) where
+    does_same : AreOne side config (with_effect by one effect) (with_effect by other too)
+    does_same =
+        subst (λ (e : Effect). AreOne side config (with_effect by one effect)
+        (with_effect by other e)) same
         (record {
-          part_is = grows (stays side) (acts_there side) by (did by one) (did by other) effect
-              effect (did_same (stays side) (acts_there side) by one other follows.part_is) refl
-              refl;
-          kept = facts_kept;
-          clock_is = clock.0;
-          clock_within = clock.1;
+          stands = does_stands side config true by is one effect are.stands adds left;
+          stands_too = does_stands side config true by is other effect are.stands_too adds left;
+          part_is = grows (stays side) (acts_there side) by one other effect effect are.part_is
+              refl refl;
+          clock_is = clock_then by effect;
         })
 
-  turn_follows : (by : Actor) → ActsOn side true by → (duties : List Duty)
+    turned_same : (d : Duty) (later : List Duty) → pending by one ≡ d ∷ later
+        → pending by other ≡ d ∷ later
+        → AreOne side config (turned by one effect) (turned by other too)
+    turned_same d later waits waits_too =
+        subst (λ (e : Effect). AreOne side config (turned by one effect) (turned by other e)) same
+        (record {
+          stands = turned_stands side config true by is one effect are.stands adds left d later
+              waits;
+          stands_too = turned_stands side config true by is other effect are.stands_too adds left
+              d later waits_too;
+          part_is = grows (stays side) (acts_there side) by (did by one) (did by other) effect
+              effect (did_same (stays side) (acts_there side) by one other are.part_is) refl refl;
+          clock_is = clock_turned by effect d later waits waits_too;
+        })
+
+  turn_same : (by : Actor) → ActsOn side true by → (duties : List Duty)
       → pending by one ≡ duties → pending by other ≡ duties
       → Every (IsOn side config true by) duties
-      → Follows side (after_turn config by one duties) (after_turn config by other duties)
-  turn_follows by is [] waits waits_too on = follows
-  turn_follows by is (d ∷ later) waits waits_too on =
-      turned_follows (duty_effect config one.facts by d)
-      (duty_adds side config true one.facts stands.facts_on by d on.0) by d later waits waits_too
+      → AreOne side config (after_turn config by one duties) (after_turn config by other duties)
+  turn_same by is [] waits waits_too on = are
+  turn_same by is (d ∷ later) waits waits_too on =
+      turned_same by is (duty_effect config one.facts by d)
+      (duty_adds side config true one.facts are.stands.facts_on by d on.0)
+      (duty_left side config true one.facts are.stands.facts_on by d on.0)
       (duty_effect config other.facts by d)
-      (duty_same side config one.facts by d stands.facts_on on.0
-      ∙ ap (λ (l : List Fact). duty_effect config l by d) seen)
+      (duty_same side config one.facts by d are.stands.facts_on on.0
+      ∙ ap (λ (l : List Fact). duty_effect config l by d) seen
+      ∙ sym (duty_same side config other.facts by d are.stands_too.facts_on on.0))
+      d later waits waits_too
 
-  pub step_follows : (s : Step) → StepOn side true s
-      → Follows side (after_step config one s) (after_step config other s)
+  pub step_same : (s : Step) → StepOn side true s
+      → has_ask_across side (after_step config one s) ≡ false
+      → AreOne side config (after_step config one s) (after_step config other s)
   unfolding after_step
-  step_follows (step.In firm moment bytes) is =
-      does_follows (message_effect config one.facts firm moment bytes)
-      (message_adds side config true one.facts stands.facts_on firm moment bytes is)
-      (actor.Firm firm) (message_effect config other.facts firm moment bytes)
+  step_same (step.In firm moment bytes) is none =
+      does_same (actor.Firm firm) is (message_effect config one.facts firm moment bytes)
+      (message_adds side config true one.facts are.stands.facts_on firm moment bytes is)
+      (message_left side config true one.facts are.stands.facts_on firm moment is bytes
+      (none_left (asks_across side) (actor.Firm firm) one.caused
+      (message_effect config one.facts firm moment bytes).duties none).1)
+      (message_effect config other.facts firm moment bytes)
       (message_same side config one.facts firm moment bytes is
-      ∙ ap (λ (l : List Fact). message_effect config l firm moment bytes) seen)
-  step_follows (step.Turn by) is =
-      subst (λ (duties : List Duty). Follows side (after_turn config by one (pending by one))
+      ∙ ap (λ (l : List Fact). message_effect config l firm moment bytes) seen
+      ∙ sym (message_same side config other.facts firm moment bytes is))
+  step_same (step.Turn by) is none =
+      subst (λ (duties : List Duty). AreOne side config (after_turn config by one (pending by one))
       (after_turn config by other duties)) (waits_same by is)
-      (turn_follows by is (pending by one) refl (sym (waits_same by is))
-      (waits_on side config true by is one stands))
-  step_follows (step.Expire room moment) is =
-      does_follows (sweep_effect config one.facts room moment)
-      (sweep_adds side config true one.facts stands.facts_on room moment is) actor.Clock
+      (turn_same by is (pending by one) refl (sym (waits_same by is))
+      (waits_on side config true by is one are.stands))
+  step_same (step.Expire room moment) is none =
+      does_same actor.Clock tt (sweep_effect config one.facts room moment)
+      (sweep_adds side config true one.facts are.stands.facts_on room moment is)
+      (sweep_left side config true one.facts are.stands.facts_on room moment is)
       (sweep_effect config other.facts room moment)
       (sweep_same side config one.facts room moment is
-      ∙ ap (λ (l : List Fact). sweep_effect config l room moment) seen)
+      ∙ ap (λ (l : List Fact). sweep_effect config l room moment) seen
+      ∙ sym (sweep_same side config other.facts room moment is))
 
   -- the same comes to the desk of an investor
   pub comes_same : (number : ℕ) (s : Step) → StepOn side true s

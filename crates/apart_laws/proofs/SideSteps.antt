@@ -107,7 +107,7 @@ module _ (side : ℕ → Bool) (config : Configuration) (own : Bool) where
   module _ (by : Actor) (is : ActsOn side own by) (trail : AuditTrail) (effect : Effect)
       (stands : Stands side config own trail) (adds : AddsOn side config own effect)
       (left : Leaves (IsOn side config own by) effect) where
-    does_stands : Stands side config own (with_effect by trail effect)
+    pub does_stands : Stands side config own (with_effect by trail effect)
     does_stands = record {
       facts_on = every_both (FactOn side config) trail.facts effect.facts stands.facts_on
           (every_weaker (StandsOn side config own) (FactOn side config) (λ fact on. on.0)
@@ -118,7 +118,7 @@ module _ (side : ℕ → Bool) (config : Configuration) (own : Bool) where
       clock_within = grown_within by actor.Clock trail effect stands.clock_within;
     }
 
-    turned_stands : (d : Duty) (later : List Duty) → pending by trail ≡ d ∷ later
+    pub turned_stands : (d : Duty) (later : List Duty) → pending by trail ≡ d ∷ later
         → Stands side config own (turned by trail effect)
     turned_stands d later waits =
         let clock = clock_turned by trail effect d later waits stands left.each in

@@ -1,30 +1,23 @@
 -- A step with the turns of its actor behind it: all of them are steps of one side.
-use Rattle.std.proofs.Common.{◌≡◌, ◌≤◌, ℕ, zero, suc, Bool, true, false, List, [], ◌∷◌, ◌++◌}
-use Rattle.std.proofs.Common.{filter, filter_map, drop, count_by, length, replicate, Option, Some}
-use Rattle.std.proofs.Common.{None, refl, sym, ap, ◌∙◌, subst, arith, if◌then◌else◌}
+use Rattle.std.proofs.Common.{◌≡◌, ℕ, zero, suc, Bool, true, false, List, [], ◌∷◌, ◌++◌, replicate}
+use Rattle.std.proofs.Common.{Option, refl, sym, ap, ◌∙◌, subst}
 use Rattle.std.specs.Option.{option_to_list}
-use Rattle.std.proofs.lemmas.List.Sums.{length-filter}
-use Rattle.market_terms.specs.declared.duties.Duty.{Duty}
 use Rattle.venue_rows.specs.Rows.{Configuration}
-use Rattle.venue_places.specs.declared.actors.Actor.{Actor}
 use Rattle.venue_places.specs.declared.actors.Actor.TheVariants as actor
-use Rattle.step_replay.specs.AuditTrail.{AuditTrail, Caused, after_step, duty_of, is_same_actor}
-use Rattle.step_replay.specs.AuditTrail.{pending}
-use Rattle.step_replay.specs.EachLemmas.{Every, every_weaker}
+use Rattle.step_replay.specs.AuditTrail.{AuditTrail, after_step, pending}
+use Rattle.step_replay.specs.EachLemmas.{Every}
 use Rattle.step_replay.specs.LiveDays.{actor_of, with_turns}
 use Rattle.step_replay.specs.declared.steps.Step.{Step}
 use Rattle.step_replay.specs.declared.steps.Step.TheVariants as step
 use Rattle.step_replay.specs.declared.steps.TheConstants.{MOST_TURNS_BEHIND}
 use Rattle.investor_views.specs.Comings.{Coming, comes_by, comings_from}
-use Rattle.day_parts.specs.DayParts.{CausedOk, caused_stays, part_twice, steps_grow}
-use Rattle.day_parts.specs.KeptItems.{all_pass, filter_twice, none_found, none_kept}
-use Rattle.apart_laws.specs.Apart.{acts_there, asks_across, has_ask_across, is_there}
+use Rattle.day_parts.specs.DayParts.{CausedOk, steps_grow}
+use Rattle.apart_laws.specs.Apart.{asks_across, has_ask_across, is_there}
 use Rattle.apart_laws.proofs.ClockTurns.{after, unit_idle}
-use Rattle.apart_laws.proofs.SideFollows.{Follows, comes_none, comes_same, step_follows}
+use Rattle.apart_laws.proofs.SideFollows.{AreOne, comes_none, comes_same, step_same}
 use Rattle.apart_laws.proofs.SideSteps.{ActsOn, ClockWithin, Stands, StepOn, step_leaves}
 use Rattle.apart_laws.proofs.SideSteps.{step_stands}
-use Rattle.apart_laws.proofs.ThereFacts.{FactsOn, IsOn, QueuedOn, stays, there}
-use Rattle.step_replay.specs.QueueLemmas.{same_either}
+use Rattle.apart_laws.proofs.ThereFacts.{FactsOn, IsOn, QueuedOn, there}
 
 -- Steps of one side.
 
@@ -68,30 +61,31 @@ module _ (side : ℕ → Bool) (config : Configuration) where
       stands_after own steps (after_step config trail s) on.1
       (stands_then own s steps trail on.0 stands none) none
 
-  -- what is one by steps of this side: the day of this side, and what comes to an investor's desk
-  abbrev AreOne : AuditTrail → AuditTrail → List Step → Type 0
-  AreOne one other steps = Follows side (after config one steps) (after config other steps)
+  -- steps of this side: the days stay one, and the same comes to an investor's desk
+  abbrev StayOne : AuditTrail → AuditTrail → List Step → Type 0
+  StayOne one other steps = AreOne side config (after config one steps) (after config other steps)
       × ((number : ℕ) → comings_from config number one steps
       ≡ comings_from config number other steps)
 
-  follows_after : (steps : List Step) (one other : AuditTrail) → Every (StepOn side true) steps
-      → Stands side config true one → NoneAcross (after config one steps)
-      → Follows side one other → AreOne one other steps
-  follows_after [] one other on stands none follows = (follows, λ number. refl)
-  follows_after (s ∷ steps) one other on stands none follows =
-      let later = follows_after steps (after_step config one s) (after_step config other s) on.1
-      (stands_then true s steps one on.0 stands none) none
-      (step_follows side config one other stands follows s on.0) in (
+  one_after : (steps : List Step) (one other : AuditTrail) → Every (StepOn side true) steps
+      → AreOne side config one other → NoneAcross (after config one steps)
+      → StayOne one other steps
+  one_after [] one other on are none = (are, λ number. refl)
+  one_after (s ∷ steps) one other on are none =
+      let now = step_same side config one other are s on.0
+      (steps_grow (asks_across side) config steps (after_step config one s) none) in
+      let later = one_after steps (after_step config one s) (after_step config other s) on.1 now
+      none in (
         later.0,
         λ number. ap (λ (o : Option Coming). option_to_list o
             ++ comings_from config number (after_step config one s) steps)
-            (comes_same side config one other stands follows number s on.0)
+            (comes_same side config one other are number s on.0)
             ∙ ap (λ (l : List Coming). option_to_list (comes_by config number other s) ++ l)
             (later.1 number),
       )
 
   -- what steps of the other side leave as it was
-  abbrev pub AreLeft : AuditTrail → List Step → Type 0
+  abbrev AreLeft : AuditTrail → List Step → Type 0
   AreLeft trail steps = (there side (after config trail steps) ≡ there side trail)
       × ((number : ℕ) → side number ≡ true → comings_from config number trail steps ≡ [])
 
@@ -115,83 +109,68 @@ pub record Rests (side : ℕ → Bool) (config : Configuration) (trail : AuditTr
   pub clock_idle : pending actor.Clock trail ≡ []
   pub clock_within : ClockWithin trail
 
--- the clock acts on no side
-none_acts : (side : ℕ → Bool) (by : Actor) → acts_there side by ≡ true
-    → is_same_actor by actor.Clock ≡ false
-none_acts side (actor.Firm firm) here = refl
-none_acts side actor.Clock here = cc
-
-dropped : (count : ℕ) (duties : List Duty) → duties ≡ [] → drop count duties ≡ []
-dropped zero duties none = none
-dropped (suc count) [] none = refl
-dropped (suc count) (d ∷ later) none = cc
-
-module _ (side : ℕ → Bool) (config : Configuration) (trail : AuditTrail)
-    (rests : Rests side config trail) where
-  stands_of : (own : Bool) → Stands side config own trail
-  stands_of own = record {
+module _ (side : ℕ → Bool) (config : Configuration) where
+  stands_of : (own : Bool) (trail : AuditTrail) → Rests side config trail
+      → Stands side config own trail
+  stands_of own trail rests = record {
     facts_on = rests.facts_on;
     caused_on = rests.caused_on;
     clock_on = subst (Every (IsOn side config own actor.Clock)) (sym rests.clock_idle) tt;
     clock_within = rests.clock_within;
   }
 
-  -- the day of this side goes as the day does
-  start_follows : Follows side trail (there side trail)
-  start_follows =
-      let caused = filter (caused_stays (stays side) (acts_there side)) trail.caused in
-      let done = filter (acts_there side) trail.done in
-      let none : filter_map (duty_of actor.Clock) caused ≡ [] =
-      none_found (duty_of actor.Clock) caused
-      (every_weaker (λ (c : Caused). acts_there side c.by ≡ true)
-      (λ (c : Caused). duty_of actor.Clock c ≡ None)
-      (λ c here. ap (λ (b : Bool). if b then Some c.duty else None) (none_acts side c.by here))
-      caused (all_pass (caused_stays (stays side) (acts_there side)) trail.caused)) in
-      let count : count_by (is_same_actor actor.Clock) done ≡ 0 =
-      sym (length-filter (is_same_actor actor.Clock) done)
-      ∙ ap length (none_kept (is_same_actor actor.Clock) done
-      (every_weaker (λ (by : Actor). acts_there side by ≡ true)
-      (λ (by : Actor). is_same_actor actor.Clock by ≡ false)
-      (λ by here. same_either by actor.Clock (none_acts side by here)) done
-      (all_pass (acts_there side) trail.done))) in
-      record {
-        part_is = sym (part_twice (stays side) (acts_there side) trail);
-        kept = filter_twice (stays side) trail.facts;
-        clock_is = rests.clock_idle
-            ∙ sym (dropped (count_by (is_same_actor actor.Clock) done)
-            (filter_map (duty_of actor.Clock) caused) none);
-        clock_within = at_most (count_by (is_same_actor actor.Clock) done)
-            (length (filter_map (duty_of actor.Clock) caused)) count;
-      }
-    where
-      at_most : (n m : ℕ) → n ≡ 0 → n ≤ m
-      at_most n m zero_is = omega arith
+  rests_then : (own : Bool) (trail : AuditTrail) (s : Step) → Rests side config trail
+      → Stands side config own (after config trail (with_turns s))
+      → Rests side config (after config trail (with_turns s))
+  rests_then own trail s rests stands = record {
+    facts_on = stands.facts_on;
+    caused_on = stands.caused_on;
+    clock_idle = unit_idle config side trail rests.facts_on rests.clock_idle rests.clock_within s;
+    clock_within = stands.clock_within;
+  }
 
-  module _ (s : Step) (none : has_ask_across side (after config trail (with_turns s)) ≡ false) where
-    pub unit_rests : Rests side config (after config trail (with_turns s))
-    unit_rests =
-        let own = is_there side s in
-        let stands = stands_after side config own (with_turns s) trail (unit_on side own s refl)
-        (stands_of own) none in
+  -- two days between steps that are one to this side
+  pub record RestAlike (one other : AuditTrail) : Type 0 where
+    pub rests : Rests side config one
+    pub rests_too : Rests side config other
+    pub part_is : there side one ≡ there side other
+
+  module _ (one other : AuditTrail) (alike : RestAlike one other) (s : Step)
+      (none : has_ask_across side (after config one (with_turns s)) ≡ false) where
+    -- a step of this side in both
+    pub own_unit : is_there side s ≡ true
+        → RestAlike (after config one (with_turns s)) (after config other (with_turns s))
+        × ((number : ℕ) → comings_from config number one (with_turns s)
+        ≡ comings_from config number other (with_turns s))
+    own_unit is =
+        let start : AreOne side config one other = record {
+          stands = stands_of true one alike.rests;
+          stands_too = stands_of true other alike.rests_too;
+          part_is = alike.part_is;
+          clock_is = alike.rests.clock_idle ∙ sym alike.rests_too.clock_idle;
+        } in
+        let stay = one_after side config (with_turns s) one other (unit_on side true s is) start
+        none in
+        let now : RestAlike (after config one (with_turns s)) (after config other (with_turns s)) =
         record {
-          facts_on = stands.facts_on;
-          caused_on = stands.caused_on;
-          clock_idle = unit_idle config side trail rests.facts_on rests.clock_idle
-              rests.clock_within s;
-          clock_within = stands.clock_within;
-        }
+          rests = rests_then true one s alike.rests stay.0.stands;
+          rests_too = rests_then true other s alike.rests_too stay.0.stands_too;
+          part_is = stay.0.part_is;
+        } in
+        (now, stay.1)
 
-    pub unit_there : is_there side s ≡ true
-        → (there side (after config trail (with_turns s))
-        ≡ there side (after config (there side trail) (with_turns s)))
-        × ((number : ℕ) → comings_from config number trail (with_turns s)
-        ≡ comings_from config number (there side trail) (with_turns s))
-    unit_there is =
-        let are = follows_after side config (with_turns s) trail (there side trail)
-        (unit_on side true s is) (stands_of true) none start_follows in
-        (are.0.part_is, are.1)
-
-    pub unit_leaves : is_there side s ≡ false → AreLeft side config trail (with_turns s)
-    unit_leaves isnt =
-        leaves_after side config (with_turns s) trail (unit_on side false s isnt)
-        (stands_of false) none
+    -- one of the other side in the first
+    pub other_unit : is_there side s ≡ false
+        → RestAlike (after config one (with_turns s)) other
+        × ((number : ℕ) → side number ≡ true → comings_from config number one (with_turns s) ≡ [])
+    other_unit isnt =
+        let on = unit_on side false s isnt in
+        let stands = stands_of false one alike.rests in
+        let left = leaves_after side config (with_turns s) one on stands none in
+        let now : RestAlike (after config one (with_turns s)) other = record {
+          rests = rests_then false one s alike.rests
+              (stands_after side config false (with_turns s) one on stands none);
+          rests_too = alike.rests_too;
+          part_is = left.0 ∙ alike.part_is;
+        } in
+        (now, left.1)

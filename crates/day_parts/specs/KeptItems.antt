@@ -12,19 +12,9 @@ use Rattle.step_replay.specs.EachLemmas.{Every}
 module _ {X : Type 0} (p : X → Bool) where
   -- What is kept.
 
-  pub all_kept : (xs : List X) → Every (λ (x : X). p x ≡ true) xs → filter p xs ≡ xs
-  all_kept [] all = refl
-  all_kept (x ∷ xs) all = rw (all.0) (ap (λ (l : List X). x ∷ l) (all_kept xs all.1))
-
   pub none_kept : (xs : List X) → Every (λ (x : X). p x ≡ false) xs → filter p xs ≡ []
   none_kept [] none = refl
   none_kept (x ∷ xs) none = rw (none.0) (none_kept xs none.1)
-
-  pub all_pass : (xs : List X) → Every (λ (x : X). p x ≡ true) (filter p xs)
-  all_pass [] = tt
-  all_pass (x ∷ xs) =
-      cond_both (p x) (x ∷ filter p xs) (filter p xs) (Every (λ (y : X). p y ≡ true))
-      (λ is. (is, all_pass xs)) (λ isnt. all_pass xs)
 
   -- Who asks for what is kept alone.
 
@@ -63,11 +53,6 @@ module _ {X : Type 0} (p : X → Bool) where
 
   pub none_behind : (xs more : List X) → filter p more ≡ [] → filter p (xs ++ more) ≡ filter p xs
   none_behind xs more none = rw (filter-append p xs more, none) (append-nil (filter p xs))
-
-pub none_found : {X Y : Type 0} (h : X → Option Y) (xs : List X)
-    → Every (λ (x : X). h x ≡ None) xs → filter_map h xs ≡ []
-none_found h [] none = refl
-none_found h (x ∷ xs) none = rw (none.0) (none_found h xs none.1)
 
 -- Each item.
 
