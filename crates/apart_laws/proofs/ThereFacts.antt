@@ -47,16 +47,6 @@ there side trail = part (stays side) (acts_there side) trail
 
 -- What is on one side: `own` says on which.
 
--- a desk, where there is one
-abbrev pub DeskOn : (ℕ → Bool) → Bool → Option ℕ → Type 0
-DeskOn side own None = Unit {0}
-DeskOn side own (Some number) = side number ≡ own
-
--- a room, where there is one
-abbrev pub RoomOn : (ℕ → Bool) → Bool → Option RoomRef → Type 0
-RoomOn side own None = Unit {0}
-RoomOn side own (Some room) = side room.investor ≡ own
-
 -- the dealers that a request names, which are few
 abbrev pub AskedOn : (ℕ → Bool) → Bool → List ℕ → Type 0
 AskedOn side own dealers =
@@ -64,8 +54,7 @@ AskedOn side own dealers =
 
 -- the dealer whose quote has a word, where one has
 abbrev pub OwnerOn : (ℕ → Bool) → Bool → Option QuoteRef → Type 0
-OwnerOn side own None = Unit {0}
-OwnerOn side own (Some quote) = side quote.dealer ≡ own
+OwnerOn side own found = IfSome found (λ (quote : QuoteRef). side quote.dealer ≡ own)
 
 -- Duties.
 
@@ -86,8 +75,8 @@ NamedOn side config own by other = Unit {0}
 -- a duty of an actor that is on one side, with all that it names
 pub record IsOn (side : ℕ → Bool) (config : Configuration) (own : Bool) (by : Actor) (d : Duty)
     : Type 0 where
-  pub desk_on : DeskOn side own (desk_of_duty by d)
-  pub room_on : RoomOn side own (room_of_duty d)
+  pub desk_on : IfSome (desk_of_duty by d) (λ (number : ℕ). side number ≡ own)
+  pub room_on : IfSome (room_of_duty d) (λ (room : RoomRef). side room.investor ≡ own)
   pub named_on : NamedOn side config own by d
 
 -- a duty in the queue of an actor is on its side; of the clock nothing is said

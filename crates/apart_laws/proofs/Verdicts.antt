@@ -1,8 +1,8 @@
 -- What a verdict accepts: a quote is one of its dealer's day, so its word is the dealer's; and a
 -- request names few dealers.
-use Rattle.std.proofs.Common.{◌≡◌, ◌≤◌, ℕ, ◌+◌, Bool, true, false, ◌&&◌, nat_le, nat_lt, List, []}
-use Rattle.std.proofs.Common.{◌∷◌, filter_map, length, take, Option, Some, None, is_none, refl, ap}
-use Rattle.std.proofs.Common.{◌∙◌, arith, if◌then◌else◌}
+use Rattle.std.proofs.Common.{◌≡◌, ◌≤◌, ℕ, ◌+◌, true, false, ◌&&◌, nat_le, nat_lt, List, [], ◌∷◌}
+use Rattle.std.proofs.Common.{filter_map, length, take, Option, Some, None, is_none, refl, ap, ◌∙◌}
+use Rattle.std.proofs.Common.{arith}
 use Rattle.std.specs.List.{cons_option}
 use Rattle.std.proofs.lemmas.Bool.Decides.{nat_tests}
 use Rattle.market_terms.specs.Checks.{first_refusal}
@@ -51,6 +51,7 @@ use Rattle.venue_steps.specs.Words.{word_of}
 use Rattle.step_replay.specs.Actions.{quote_with_word, quotes_of}
 use Rattle.step_replay.specs.OwnerLemmas.{owner_among, quote_at}
 use Rattle.apart_laws.proofs.ThereFacts.{none_holds}
+use Rattle.std.proofs.lemmas.Bool.{cond_both}
 
 -- A dealer's verdict.
 
@@ -88,17 +89,13 @@ module _ (row : DealerRow) (book : DealerBook) where
   cancel_found id None = tt
   cancel_found id (Some own) = cancel_plain id own (first_refusal (cancel_checks own))
 
-  cancel_some : (id : Option (List ℕ)) (b : Bool)
-      → AcceptsOfDay row (if b then verdict.Refused (out.CancelReport id status.Unknown)
-      else verdict.DropsFollow (quotes_accepted book))
-  cancel_some id true = tt
-  cancel_some id false = tt
-
   cancel_by : (scope : CancelScope) → AcceptsOfDay row (cancel_verdict book scope)
   unfolding cancel_verdict
   cancel_by (cancels.One id) = cancel_found id (quote_with_id book id)
   cancel_by (cancels.All id) =
-      cancel_some id (is_none (quote_to_drop book (quotes_accepted book)))
+      cond_both (is_none (quote_to_drop book (quotes_accepted book)))
+      (verdict.Refused (out.CancelReport id status.Unknown))
+      (verdict.DropsFollow (quotes_accepted book)) (AcceptsOfDay row) (λ is. tt) (λ isnt. tt)
   cancel_by (cancels.Other cancel_type id) = tt
 
   decline_plain : (name : List ℕ) (request : Option StandingRequest)
@@ -184,7 +181,8 @@ module _ (market : InvestorMarket) (book : InvestorBook) (moment : ℕ) where
   pass_few pass None = tt
   pass_few pass (Some own) = tt
 
-  message_few : (m : InvestorMessage) → AsksFew (investor_rules.message_verdict market book moment m)
+  message_few : (m : InvestorMessage)
+      → AsksFew (investor_rules.message_verdict market book moment m)
   unfolding request_verdict hit_verdict pass_verdict
   message_few (asked.Request request) =
       request_few request (bond_with_id market request.bond)
