@@ -82,6 +82,7 @@ close_kept number (fact ∷ later) = close_kept number later
 none_stands : (number : ℕ) (facts : List InvestorFact)
     → standing_on number (filter stays_at_desk facts) ≡ []
 none_stands number [] = refl
+none_stands number (Offered shown ∷ later) = none_stands number later
 none_stands number (fact ∷ later) = none_stands number later
 
 requests_kept : (facts : List InvestorFact)
@@ -94,6 +95,7 @@ requests_kept (fact ∷ later) = requests_kept later
 
 no_offers : (facts : List InvestorFact) → offers_of (filter stays_at_desk facts) ≡ []
 no_offers [] = refl
+no_offers (Offered shown ∷ later) = no_offers later
 no_offers (fact ∷ later) = no_offers later
 
 book_kept : (facts : List InvestorFact)
