@@ -111,10 +111,11 @@ module _ (P : Duty → Type 0) (config : Configuration) (facts : List Fact) wher
       })
   duty_leaves by (duty.Pass room response moment) is =
       room_leaves room true (at_room.Pass moment)
-      (duties_of_pass (of_room room facts) room response moment)
-      (is.0 (is_open (of_room room facts)),
-      if_each P (is_open (of_room room facts)) (told_in (of_room room facts) room passed moment)
-      (told_each P config facts room passed moment is.1))
+      (duties_of_pass (of_room room facts) room response moment) (
+        is.0 (is_open (of_room room facts)),
+        if_each P (is_open (of_room room facts)) (told_in (of_room room facts) room passed moment)
+            (told_each P config facts room passed moment is.1),
+      )
   duty_leaves by (duty.Answer room response reply moment) is =
       invested_does (Leaves P) none config room.investor _ (λ row. if_does (Leaves P) none _ _
       (known_leaves room.n response.k (at_investor.Answered room.n response reply moment)

@@ -7,9 +7,9 @@ use Rattle.std.proofs.lemmas.List.{length-map}
 use Rattle.std.proofs.lemmas.List.Sums.{length-filter}
 use Rattle.venue_rows.specs.Texts.{same_text}
 use Rattle.investor_desk.specs.InvestorFacts.{InvestorFact, InvestorBook, StandingRequest, Came}
-use Rattle.investor_desk.specs.InvestorFacts.{Asked, Closed, used_number, closes, first_said}
-use Rattle.investor_desk.specs.InvestorFacts.{standing_on, requests_of, offers_of, book_of}
-use Rattle.investor_desk.specs.InvestorFacts.{requests_accepted, is_open, requests_open}
+use Rattle.investor_desk.specs.InvestorFacts.{Offered, Asked, Closed, used_number, closes}
+use Rattle.investor_desk.specs.InvestorFacts.{first_said, standing_on, requests_of, offers_of}
+use Rattle.investor_desk.specs.InvestorFacts.{book_of, requests_accepted, is_open, requests_open}
 use Rattle.investor_desk.specs.InvestorFacts.{request_with_id, request_numbered, offer_named, knows}
 use Rattle.investor_desk.specs.InvestorFacts.{expected_number}
 use Rattle.investor_desk.specs.declared.standing.RequestClose.{RequestClose}
@@ -51,7 +51,6 @@ find_map : {X Y : Type 0} (e : X → Y) (p : X → Bool) (q : Y → Bool)
 find_map e p q same [] = refl
 find_map e p q same (x ∷ xs) =
     rw (same x, find_map e p q same xs) (map_cond e (p x) x (find p xs))
-
 
 -- What stays of the book.
 
