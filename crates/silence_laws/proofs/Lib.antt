@@ -1,8 +1,6 @@
 mod HitMessages
-mod OthersLeave
-mod Quiet
 mod QuietActions
-mod QuietAlike
+mod Quiet
 mod QuietInvestor
 mod QuietRoom
 mod QuietSteps

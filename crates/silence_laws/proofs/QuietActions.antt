@@ -24,13 +24,13 @@ use Rattle.step_replay.specs.Actions.{Dealer, at_dealer, in_room, at_market, whe
 use Rattle.day_parts.specs.ActionCases.{if_both, if_does}
 use Rattle.day_parts.specs.KeptItems.{every_map, found_kept, none_kept, found_of_kept, kept_in}
 use Rattle.day_parts.specs.KeptItems.{either_same, where_kept}
-use Rattle.silence_laws.proofs.Quiet.{stays, stays_in_room, stays_there, stays_at_desk}
+use Rattle.silence_laws.proofs.Quiet.{stays, stays_in_room, stays_there, stays_at_desk, AreAlike}
+use Rattle.silence_laws.proofs.Quiet.{IsHushed, IsUnseen, nothing_alike, nothing_hushed}
+use Rattle.silence_laws.proofs.Quiet.{nothing_unseen}
 use Rattle.silence_laws.proofs.QuietRoom.{IsOfOther, is_hit_there, happens_same, other_adds}
 use Rattle.silence_laws.proofs.QuietRoom.{quiet_room}
 use Rattle.silence_laws.proofs.QuietVerdicts.{quiet_book, book_by_kept, knows_same}
 use Rattle.silence_laws.proofs.QuietInvestor.{Hushes, event_kept, event_hushed}
-use Rattle.silence_laws.proofs.QuietAlike.{AreAlike, IsHushed, IsUnseen, nothing_alike}
-use Rattle.silence_laws.proofs.QuietAlike.{nothing_hushed, nothing_unseen}
 
 module _ (own : ℕ) (facts : List Fact) where
   -- the facts of the quiet day

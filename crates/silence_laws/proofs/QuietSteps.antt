@@ -28,15 +28,15 @@ use Rattle.step_replay.specs.DealerTrail.{rooms_by}
 use Rattle.step_replay.specs.VenueFacts.{Fact, of_dealer, of_room}
 use Rattle.day_parts.specs.ActionCases.{if_does, invested_both, told_does, told_to_same}
 use Rattle.day_parts.specs.ActionCases.{unless_does, by_both, message_of}
-use Rattle.silence_laws.proofs.Quiet.{is_no_award, stays_at_desk, IsPlain}
+use Rattle.silence_laws.proofs.Quiet.{is_no_award, stays_at_desk, IsPlain, AreAlike, IsHushed}
+use Rattle.silence_laws.proofs.Quiet.{hushed_alike, nothing_alike, nothing_hushed, same_alike}
+use Rattle.silence_laws.proofs.Quiet.{acting_own, numbered_own}
 use Rattle.silence_laws.proofs.QuietRoom.{ended_same, request_same, stands_same, ready_same}
 use Rattle.silence_laws.proofs.QuietInvestor as investor
 use Rattle.silence_laws.proofs.QuietInvestor.{Hushes}
 use Rattle.silence_laws.proofs.QuietVerdicts.{hits, verdict_heard}
 use Rattle.silence_laws.proofs.QuietActions.{book, book_same, dealer_same, desk_hushed, known}
 use Rattle.silence_laws.proofs.QuietActions.{investor_alike, known_alike, known_hushed, room_alike}
-use Rattle.silence_laws.proofs.QuietAlike.{AreAlike, IsHushed, hushed_alike, nothing_alike}
-use Rattle.silence_laws.proofs.QuietAlike.{nothing_hushed, same_alike, acting_own, numbered_own}
 use Rattle.std.specs.List.{list_any}
 use Rattle.market_terms.specs.declared.duties.Duty.{Duty}
 use Rattle.market_terms.specs.declared.duties.Duty.TheVariants as duty
