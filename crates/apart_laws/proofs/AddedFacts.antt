@@ -2,8 +2,8 @@
 -- a duty.
 use Rattle.std.proofs.Common.{◌≡◌, ℕ, Bool, true, false, List, [], ◌++◌, map, Option, Some, None}
 use Rattle.std.proofs.Common.{IfSome, is_some, refl, sym, ◌∙◌, subst, Result, Ok, Err}
-use Rattle.std.proofs.lemmas.Bool.{cond_both}
 use Rattle.std.specs.Option.{option_to_list}
+use Rattle.std.proofs.lemmas.Bool.{cond_both}
 use Rattle.market_terms.specs.declared.closes.HitRefusal.{HitRefusal}
 use Rattle.market_terms.specs.declared.closes.HitRefusal.TheVariants as refusal
 use Rattle.market_terms.specs.declared.duties.Duty.{Duty}
@@ -26,6 +26,8 @@ use Rattle.request_room.specs.RoomFacts.{Ended, Noted, Opened, Posted, Readied, 
 use Rattle.request_room.specs.declared.ends.End.{End}
 use Rattle.request_room.specs.declared.events.RoomEvent.{RoomEvent}
 use Rattle.request_room.specs.declared.events.RoomEvent.TheVariants as at_room
+use Rattle.venue_places.specs.declared.actors.Actor.{Actor}
+use Rattle.venue_places.specs.declared.actors.Actor.TheVariants as actor
 use Rattle.step_replay.specs.Actions.{Effect, QuoteRef, acting_dealer, at_dealer, at_market}
 use Rattle.step_replay.specs.Actions.{dealer_of, drop_at, lifting, nothing, quote_with_word}
 use Rattle.step_replay.specs.Actions.{settlement_of, verdict_on, word_for}
@@ -36,8 +38,6 @@ use Rattle.step_replay.specs.EachLemmas.{Every, every_both}
 use Rattle.step_replay.specs.InvestorTrail as investor_trail
 use Rattle.step_replay.specs.VenueFacts.{AtDealer, AtInvestor, Fact, InRoom, of_dealer, of_investor}
 use Rattle.step_replay.specs.VenueFacts.{of_room}
-use Rattle.venue_places.specs.declared.actors.Actor.{Actor}
-use Rattle.venue_places.specs.declared.actors.Actor.TheVariants as actor
 use Rattle.day_parts.specs.ActionCases.{by_does, if_does, invested_does, message_of, numbered_does}
 use Rattle.day_parts.specs.ActionCases.{told_does, unless_does}
 use Rattle.day_parts.specs.KeptItems.{every_in, every_map}

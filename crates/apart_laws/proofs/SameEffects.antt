@@ -18,6 +18,8 @@ use Rattle.request_room.specs.Book.{event_facts, hit_outcome, hit_refusal, word_
 use Rattle.request_room.specs.declared.events.RoomEvent.TheVariants as at_room
 use Rattle.venue_steps.specs.RoomSteps.{duties_of_hit, hit_word, word_asked_by}
 use Rattle.venue_steps.specs.Words.{has_word}
+use Rattle.venue_places.specs.declared.actors.Actor.{Actor}
+use Rattle.venue_places.specs.declared.actors.Actor.TheVariants as actor
 use Rattle.step_replay.specs.Actions.{Dealer, Effect, QuoteRef, acting_dealer, answer_to_hit}
 use Rattle.step_replay.specs.Actions.{answered_by, dealer_at, dealer_of, declined_by, done_by}
 use Rattle.step_replay.specs.Actions.{done_for, dropped_by, hit_in, lifting, nothing, posted_by}
@@ -27,8 +29,6 @@ use Rattle.step_replay.specs.Actions.{where_known, words_of}
 use Rattle.step_replay.specs.DutyEffects.{duty_effect, message_effect, sweep_effect}
 use Rattle.step_replay.specs.EachLemmas.{Every}
 use Rattle.step_replay.specs.VenueFacts.{Fact, InRoom, of_room}
-use Rattle.venue_places.specs.declared.actors.Actor.{Actor}
-use Rattle.venue_places.specs.declared.actors.Actor.TheVariants as actor
 use Rattle.day_parts.specs.ActionCases.{by_both, invested_both, message_of, numbered_both}
 use Rattle.day_parts.specs.ActionCases.{told_to_same}
 use Rattle.apart_laws.proofs.ThereFacts.{FactsOn, HappenedOn, IsOn, OwnerOn, dealer_same}

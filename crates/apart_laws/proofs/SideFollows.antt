@@ -16,8 +16,6 @@ use Rattle.venue_places.specs.declared.arrivals.Placement.TheVariants as arrival
 use Rattle.venue_places.specs.declared.arrivals.ForDealer.{ForDealer}
 use Rattle.venue_places.specs.declared.arrivals.ForInvestor.{ForInvestor}
 use Rattle.venue_places.specs.declared.arrivals.ForRoom.{ForRoom}
-use Rattle.investor_views.specs.Comings.{For, at_desk_of, Own, comes_by, comes_by_turn}
-use Rattle.apart_laws.proofs.ThereFacts.{IsOn, not_one, stays, there, known}
 use Rattle.venue_places.specs.declared.actors.Actor.TheVariants as actor
 use Rattle.step_replay.specs.Actions.{Effect}
 use Rattle.step_replay.specs.AuditTrail.{AuditTrail, after_step, after_turn, pending, with_effect}
@@ -28,13 +26,15 @@ use Rattle.step_replay.specs.QueueLemmas.{turned}
 use Rattle.step_replay.specs.VenueFacts.{Fact}
 use Rattle.step_replay.specs.declared.steps.Step.{Step}
 use Rattle.step_replay.specs.declared.steps.Step.TheVariants as step
+use Rattle.investor_views.specs.Comings.{For, at_desk_of, Own, comes_by, comes_by_turn}
 use Rattle.day_parts.specs.DayParts.{did, did_same, grows, pending_same, none_left}
+use Rattle.day_parts.specs.LeftDuties.{Leaves}
 use Rattle.apart_laws.specs.Apart.{acts_there, asks_across, has_ask_across}
+use Rattle.apart_laws.proofs.ThereFacts.{IsOn, not_one, stays, there, known}
 use Rattle.apart_laws.proofs.AddedFacts.{AddsOn, duty_adds, message_adds, sweep_adds}
 use Rattle.apart_laws.proofs.SameEffects.{duty_same, message_same, sweep_same}
 use Rattle.apart_laws.proofs.SideSteps.{ActsOn, Stands, StepOn, waits_on, does_stands}
 use Rattle.apart_laws.proofs.SideSteps.{turned_stands}
-use Rattle.day_parts.specs.LeftDuties.{Leaves}
 use Rattle.apart_laws.proofs.LeftOn.{duty_left, message_left, sweep_left}
 
 module _ (side : ℕ → Bool) (number : ℕ) (here : side number ≡ true) (config : Configuration) where

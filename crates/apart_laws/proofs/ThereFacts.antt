@@ -3,13 +3,23 @@
 use Rattle.std.proofs.Common.{◌≡◌, ◌≤◌, ℕ, Bool, List, length, take, Option, Some, None, ◌==◌, true}
 use Rattle.std.proofs.Common.{false, [], ◌∷◌, filter, find, IfSome, is_none, refl, ap, ◌∙◌, subst}
 use Rattle.std.proofs.Common.{arith, if◌then◌else◌}
+use Rattle.std.specs.List.{list_any}
+use Rattle.std.proofs.lemmas.Bool.{and_parts, both_ways, cond_both, eqb-true, false_from_ne_true}
+use Rattle.std.proofs.lemmas.Bool.Decides.{nat_tests}
 use Rattle.market_terms.specs.declared.duties.Duty.{Duty}
 use Rattle.market_terms.specs.declared.duties.Duty.TheVariants as duty
 use Rattle.market_terms.specs.declared.rooms.RoomRef.{RoomRef}
 use Rattle.market_terms.specs.declared.rooms.TheConstants.AskedDealers.{MOST}
+use Rattle.market_terms.specs.Checks.{first_refusal}
 use Rattle.venue_rows.specs.Rows.{Configuration}
+use Rattle.dealer_desk.specs.DealerOutput.{is_same_room}
 use Rattle.request_room.specs.RoomFacts.{RoomFact, Opened, Posted, request_of}
+use Rattle.request_room.specs.Book.{book_of, hit_checks, hit_refusal, quote_meant, takes_out}
+use Rattle.request_room.specs.declared.quotes.PostedQuote.{PostedQuote}
 use Rattle.venue_steps.specs.Words.{word_of}
+use Rattle.venue_steps.specs.RoomSteps.{dealers_of}
+use Rattle.venue_places.specs.declared.actors.Actor.{Actor}
+use Rattle.venue_places.specs.declared.actors.Actor.TheVariants as actor
 use Rattle.step_replay.specs.Actions.{QuoteRef, quote_with_word, quotes_of}
 use Rattle.step_replay.specs.AuditTrail.{AuditTrail}
 use Rattle.step_replay.specs.DealerTrail.{DealerEntry, ShownIn, room_in, rooms_by}
@@ -18,20 +28,10 @@ use Rattle.step_replay.specs.LiveStanding.{desk_of_duty, room_of_duty}
 use Rattle.step_replay.specs.VenueFacts.{Fact, AtDealer, InRoom, AtInvestor, of_dealer, of_room}
 use Rattle.step_replay.specs.VenueFacts.{of_investor, entry_at_dealer, fact_in_room}
 use Rattle.step_replay.specs.VenueFacts.{entry_at_investor}
-use Rattle.venue_places.specs.declared.actors.Actor.{Actor}
-use Rattle.venue_places.specs.declared.actors.Actor.TheVariants as actor
-use Rattle.day_parts.specs.DayParts.{part}
-use Rattle.apart_laws.specs.Apart.{acts_there}
-use Rattle.std.specs.List.{list_any}
-use Rattle.std.proofs.lemmas.Bool.{and_parts, both_ways, cond_both, eqb-true, false_from_ne_true}
-use Rattle.std.proofs.lemmas.Bool.Decides.{nat_tests}
-use Rattle.market_terms.specs.Checks.{first_refusal}
-use Rattle.dealer_desk.specs.DealerOutput.{is_same_room}
-use Rattle.request_room.specs.Book.{book_of, hit_checks, hit_refusal, quote_meant, takes_out}
-use Rattle.request_room.specs.declared.quotes.PostedQuote.{PostedQuote}
-use Rattle.venue_steps.specs.RoomSteps.{dealers_of}
 use Rattle.step_replay.specs.DealerTrail as dealer_trail
+use Rattle.day_parts.specs.DayParts.{part}
 use Rattle.day_parts.specs.KeptItems.{found_kept, every_found}
+use Rattle.apart_laws.specs.Apart.{acts_there}
 
 -- What stays.
 

@@ -5,11 +5,9 @@ use Rattle.std.proofs.Common.{filter_map, length, take, Option, Some, None, is_n
 use Rattle.std.proofs.Common.{arith}
 use Rattle.std.specs.List.{cons_option}
 use Rattle.std.proofs.lemmas.Bool.Decides.{nat_tests}
+use Rattle.std.proofs.lemmas.Bool.{cond_both}
 use Rattle.market_terms.specs.Checks.{first_refusal}
 use Rattle.market_terms.specs.declared.rooms.TheConstants.AskedDealers.{MOST}
-use Rattle.venue_rows.specs.Rows.{Configuration, dealer_numbered}
-use Rattle.venue_rows.specs.declared.bond_rows.BondRow.{BondRow}
-use Rattle.venue_rows.specs.declared.dealer_rows.DealerRow.{DealerRow}
 use Rattle.quote_messages.specs.Arrivals.{dealer_arrival, investor_arrival}
 use Rattle.quote_messages.specs.declared.arrivals.Arrival.{Arrival}
 use Rattle.quote_messages.specs.declared.arrivals.Arrival.TheVariants as arrival
@@ -25,6 +23,11 @@ use Rattle.quote_messages.specs.declared.requests.InvestorMessage.{InvestorMessa
 use Rattle.quote_messages.specs.declared.requests.InvestorMessage.TheVariants as asked
 use Rattle.quote_messages.specs.declared.reject_reasons.QuoteRejectReason.{QuoteRejectReason}
 use Rattle.quote_messages.specs.declared.reject_reasons.RequestRejectReason.{RequestRejectReason}
+use Rattle.quote_messages.specs.declared.out_messages.OutMessage.TheVariants as out
+use Rattle.quote_messages.specs.declared.out_messages.CancelStatus.TheVariants as status
+use Rattle.venue_rows.specs.Rows.{Configuration, dealer_numbered}
+use Rattle.venue_rows.specs.declared.bond_rows.BondRow.{BondRow}
+use Rattle.venue_rows.specs.declared.dealer_rows.DealerRow.{DealerRow}
 use Rattle.dealer_desk.specs.DealerFacts.{DealerBook, expected_number, request_named, quote_with_id}
 use Rattle.dealer_desk.specs.DealerFacts.{quote_to_drop, quotes_accepted}
 use Rattle.dealer_desk.specs.DealerRules.{quote_checks, quote_refusal, quote_answer, quote_verdict}
@@ -35,8 +38,6 @@ use Rattle.dealer_desk.specs.declared.standing.StandingQuote.{StandingQuote}
 use Rattle.dealer_desk.specs.declared.standing.StandingRequest.{StandingRequest}
 use Rattle.dealer_desk.specs.declared.verdicts.DealerVerdict.{DealerVerdict}
 use Rattle.dealer_desk.specs.declared.verdicts.DealerVerdict.TheVariants as verdict
-use Rattle.quote_messages.specs.declared.out_messages.OutMessage.TheVariants as out
-use Rattle.quote_messages.specs.declared.out_messages.CancelStatus.TheVariants as status
 use Rattle.investor_desk.specs.InvestorFacts as investor_facts
 use Rattle.investor_desk.specs.InvestorFacts.{InvestorBook, offer_named, request_with_id}
 use Rattle.investor_desk.specs.InvestorRules as investor_rules
@@ -51,7 +52,6 @@ use Rattle.venue_steps.specs.Words.{word_of}
 use Rattle.step_replay.specs.Actions.{quote_with_word, quotes_of}
 use Rattle.step_replay.specs.OwnerLemmas.{owner_among, quote_at}
 use Rattle.apart_laws.proofs.ThereFacts.{none_holds}
-use Rattle.std.proofs.lemmas.Bool.{cond_both}
 
 -- A dealer's verdict.
 

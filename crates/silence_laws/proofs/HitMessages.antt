@@ -2,10 +2,13 @@
 use Rattle.std.proofs.Common.{◌≡◌, ℕ, ◌==◌, Bool, true, false, ◌&&◌, List, codes, Option, Some}
 use Rattle.std.proofs.Common.{None, Result, Ok, Err, refl, if◌then◌else◌, not, [], ◌∷◌, fold}
 use Rattle.std.proofs.Common.{is_some, sym, ap, ◌∙◌}
+use Rattle.std.specs.Str.Parse.{digits_value}
+use Rattle.std.specs.List.{list_any}
+use Rattle.std.proofs.lemmas.Bool.{cond_both, or_parts}
 use Rattle.fix_fields.specs.Frame.{Field, frame_of}
+use Rattle.market_terms.specs.declared.duties.Duty.{Duty}
 use Rattle.quote_messages.specs.Arrivals.{in_sequence, numbered, framed, investor_arrival}
 use Rattle.quote_messages.specs.Arrivals.{sequence_number, reject_of, out_of_sequence}
-use Rattle.std.specs.Str.Parse.{digits_value}
 use Rattle.quote_messages.specs.SessionChecks.{investor_session_verdict, request_of, hit_of}
 use Rattle.quote_messages.specs.SessionChecks.{pass_of}
 use Rattle.quote_messages.specs.SessionLines.{has_number, unless_fault, text_at}
@@ -15,24 +18,18 @@ use Rattle.quote_messages.specs.declared.requests.InvestorMessage.{InvestorMessa
 use Rattle.quote_messages.specs.declared.requests.InvestorMessage.TheVariants as message
 use Rattle.quote_messages.specs.declared.reject_reasons.RequestRejectReason.{RequestRejectReason}
 use Rattle.quote_messages.specs.declared.session_faults.SessionFault.{SessionFault}
+use Rattle.quote_messages.specs.declared.requests.QuoteRequest.{QuoteRequest}
+use Rattle.quote_messages.specs.declared.requests.RequestPass.{RequestPass}
 use Rattle.venue_rows.specs.Texts.{same_text}
 use Rattle.venue_rows.specs.declared.bond_rows.BondRow.{BondRow}
 use Rattle.venue_rows.specs.declared.investor_rows.InvestorRow.{InvestorRow}
+use Rattle.venue_rows.specs.Rows.{Configuration, dealer_numbered}
 use Rattle.investor_desk.specs.InvestorFacts.{InvestorBook, StandingRequest, expected_number}
 use Rattle.investor_desk.specs.InvestorFacts.{request_with_id}
 use Rattle.investor_desk.specs.InvestorRules.{InvestorMarket, investor_verdict, arrival_verdict}
 use Rattle.investor_desk.specs.InvestorRules.{request_verdict, request_answer, request_refusal}
 use Rattle.investor_desk.specs.InvestorRules.{bond_with_id, pass_verdict}
 use Rattle.investor_desk.specs.InvestorRules as rules
-use Rattle.quote_messages.specs.declared.requests.QuoteRequest.{QuoteRequest}
-use Rattle.quote_messages.specs.declared.requests.RequestPass.{RequestPass}
-use Rattle.silence_laws.specs.Silence.{says_hit, is_hit, has_hit, brings_hit, is_of_another}
-use Rattle.silence_laws.specs.Silence.{acts_as_another}
-use Rattle.silence_laws.proofs.QuietVerdicts.{hits}
-use Rattle.std.specs.List.{list_any}
-use Rattle.std.proofs.lemmas.Bool.{cond_both, or_parts}
-use Rattle.market_terms.specs.declared.duties.Duty.{Duty}
-use Rattle.venue_rows.specs.Rows.{Configuration, dealer_numbered}
 use Rattle.investor_desk.specs.InvestorDesk.{market_of}
 use Rattle.step_replay.specs.DutyEffects.{message_effect}
 use Rattle.step_replay.specs.AuditTrail.{AuditTrail, Caused, after_step, audit_trail, no_steps}
@@ -41,14 +38,17 @@ use Rattle.step_replay.specs.InvestorTrail as investor_trail
 use Rattle.step_replay.specs.VenueFacts.{Fact, of_investor}
 use Rattle.step_replay.specs.declared.steps.Step.{Step}
 use Rattle.step_replay.specs.declared.steps.Step.TheVariants as step
+use Rattle.step_replay.specs.Actions.{dealer_of, verdict_on}
 use Rattle.day_parts.specs.DayParts.{CausedOk}
 use Rattle.day_parts.specs.KeptItems.{none_any}
 use Rattle.day_parts.specs.LeftDuties.{message_leaves}
+use Rattle.silence_laws.specs.Silence.{says_hit, is_hit, has_hit, brings_hit, is_of_another}
+use Rattle.silence_laws.specs.Silence.{acts_as_another}
+use Rattle.silence_laws.proofs.QuietVerdicts.{hits}
 use Rattle.silence_laws.proofs.Quiet.{Suits}
 use Rattle.silence_laws.proofs.QuotingDuties.{hits_none, plain_none, quoting_plain, said_may}
 use Rattle.silence_laws.proofs.QuotingDuties.{suits_plain}
 use Rattle.silence_laws.proofs.SilenceLemmas.{DayFits, hit_by, step_unseen, step_alike}
-use Rattle.step_replay.specs.Actions.{dealer_of, verdict_on}
 
 -- What the session makes of a message that does not hit.
 

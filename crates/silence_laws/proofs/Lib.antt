@@ -1,6 +1,6 @@
 mod HitMessages
-mod QuietActions
 mod Quiet
+mod QuietActions
 mod QuietInvestor
 mod QuietRoom
 mod QuietSteps

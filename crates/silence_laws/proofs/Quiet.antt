@@ -3,25 +3,25 @@
 -- leave the same, but for what is left out of it.
 use Rattle.std.proofs.Common.{◌≡◌, ℕ, ◌==◌, Bool, true, false, not, ◌&&◌, [], filter, Option, Some}
 use Rattle.std.proofs.Common.{is_some, refl, sym, ap, ◌∙◌}
+use Rattle.std.proofs.lemmas.Bool.{and_parts, not-false, not-true}
 use Rattle.market_terms.specs.declared.duties.Duty.{Duty}
 use Rattle.market_terms.specs.declared.duties.Duty.TheVariants as duty
 use Rattle.market_terms.specs.declared.closes.Reply.{Reply}
 use Rattle.market_terms.specs.declared.closes.Reply.TheVariants as reply
 use Rattle.venue_rows.specs.Rows.{Configuration, dealer_numbered}
+use Rattle.venue_rows.specs.declared.dealer_rows.DealerRow.{DealerRow}
 use Rattle.investor_desk.specs.InvestorFacts.{InvestorFact, Offered, Gone}
 use Rattle.request_room.specs.RoomFacts.{RoomFact, Posted, Unposted, Noted}
+use Rattle.venue_places.specs.declared.actors.Actor.{Actor}
+use Rattle.venue_places.specs.declared.actors.Actor.TheVariants as actor
 use Rattle.step_replay.specs.AuditTrail.{AuditTrail}
 use Rattle.step_replay.specs.InvestorTrail.{InvestorEntry, AtDesk, Sent}
 use Rattle.step_replay.specs.VenueFacts.{Fact, AtDealer, InRoom, AtInvestor}
-use Rattle.venue_places.specs.declared.actors.Actor.{Actor}
-use Rattle.day_parts.specs.DayParts.{part}
-use Rattle.silence_laws.specs.Silence.{acts_as_another, is_another}
-use Rattle.std.proofs.lemmas.Bool.{and_parts, not-false, not-true}
-use Rattle.venue_rows.specs.declared.dealer_rows.DealerRow.{DealerRow}
-use Rattle.venue_places.specs.declared.actors.Actor.TheVariants as actor
 use Rattle.step_replay.specs.Actions.{Effect, Dealer, nothing, done_by, dealer_of, dealer_at}
 use Rattle.step_replay.specs.Actions.{acting_dealer}
+use Rattle.day_parts.specs.DayParts.{part}
 use Rattle.day_parts.specs.ActionCases.{numbered_both, numbered_does}
+use Rattle.silence_laws.specs.Silence.{acts_as_another, is_another}
 
 -- Facts.
 

@@ -1,14 +1,17 @@
 -- Every duty of an actor that is no other dealer, every message of such a firm and every sweep does
 -- in the quiet day what it does in the day.
 use Rattle.std.proofs.Common.{◌≡◌, ℕ, ◌==◌, Bool, true, false, ◌&&◌, List, filter, Option, Some}
-use Rattle.std.proofs.Common.{None, refl, ap, [], option_map, is_some}
+use Rattle.std.proofs.Common.{None, refl, ap, [], is_some}
+use Rattle.std.specs.List.{list_any}
 use Rattle.market_terms.specs.declared.asks.Ask.{Ask}
 use Rattle.market_terms.specs.declared.closes.Close.{Close}
 use Rattle.market_terms.specs.declared.closes.Reply.{Reply}
 use Rattle.market_terms.specs.declared.closes.Reply.TheVariants as reply
 use Rattle.market_terms.specs.declared.rooms.ResponseRef.{ResponseRef}
 use Rattle.market_terms.specs.declared.rooms.RoomRef.{RoomRef}
-use Rattle.venue_rows.specs.Rows.{Configuration, dealer_numbered, investor_numbered}
+use Rattle.market_terms.specs.declared.duties.Duty.{Duty}
+use Rattle.market_terms.specs.declared.duties.Duty.TheVariants as duty
+use Rattle.venue_rows.specs.Rows.{Configuration, dealer_numbered}
 use Rattle.dealer_desk.specs.DealerOutput.{number_in}
 use Rattle.dealer_desk.specs.declared.events.DealerEvent.TheVariants as at_desk
 use Rattle.investor_desk.specs.InvestorDesk.{market_of}
@@ -19,15 +22,18 @@ use Rattle.request_room.specs.RoomFacts.{RoomFact, hears}
 use Rattle.request_room.specs.declared.events.RoomEvent.TheVariants as at_room
 use Rattle.venue_steps.specs.RoomSteps.{duties_of_post, duties_of_unpost, duties_of_decline}
 use Rattle.venue_steps.specs.RoomSteps.{duties_of_open, duties_of_pass, duties_of_expire}
+use Rattle.venue_places.specs.declared.actors.Actor.{Actor}
 use Rattle.step_replay.specs.Actions.{Dealer, Effect, at_investor_of, where_known, word_for}
 use Rattle.step_replay.specs.Actions.{has_word_for, offer_of, posted_by, unposted_by, declined_by}
 use Rattle.step_replay.specs.Actions.{received_by_investor, left_by_investor, answered_by, shown_to}
-use Rattle.step_replay.specs.Actions.{told_to, acting_dealer, dealer_at, done_for, dropped_by}
+use Rattle.step_replay.specs.Actions.{told_to, acting_dealer, dealer_at, dropped_by}
 use Rattle.step_replay.specs.Actions.{received_by_dealer}
 use Rattle.step_replay.specs.DealerTrail.{rooms_by}
 use Rattle.step_replay.specs.VenueFacts.{Fact, of_dealer, of_room}
+use Rattle.step_replay.specs.DutyEffects.{duty_effect, sweep_effect, message_effect}
 use Rattle.day_parts.specs.ActionCases.{if_does, invested_both, told_does, told_to_same}
 use Rattle.day_parts.specs.ActionCases.{unless_does, by_both, message_of}
+use Rattle.silence_laws.specs.Silence.{is_another, acts_as_another, is_hit}
 use Rattle.silence_laws.proofs.Quiet.{is_no_award, stays_at_desk, IsPlain, AreAlike, IsHushed}
 use Rattle.silence_laws.proofs.Quiet.{hushed_alike, nothing_alike, nothing_hushed, same_alike}
 use Rattle.silence_laws.proofs.Quiet.{acting_own, numbered_own}
@@ -37,13 +43,6 @@ use Rattle.silence_laws.proofs.QuietInvestor.{Hushes}
 use Rattle.silence_laws.proofs.QuietVerdicts.{hits, verdict_heard}
 use Rattle.silence_laws.proofs.QuietActions.{book, book_same, dealer_same, desk_hushed, known}
 use Rattle.silence_laws.proofs.QuietActions.{investor_alike, known_alike, known_hushed, room_alike}
-use Rattle.std.specs.List.{list_any}
-use Rattle.market_terms.specs.declared.duties.Duty.{Duty}
-use Rattle.market_terms.specs.declared.duties.Duty.TheVariants as duty
-use Rattle.venue_rows.specs.declared.investor_rows.InvestorRow.{InvestorRow}
-use Rattle.step_replay.specs.DutyEffects.{duty_effect, sweep_effect, message_effect}
-use Rattle.venue_places.specs.declared.actors.Actor.{Actor}
-use Rattle.silence_laws.specs.Silence.{is_another, acts_as_another, is_hit}
 use Rattle.silence_laws.proofs.QuotingDuties.{none_hits}
 
 module _ (config : Configuration) (own : ℕ) (facts : List Fact) where
@@ -246,35 +245,27 @@ module _ (config : Configuration) (own : ℕ) (facts : List Fact) where
       (rw (request_same own (here room), ready_same own (here room), ended_same own (here room))
       refl)
 
+  -- alike, unless the first one leaves a hit
+  abbrev UnlessHit : Effect → Effect → Type 0
+  UnlessHit one other = list_any is_hit one.duties ≡ false → AreAlike own one other
+
   pub message_alike : (firm moment : ℕ) (bytes : List ℕ) → is_another config own firm ≡ false
-      → list_any is_hit (message_effect config facts firm moment bytes).duties ≡ false
-      → AreAlike own (message_effect config facts firm moment bytes)
+      → UnlessHit (message_effect config facts firm moment bytes)
       (message_effect config after firm moment bytes)
   unfolding message_effect
-  message_alike firm moment bytes another isnt =
-      either (is_some (dealer_numbered config firm)) isnt
+  message_alike firm moment bytes another = either (is_some (dealer_numbered config firm))
     where
-      asked : (found : Option InvestorRow)
-          → list_any is_hit (done_for (option_map (market_of config firm) found)
-          (received_by_investor facts moment bytes)).duties ≡ false
-          → AreAlike own (done_for (option_map (market_of config firm) found)
-          (received_by_investor facts moment bytes))
-          (done_for (option_map (market_of config firm) found)
-          (received_by_investor after moment bytes))
-      asked None none = nothing_alike own
-      asked (Some row) none =
-          let market = market_of config firm row in
-          said_to_investor moment bytes market
-          (none_hits market moment
-          (investor_verdict market (book own facts market) moment bytes) none)
-
-      either : (b : Bool)
-          → list_any is_hit (message_of config facts firm moment bytes b).duties ≡ false
-          → AreAlike own (message_of config facts firm moment bytes b)
+      either : (b : Bool) → UnlessHit (message_of config facts firm moment bytes b)
           (message_of config after firm moment bytes b)
-      either true none =
-          numbered_own config own firm another _ _
+      either true =
+          λ none. numbered_own config own firm another _ _
           (λ dealer mine. same_alike own (received_by_dealer config facts moment bytes dealer)
           (received_by_dealer config after moment bytes dealer)
           (rw (dealer_same own facts dealer.number mine) refl))
-      either false none = asked (investor_numbered config firm) none
+      either false =
+          invested_both UnlessHit (λ none. nothing_alike own) config firm
+          (received_by_investor facts moment bytes) (received_by_investor after moment bytes)
+          (λ row none.
+          let market = market_of config firm row in
+          said_to_investor moment bytes market (none_hits market moment
+          (investor_verdict market (book own facts market) moment bytes) none))

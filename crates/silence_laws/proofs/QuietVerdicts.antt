@@ -5,17 +5,6 @@ use Rattle.std.proofs.Common.{◌∙◌, ◌&&◌, subst}
 use Rattle.std.specs.Option.{option_or}
 use Rattle.std.proofs.lemmas.List.{length-map}
 use Rattle.std.proofs.lemmas.List.Sums.{length-filter}
-use Rattle.venue_rows.specs.Texts.{same_text}
-use Rattle.investor_desk.specs.InvestorFacts.{InvestorFact, InvestorBook, StandingRequest, Came}
-use Rattle.investor_desk.specs.InvestorFacts.{Offered, Asked, Closed, used_number, closes}
-use Rattle.investor_desk.specs.InvestorFacts.{first_said, standing_on, requests_of, offers_of}
-use Rattle.investor_desk.specs.InvestorFacts.{book_of, requests_accepted, is_open, requests_open}
-use Rattle.investor_desk.specs.InvestorFacts.{request_with_id, request_numbered, offer_named, knows}
-use Rattle.investor_desk.specs.InvestorFacts.{expected_number}
-use Rattle.investor_desk.specs.declared.standing.RequestClose.{RequestClose}
-use Rattle.step_replay.specs.InvestorTrail.{InvestorEntry, AtDesk, Sent, fact_in, facts_of, book_by}
-use Rattle.day_parts.specs.KeptItems.{count_kept, found_of_kept, kept_in, where_kept}
-use Rattle.silence_laws.proofs.Quiet.{stays_at_desk, stays_there}
 use Rattle.quote_messages.specs.declared.arrivals.Arrival.{Arrival}
 use Rattle.quote_messages.specs.declared.arrivals.Arrival.TheVariants as arrival
 use Rattle.quote_messages.specs.declared.requests.QuoteRequest.{QuoteRequest}
@@ -25,7 +14,15 @@ use Rattle.quote_messages.specs.declared.requests.InvestorMessage.{InvestorMessa
 use Rattle.quote_messages.specs.declared.requests.InvestorMessage.TheVariants as message
 use Rattle.quote_messages.specs.declared.reject_reasons.RequestRejectReason.{RequestRejectReason}
 use Rattle.quote_messages.specs.Arrivals.{investor_arrival}
+use Rattle.venue_rows.specs.Texts.{same_text}
 use Rattle.venue_rows.specs.declared.bond_rows.BondRow.{BondRow}
+use Rattle.investor_desk.specs.InvestorFacts.{InvestorFact, InvestorBook, StandingRequest, Came}
+use Rattle.investor_desk.specs.InvestorFacts.{Offered, Asked, Closed, used_number, closes}
+use Rattle.investor_desk.specs.InvestorFacts.{first_said, standing_on, requests_of, offers_of}
+use Rattle.investor_desk.specs.InvestorFacts.{book_of, requests_accepted, is_open, requests_open}
+use Rattle.investor_desk.specs.InvestorFacts.{request_with_id, request_numbered, offer_named, knows}
+use Rattle.investor_desk.specs.InvestorFacts.{expected_number}
+use Rattle.investor_desk.specs.declared.standing.RequestClose.{RequestClose}
 use Rattle.investor_desk.specs.InvestorRules.{InvestorMarket, request_refusal, request_answer}
 use Rattle.investor_desk.specs.InvestorRules.{request_verdict, bond_with_id, hit_of, hit_verdict}
 use Rattle.investor_desk.specs.InvestorRules.{pass_of, pass_verdict, arrival_verdict}
@@ -34,6 +31,9 @@ use Rattle.investor_desk.specs.InvestorOutput.{uses_number, verdict_facts}
 use Rattle.investor_desk.specs.declared.standing.ShownOffer.{ShownOffer}
 use Rattle.investor_desk.specs.declared.verdicts.InvestorVerdict.{InvestorVerdict}
 use Rattle.investor_desk.specs.declared.verdicts.InvestorVerdict.TheVariants as verdict
+use Rattle.step_replay.specs.InvestorTrail.{InvestorEntry, AtDesk, Sent, fact_in, facts_of, book_by}
+use Rattle.day_parts.specs.KeptItems.{count_kept, found_of_kept, kept_in, where_kept}
+use Rattle.silence_laws.proofs.Quiet.{stays_at_desk, stays_there}
 
 -- Options and lists.
 

@@ -2,30 +2,23 @@
 -- any other step makes of it what it makes of the day.
 use Rattle.std.proofs.Common.{◌≡◌, ℕ, ◌==◌, Bool, true, not, List, None, is_some, sym, subst, false}
 use Rattle.std.proofs.Common.{cond, [], ◌∷◌, fold, Option, Some, refl, ap, ◌∙◌, if◌then◌else◌}
+use Rattle.std.specs.List.{list_any}
 use Rattle.std.proofs.lemmas.Bool.{and_parts}
 use Rattle.market_terms.specs.declared.duties.Duty.{Duty}
 use Rattle.market_terms.specs.declared.duties.Duty.TheVariants as duty
 use Rattle.market_terms.specs.declared.rooms.RoomRef.{RoomRef}
 use Rattle.venue_rows.specs.Rows.{Configuration, dealer_numbered}
+use Rattle.venue_rows.specs.declared.dealer_rows.DealerRow.{DealerRow}
 use Rattle.investor_desk.specs.InvestorDesk.{market_of}
 use Rattle.investor_desk.specs.declared.events.InvestorEvent.{InvestorEvent}
 use Rattle.investor_desk.specs.declared.events.InvestorEvent.TheVariants as at_investor
 use Rattle.request_room.specs.declared.events.RoomEvent.TheVariants as at_room
+use Rattle.venue_places.specs.declared.actors.Actor.{Actor}
+use Rattle.venue_places.specs.declared.actors.Actor.TheVariants as actor
 use Rattle.step_replay.specs.Actions.{acting_dealer, at_investor_of, received_by_dealer}
 use Rattle.step_replay.specs.Actions.{where_known, word_for, Effect}
 use Rattle.step_replay.specs.DutyEffects.{duty_effect, message_effect, sweep_effect}
 use Rattle.step_replay.specs.VenueFacts.{Fact, of_dealer, of_investor}
-use Rattle.venue_places.specs.declared.actors.Actor.{Actor}
-use Rattle.day_parts.specs.ActionCases.{by_does, if_does, invested_does, message_of}
-use Rattle.silence_laws.specs.Silence.{is_another, acts_as_another, is_of_another, without_others}
-use Rattle.silence_laws.specs.Silence.{is_hit, AreOneBesides}
-use Rattle.silence_laws.proofs.Quiet.{IsQuoting, IsPlain, Suits, SuitsIf, acts, quiet, stays}
-use Rattle.silence_laws.proofs.Quiet.{IsUnseen, acting_other, hushed_unseen, nothing_unseen}
-use Rattle.silence_laws.proofs.Quiet.{numbered_other, AreAlike}
-use Rattle.silence_laws.proofs.QuietActions.{desk_unseen, known_hushed, room_unseen, own_same}
-use Rattle.silence_laws.proofs.QuietInvestor.{Hushes}
-use Rattle.std.specs.List.{list_any}
-use Rattle.venue_rows.specs.declared.dealer_rows.DealerRow.{DealerRow}
 use Rattle.step_replay.specs.AuditTrail.{AuditTrail, no_steps, pending, with_effect, after_turn}
 use Rattle.step_replay.specs.AuditTrail.{after_step, audit_trail, due_to, sent_to}
 use Rattle.step_replay.specs.DealerTrail as dealer_trail
@@ -35,11 +28,18 @@ use Rattle.step_replay.specs.EachLemmas.{Every}
 use Rattle.step_replay.specs.InvestorTrail as investor_trail
 use Rattle.step_replay.specs.declared.steps.Step.{Step}
 use Rattle.step_replay.specs.declared.steps.Step.TheVariants as step
-use Rattle.venue_places.specs.declared.actors.Actor.TheVariants as actor
+use Rattle.day_parts.specs.ActionCases.{by_does, if_does, invested_does, message_of}
 use Rattle.day_parts.specs.DayParts.{CausedOk, did, did_leaves, did_same, grows, is_left, leaves}
 use Rattle.day_parts.specs.DayParts.{left_ok, none_left, part_twice, pending_ok, pending_same}
 use Rattle.day_parts.specs.DayParts.{steps_grow}
 use Rattle.day_parts.specs.LeftDuties.{Leaves}
+use Rattle.silence_laws.specs.Silence.{is_another, acts_as_another, is_of_another, without_others}
+use Rattle.silence_laws.specs.Silence.{is_hit, AreOneBesides}
+use Rattle.silence_laws.proofs.Quiet.{IsQuoting, IsPlain, Suits, SuitsIf, acts, quiet, stays}
+use Rattle.silence_laws.proofs.Quiet.{IsUnseen, acting_other, hushed_unseen, nothing_unseen}
+use Rattle.silence_laws.proofs.Quiet.{numbered_other, AreAlike}
+use Rattle.silence_laws.proofs.QuietActions.{desk_unseen, known_hushed, room_unseen, own_same}
+use Rattle.silence_laws.proofs.QuietInvestor.{Hushes}
 use Rattle.silence_laws.proofs.QuietSteps.{duty_alike, message_alike, sweep_alike}
 use Rattle.silence_laws.proofs.QuotingDuties.{duty_suits, message_plain, message_quoting}
 use Rattle.silence_laws.proofs.QuotingDuties.{sweep_plain}
