@@ -1,8 +1,8 @@
 -- All steps of a day, and two days that have the same steps on one side.
-use Rattle.std.proofs.Common.{◌≡◌, ◌≤◌, ℕ, Bool, true, false, cond, List, [], ◌∷◌, ◌++◌}
-use Rattle.std.proofs.Common.{filter_map, count_by, length, fold, is_some}
-use Rattle.std.proofs.Common.{refl, sym, ap, ◌∙◌, arith, if◌then◌else◌}
+use Rattle.std.proofs.Common.{◌≡◌, ◌≤◌, ℕ, Bool, true, false, List, [], ◌∷◌, ◌++◌, filter_map}
+use Rattle.std.proofs.Common.{count_by, length, is_some, refl, sym, ap, ◌∙◌, arith, if◌then◌else◌}
 use Rattle.std.specs.Option.{option_to_list}
+use Rattle.std.proofs.lemmas.Bool.{cond_both}
 use Rattle.std.proofs.lemmas.List.{append_assoc}
 use Rattle.std.proofs.lemmas.List.Sums.{fold-append}
 use Rattle.venue_rows.specs.Rows.{Configuration, dealer_numbered}
@@ -20,125 +20,94 @@ use Rattle.step_replay.specs.VenueFacts.{of_dealer, of_investor}
 use Rattle.step_replay.specs.declared.steps.Step.{Step}
 use Rattle.investor_views.specs.Comings.{Coming, comes_by, comings_from}
 use Rattle.investor_views.specs.InvestorDues.{due_to_investor, dues_where}
-use Rattle.apart_laws.specs.Apart.{AreOneThere, has_ask_across, is_there, steps_there}
-use Rattle.apart_laws.proofs.ApartLemmas.{unit_brings_none, unit_comings, unit_leaves, unit_stands}
-use Rattle.apart_laws.proofs.ApartLemmas.{unit_there}
-use Rattle.apart_laws.proofs.FirmDays.{after}
-use Rattle.apart_laws.proofs.FirmSteps.{Stands}
-use Rattle.apart_laws.proofs.Queues.{steps_grow}
-use Rattle.apart_laws.proofs.There.{there}
-use Rattle.apart_laws.proofs.ThereFacts.{dealer_same, investor_same}
-
-none_within : (count : ℕ) → count ≡ 0 → (most : ℕ) → count ≤ most
-none_within count none most = omega arith
+use Rattle.day_parts.specs.DayParts.{steps_grow}
+use Rattle.apart_laws.specs.Apart.{AreOneThere, asks_across, has_ask_across, is_there, steps_there}
+use Rattle.apart_laws.proofs.ClockTurns.{after}
+use Rattle.apart_laws.proofs.SideUnits.{RestAlike, Rests, other_unit, own_unit}
+use Rattle.apart_laws.proofs.ThereFacts.{there, dealer_same, investor_same}
 
 module _ (side : ℕ → Bool) (config : Configuration) where
-  -- the day of this side after one step more, with the turns behind it
-  abbrev one_more : AuditTrail → Step → AuditTrail
-  one_more day s = there side (after config day (with_turns s))
-
-  start_stands : Stands side config no_steps
-  start_stands = record {
+  start_rests : Rests side config no_steps
+  start_rests = record {
     facts_on = tt;
     caused_on = tt;
     clock_idle = refl;
     clock_within = none_within (count_by (is_same_actor actor.Clock) []) refl
         (length (filter_map (duty_of actor.Clock) []));
   }
-
-  -- The steps behind one, where nobody asks across in all of them.
-  module _ (trail : AuditTrail) (s : Step) (steps : List Step) where
-    -- the day after it
-    abbrev next_day : AuditTrail
-    next_day = after config trail (with_turns s)
-
-    split : after config trail (live_steps (s ∷ steps)) ≡ after config next_day (live_steps steps)
-    split = fold-append (after_step config) trail (with_turns s) (live_steps steps)
-
-    none_behind : has_ask_across side (after config trail (live_steps (s ∷ steps))) ≡ false
-        → has_ask_across side (after config next_day (live_steps steps)) ≡ false
-    none_behind none = ap (has_ask_across side) (sym split) ∙ none
-
-    none_by_it : has_ask_across side (after config trail (live_steps (s ∷ steps))) ≡ false
-        → has_ask_across side next_day ≡ false
-    none_by_it none = steps_grow side config (live_steps steps) next_day (none_behind none)
-
-  day_there : (steps : List Step) (trail : AuditTrail) → Stands side config trail
-      → has_ask_across side (after config trail (live_steps steps)) ≡ false
-      → there side (after config trail (live_steps steps))
-      ≡ fold one_more (there side trail) (steps_there side steps)
-  day_there [] trail stands none = refl
-  day_there (s ∷ steps) trail stands none =
-      ap (there side) (split trail s steps)
-      ∙ day_there steps (next_day trail s steps)
-      (unit_stands side config trail stands s (none_by_it trail s steps none))
-      (none_behind trail s steps none)
-      ∙ by_test (is_there side s) refl
     where
-      by_test : (b : Bool) → is_there side s ≡ b
-          → fold one_more (there side (next_day trail s steps)) (steps_there side steps)
-          ≡ fold one_more (there side trail)
-          (cond b (s ∷ steps_there side steps) (steps_there side steps))
-      by_test true is =
-          ap (λ (day : AuditTrail). fold one_more day (steps_there side steps))
-          (unit_there side config trail stands s (none_by_it trail s steps none) is)
-      by_test false is =
-          ap (λ (day : AuditTrail). fold one_more day (steps_there side steps))
-          (unit_leaves side config trail stands s (none_by_it trail s steps none) is)
+      none_within : (count : ℕ) → count ≡ 0 → (most : ℕ) → count ≤ most
+      none_within count none most = omega arith
 
-  -- What comes to the desk of an investor of this side.
+  comings_append : (number : ℕ) (steps later : List Step) (trail : AuditTrail)
+      → comings_from config number trail (steps ++ later)
+      ≡ comings_from config number trail steps
+      ++ comings_from config number (after config trail steps) later
+  comings_append number [] later trail = refl
+  comings_append number (s ∷ steps) later trail =
+      let first : List Coming = option_to_list (comes_by config number trail s) in
+      ap (λ (l : List Coming). first ++ l)
+      (comings_append number steps later (after_step config trail s))
+      ∙ sym (append_assoc first (comings_from config number (after_step config trail s) steps)
+      (comings_from config number (after config trail (s ∷ steps)) later))
 
-  module _ (number : ℕ) (here : side number ≡ true) where
-    -- what comes there by the steps of this side
-    abbrev come : AuditTrail → List Step → List Coming
-    come day [] = []
-    come day (s ∷ steps) =
-        comings_from config number day (with_turns s) ++ come (one_more day s) steps
+  -- a day is one to this side with the day of the steps of this side alone, and the same comes to
+  -- its investors
+  abbrev IsByOwn : AuditTrail → AuditTrail → List Step → List Step → Type 0
+  IsByOwn one other steps own =
+      (there side (after config one (live_steps steps))
+      ≡ there side (after config other (live_steps own)))
+      × ((number : ℕ) → side number ≡ true
+      → comings_from config number one (live_steps steps)
+      ≡ comings_from config number other (live_steps own))
 
-    comings_append : (steps later : List Step) (trail : AuditTrail)
-        → comings_from config number trail (steps ++ later)
-        ≡ comings_from config number trail steps
-        ++ comings_from config number (after config trail steps) later
-    comings_append [] later trail = refl
-    comings_append (s ∷ steps) later trail =
-        let first : List Coming = option_to_list (comes_by config number trail s) in
-        ap (λ (l : List Coming). first ++ l)
-        (comings_append steps later (after_step config trail s))
-        ∙ sym (append_assoc first (comings_from config number (after_step config trail s) steps)
-        (comings_from config number (after config trail (s ∷ steps)) later))
+  -- the steps behind one
+  split : (trail : AuditTrail) (s : Step) (steps : List Step)
+      → after config trail (live_steps (s ∷ steps))
+      ≡ after config (after config trail (with_turns s)) (live_steps steps)
+  split trail s steps = fold-append (after_step config) trail (with_turns s) (live_steps steps)
 
-    day_comings : (steps : List Step) (trail : AuditTrail) → Stands side config trail
-        → has_ask_across side (after config trail (live_steps steps)) ≡ false
-        → comings_from config number trail (live_steps steps)
-        ≡ come (there side trail) (steps_there side steps)
-    day_comings [] trail stands none = refl
-    day_comings (s ∷ steps) trail stands none =
-        comings_append (with_turns s) (live_steps steps) trail
-        ∙ ap (λ (l : List Coming). comings_from config number trail (with_turns s) ++ l)
-        (day_comings steps (next_day trail s steps)
-        (unit_stands side config trail stands s (none_by_it trail s steps none))
-        (none_behind trail s steps none))
-        ∙ by_test (is_there side s) refl
-      where
-        by_test : (b : Bool) → is_there side s ≡ b
-            → comings_from config number trail (with_turns s)
-            ++ come (there side (next_day trail s steps)) (steps_there side steps)
-            ≡ come (there side trail)
-            (cond b (s ∷ steps_there side steps) (steps_there side steps))
-        by_test true is =
-            ap (λ (day : AuditTrail). comings_from config number trail (with_turns s)
-            ++ come day (steps_there side steps))
-            (unit_there side config trail stands s (none_by_it trail s steps none) is)
-            ∙ ap (λ (l : List Coming). l
-            ++ come (one_more (there side trail) s) (steps_there side steps))
-            (unit_comings side config trail stands number s (none_by_it trail s steps none) is)
-        by_test false is =
-            ap (λ (day : AuditTrail). comings_from config number trail (with_turns s)
-            ++ come day (steps_there side steps))
-            (unit_leaves side config trail stands s (none_by_it trail s steps none) is)
-            ∙ ap (λ (l : List Coming). l ++ come (there side trail) (steps_there side steps))
-            (unit_brings_none side config trail stands number here s
-            (none_by_it trail s steps none) is)
+  day_is : (steps : List Step) (one other : AuditTrail) → RestAlike side config one other
+      → has_ask_across side (after config one (live_steps steps)) ≡ false
+      → IsByOwn one other steps (steps_there side steps)
+  day_is [] one other alike none = (alike.part_is, λ number here. refl)
+  day_is (s ∷ steps) one other alike none =
+      let next : AuditTrail = after config one (with_turns s) in
+      let next_too : AuditTrail = after config other (with_turns s) in
+      let own = steps_there side steps in
+      let behind : has_ask_across side (after config next (live_steps steps)) ≡ false =
+      ap (has_ask_across side) (sym (split one s steps)) ∙ none in
+      let by_it : has_ask_across side next ≡ false =
+      steps_grow (asks_across side) config (live_steps steps) next behind in
+      cond_both (is_there side s) (s ∷ own) own (IsByOwn one other (s ∷ steps))
+      (λ is.
+      let unit = own_unit side config one other alike s by_it is in
+      let later = day_is steps next next_too unit.0 behind in (
+        ap (there side) (split one s steps) ∙ later.0
+            ∙ ap (there side) (sym (split other s own)),
+        λ number here. comings_append number (with_turns s) (live_steps steps) one
+            ∙ ap (λ (l : List Coming). comings_from config number one (with_turns s) ++ l)
+            (later.1 number here)
+            ∙ ap (λ (l : List Coming). l ++ comings_from config number next_too (live_steps own))
+            (unit.1 number)
+            ∙ sym (comings_append number (with_turns s) (live_steps own) other),
+      ))
+      (λ isnt.
+      let unit = other_unit side config one other alike s by_it isnt in
+      let later = day_is steps next other unit.0 behind in (
+        ap (there side) (split one s steps) ∙ later.0,
+        λ number here. comings_append number (with_turns s) (live_steps steps) one
+            ∙ ap (λ (l : List Coming). l ++ comings_from config number next (live_steps steps))
+            (unit.1 number here) ∙ later.1 number here,
+      ))
+
+  -- a day from its start
+  from_start : (steps : List Step) → has_ask_across side (live_trail config steps) ≡ false
+      → IsByOwn no_steps no_steps steps (steps_there side steps)
+  unfolding audit_trail
+  from_start steps none =
+      day_is steps no_steps no_steps
+      (record { rests = start_rests; rests_too = start_rests; part_is = refl }) none
 
   -- Two days.
 
@@ -146,9 +115,10 @@ module _ (side : ℕ → Bool) (config : Configuration) where
     day_same : there side (live_trail config steps) ≡ there side (live_trail config others)
     unfolding audit_trail
     day_same =
-        day_there steps no_steps start_stands alike.none_across
-        ∙ ap (fold one_more (there side no_steps)) alike.steps_are
-        ∙ sym (day_there others no_steps start_stands alike.none_across_too)
+        (from_start steps alike.none_across).0
+        ∙ ap (λ (own : List Step). there side (after config no_steps (live_steps own)))
+        alike.steps_are
+        ∙ sym (from_start others alike.none_across_too).0
 
     module _ (number : ℕ) (here : side number ≡ true) where
       dealer_trails : of_dealer number (live_trail config steps).facts
@@ -182,9 +152,9 @@ module _ (side : ℕ → Bool) (config : Configuration) where
 
       pub investor_due : due_to_investor config number (live_steps steps)
           ≡ due_to_investor config number (live_steps others)
-      unfolding audit_trail
       investor_due =
           ap (dues_where (market_for config number))
-          (day_comings number here steps no_steps start_stands alike.none_across
-          ∙ ap (come number here (there side no_steps)) alike.steps_are
-          ∙ sym (day_comings number here others no_steps start_stands alike.none_across_too))
+          ((from_start steps alike.none_across).1 number here
+          ∙ ap (λ (own : List Step). comings_from config number no_steps (live_steps own))
+          alike.steps_are
+          ∙ sym ((from_start others alike.none_across_too).1 number here))

@@ -1,14 +1,13 @@
 -- What a verdict accepts: a quote is one of its dealer's day, so its word is the dealer's; and a
 -- request names few dealers.
-use Rattle.std.proofs.Common.{◌≡◌, ◌≤◌, ℕ, ◌+◌, Bool, true, false, ◌&&◌, nat_le, nat_lt}
-use Rattle.std.proofs.Common.{List, length, take, Option, Some, None, is_none, refl, ap, ◌∙◌}
-use Rattle.std.proofs.Common.{arith, if◌then◌else◌}
+use Rattle.std.proofs.Common.{◌≡◌, ◌≤◌, ℕ, ◌+◌, true, false, ◌&&◌, nat_le, nat_lt, List, [], ◌∷◌}
+use Rattle.std.proofs.Common.{filter_map, length, take, Option, Some, None, is_none, refl, ap, ◌∙◌}
+use Rattle.std.proofs.Common.{arith}
+use Rattle.std.specs.List.{cons_option}
 use Rattle.std.proofs.lemmas.Bool.Decides.{nat_tests}
+use Rattle.std.proofs.lemmas.Bool.{cond_both}
 use Rattle.market_terms.specs.Checks.{first_refusal}
 use Rattle.market_terms.specs.declared.rooms.TheConstants.AskedDealers.{MOST}
-use Rattle.venue_rows.specs.Rows.{Configuration, dealer_numbered}
-use Rattle.venue_rows.specs.declared.bond_rows.BondRow.{BondRow}
-use Rattle.venue_rows.specs.declared.dealer_rows.DealerRow.{DealerRow}
 use Rattle.quote_messages.specs.Arrivals.{dealer_arrival, investor_arrival}
 use Rattle.quote_messages.specs.declared.arrivals.Arrival.{Arrival}
 use Rattle.quote_messages.specs.declared.arrivals.Arrival.TheVariants as arrival
@@ -24,19 +23,21 @@ use Rattle.quote_messages.specs.declared.requests.InvestorMessage.{InvestorMessa
 use Rattle.quote_messages.specs.declared.requests.InvestorMessage.TheVariants as asked
 use Rattle.quote_messages.specs.declared.reject_reasons.QuoteRejectReason.{QuoteRejectReason}
 use Rattle.quote_messages.specs.declared.reject_reasons.RequestRejectReason.{RequestRejectReason}
-use Rattle.dealer_desk.specs.DealerFacts.{DealerBook, expected_number, request_named}
-use Rattle.dealer_desk.specs.DealerFacts.{quote_with_id, quote_to_drop, quotes_accepted}
+use Rattle.quote_messages.specs.declared.out_messages.OutMessage.TheVariants as out
+use Rattle.quote_messages.specs.declared.out_messages.CancelStatus.TheVariants as status
+use Rattle.venue_rows.specs.Rows.{Configuration, dealer_numbered}
+use Rattle.venue_rows.specs.declared.bond_rows.BondRow.{BondRow}
+use Rattle.venue_rows.specs.declared.dealer_rows.DealerRow.{DealerRow}
+use Rattle.dealer_desk.specs.DealerFacts.{DealerBook, expected_number, request_named, quote_with_id}
+use Rattle.dealer_desk.specs.DealerFacts.{quote_to_drop, quotes_accepted}
 use Rattle.dealer_desk.specs.DealerRules.{quote_checks, quote_refusal, quote_answer, quote_verdict}
-use Rattle.dealer_desk.specs.DealerRules.{cancel_checks, cancel_answer, cancel_of}
-use Rattle.dealer_desk.specs.DealerRules.{cancel_verdict, decline_checks, decline_answer}
-use Rattle.dealer_desk.specs.DealerRules.{decline_verdict, message_verdict, arrival_verdict}
-use Rattle.dealer_desk.specs.DealerRules.{dealer_verdict}
+use Rattle.dealer_desk.specs.DealerRules.{cancel_checks, cancel_answer, cancel_of, cancel_verdict}
+use Rattle.dealer_desk.specs.DealerRules.{decline_checks, decline_answer, decline_verdict}
+use Rattle.dealer_desk.specs.DealerRules.{message_verdict, arrival_verdict, dealer_verdict}
 use Rattle.dealer_desk.specs.declared.standing.StandingQuote.{StandingQuote}
 use Rattle.dealer_desk.specs.declared.standing.StandingRequest.{StandingRequest}
 use Rattle.dealer_desk.specs.declared.verdicts.DealerVerdict.{DealerVerdict}
 use Rattle.dealer_desk.specs.declared.verdicts.DealerVerdict.TheVariants as verdict
-use Rattle.quote_messages.specs.declared.out_messages.OutMessage.TheVariants as out
-use Rattle.quote_messages.specs.declared.out_messages.CancelStatus.TheVariants as status
 use Rattle.investor_desk.specs.InvestorFacts as investor_facts
 use Rattle.investor_desk.specs.InvestorFacts.{InvestorBook, offer_named, request_with_id}
 use Rattle.investor_desk.specs.InvestorRules as investor_rules
@@ -50,7 +51,6 @@ use Rattle.investor_desk.specs.declared.verdicts.InvestorVerdict.TheVariants as 
 use Rattle.venue_steps.specs.Words.{word_of}
 use Rattle.step_replay.specs.Actions.{quote_with_word, quotes_of}
 use Rattle.step_replay.specs.OwnerLemmas.{owner_among, quote_at}
-use Rattle.apart_laws.proofs.KeptItems.{length_found}
 use Rattle.apart_laws.proofs.ThereFacts.{none_holds}
 
 -- A dealer's verdict.
@@ -89,17 +89,13 @@ module _ (row : DealerRow) (book : DealerBook) where
   cancel_found id None = tt
   cancel_found id (Some own) = cancel_plain id own (first_refusal (cancel_checks own))
 
-  cancel_some : (id : Option (List ℕ)) (b : Bool)
-      → AcceptsOfDay row (if b then verdict.Refused (out.CancelReport id status.Unknown)
-      else verdict.DropsFollow (quotes_accepted book))
-  cancel_some id true = tt
-  cancel_some id false = tt
-
   cancel_by : (scope : CancelScope) → AcceptsOfDay row (cancel_verdict book scope)
   unfolding cancel_verdict
   cancel_by (cancels.One id) = cancel_found id (quote_with_id book id)
   cancel_by (cancels.All id) =
-      cancel_some id (is_none (quote_to_drop book (quotes_accepted book)))
+      cond_both (is_none (quote_to_drop book (quotes_accepted book)))
+      (verdict.Refused (out.CancelReport id status.Unknown))
+      (verdict.DropsFollow (quotes_accepted book)) (AcceptsOfDay row) (λ is. tt) (λ isnt. tt)
   cancel_by (cancels.Other cancel_type id) = tt
 
   decline_plain : (name : List ℕ) (request : Option StandingRequest)
@@ -121,10 +117,8 @@ module _ (row : DealerRow) (book : DealerBook) where
 
   arrival_of_day : (moment : ℕ) (came : Arrival DealerMessage)
       → AcceptsOfDay row (arrival_verdict row book moment came)
-  arrival_of_day moment arrival.Dropped = tt
-  arrival_of_day moment (arrival.OutOfSequence reject) = tt
-  arrival_of_day moment (arrival.Rejected reject) = tt
   arrival_of_day moment (arrival.Taken m) = message_of_day moment m
+  arrival_of_day moment other = tt
 
   pub verdict_of_day : (date : List ℕ) (moment : ℕ) (bytes : List ℕ)
       → AcceptsOfDay row (dealer_verdict date row book moment bytes)
@@ -152,6 +146,16 @@ AsksFew other = Unit {0}
 not_more : (most count : ℕ) → nat_lt most count ≡ false → count ≤ most
 not_more most count isnt = grind (arith, nat_tests)
 
+length_found : {X Y : Type 0} (h : X → Option Y) (xs : List X)
+    → length (filter_map h xs) ≤ length xs
+length_found h [] = omega arith
+length_found {X} {Y} h (x ∷ xs) = by_found (h x) (length_found h xs)
+  where
+    by_found : (o : Option Y) → length (filter_map h xs) ≤ length xs
+        → length (cons_option o (filter_map h xs)) ≤ length (x ∷ xs)
+    by_found None rest = omega arith
+    by_found (Some y) rest = omega arith
+
 module _ (market : InvestorMarket) (book : InvestorBook) (moment : ℕ) where
   request_few : (request : QuoteRequest) (bond : Option BondRow)
       (refusal : Option RequestRejectReason)
@@ -177,7 +181,8 @@ module _ (market : InvestorMarket) (book : InvestorBook) (moment : ℕ) where
   pass_few pass None = tt
   pass_few pass (Some own) = tt
 
-  message_few : (m : InvestorMessage) → AsksFew (investor_rules.message_verdict market book moment m)
+  message_few : (m : InvestorMessage)
+      → AsksFew (investor_rules.message_verdict market book moment m)
   unfolding request_verdict hit_verdict pass_verdict
   message_few (asked.Request request) =
       request_few request (bond_with_id market request.bond)
@@ -187,10 +192,8 @@ module _ (market : InvestorMarket) (book : InvestorBook) (moment : ℕ) where
 
   arrival_few : (came : Arrival InvestorMessage)
       → AsksFew (investor_rules.arrival_verdict market book moment came)
-  arrival_few arrival.Dropped = tt
-  arrival_few (arrival.OutOfSequence reject) = tt
-  arrival_few (arrival.Rejected reject) = tt
   arrival_few (arrival.Taken m) = message_few m
+  arrival_few other = tt
 
   pub verdict_few : (bytes : List ℕ) → AsksFew (investor_verdict market book moment bytes)
   unfolding investor_verdict

@@ -1,8 +1,7 @@
 -- The desk of an investor without the quotes that it was shown: a request and a pass read none, a
 -- hit finds none, and what comes from a room but for an award is the same there.
-use Rattle.std.proofs.Common.{◌≡◌, ℕ, ◌+◌, Bool, List, [], ◌∷◌, ◌++◌, map, filter, length, Option}
-use Rattle.std.proofs.Common.{Some, None, option_map, refl, sym, ap, ◌∙◌}
-use Rattle.std.proofs.lemmas.List.{append-nil}
+use Rattle.std.proofs.Common.{◌≡◌, ℕ, ◌+◌, Bool, false, List, [], ◌∷◌, ◌++◌, map, filter, length}
+use Rattle.std.proofs.Common.{Option, Some, None, option_map, refl, sym, ap, ◌∙◌}
 use Rattle.std.proofs.lemmas.List.Elements.{filter-append}
 use Rattle.market_terms.specs.declared.closes.HitRefusal.{HitRefusal}
 use Rattle.market_terms.specs.declared.closes.Reply.TheVariants as reply
@@ -21,9 +20,9 @@ use Rattle.investor_desk.specs.declared.events.InvestorEvent.{InvestorEvent}
 use Rattle.investor_desk.specs.declared.events.InvestorEvent.TheVariants as event
 use Rattle.step_replay.specs.InvestorTrail.{InvestorEntry, AtDesk, Sent, book_by, sent_by}
 use Rattle.step_replay.specs.InvestorTrail.{entries_of}
-use Rattle.silence_laws.proofs.FilterLemmas.{kept_in, none_kept}
+use Rattle.day_parts.specs.KeptItems.{every_map, none_behind, none_kept, kept_in}
 use Rattle.silence_laws.proofs.Quiet.{stays_at_desk, stays_there}
-use Rattle.silence_laws.proofs.QuietBook.{quiet_request, quiet_book, book_by_kept, numbered}
+use Rattle.silence_laws.proofs.QuietVerdicts.{quiet_request, quiet_book, book_by_kept, numbered}
 use Rattle.silence_laws.proofs.QuietVerdicts.{verdict_heard}
 
 -- What an event adds, without quotes and messages.
@@ -37,10 +36,9 @@ entries_kept market trail more =
     let facts = event_facts market (book_by trail) more in
     let sent = written_from market (length (sent_by trail) + 1) (moment_of more)
     (event_messages market (book_by trail) more) in
-    filter-append stays_there (map AtDesk facts) (map Sent sent)
-    ∙ ap (λ (l : List InvestorEntry). filter stays_there (map AtDesk facts) ++ l)
-    (none_kept stays_there Sent (λ m. refl) sent)
-    ∙ append-nil (filter stays_there (map AtDesk facts))
+    none_behind stays_there (map AtDesk facts) (map Sent sent)
+    (none_kept stays_there (map Sent sent)
+    (every_map (λ (entry : InvestorEntry). stays_there entry ≡ false) Sent (λ m. refl) sent))
     ∙ kept_in stays_there AtDesk stays_at_desk (λ fact. refl) facts
 
 -- an event that adds the same facts to both
@@ -56,12 +54,13 @@ event_kept market trail more same =
     (sym (book_by_kept trail))
     ∙ sym (entries_kept market (filter stays_there trail) more)
 
--- an event of which nothing stays
-pub event_hushed : (market : InvestorMarket) (trail : List InvestorEntry) (more : InvestorEvent)
-    → filter stays_at_desk (event_facts market (book_by trail) more) ≡ []
-    → filter stays_there (entries_of market trail more) ≡ []
-event_hushed market trail more none =
-    entries_kept market trail more ∙ ap (map AtDesk) none
+-- Events of which nothing stays: a quote comes or is gone, a dealer declined, a hit is refused.
+abbrev pub Hushes : InvestorEvent → Type 0
+Hushes (event.QuoteCame request offer moment) = Unit {0}
+Hushes (event.QuoteGone request word moment) = Unit {0}
+Hushes (event.DealerDeclined request dealer moment) = Unit {0}
+Hushes (event.Answered request response (reply.Refused refused) moment) = Unit {0}
+Hushes other = ⊥
 
 module _ (market : InvestorMarket) (book : InvestorBook) where
   -- a message of the investor's own
@@ -96,36 +95,23 @@ module _ (market : InvestorMarket) (book : InvestorBook) where
   withdrawal_hushed number word None = refl
   withdrawal_hushed number word (Some own) = gone_hushed number (offer_with_word own word)
 
-  -- a quote comes, a quote is gone, a dealer declined
-  pub came_hushed : (request : ℕ) (offer : Offer) (moment : ℕ)
-      → filter stays_at_desk (event_facts market book (event.QuoteCame request offer moment)) ≡ []
-  unfolding event_facts
-  came_hushed request offer moment = offer_hushed request offer (open_request book request)
-
-  pub went_hushed : (request word moment : ℕ)
-      → filter stays_at_desk (event_facts market book (event.QuoteGone request word moment)) ≡ []
-  unfolding event_facts
-  went_hushed request word moment = withdrawal_hushed request word (open_request book request)
-
-  pub declined_hushed : (request : ℕ) (dealer : List ℕ) (moment : ℕ)
-      → filter stays_at_desk (event_facts market book (event.DealerDeclined request dealer moment))
-      ≡ []
-  unfolding event_facts
-  declined_hushed request dealer moment = refl
-
-  -- a refusal is answered
   refused_hushed : (request : ℕ) (response : ResponseRef) (refused : HitRefusal)
       (found : Option StandingRequest)
       → filter stays_at_desk (answer_facts book request response (reply.Refused refused) found) ≡ []
   refused_hushed request response refused None = refl
   refused_hushed request response refused (Some own) = refl
 
-  pub refusal_hushed : (request : ℕ) (response : ResponseRef) (refused : HitRefusal) (moment : ℕ)
-      → filter stays_at_desk (event_facts market book
-      (event.Answered request response (reply.Refused refused) moment)) ≡ []
+  facts_hushed : (more : InvestorEvent) → Hushes more
+      → filter stays_at_desk (event_facts market book more) ≡ []
   unfolding event_facts
-  refusal_hushed request response refused moment =
+  facts_hushed (event.QuoteCame request offer moment) is =
+      offer_hushed request offer (open_request book request)
+  facts_hushed (event.QuoteGone request word moment) is =
+      withdrawal_hushed request word (open_request book request)
+  facts_hushed (event.DealerDeclined request dealer moment) is = refl
+  facts_hushed (event.Answered request response (reply.Refused refused) moment) is =
       refused_hushed request response refused (request_numbered book request)
+  facts_hushed other is = absurd is
 
   -- a pass is answered
   passed_facts : (request : ℕ) (id : List ℕ) (found : Option StandingRequest)
@@ -160,3 +146,8 @@ module _ (market : InvestorMarket) (book : InvestorBook) where
   expired_kept request moment =
       expired_facts request (request_numbered book request)
       ∙ ap (λ (o : Option StandingRequest). expiry_facts request o) (sym (numbered book request))
+
+pub event_hushed : (market : InvestorMarket) (trail : List InvestorEntry) (more : InvestorEvent)
+    → Hushes more → filter stays_there (entries_of market trail more) ≡ []
+event_hushed market trail more is =
+    entries_kept market trail more ∙ ap (map AtDesk) (facts_hushed market (book_by trail) more is)

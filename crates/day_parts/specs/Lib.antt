@@ -1,0 +1,5 @@
+pub mod ActionCases
+pub mod DayParts
+pub mod KeptItems
+pub mod LeftDuties
+pub mod MayLeave
