@@ -1,7 +1,7 @@
 -- A duty that is left meets the test of its action, by what stands in a venue.
-use Rattle.std.proofs.Common.{Bool, IfSome, List, None, Option, Some, ℕ, [], ap, arith, false}
-use Rattle.std.proofs.Common.{is_none, is_some, nat_le, nat_lt, option_map, refl, subst, suc, sym}
-use Rattle.std.proofs.Common.{take, true, zero, ◌&&◌, ◌+◌, ◌-◌, ◌∙◌, ◌∷◌, ◌≡◌}
+use Rattle.std.proofs.Common.{Bool, IfSome, List, None, Option, Some, ℕ, [], ap, arith, false, inl}
+use Rattle.std.proofs.Common.{inr, is_none, is_some, nat_le, nat_lt, option_map, refl, subst, suc}
+use Rattle.std.proofs.Common.{sym, take, true, zero, ◌&&◌, ◌+◌, ◌-◌, ◌∙◌, ◌∷◌, ◌≡◌}
 use Rattle.std.proofs.lemmas.Bool.{and_from, or_right}
 use Rattle.std.proofs.lemmas.Bool.Decides.{nat_tests}
 use Rattle.std.proofs.lemmas.List.Sums.{sum_by-cons}
@@ -13,7 +13,6 @@ use Rattle.market_terms.specs.declared.duties.Duty.TheVariants as duty
 use Rattle.market_terms.specs.declared.rooms.RoomRef.{RoomRef}
 use Rattle.venue_rows.specs.Rows.{Configuration, dealer_numbered, investor_numbered}
 use Rattle.venue_rows.specs.declared.dealer_rows.DealerRow.{DealerRow}
-use Rattle.venue_rows.specs.declared.investor_rows.InvestorRow.{InvestorRow}
 use Rattle.dealer_desk.specs.DealerFacts.{number_to_drop}
 use Rattle.investor_desk.specs.InvestorFacts.{knows}
 use Rattle.request_room.specs.Book.{book_of, hit_checks, hit_refusal, quote_meant, word_or}
@@ -30,6 +29,7 @@ use Rattle.step_replay.specs.DealerTrail.{book_by}
 use Rattle.step_replay.specs.VenueFacts.{of_dealer, of_room}
 use Rattle.venue_laws.proofs.AcceptedQuotes.{none_holds}
 use Rattle.venue_laws.proofs.ConditionMetOnce.{open_met, ready_met, show_met, tell_met}
+use Rattle.venue_laws.proofs.ListLemmas.{cases_some}
 use Rattle.venue_laws.proofs.VenueDesk.{OfRow, WordsOfDay, asks_of_day, drops_of_day, within_row}
 use Rattle.venue_laws.proofs.VenueInvariant.{ByDealer, ByNamed, DutyOk, VenueOk}
 use Rattle.venue_laws.proofs.VenueKnown.{known_named, known_opened, known_room, posted_in}
@@ -74,12 +74,10 @@ module _ (config : Configuration) (venue : AuditTrail) (stood : VenueOk config v
 
   pub is_known_in : (room : RoomRef) (quote : Option ℕ) → KnownIn room quote venue.facts
       → is_known config venue.facts room quote ≡ true
-  is_known_in room quote knows = by_row (investor_numbered config room.investor) refl
-    where
-      by_row : (found : Option InvestorRow) → investor_numbered config room.investor ≡ found
-          → is_known config venue.facts room quote ≡ true
-      by_row None is = cc (rw is at (known_room config venue stood room quote knows))
-      by_row (Some row) is = rw is knows
+  is_known_in room quote knows = elim (cases_some (investor_numbered config room.investor)) [
+    | inl none ↦ cc (rw none at (known_room config venue stood room quote knows))
+    | inr some ↦ rw (some.1) knows
+  ]
 
   acts : (by : Actor) (who : ByDealer config by) (test : Dealer → Bool)
       → test (dealer_of who.dealer who.row) ≡ true

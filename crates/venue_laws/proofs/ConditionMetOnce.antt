@@ -1,8 +1,9 @@
 -- A duty to open a room, to show its request, to make it ready or to tell how it ended meets its
 -- test as its turn comes: the same was not done before.
-use Rattle.std.proofs.Common.{Bool, List, None, Option, Some, ℕ, ap, false, is_some, not, refl}
-use Rattle.std.proofs.Common.{subst, sym, true, ◌&&◌, ◌∙◌, ◌≡◌}
-use Rattle.std.proofs.lemmas.Bool.{and_from, both_ways, false_from_ne_true, true_from_ne_false}
+use Rattle.std.proofs.Common.{Bool, List, None, Some, ℕ, ap, false, inl, inr, is_some, refl, subst}
+use Rattle.std.proofs.Common.{sym, true, ◌&&◌, ◌∙◌, ◌≡◌}
+use Rattle.std.proofs.lemmas.Bool.{and_from, both_ways, false_from_ne_true, not_from_false}
+use Rattle.std.proofs.lemmas.Bool.{true_from_ne_false}
 use Rattle.std.proofs.lemmas.Option.{same_Some}
 use Rattle.market_terms.specs.declared.asks.Ask.{Ask}
 use Rattle.market_terms.specs.declared.closes.Close.{Close}
@@ -14,7 +15,6 @@ use Rattle.dealer_desk.specs.DealerOutput.{closable}
 use Rattle.request_room.specs.RoomFacts.{RoomFact, end_of, is_ended, is_named, is_opening, is_ready}
 use Rattle.request_room.specs.RoomFacts.{is_vacant, request_of}
 use Rattle.request_room.specs.declared.ends.End.{End}
-use Rattle.request_room.specs.declared.requests.RoomRequest.{RoomRequest}
 use Rattle.venue_places.specs.declared.actors.Actor.{Actor}
 use Rattle.venue_places.specs.declared.actors.Actor.TheVariants as actor
 use Rattle.step_replay.specs.Actions.{Dealer, dealer_at, dealer_of}
@@ -22,9 +22,9 @@ use Rattle.step_replay.specs.AuditTrail.{AuditTrail}
 use Rattle.step_replay.specs.DealerTrail.{AtDesk, DealerEntry, book_by, facts_of, rooms_by}
 use Rattle.step_replay.specs.GrowthLemmas.{all_in}
 use Rattle.step_replay.specs.VenueFacts.{AtDealer, of_dealer, of_room}
-use Rattle.venue_laws.proofs.CountLemmas.{number_place, numbered_shown}
-use Rattle.venue_laws.proofs.ListLemmas.{slice_holds, some_of}
-use Rattle.venue_laws.proofs.ShownRequests.{in_facts, told_in, told_or_closable}
+use Rattle.venue_laws.proofs.ListLemmas.{cases_some, slice_holds, some_of}
+use Rattle.venue_laws.proofs.ShownRequests.{in_facts, number_place, numbered_shown, told_in}
+use Rattle.venue_laws.proofs.ShownRequests.{told_or_closable}
 use Rattle.venue_laws.proofs.VenueGrowth.{later_same}
 use Rattle.venue_laws.proofs.VenueInvariant.{ClosedIn, FactOk, OpensIn, ReadiesBy, ShownTo, ShowsIn}
 use Rattle.venue_laws.proofs.VenueInvariant.{TellsIn, VenueOk}
@@ -58,18 +58,15 @@ module _ (config : Configuration) (venue : AuditTrail) (stood : VenueOk config v
   open_met room ask dealers opens undone =
       and_from (is_room config room) (is_vacant (known room))
       (known_room config venue stood room None opens.known)
-      (by_request (request_of (known room)) refl)
-    where
-      by_request : (request : Option RoomRequest) → request_of (known room) ≡ request
-          → is_vacant (known room) ≡ true
-      by_request None found = rw (
-        found,
-        unended room (λ end ended.
-            cc (found, (ended_in config venue stood room end ended).request_is)),
-      ) refl
-      by_request (Some request) found =
-          never (Opening room) (actor.Firm room.investor) opens.by_is
-          (opened_in config venue stood room request found).done undone
+      (elim (cases_some (request_of (known room))) [
+        | inl none ↦ rw (
+          none,
+          unended room (λ end ended.
+              cc (none, (ended_in config venue stood room end ended).request_is)),
+        ) refl
+        | inr some ↦ never (Opening room) (actor.Firm room.investor) opens.by_is
+            (opened_in config venue stood room some.0 some.1).done undone
+      ])
 
   -- a dealer that a room names is there
   dealer_met : (room : RoomRef) (dealer : ℕ) → is_named (known room) dealer ≡ true
@@ -86,17 +83,14 @@ module _ (config : Configuration) (venue : AuditTrail) (stood : VenueOk config v
       → holds_for (dealer_at config dealer) (is_unshown venue.facts room) ≡ true
   show_met dealer room ask fits undone =
       dealer_met room dealer fits.named (is_unshown venue.facts room)
-      (λ row is. by_number (number_for venue.facts dealer room) refl)
-    where
-      by_number : (number : Option ℕ) → number_for venue.facts dealer room ≡ number
-          → not (is_some number) ≡ true
-      by_number None found = refl
-      by_number (Some number) found =
-          let place = number_place 1 (rooms_by (of_dealer dealer venue.facts)) room number found in
-          never (Showing dealer room) (actor.Firm room.investor) fits.by_is
-          (slice_holds (λ at. ShownTo config dealer at venue)
-          (rooms_by (of_dealer dealer venue.facts)) place.0 room place.2
-          (rooms_shown config venue stood dealer)).done undone
+      (λ row is. not_from_false (is_some (number_for venue.facts dealer room))
+      (false_from_ne_true (is_some (number_for venue.facts dealer room)) (λ shown.
+      let number = some_of (number_for venue.facts dealer room) shown in
+      let place = number_place 1 (rooms_by (of_dealer dealer venue.facts)) room number.0 number.1 in
+      never (Showing dealer room) (actor.Firm room.investor) fits.by_is
+      (slice_holds (λ at. ShownTo config dealer at venue)
+      (rooms_by (of_dealer dealer venue.facts)) place.0 room place.2
+      (rooms_shown config venue stood dealer)).done undone)))
 
   pub ready_met : (room : RoomRef) → ReadiesBy config by room venue
       → (WasDone venue by (Readying room) → ⊥)

@@ -10,12 +10,12 @@ use Rattle.std.proofs.lemmas.List.Folds.{list_any-append}
 use Rattle.std.specs.List.{list_any}
 use Rattle.investor_desk.specs.InvestorFacts.{Asked, Came, InvestorFact, Offered, book_of, knows}
 use Rattle.investor_desk.specs.InvestorFacts.{knows_quote, offer_numbered, offers_of}
-use Rattle.investor_desk.specs.InvestorFacts.{request_numbered, requests_of, was_shown_on}
+use Rattle.investor_desk.specs.InvestorFacts.{request_numbered, requests_of}
 use Rattle.investor_desk.specs.declared.standing.AcceptedRequest.{AcceptedRequest}
 use Rattle.investor_desk.specs.declared.standing.ShownOffer.{ShownOffer}
 use Rattle.step_replay.specs.EachLemmas.{Every, every_both, every_weaker}
 use Rattle.step_replay.specs.GrowthLemmas.{any_left}
-use Rattle.venue_laws.proofs.ListLemmas.{find_grown}
+use Rattle.venue_laws.proofs.ListLemmas.{cases_some, find_grown}
 
 -- Requests.
 
@@ -63,20 +63,12 @@ module _ (facts more : List InvestorFact) (number : ℕ) where
       → knows_quote (book_of (facts ++ more)) number quote ≡ true
   unfolding offer_numbered
   quote_grown None is = refl
-  quote_grown (Some quote) is = by_found (find same (offers_of facts)) refl is
-    where
-      same : ShownOffer → Bool
-      same shown = shown.number == quote
-
-      by_found : (found : Option ShownOffer) → find same (offers_of facts) ≡ found
-          → was_shown_on number found ≡ true
-          → was_shown_on number (find same (offers_of (facts ++ more))) ≡ true
-      by_found None found shown_on = cc
-      by_found (Some shown) found shown_on =
-          rw (
-            offers_both facts more,
-            find_grown same (offers_of facts) (offers_of more) shown found,
-          ) shown_on
+  quote_grown (Some quote) is =
+      elim (cases_some (find (λ (s : ShownOffer). s.number == quote) (offers_of facts))) [
+        | inl none ↦ cc (rw none at is)
+        | inr some ↦ rw (offers_both facts more, find_grown _ _ (offers_of more) some.0 some.1)
+            (rw (some.1) at is)
+      ]
 
   pub asked_grown : asked facts number ≡ true → asked (facts ++ more) number ≡ true
   asked_grown is = any_left (asks number) facts more is

@@ -3,7 +3,6 @@ mod AnswerLemmas
 mod BlindDues
 mod ConditionMet
 mod ConditionMetOnce
-mod CountLemmas
 mod ErasedActions
 mod ErasedHits
 mod ErasedLists
@@ -31,7 +30,6 @@ mod VenueInvariant
 mod VenueKinds
 mod VenueKnown
 mod VenueMarkets
-mod VenueOpenings
 mod VenueParts
 mod VenueRooms
 mod VenueShow

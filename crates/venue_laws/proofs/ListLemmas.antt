@@ -27,6 +27,10 @@ pub some_of : {A : Type 0} (o : Option A) → is_some o ≡ true → (x : A) × 
 some_of None is = cc
 some_of (Some x) is = (x, refl)
 
+pub cases_some : {A : Type 0} (o : Option A) → (o ≡ None) ⊎ ((x : A) × (o ≡ Some x))
+cases_some None = inl refl
+cases_some (Some x) = inr (x, refl)
+
 -- What holds of each item.
 
 pub every_map : {A B : Type 0} (P : B → Type 0) (f : A → B) (xs : List A)
@@ -53,12 +57,10 @@ slice_holds P (y ∷ xs) (suc place) x is all = slice_holds P xs place x is all.
 pub found_all : {A B : Type 0} (Q : B → Type 0) (says : A → Option B)
     → ((x : A) (y : B) → says x ≡ Some y → Q y) → (xs : List A) → Every Q (filter_map says xs)
 found_all Q says each [] = tt
-found_all {A} {B} Q says each (x ∷ xs) = by_found (says x) refl (found_all Q says each xs)
-  where
-    by_found : (found : Option B) → says x ≡ found → Every Q (filter_map says xs)
-        → Every Q (filter_map says (x ∷ xs))
-    by_found None found later = rw found later
-    by_found (Some y) found later = rw found (each x y found, later)
+found_all Q says each (x ∷ xs) = elim (cases_some (says x)) [
+  | inl none ↦ rw none (found_all Q says each xs)
+  | inr some ↦ rw (some.1) (each x some.0 some.1, found_all Q says each xs)
+]
 
 -- What stands in a list.
 
@@ -87,18 +89,14 @@ in_one x y (inr is) = absurd is
 pub in_found : {A B : Type 0} (says : A → Option B) (y : B) (xs : List A)
     → In y (filter_map says xs) → (x : A) × (says x ≡ Some y) × In x xs
 in_found says y [] is = absurd is
-in_found {A} {B} says y (x ∷ xs) is =
-    by_found (says x) refl is (λ later. in_found says y xs later)
-  where
-    by_found : (found : Option B) → says x ≡ found → In y (filter_map says (x ∷ xs))
-        → (In y (filter_map says xs) → (one : A) × (says one ≡ Some y) × In one xs)
-        → (one : A) × (says one ≡ Some y) × In one (x ∷ xs)
-    by_found None found among later =
-        let further = later (rw found at among) in (further.0, further.1, inr further.2)
-    by_found (Some z) found among later = elim (rw found at among) [
-      | inl here ↦ (x, found ∙ ap (λ (b : B). Some b) here, inl refl)
-      | inr behind ↦ let further = later behind in (further.0, further.1, inr further.2)
-    ]
+in_found says y (x ∷ xs) is = elim (cases_some (says x)) [
+  | inl none ↦
+      let later = in_found says y xs (rw none at is) in (later.0, later.1, inr later.2)
+  | inr some ↦ elim (rw (some.1) at is) [
+    | inl here ↦ (x, rw here at some.1, inl refl)
+    | inr behind ↦ let later = in_found says y xs behind in (later.0, later.1, inr later.2)
+  ]
+]
 
 -- one that passes a test is left
 pub in_filter : {A : Type 0} (test : A → Bool) (x : A) (xs : List A) → In x xs → test x ≡ true

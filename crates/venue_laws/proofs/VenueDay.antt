@@ -29,10 +29,10 @@ use Rattle.step_replay.specs.VenueFacts.{of_dealer, of_investor}
 use Rattle.step_replay.specs.WordLemmas.{IsOneOf, one_is_kept}
 use Rattle.step_replay.specs.declared.steps.Step.{Step}
 use Rattle.step_replay.specs.declared.steps.Step.TheVariants as step
-use Rattle.venue_laws.proofs.CountLemmas.{AreCounted, counted_is_kept}
 use Rattle.venue_laws.proofs.KnownDesks.{start_fit}
 use Rattle.venue_laws.proofs.LiveQuotes.{LoneQuotes}
 use Rattle.venue_laws.proofs.NoticeLemmas.{Noticed, noticed_is_kept, start_noticed}
+use Rattle.venue_laws.proofs.ShownRequests.{AreCounted, counted_is_kept}
 use Rattle.venue_laws.proofs.VenueDesk.{WordsOfDay, dropped_brings, said_brings}
 use Rattle.venue_laws.proofs.VenueEnds.{expired_brings, passed_brings}
 use Rattle.venue_laws.proofs.VenueHits.{hit_brings}
@@ -40,10 +40,10 @@ use Rattle.venue_laws.proofs.VenueInvariant.{DutyOk, VenueOk}
 use Rattle.venue_laws.proofs.VenueKinds.{DoneNow, acting_brings, dealer_brings, known, when_brings}
 use Rattle.venue_laws.proofs.VenueKnown.{named_dealer, pending_ok, pending_order, shown_ended}
 use Rattle.venue_laws.proofs.VenueMarkets.{asked_brings, investor_brings, known_brings}
-use Rattle.venue_laws.proofs.VenueOpenings.{opened_brings, readied_brings}
 use Rattle.venue_laws.proofs.VenueParts.{InOrder, Mark, MarkOk, Opening, Readying, Showing, Still}
 use Rattle.venue_laws.proofs.VenueParts.{Telling, did_in, mark_of, marks}
-use Rattle.venue_laws.proofs.VenueRooms.{declined_brings, posted_brings, unposted_brings}
+use Rattle.venue_laws.proofs.VenueRooms.{declined_brings, opened_brings, posted_brings}
+use Rattle.venue_laws.proofs.VenueRooms.{readied_brings, unposted_brings}
 use Rattle.venue_laws.proofs.VenueShow.{shown_brings, told_brings}
 use Rattle.venue_laws.proofs.VenueSteps.{Basic, Brings, DoneThen, Here, just_done, ok_then}
 use Rattle.venue_laws.proofs.VenueTurns.{Doing, beside, turn}

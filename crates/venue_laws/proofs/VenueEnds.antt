@@ -1,8 +1,7 @@
 -- The end of a room brings what stands in a venue: a pass, an expiry, a hit.
 use Rattle.std.proofs.Common.{Bool, Err, List, None, Ok, Option, Result, Some, ℕ, [], ap, false}
-use Rattle.std.proofs.Common.{if◌then◌else◌, is_some, map, not, refl, subst, true, ◌++◌, ◌∙◌, ◌∷◌}
-use Rattle.std.proofs.Common.{◌≡◌}
-use Rattle.std.proofs.lemmas.Bool.{and_parts, not-true}
+use Rattle.std.proofs.Common.{inl, inr, is_some, map, not, refl, subst, true, ◌++◌, ◌∙◌, ◌∷◌, ◌≡◌}
+use Rattle.std.proofs.lemmas.Bool.{and_parts, cases_Bool, not-true}
 use Rattle.market_terms.specs.Dealers.{are_distinct}
 use Rattle.market_terms.specs.declared.closes.Close.TheVariants as closes
 use Rattle.market_terms.specs.declared.closes.HitRefusal.{HitRefusal}
@@ -11,15 +10,14 @@ use Rattle.market_terms.specs.declared.duties.Duty.TheVariants as duty
 use Rattle.market_terms.specs.declared.rooms.ResponseRef.{ResponseRef}
 use Rattle.market_terms.specs.declared.rooms.RoomRef.{RoomRef}
 use Rattle.request_room.specs.Book.{event_facts, expired, is_past_deadline, may_expire, passed}
-use Rattle.request_room.specs.Book.{where_so}
 use Rattle.request_room.specs.RoomFacts.{Ended, end_of, ended_as, is_ended, is_open, is_ready}
 use Rattle.request_room.specs.RoomFacts.{names, request_of}
 use Rattle.request_room.specs.declared.ends.End.{End}
 use Rattle.request_room.specs.declared.events.RoomEvent.TheVariants as at_room
 use Rattle.request_room.specs.declared.requests.RoomRequest.{RoomRequest}
 use Rattle.venue_steps.specs.InvestorSteps.{replies_to}
-use Rattle.venue_steps.specs.RoomSteps.{close_for, dealers_of, duties_of_pass, reply_to_pass}
-use Rattle.venue_steps.specs.RoomSteps.{told_in}
+use Rattle.venue_steps.specs.RoomSteps.{close_for, dealers_of, duties_of_expire, duties_of_pass}
+use Rattle.venue_steps.specs.RoomSteps.{reply_to_pass, told_in}
 use Rattle.venue_places.specs.declared.actors.Actor.{Actor}
 use Rattle.venue_places.specs.declared.actors.Actor.TheVariants as actor
 use Rattle.step_replay.specs.Actions.{Effect, QuoteRef, in_room, lifting}
@@ -32,14 +30,13 @@ use Rattle.step_replay.specs.PlaceLemmas.{investor_grown, investor_in_room, own_
 use Rattle.step_replay.specs.VenueFacts.{AtDealer, Fact, InRoom, of_investor, of_room}
 use Rattle.venue_laws.proofs.ListLemmas.{every_map, in_map, in_named, named_in, none_some}
 use Rattle.venue_laws.proofs.PlainFacts.{AreQuiet, is_quiet}
-use Rattle.venue_laws.proofs.VenueGrowth.{end_later, known_later, later_both, marks_both}
+use Rattle.venue_laws.proofs.VenueGrowth.{each_once, end_later, known_later, later_both, marks_both}
 use Rattle.venue_laws.proofs.VenueGrowth.{marks_each, named_already, named_later, opened_later}
 use Rattle.venue_laws.proofs.VenueGrowth.{ready_later, request_later}
 use Rattle.venue_laws.proofs.VenueInvariant.{DutyOk, ReadyIn, RespondsIn}
-use Rattle.venue_laws.proofs.VenueKinds.{OrderThen, in_it, known, queued, quiet_brings, room_brings}
-use Rattle.venue_laws.proofs.VenueKinds.{same_markets, when_brings}
+use Rattle.venue_laws.proofs.VenueKinds.{OrderThen, in_it, in_room_brings, known, queued}
+use Rattle.venue_laws.proofs.VenueKinds.{quiet_brings, room_brings, same_markets}
 use Rattle.venue_laws.proofs.VenueKnown.{opened_in, ready_in}
-use Rattle.venue_laws.proofs.VenueOpenings.{each_once}
 use Rattle.venue_laws.proofs.VenueParts.{Later, LiftedIn, Telling, WasLeft, closer, mark_of, marks}
 use Rattle.venue_laws.proofs.VenueSteps.{Brings, DutyThen, FactThen, Here, day, queue, since}
 use Rattle.venue_laws.proofs.VenueTurns.{left_parts, own_left}
@@ -206,7 +203,14 @@ module _ (h : Here) (room : RoomRef) where
       (duties_of_pass (known h room) room response moment))
   unfolding event_facts
   passed_brings response moment passes =
-      when_brings h _ _ (λ test. by_test (is_open (known h room)) refl)
+      in_room_brings h room true (at_room.Pass moment)
+      (duties_of_pass (known h room) room response moment)
+      (elim (cases_Bool (is_open (known h room))) [
+        | inl is ↦ rw is (ended_brings passed moment (reply true) None is passes.by_is refl
+            (answered true (ending passed moment (reply true) None)) (λ now later dealer hit. cc))
+        | inr is ↦ rw is (left_brings (reply false) refl
+            (answered false (in_it h room [] (reply false ∷ []))))
+      ])
     where
       reply : Bool → Duty
       reply b = duty.Answer room response (reply_to_pass b) moment
@@ -221,33 +225,22 @@ module _ (h : Here) (room : RoomRef) where
         known_later (later_both (since h effect) later) room response.k passes.known,
       )
 
-      by_test : (b : Bool) → is_open (known h room) ≡ b → Brings h (in_it h room
-          (where_so b (Ended passed moment))
-          (reply b ∷ (if b then told_in (known h room) room passed moment else [])))
-      by_test true is =
-          ended_brings passed moment (reply true) None is passes.by_is refl
-          (answered true (ending passed moment (reply true) None))
-          (λ now later dealer hit. cc)
-      by_test false is =
-          left_brings (reply false) refl (answered false (in_it h room [] (reply false ∷ [])))
-
   pub expired_brings : (moment : ℕ) → h.by ≡ actor.Clock
       → Brings h (sweep_effect h.config h.venue.facts room moment)
   unfolding event_facts sweep_effect
   expired_brings moment by_is =
-      when_brings h _ _ (λ test. by_test (may_expire (known h room) moment) refl)
-    where
-      by_test : (b : Bool) → may_expire (known h room) moment ≡ b → Brings h (in_it h room
-          (where_so b (Ended expired moment))
-          (if b then duty.Close room moment ∷ told_in (known h room) room expired moment else []))
-      by_test false is = room_brings h room [] [] tt tt tt
-      by_test true is =
-          let was_open = (and_parts (is_open (known h room))
-          (is_past_deadline (request_of (known h room)) moment) is).0 in
-          let stood = ready_in h.config h.venue h.stood room (and_parts (is_ready (known h room))
-          (not (is_ended (known h room))) was_open).0 in
-          ended_brings expired moment (duty.Close room moment) None was_open by_is refl
-          (λ now later. opened_later (later_both
-          (since h (ending expired moment (duty.Close room moment) None)) later) room
-          (ap (λ (r : Option RoomRequest). is_some r) stood.request_is))
-          (λ now later dealer hit. cc)
+      in_room_brings h room true (at_room.Expire moment)
+      (duties_of_expire (known h room) room moment)
+      (elim (cases_Bool (may_expire (known h room) moment)) [
+        | inr is ↦ rw is (room_brings h room [] [] tt tt tt)
+        | inl is ↦
+            let was_open = (and_parts (is_open (known h room))
+            (is_past_deadline (request_of (known h room)) moment) is).0 in
+            let stood = ready_in h.config h.venue h.stood room (and_parts (is_ready (known h room))
+            (not (is_ended (known h room))) was_open).0 in
+            rw is (ended_brings expired moment (duty.Close room moment) None was_open by_is refl
+            (λ now later. opened_later (later_both
+            (since h (ending expired moment (duty.Close room moment) None)) later) room
+            (ap (λ (r : Option RoomRequest). is_some r) stood.request_is))
+            (λ now later dealer hit. cc))
+      ])

@@ -1,8 +1,11 @@
 -- What stands in a venue stands in a later one.
-use Rattle.std.proofs.Common.{List, Option, Some, ℕ, [], ap, is_some, map, refl, sym, true, ◌++◌}
-use Rattle.std.proofs.Common.{◌∙◌, ◌∷◌, ◌≡◌}
+use Rattle.std.proofs.Common.{List, Option, Some, ℕ, [], ap, inl, inr, is_some, map, not, refl}
+use Rattle.std.proofs.Common.{subst, sym, true, ◌++◌, ◌==◌, ◌∙◌, ◌∷◌, ◌≡◌}
+use Rattle.std.proofs.lemmas.Bool.{and_parts, both_ways, not-true}
 use Rattle.std.proofs.lemmas.List.{append-nil, append_assoc}
 use Rattle.std.proofs.lemmas.List.Elements.{filter_map-append}
+use Rattle.std.specs.List.{list_any}
+use Rattle.market_terms.specs.Dealers.{are_distinct}
 use Rattle.market_terms.specs.declared.duties.Duty.{Duty}
 use Rattle.market_terms.specs.declared.rooms.RoomRef.{RoomRef}
 use Rattle.dealer_desk.specs.DealerFacts.{Quoted, tells}
@@ -12,14 +15,16 @@ use Rattle.request_room.specs.declared.ends.End.{End}
 use Rattle.request_room.specs.declared.requests.RoomRequest.{RoomRequest}
 use Rattle.step_replay.specs.AuditTrail.{AuditTrail}
 use Rattle.step_replay.specs.DealerTrail.{facts_of, lifts}
-use Rattle.step_replay.specs.GrowthLemmas.{any_left, in_left, named_before, named_grown}
+use Rattle.step_replay.specs.EachLemmas.{Each}
+use Rattle.step_replay.specs.GrowthLemmas.{In, any_left, in_left, named_before, named_grown}
 use Rattle.step_replay.specs.GrowthLemmas.{number_grown, said_grown}
 use Rattle.step_replay.specs.PlaceLemmas.{dealer_grown, investor_grown, room_grown}
 use Rattle.step_replay.specs.VenueFacts.{Fact, of_dealer, of_room}
 use Rattle.venue_laws.proofs.KnownDesks.{knows_grown}
-use Rattle.venue_laws.proofs.ListLemmas.{some_of}
-use Rattle.venue_laws.proofs.VenueParts.{IsOpened, KnownIn, Later, LiftedIn, Mark, QuotedIn, Still}
-use Rattle.venue_laws.proofs.VenueParts.{WasTold, investor_facts, mark_of, marks, number_for}
+use Rattle.venue_laws.proofs.ListLemmas.{in_both, in_one, named_in, some_of}
+use Rattle.venue_laws.proofs.VenueParts.{InOrder, IsOpened, KnownIn, Later, LiftedIn, Mark, OrderOk}
+use Rattle.venue_laws.proofs.VenueParts.{QuotedIn, Still, WasTold, investor_facts, mark_of, marks}
+use Rattle.venue_laws.proofs.VenueParts.{number_for}
 
 pub investor_facts_grown : (facts more : List Fact) (investor : ℕ)
     → investor_facts (facts ++ more) investor
@@ -38,6 +43,33 @@ pub marks_each : (make : ℕ → Duty) (mark : ℕ → Mark)
 marks_each make mark is [] = refl
 marks_each make mark is (dealer ∷ dealers) =
     rw (is dealer) (ap (λ l. mark dealer ∷ l) (marks_each make mark is dealers))
+
+-- one mark a dealer, none twice
+module _ (venue : AuditTrail) (mark : ℕ → Mark)
+    (apart : (dealer other : ℕ) → mark dealer ≡ mark other → dealer ≡ other)
+    (plain : (before : List Mark) (dealer : ℕ) → Still (InOrder before (mark dealer)) venue) where
+  absent : (dealer other : ℕ) (dealers : List ℕ)
+      → not (list_any (λ (named : ℕ). named == dealer) dealers) ≡ true → In other dealers
+      → dealer ≡ other → ⊥
+  absent dealer other dealers none is same =
+      both_ways (list_any (λ (named : ℕ). named == dealer) dealers) (not-true _ none)
+      (named_in dealer dealers (subst (λ (d : ℕ). In d dealers) (sym same) is))
+
+  pub each_once : (front : List Mark) (dealers : List ℕ) → are_distinct dealers ≡ true
+      → ((dealer : ℕ) → In dealer dealers → In (mark dealer) front → ⊥)
+      → Each (OrderOk venue) front (map mark dealers)
+  each_once front [] distinct clear = tt
+  each_once front (dealer ∷ dealers) distinct clear =
+      let parts = and_parts (not (list_any (λ (named : ℕ). named == dealer) dealers))
+      (are_distinct dealers) distinct in (
+        (clear dealer (inl refl), plain front dealer),
+        each_once (front ++ mark dealer ∷ []) dealers parts.1
+            (λ other is among. elim (in_both (mark other) front (mark dealer ∷ []) among) [
+              | inl before ↦ clear other (inr is) before
+              | inr here ↦ absent dealer other dealers parts.0 is
+                  (apart dealer other (in_one (mark other) (mark dealer) here))
+            ]),
+      )
 
 -- Later venues.
 

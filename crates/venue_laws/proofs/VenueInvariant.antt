@@ -30,9 +30,9 @@ use Rattle.step_replay.specs.GrowthLemmas.{AreNumbered}
 use Rattle.step_replay.specs.SeenLemmas.{Seen}
 use Rattle.step_replay.specs.VenueFacts.{AtDealer, AtInvestor, Fact, InRoom, of_dealer, of_room}
 use Rattle.step_replay.specs.WordLemmas.{IsOneOf}
-use Rattle.venue_laws.proofs.CountLemmas.{AreCounted}
 use Rattle.venue_laws.proofs.KnownDesks.{DeskFit}
 use Rattle.venue_laws.proofs.NoticeLemmas.{Noticed}
+use Rattle.venue_laws.proofs.ShownRequests.{AreCounted}
 use Rattle.venue_laws.proofs.VenueParts.{BearsGrid, IsOpened, KnownIn, LiftedIn, MarkOk}
 use Rattle.venue_laws.proofs.VenueParts.{NamesLifted, Opening, OrderOk, QuotedIn, Readying, Showing}
 use Rattle.venue_laws.proofs.VenueParts.{Still, Telling, WasDone, WasLeft, closer, did_in}

@@ -1,7 +1,7 @@
 -- What each kind of effect brings for what stands in a venue: nothing, an event at a dealer's desk,
 -- and what happens in a room.
-use Rattle.std.proofs.Common.{Bool, List, None, Option, Some, ℕ, [], false, if◌then◌else◌, inl, inr}
-use Rattle.std.proofs.Common.{map, option_map, refl, subst, sym, true, ◌++◌, ◌==◌, ◌∙◌, ◌∷◌, ◌≡◌}
+use Rattle.std.proofs.Common.{Bool, List, None, Some, ℕ, [], false, if◌then◌else◌, inl, inr, map}
+use Rattle.std.proofs.Common.{refl, subst, sym, true, ◌++◌, ◌==◌, ◌∙◌, ◌∷◌, ◌≡◌}
 use Rattle.std.proofs.lemmas.Bool.{cases_Bool, eqb-true}
 use Rattle.std.proofs.lemmas.List.{append-nil}
 use Rattle.std.proofs.lemmas.Option.{same_Some}
@@ -24,7 +24,7 @@ use Rattle.step_replay.specs.GrowthLemmas.{all_in}
 use Rattle.step_replay.specs.PlaceLemmas.{investor_at_dealer, investor_in_room, other_trail}
 use Rattle.step_replay.specs.PlaceLemmas.{own_room, own_trail, room_grown}
 use Rattle.step_replay.specs.VenueFacts.{AtDealer, Fact, InRoom, of_dealer, of_investor, of_room}
-use Rattle.venue_laws.proofs.ListLemmas.{every_map, every_mapped, in_found}
+use Rattle.venue_laws.proofs.ListLemmas.{cases_some, every_map, every_mapped, in_found}
 use Rattle.venue_laws.proofs.PlainFacts.{ArePlain, AreQuiet, is_plain_entry, is_quiet, plain_names}
 use Rattle.venue_laws.proofs.PlainFacts.{plain_rooms, quiet_trail}
 use Rattle.venue_laws.proofs.VenueGrowth.{investor_facts_grown, later_same}
@@ -102,12 +102,10 @@ module _ (h : Here) where
       → ((row : DealerRow) → dealer_numbered h.config number ≡ Some row
       → Brings h (action (dealer_of number row)))
       → Brings h (done_by (dealer_at h.config number) action)
-  dealer_brings number action brings = by_found (dealer_numbered h.config number) refl
-    where
-      by_found : (found : Option DealerRow) → dealer_numbered h.config number ≡ found
-          → Brings h (done_by (option_map (dealer_of number) found) action)
-      by_found None found = nothing_brings
-      by_found (Some row) found = brings row found
+  dealer_brings number action brings = elim (cases_some (dealer_numbered h.config number)) [
+    | inl none ↦ rw none nothing_brings
+    | inr some ↦ rw (some.1) (brings some.0 some.1)
+  ]
 
   pub acting_brings : (who : ByDealer h.config h.by) (action : Dealer → Effect)
       → Brings h (action (dealer_of who.dealer who.row))

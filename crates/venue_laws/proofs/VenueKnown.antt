@@ -25,10 +25,10 @@ use Rattle.step_replay.specs.DealerTrail.{AtDesk, DealerEntry, book_by, facts_of
 use Rattle.step_replay.specs.EachLemmas.{Every, each_of}
 use Rattle.step_replay.specs.GrowthLemmas.{all_in, names_some}
 use Rattle.step_replay.specs.VenueFacts.{AtDealer, Fact, InRoom, of_dealer, of_room}
-use Rattle.venue_laws.proofs.CountLemmas.{number_place}
 use Rattle.venue_laws.proofs.KnownDesks.{known_asked}
 use Rattle.venue_laws.proofs.ListLemmas.{at_split, in_named, some_of}
 use Rattle.venue_laws.proofs.PlainFacts.{at_dealer_all, in_room_all, rooms_all}
+use Rattle.venue_laws.proofs.ShownRequests.{number_place}
 use Rattle.venue_laws.proofs.VenueGrowth.{later_same, marks_both}
 use Rattle.venue_laws.proofs.VenueInvariant.{DutyOk, EndedIn, FactOk, IsDealer, OpenedIn, PostedIn}
 use Rattle.venue_laws.proofs.VenueInvariant.{ReadyIn, ShownTo, VenueOk}

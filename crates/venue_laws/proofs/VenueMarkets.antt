@@ -1,7 +1,7 @@
 -- What comes to an investor's desk, and what its message leaves, brings what stands in a venue.
 use Rattle.std.proofs.Common.{Bool, List, None, Option, Some, ℕ, [], ap, arith, eq-eqb, false, inl}
-use Rattle.std.proofs.Common.{inr, length, map, nat_le, option_map, option_to_list, refl, subst}
-use Rattle.std.proofs.Common.{sym, true, ◌&&◌, ◌++◌, ◌+◌, ◌==◌, ◌∙◌, ◌≡◌, ◌≤◌}
+use Rattle.std.proofs.Common.{inr, length, map, nat_le, option_to_list, refl, subst, sym, true}
+use Rattle.std.proofs.Common.{◌&&◌, ◌++◌, ◌+◌, ◌==◌, ◌∙◌, ◌≡◌, ◌≤◌}
 use Rattle.std.proofs.lemmas.Bool.{cases_Bool, eqb-true, or_left}
 use Rattle.std.proofs.lemmas.List.{append-nil}
 use Rattle.std.proofs.lemmas.List.Elements.{filter_map-append}
@@ -33,7 +33,7 @@ use Rattle.step_replay.specs.VenueFacts.{AtInvestor, Fact, of_investor}
 use Rattle.venue_laws.proofs.InvestorVerdicts.{RequestFit, ResponseFit, VerdictFit, event_fits}
 use Rattle.venue_laws.proofs.InvestorVerdicts.{verdict_fits}
 use Rattle.venue_laws.proofs.KnownDesks.{DeskFit, asked_known, asks, known_asked}
-use Rattle.venue_laws.proofs.ListLemmas.{every_map}
+use Rattle.venue_laws.proofs.ListLemmas.{cases_some, every_map}
 use Rattle.venue_laws.proofs.PlainFacts.{is_quiet}
 use Rattle.venue_laws.proofs.VenueGrowth.{investor_facts_grown, known_later, later_both}
 use Rattle.venue_laws.proofs.VenueInvariant.{DutyOk, MarketOk, RespondsIn}
@@ -58,12 +58,10 @@ module _ (h : Here) where
       → ((row : InvestorRow) → investor_numbered h.config firm ≡ Some row
       → Brings h (action (market_of h.config firm row)))
       → Brings h (done_for (market_for h.config firm) action)
-  investor_brings firm action brings = by_found (investor_numbered h.config firm) refl
-    where
-      by_found : (found : Option InvestorRow) → investor_numbered h.config firm ≡ found
-          → Brings h (done_for (option_map (market_of h.config firm) found) action)
-      by_found None found = nothing_brings h
-      by_found (Some row) found = brings row found
+  investor_brings firm action brings = elim (cases_some (investor_numbered h.config firm)) [
+    | inl none ↦ rw none (nothing_brings h)
+    | inr some ↦ rw (some.1) (brings some.0 some.1)
+  ]
 
   module _ (firm : ℕ) (row : InvestorRow) (is : investor_numbered h.config firm ≡ Some row) where
     abbrev market : InvestorMarket

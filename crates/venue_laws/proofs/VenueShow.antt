@@ -1,8 +1,8 @@
 -- A request that is shown, and a notice that is told, bring what stands in a venue.
-use Rattle.std.proofs.Common.{Bool, List, None, Option, Some, ℕ, [], ap, eq-eqb, false}
-use Rattle.std.proofs.Common.{if◌then◌else◌, is_some, map, option_to_list, refl, subst, sym, true}
-use Rattle.std.proofs.Common.{◌++◌, ◌∙◌, ◌∷◌, ◌≡◌}
-use Rattle.std.proofs.lemmas.Bool.{or_left}
+use Rattle.std.proofs.Common.{Bool, List, Option, Some, ℕ, [], ap, eq-eqb, false, if◌then◌else◌}
+use Rattle.std.proofs.Common.{inl, inr, is_some, map, option_to_list, refl, subst, sym, true, ◌++◌}
+use Rattle.std.proofs.Common.{◌∷◌, ◌≡◌}
+use Rattle.std.proofs.lemmas.Bool.{cases_Bool, or_left}
 use Rattle.std.proofs.lemmas.List.{append-nil}
 use Rattle.std.proofs.lemmas.List.Elements.{filter_map-append}
 use Rattle.market_terms.specs.declared.asks.Ask.{Ask}
@@ -13,20 +13,18 @@ use Rattle.venue_rows.specs.Rows.{dealer_numbered}
 use Rattle.venue_rows.specs.declared.dealer_rows.DealerRow.{DealerRow}
 use Rattle.dealer_desk.specs.DealerFacts.{Shown, Told, tells}
 use Rattle.dealer_desk.specs.DealerOutput.{closable, event_facts, number_in}
-use Rattle.dealer_desk.specs.declared.events.DealerEvent.{DealerEvent}
 use Rattle.dealer_desk.specs.declared.events.DealerEvent.TheVariants as event
 use Rattle.venue_places.specs.declared.actors.Actor.{Actor}
-use Rattle.step_replay.specs.Actions.{Effect, at_dealer, dealer_of, nothing, shown_to, told_of}
-use Rattle.step_replay.specs.Actions.{told_to}
+use Rattle.step_replay.specs.Actions.{Effect, dealer_of, nothing, shown_to, told_of, told_to}
 use Rattle.step_replay.specs.DealerTrail.{AtDesk, DealerEntry, Sent, ShownIn, book_by, entries_of}
-use Rattle.step_replay.specs.DealerTrail.{facts_of, message_by, room_in, rooms_by}
+use Rattle.step_replay.specs.DealerTrail.{facts_of, message_by, rooms_by}
 use Rattle.step_replay.specs.GrowthLemmas.{any_right, number_next, numbered_push}
 use Rattle.step_replay.specs.PlaceLemmas.{dealer_grown, own_trail}
 use Rattle.step_replay.specs.VenueFacts.{AtDealer, of_dealer}
-use Rattle.venue_laws.proofs.CountLemmas.{numbered_shown}
+use Rattle.venue_laws.proofs.ListLemmas.{none_some}
 use Rattle.venue_laws.proofs.LiveQuotes.{LoneQuotes, hit_names}
 use Rattle.venue_laws.proofs.PlainFacts.{plain_names, plain_rooms, sent_plain}
-use Rattle.venue_laws.proofs.ShownRequests.{told_or_closable}
+use Rattle.venue_laws.proofs.ShownRequests.{numbered_shown, told_or_closable}
 use Rattle.venue_laws.proofs.VenueGrowth.{end_later, later_both, named_later, number_later}
 use Rattle.venue_laws.proofs.VenueGrowth.{shown_later, told_later}
 use Rattle.venue_laws.proofs.VenueInvariant.{DeskOk, ShowsIn, TellsIn}
@@ -62,54 +60,47 @@ module _ (h : Here) (dealer : ℕ) (row : DealerRow)
       → Does (shown_to h.config h.venue.facts room ask moment (dealer_of dealer row))
       (Showing dealer room)
   unfolding entries_of event_facts
-  shown_brings ask fits just = by_found (number_in (rooms_by own) room) refl
+  shown_brings ask fits just = elim (cases_Bool (is_some (number_in (rooms_by own) room))) [
+    | inl already ↦ rw already (
+      nothing_brings h,
+      λ now later. shown_later (later_both (since h nothing) later) dealer room already,
+    )
+    | inr yet ↦ rw yet (
+      desk_brings h dealer row is entries [] (
+        rw rooms_are (numbered_push (rooms_by own) room desk.numbered (none_some _ yet)
+            (room_self room)),
+        (tt, (tt, plain_names h.config.date row _ (map Sent messages) (sent_plain messages))),
+      ) (
+        λ now later. fits.bears,
+        (
+          λ now later. record {
+            named = named_later (later_both (since h (at_desk h dealer entries [])) later) room
+                dealer fits.named;
+            done = by_investor h room (Showing dealer room) fits.by_is just
+                (at_desk h dealer entries []) now later;
+          },
+          plain_ok h (at_desk h dealer entries []) dealer (map Sent messages)
+              (sent_plain messages),
+        ),
+      ) tt,
+      λ now later. shown_later later dealer room
+          (rw (
+            trail_with entries,
+            filter_map-append,
+            rooms_are,
+            number_next 1 (rooms_by own) room (none_some _ yet) (room_self room),
+          ) refl),
+    )
+  ]
     where
-      more : DealerEvent
-      more = event.Shown room ask moment
-
       messages : List (List ℕ)
-      messages = option_to_list (message_by h.config.date row own more)
+      messages = option_to_list (message_by h.config.date row own (event.Shown room ask moment))
 
       entries : List DealerEntry
       entries = AtDesk (Shown ask moment) ∷ ShownIn room ∷ map Sent messages
 
       rooms_are : rooms_by entries ≡ room ∷ []
       rooms_are = ap (λ l. room ∷ l) (plain_rooms (map Sent messages) (sent_plain messages))
-
-      effect : Bool → Effect
-      effect b = if b then nothing
-          else at_dealer h.config h.venue.facts (dealer_of dealer row) more []
-
-      by_found : (found : Option ℕ) → number_in (rooms_by own) room ≡ found
-          → Does (effect (is_some found)) (Showing dealer room)
-      by_found (Some number) found = (
-        nothing_brings h,
-        λ now later. shown_later (later_both (since h nothing) later) dealer room
-            (ap (λ (o : Option ℕ). is_some o) found),
-      )
-      by_found None found = (
-        desk_brings h dealer row is entries [] (
-          rw rooms_are (numbered_push (rooms_by own) room desk.numbered found (room_self room)),
-          (tt, (tt, plain_names h.config.date row _ (map Sent messages) (sent_plain messages))),
-        ) (
-          λ now later. fits.bears,
-          (
-            λ now later. record {
-              named = named_later (later_both (since h (at_desk h dealer entries [])) later) room
-                  dealer fits.named;
-              done = by_investor h room (Showing dealer room) fits.by_is just
-                  (at_desk h dealer entries []) now later;
-            },
-            plain_ok h (at_desk h dealer entries []) dealer (map Sent messages)
-                (sent_plain messages),
-          ),
-        ) tt,
-        λ now later. shown_later later dealer room (ap (λ (o : Option ℕ). is_some o)
-            (ap (λ (rooms : List RoomRef). number_in rooms room)
-            (ap rooms_by (trail_with entries) ∙ filter_map-append room_in own entries
-            ∙ ap (λ l. rooms_by own ++ l) rooms_are)
-            ∙ number_next 1 (rooms_by own) room found (room_self room))),
-      )
 
   module _ (lone : LoneQuotes) (close : Close)
       (fits : TellsIn h.config h.by dealer room close h.venue) (request : ℕ)

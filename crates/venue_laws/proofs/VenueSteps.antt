@@ -20,9 +20,9 @@ use Rattle.step_replay.specs.QueueLemmas.{one_actor}
 use Rattle.step_replay.specs.SeenLemmas.{Seen}
 use Rattle.step_replay.specs.VenueFacts.{Fact, of_dealer}
 use Rattle.step_replay.specs.WordLemmas.{IsOneOf}
-use Rattle.venue_laws.proofs.CountLemmas.{AreCounted}
 use Rattle.venue_laws.proofs.ListLemmas.{every_mapped, first_grown}
 use Rattle.venue_laws.proofs.NoticeLemmas.{Noticed}
+use Rattle.venue_laws.proofs.ShownRequests.{AreCounted}
 use Rattle.venue_laws.proofs.VenueGrowth.{marks_both, still_later}
 use Rattle.venue_laws.proofs.VenueInvariant.{DeskOk, DutyOk, FactOk, MarketOk, VenueOk}
 use Rattle.venue_laws.proofs.VenueParts.{InOrder, Later, Mark, MarkOk, NamesLifted, OrderOk, Still}
