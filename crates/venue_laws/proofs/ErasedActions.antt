@@ -34,9 +34,9 @@ use Rattle.step_replay.specs.VenueFacts.{of_room}
 use Rattle.step_replay.specs.Actions.{Effect, Dealer, at_dealer, at_market, done_by, done_for}
 use Rattle.step_replay.specs.Actions.{in_room, nothing, shown_to, told_of, told_to, where_known}
 use Rattle.venue_laws.proofs.Erasing.{bare, book_left, erase, erase_entry, erase_investor_entry}
-use Rattle.venue_laws.proofs.Erasing.{investor_book_left, left, room_left, rooms_left}
+use Rattle.venue_laws.proofs.Erasing.{investor_book_left, left, room_left, rooms_left, left_all}
+use Rattle.venue_laws.proofs.Erasing.{left_at, left_none}
 use Rattle.std.proofs.lemmas.List.Elements.{filter_map-append}
-use Rattle.venue_laws.proofs.ErasedLists.{left_all, left_at, left_none}
 
 -- two actions add and leave the same, but for what is erased
 pub record AreAlike (own : ℕ) (one other : Effect) : Type 0 where

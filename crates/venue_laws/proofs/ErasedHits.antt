@@ -38,10 +38,10 @@ use Rattle.step_replay.specs.Actions.{dropped_by, hit_in, hit_with, left_by_drop
 use Rattle.step_replay.specs.Actions.{quote_asked, quote_with_word, word_for, words_of}
 use Rattle.venue_laws.proofs.Erasing.{bare, book_is, book_left, erase, erase_entry, lifted_left}
 use Rattle.venue_laws.proofs.Erasing.{once_left, room_left, rooms_left, trail_left, withdrawn_left}
+use Rattle.venue_laws.proofs.Erasing.{filter_along, left_all}
 use Rattle.venue_laws.proofs.ErasedActions.{AreAlike, desk_alike, entries_alike, if_alike}
 use Rattle.venue_laws.proofs.ErasedActions.{kept_alike}
 use Rattle.std.proofs.lemmas.List.Elements.{filter_map-append}
-use Rattle.venue_laws.proofs.ErasedLists.{filter_along, left_all}
 
 -- How a request ended for a dealer, whoever was the cover.
 

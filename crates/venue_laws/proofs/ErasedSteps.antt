@@ -1,14 +1,14 @@
 -- Every duty, message and sweep in a day without prices: one line a duty.
 use Rattle.std.proofs.Common.{◌≡◌, ℕ, ◌==◌, true, ◌&&◌, List, [], map, Option, Some, None}
-use Rattle.std.proofs.Common.{option_map, is_some, refl, ap, ◌∙◌, if◌then◌else◌}
+use Rattle.std.proofs.Common.{option_map, is_some, refl, ap, if◌then◌else◌}
 use Rattle.std.specs.Option.{option_to_list}
 use Rattle.market_terms.specs.Unpriced.{unpriced_duty}
 use Rattle.market_terms.specs.declared.duties.Duty.{Duty}
 use Rattle.market_terms.specs.declared.duties.Duty.TheVariants as duty
 use Rattle.market_terms.specs.declared.rooms.RoomRef.{RoomRef}
 use Rattle.venue_rows.specs.Rows.{Configuration, dealer_numbered}
-use Rattle.dealer_desk.specs.DealerOutput.{event_facts, word_asked}
-use Rattle.dealer_desk.specs.Unpriced.{unpriced, unpriced_verdict}
+use Rattle.dealer_desk.specs.DealerOutput.{word_asked, event_facts}
+use Rattle.dealer_desk.specs.Unpriced.{unpriced_verdict}
 use Rattle.dealer_desk.specs.declared.events.DealerEvent.TheVariants as at_desk
 use Rattle.dealer_desk.specs.declared.verdicts.DealerVerdict.{DealerVerdict}
 use Rattle.dealer_desk.proofs.UnpricedVerdicts.{asked_alike, came_alike, duty_alike as left_alike}
@@ -27,7 +27,7 @@ use Rattle.venue_steps.specs.RoomSteps.{duties_of_decline, duties_of_expire, dut
 use Rattle.venue_steps.specs.RoomSteps.{duties_of_pass, duties_of_post, duties_of_unpost}
 use Rattle.venue_steps.specs.Words.{has_word}
 use Rattle.venue_places.specs.declared.actors.Actor.{Actor}
-use Rattle.step_replay.specs.DealerTrail.{DealerEntry, answer_to_dealer, book_by, rooms_by}
+use Rattle.step_replay.specs.DealerTrail.{DealerEntry, book_by, rooms_by}
 use Rattle.step_replay.specs.InvestorTrail as investor_trail
 use Rattle.step_replay.specs.VenueFacts.{Fact, of_dealer, of_investor}
 use Rattle.step_replay.specs.Actions.{Dealer, acting_dealer, at_investor_of, dealer_at}
@@ -39,7 +39,7 @@ use Rattle.venue_laws.proofs.Erasing.{bare, book_left, investor_book_left, rooms
 use Rattle.venue_laws.proofs.ErasedActions.{AreAlike, desk_alike, done_alike, either_alike}
 use Rattle.venue_laws.proofs.ErasedActions.{event_alike, if_alike, investor_alike, known_alike}
 use Rattle.venue_laws.proofs.ErasedActions.{market_alike, shown_alike, told_alike}
-use Rattle.venue_laws.proofs.ErasedHits.{post_left, answers_same, dropped_alike, hit_alike}
+use Rattle.venue_laws.proofs.ErasedHits.{answers_same, post_left, dropped_alike, hit_alike}
 
 module _ (config : Configuration) (own : ℕ) (facts : List Fact) where
   -- the facts without prices
@@ -146,35 +146,16 @@ module _ (config : Configuration) (own : ℕ) (facts : List Fact) where
 
     answer_is : settlement_of there v ≡ settlement_of here w
     answer_is =
-        answers_same own facts dealer.number (word_asked v)
-        ∙ ap (option_map (answer_to_dealer here)) (asked_alike v w alike)
+        rw (asked_alike v w alike) (answers_same own facts dealer.number (word_asked w))
 
-    left_is : map unpriced_duty (left_by there moment v) ≡ map unpriced_duty (left_by here moment w)
-    left_is =
-        rw (
-          list_of,
-          list_of,
-          rooms_left own facts dealer.number,
-          answer_is,
-          left_alike v w alike (rooms_by here) moment (settlement_of here w),
-        )
-      where
-        list_of : (d : Option Duty)
-            → map unpriced_duty (option_to_list d) ≡ option_to_list (option_map unpriced_duty d)
-        list_of None = refl
-        list_of (Some one) = refl
-
-    facts_are : map (unpriced (dealer.number == own)) (event_facts config.date dealer.row
-        (book_by there) (at_desk.Received moment bytes (settlement_of there v)))
-        ≡ map (unpriced (dealer.number == own)) (event_facts config.date dealer.row
-        (book_by here) (at_desk.Received moment others (settlement_of here w)))
-    unfolding event_facts
-    facts_are =
-        rw (verdict_is, answer_is) (came_alike v w alike (dealer.number == own) moment bytes others
-        (settlement_of here w) kept)
+    list_of : (d : Option Duty)
+        → map unpriced_duty (option_to_list d) ≡ option_to_list (option_map unpriced_duty d)
+    list_of None = refl
+    list_of (Some one) = refl
 
     pub said_alike : AreAlike own (received_by_dealer config known moment bytes dealer)
         (received_by_dealer config facts moment others dealer)
+    unfolding event_facts
     said_alike =
         rw (verdict_is) (if_alike _ _
         (ap (λ (q : Option ℕ). has_word (words_of config) (option_map (word_for config dealer) q))
@@ -182,7 +163,16 @@ module _ (config : Configuration) (own : ℕ) (facts : List Fact) where
         (desk_alike config own facts dealer
         (at_desk.Received moment bytes (settlement_of there v))
         (at_desk.Received moment others (settlement_of here w))
-        (left_by there moment v) (left_by here moment w) facts_are refl left_is))
+        (left_by there moment v) (left_by here moment w)
+        (rw (verdict_is, answer_is) (came_alike v w alike (dealer.number == own) moment bytes others
+        (settlement_of here w) kept)) refl
+        (rw (
+          list_of,
+          list_of,
+          rooms_left own facts dealer.number,
+          answer_is,
+          left_alike v w alike (rooms_by here) moment (settlement_of here w),
+        ))))
 
   said_to_investor : (moment : ℕ) (bytes : List ℕ) (market : InvestorMarket)
       → AreAlike own (received_by_investor known moment bytes market)
@@ -190,16 +180,11 @@ module _ (config : Configuration) (own : ℕ) (facts : List Fact) where
   said_to_investor moment bytes market =
       investor_alike config own facts market (at_investor.Received moment bytes)
       (left_by_investor known moment bytes market) (left_by_investor facts moment bytes market)
-      duties
-    where
-      duties : map unpriced_duty (left_by_investor known moment bytes market)
-          ≡ map unpriced_duty (left_by_investor facts moment bytes market)
-      duties =
-          rw (
-            investor_book_left own facts market.firm,
-            investor_verdict_same market
-                (investor_trail.book_by (of_investor market.firm facts)) moment bytes,
-          )
+      (rw (
+        investor_book_left own facts market.firm,
+        investor_verdict_same market (investor_trail.book_by (of_investor market.firm facts)) moment
+            bytes,
+      ))
 
   -- the same message
   pub message_alike : (firm moment : ℕ) (bytes : List ℕ)

@@ -5,7 +5,6 @@ mod ConditionMet
 mod ConditionMetOnce
 mod ErasedActions
 mod ErasedHits
-mod ErasedLists
 mod ErasedSteps
 mod Erasing
 mod InvestorVerdicts
@@ -14,7 +13,6 @@ mod ListLemmas
 mod LiveQuotes
 mod NoticeLemmas
 mod PlainFacts
-mod PriceLemmas
 mod PricedFields
 mod PricedMessages
 mod PricedQuotes
