@@ -16,7 +16,6 @@ mod PlainFacts
 mod PricedFields
 mod PricedMessages
 mod PricedQuotes
-mod QuietEntries
 mod ShownRequests
 mod ToldLemmas
 mod VenueDay

@@ -1,11 +1,12 @@
 -- The requests that some facts show: which of them may still be told to be closed, and that they
 -- are as many as the rooms that were shown.
 use Rattle.std.proofs.Common.{Bool, List, None, Option, Some, ℕ, [], ap, arith, false, filter_map}
-use Rattle.std.proofs.Common.{find, if◌then◌else◌, inl, inr, is_some, length, option_to_list, refl}
-use Rattle.std.proofs.Common.{subst, suc, sym, true, ◌++◌, ◌+◌, ◌<◌, ◌==◌, ◌∙◌, ◌∷◌, ◌≡◌, ◌≤◌}
-use Rattle.std.proofs.lemmas.Bool.{cases_Bool, eqb-true, or_parts, or_right}
+use Rattle.std.proofs.Common.{find, inl, inr, is_some, length, refl, subst, suc, true, ◌&&◌, ◌++◌}
+use Rattle.std.proofs.Common.{◌+◌, ◌==◌, ◌||◌, ◌∷◌, ◌≡◌, ◌≤◌}
+use Rattle.std.proofs.Math.Bool.{or-false}
+use Rattle.std.proofs.lemmas.Bool.{cases_Bool, eqb-true, or_right}
 use Rattle.std.proofs.lemmas.Bool.Decides.{nat_tests}
-use Rattle.std.proofs.lemmas.List.{append-nil, length-append}
+use Rattle.std.proofs.lemmas.List.{append-nil, append_assoc, length-append}
 use Rattle.std.proofs.lemmas.List.Elements.{filter_map-append}
 use Rattle.std.proofs.lemmas.List.Folds.{list_any-append}
 use Rattle.std.proofs.lemmas.Option.{same_Some, slice_get_within}
@@ -16,10 +17,9 @@ use Rattle.market_terms.specs.declared.closes.Close.{Close}
 use Rattle.market_terms.specs.declared.rooms.RoomRef.{RoomRef}
 use Rattle.venue_rows.specs.declared.dealer_rows.DealerRow.{DealerRow}
 use Rattle.dealer_desk.specs.DealerFacts.{DealerFact, Shown, Told, number_to_drop, request_numbered}
-use Rattle.dealer_desk.specs.DealerFacts.{requests_from, standing_request, tells}
+use Rattle.dealer_desk.specs.DealerFacts.{requests_from, tells}
 use Rattle.dealer_desk.specs.DealerOutput.{closable, event_facts, is_same_room, number_from}
-use Rattle.dealer_desk.specs.DealerOutput.{number_in, settled_facts, shown_room, untold}
-use Rattle.dealer_desk.specs.DealerOutput.{verdict_facts}
+use Rattle.dealer_desk.specs.DealerOutput.{number_in, shown_room, untold}
 use Rattle.dealer_desk.specs.DealerRules.{dealer_verdict}
 use Rattle.dealer_desk.specs.declared.events.DealerEvent.{DealerEvent}
 use Rattle.dealer_desk.specs.declared.events.DealerEvent.TheVariants as event
@@ -42,67 +42,36 @@ abbrev pub found : ℕ → ℕ → List DealerFact → Option StandingRequest
 found number first facts =
     find (λ (request : StandingRequest). request.number == number) (requests_from first facts)
 
--- a request that was shown is shown whatever comes
-pub found_grown : (number first : ℕ) (facts more : List DealerFact)
-    → is_some (found number first facts) ≡ true
-    → is_some (found number first (facts ++ more)) ≡ true
-found_grown number first [] more is = cc
-found_grown number first (Shown ask moment ∷ later) more is =
-    elim (cases_Bool (first == number)) [
-      | inl same ↦ rw same refl
-      | inr differs ↦
-          rw differs (found_grown number (first + 1) later more (rw differs at is))
-    ]
-found_grown number first (fact ∷ later) more is = found_grown number first later more is
+-- whether its notice was told
+abbrev pub has_notice : Option StandingRequest → Bool
+has_notice None = false
+has_notice (Some request) = request.is_told
 
--- what a notice may be sent of after more facts could have one before them, and these tell nothing
--- of it
-pub record StillUntold (number first : ℕ) (facts more : List DealerFact) : Type 0 where
-  pub silent : list_any (tells number) more ≡ false
-  pub before : is_some (untold (found number first facts)) ≡ true
+-- what may be closed was shown, and was not told
+pub untold_is : (request : Option StandingRequest) → is_some (untold request) ≡ true
+    → (untold request ≡ request) × (is_some request ≡ true) × (has_notice request ≡ false)
+untold_is None may = cc
+untold_is (Some request) may = elim (cases_Bool request.is_told) [
+  | inl told ↦ cc (rw told at may)
+  | inr still ↦ (rw still refl, refl, still)
+]
 
-is_untold : (b : Bool) (request : StandingRequest)
-    → is_some (if b then None else Some request) ≡ true → b ≡ false
-is_untold true request is = cc
-is_untold false request is = refl
-
-not_untold : (b : Bool) (request : StandingRequest)
-    → is_some (if b then None else Some request) ≡ false → b ≡ true
-not_untold true request is = refl
-not_untold false request is = cc
-
-pub still_untold : (number first : ℕ) (facts more : List DealerFact)
-    → is_some (found number first facts) ≡ true
-    → is_some (untold (found number first (facts ++ more))) ≡ true
-    → StillUntold number first facts more
-still_untold number first [] more is unclosed = cc
-still_untold number first (Shown ask moment ∷ later) more is unclosed =
-    elim (cases_Bool (first == number)) [
-      | inl test ↦
-          let same = eqb-true first number test in
-          let none : list_any (tells first) (later ++ more) ≡ false =
-          is_untold (list_any (tells first) (later ++ more))
-          (standing_request first ask (later ++ more)) (rw test at unclosed) in
-          let parts = or_parts (list_any (tells first) later) (list_any (tells first) more)
-          (sym (list_any-append (tells first) later more) ∙ none) in
-          record {
-            silent = subst (λ (n : ℕ). list_any (tells n) more ≡ false) same parts.1;
-            before = rw (test, parts.0) refl;
-          }
-      | inr differs ↦
-          let later_on = still_untold number (first + 1) later more (rw differs at is)
-          (rw differs at unclosed) in
-          record { silent = later_on.silent; before = rw differs later_on.before }
-    ]
-still_untold number first (fact ∷ later) more is unclosed =
-    let later_on = still_untold number first later more is unclosed in
-    record { silent = later_on.silent; before = later_on.before }
-
--- what may be closed was shown
-pub untold_found : (request : Option StandingRequest) → is_some (untold request) ≡ true
-    → is_some request ≡ true
-untold_found None is = cc
-untold_found (Some request) is = refl
+pub noticed_push : (number first : ℕ) (facts : List DealerFact) (fact : DealerFact)
+    → has_notice (found number first (facts ++ fact ∷ []))
+    ≡ (has_notice (found number first facts)
+    || (is_some (found number first facts) && tells number fact))
+noticed_push number first [] (Shown ask moment) = elim (cases_Bool (first == number)) [
+  | inl same ↦ rw same refl
+  | inr differs ↦ rw differs refl
+]
+noticed_push number first [] fact = refl
+noticed_push number first (Shown ask moment ∷ later) fact = elim (cases_Bool (first == number)) [
+  | inl test ↦
+      let both = list_any-append (tells number) later (fact ∷ []) in
+      rw (test, eqb-true first number test, both, or-false) refl
+  | inr differs ↦ rw differs (noticed_push number (first + 1) later fact)
+]
+noticed_push number first (other ∷ later) fact = noticed_push number first later fact
 
 -- a request that was shown and may not be closed was told
 told_already : (number first : ℕ) (facts : List DealerFact)
@@ -114,11 +83,10 @@ told_already number first (Shown ask moment ∷ later) is closed =
     elim (cases_Bool (first == number)) [
       | inr differs ↦
           told_already number (first + 1) later (rw differs at is) (rw differs at closed)
-      | inl test ↦
-          let same = eqb-true first number test in
-          subst (λ (n : ℕ). list_any (tells n) later ≡ true) same
-          (not_untold (list_any (tells first) later) (standing_request first ask later)
-          (rw test at closed))
+      | inl test ↦ elim (cases_Bool (list_any (tells number) later)) [
+        | inl told ↦ told
+        | inr still ↦ cc (rw (test, eqb-true first number test, still) at closed)
+      ]
     ]
 told_already number first (fact ∷ later) is closed =
     or_right (tells number fact) _ (told_already number first later is closed)
@@ -152,66 +120,76 @@ in_facts fact (AtDesk other ∷ trail) (inl is) = inl (ap AtDesk is)
 in_facts fact (AtDesk other ∷ trail) (inr is) = inr (in_facts fact trail is)
 in_facts fact (entry ∷ trail) is = inr (in_facts fact trail is)
 
+-- What is kept of a dealer's facts and rooms, one fact more at a time, is kept by each event.
+module _ (date : List ℕ) (row : DealerRow) (Q : List DealerFact → List RoomRef → Type 0)
+    (still : (facts : List DealerFact) (rooms : List RoomRef) (fact : DealerFact) → IsPlain fact
+    → Q facts rooms → Q (facts ++ fact ∷ []) rooms)
+    (shows : (facts : List DealerFact) (rooms : List RoomRef) (room : RoomRef) (ask : Ask)
+    (moment : ℕ) → Q facts rooms → Q (facts ++ Shown ask moment ∷ []) (rooms ++ room ∷ []))
+    (closes : (facts : List DealerFact) (rooms : List RoomRef) (request : ℕ) (close : Close)
+    (moment : ℕ) → is_some (untold (found request 1 facts)) ≡ true → Q facts rooms
+    → Q (facts ++ Told request close moment ∷ []) rooms) where
+  all_still : (facts more : List DealerFact) (rooms : List RoomRef) → Every IsPlain more
+      → Q facts rooms → Q (facts ++ more) rooms
+  all_still facts [] rooms plain before = rw append-nil before
+  all_still facts (fact ∷ more) rooms plain before =
+      subst (λ (l : List DealerFact). Q l rooms) (append_assoc facts (fact ∷ []) more)
+      (all_still (facts ++ fact ∷ []) more rooms plain.1 (still facts rooms fact plain.0 before))
+
+  plainly : (trail : List DealerEntry) (more : DealerEvent) → shown_room more ≡ None
+      → Every IsPlain (event_facts date row (book_by trail) more)
+      → Q (facts_of trail) (rooms_by trail)
+      → Q (facts_of (trail ++ entries_of date row trail more))
+      (rooms_by (trail ++ entries_of date row trail more))
+  plainly trail more none plain before =
+      rw (facts_grown, rooms_grown, none, append-nil (rooms_by trail))
+      (all_still (facts_of trail) _ (rooms_by trail) plain before)
+
+  pub kept_by_facts : IsKept date row (λ trail. Q (facts_of trail) (rooms_by trail))
+  unfolding event_facts closable request_numbered
+  kept_by_facts = record {
+    own = λ trail moment bytes before.
+        plainly trail (event.Received moment bytes
+        (settlement_of trail (dealer_verdict date row (book_by trail) moment bytes))) refl
+        (refl, verdict_plain (dealer_verdict date row (book_by trail) moment bytes) _) before;
+    drop = λ trail last moment before.
+        plainly trail (drop_at trail last moment) refl
+        (refl, settled_plain (number_to_drop (book_by trail) last) by.Cancel _) before;
+    shown = λ trail room ask moment before.
+        rw (facts_grown, rooms_grown)
+        (shows (facts_of trail) (rooms_by trail) room ask moment before);
+    told = λ trail request close moment may before.
+        rw (facts_grown, rooms_grown, may, append-nil (rooms_by trail))
+        (closes (facts_of trail) (rooms_by trail) request close moment may before);
+    lifted = λ trail quote within stays before. rw (
+      filter_map-append fact_in trail (Lifted quote ∷ []),
+      append-nil (facts_of trail),
+      filter_map-append room_in trail (Lifted quote ∷ []),
+      append-nil (rooms_by trail),
+    ) before;
+  }
+
 -- what a fact shows
 abbrev shown_in : DealerFact → Option Ask
 shown_in (Shown ask moment) = Some ask
 shown_in fact = None
 
--- as many rooms as requests
-abbrev pub AreCounted : List DealerEntry → Type 0
-AreCounted trail = length (rooms_by trail) ≡ length (filter_map shown_in (facts_of trail))
-
 unshown : (fact : DealerFact) → IsPlain fact → shown_in fact ≡ None
 unshown (Shown ask moment) plain = cc
 unshown fact plain = refl
 
--- facts that neither show nor tell anything
-none_counted : (facts : List DealerFact) → Every IsPlain facts
-    → 0 ≡ length (filter_map shown_in facts)
-none_counted [] plain = refl
-none_counted (fact ∷ facts) plain = rw (unshown fact plain.0) (none_counted facts plain.1)
+-- as many rooms as requests
+abbrev pub AreCounted : List DealerEntry → Type 0
+AreCounted trail = length (rooms_by trail) ≡ length (filter_map shown_in (facts_of trail))
 
-module _ (date : List ℕ) (row : DealerRow) where
-  event_counted : (trail : List DealerEntry) (more : DealerEvent) → AreCounted trail
-      → length (option_to_list (shown_room more))
-      ≡ length (filter_map shown_in (event_facts date row (book_by trail) more))
-      → AreCounted (trail ++ entries_of date row trail more)
-  event_counted trail more before as_many =
-      rw (
-        rooms_grown date row trail more,
-        facts_grown date row trail more,
-        filter_map-append,
-        length-append,
-        length-append,
-        before,
-        as_many,
-      ) refl
-
-  pub counted_is_kept : IsKept date row AreCounted
-  unfolding event_facts
-  counted_is_kept = record {
-    own = λ trail moment bytes before.
-        let v = dealer_verdict date row (book_by trail) moment bytes in
-        event_counted trail (event.Received moment bytes (settlement_of trail v)) before
-        (none_counted (verdict_facts v (settlement_of trail v))
-        (verdict_plain v (settlement_of trail v)));
-    drop = λ trail last moment before.
-        let asked = number_to_drop (book_by trail) last in
-        event_counted trail (drop_at trail last moment) before
-        (none_counted (settled_facts asked by.Cancel _) (settled_plain asked by.Cancel _));
-    shown = λ trail room ask moment before.
-        event_counted trail (event.Shown room ask moment) before refl;
-    told = λ trail request close moment may before.
-        event_counted trail (event.Told request close moment) before
-        (rw may refl);
-    lifted = λ trail quote within still before.
-        rw (
-          filter_map-append room_in trail (Lifted quote ∷ []),
-          append-nil (rooms_by trail),
-          filter_map-append fact_in trail (Lifted quote ∷ []),
-          append-nil (facts_of trail),
-        ) before;
-  }
+pub counted_is_kept : (date : List ℕ) (row : DealerRow) → IsKept date row AreCounted
+counted_is_kept date row =
+    kept_by_facts date row (λ facts rooms. length rooms ≡ length (filter_map shown_in facts))
+    (λ facts rooms fact plain before.
+    rw (filter_map-append, unshown fact plain, append-nil) before)
+    (λ facts rooms room ask moment before.
+    rw (filter_map-append, length-append, length-append, before) refl)
+    (λ facts rooms request close moment may before. rw (filter_map-append, append-nil) before)
 
 -- A number of a room is that of a request.
 
@@ -254,9 +232,5 @@ pub numbered_shown : (trail : List DealerEntry) (room : RoomRef) (number : ℕ) 
 unfolding request_numbered
 numbered_shown trail room number counted is =
     let place = number_place 1 (rooms_by trail) room number is in
-    let number_is : number ≡ 1 + place.0 = place.1 in
-    let within : place.0 < length (rooms_by trail) =
-    slice_get_within (rooms_by trail) place.0 room place.2 in
-    let low : 1 ≤ number = omega arith in
-    let high : suc number ≤ 1 + length (rooms_by trail) = omega arith in
-    request_within 1 (facts_of trail) number low (subst (λ n. suc number ≤ 1 + n) counted high)
+    let within = slice_get_within (rooms_by trail) place.0 room place.2 in
+    request_within 1 (facts_of trail) number (omega arith) (omega arith)
