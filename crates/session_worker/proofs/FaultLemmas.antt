@@ -22,6 +22,7 @@ use Rattle.session_worker.specs.KeptDays.{DealersKeep, InvestorsKeep, names_by, 
 use Rattle.session_worker.specs.KeptDays.{requests_of, without_rooms}
 use Rattle.session_worker.specs.declared.faults.DayFault.{DayFault}
 use Rattle.session_worker.specs.declared.faults.DayFault.TheVariants as fault
+use Rattle.session_worker.specs.declared.left_responses.LeftResponse.{LeftResponse}
 use Rattle.session_worker.proofs.LockLemmas.{some_is_none}
 use Rattle.session_worker.proofs.RoomLemmas.{parts_read}
 
@@ -48,6 +49,23 @@ same_or_not m n = elim (cases_lt m n) [
     | inr under ↦ inl (omega (arith, above, under))
   ]
 ]
+
+-- faults of the same firm
+same_number : (m n : ℕ) → fault.Inbox m ≡ fault.Inbox n → m ≡ n
+same_number m n is = cc
+
+-- a fault names this firm, or it does not
+named_or_not : (firm : ℕ) (why : DayFault) → (why ≡ fault.Inbox firm) ⊎ (why ≢ fault.Inbox firm)
+named_or_not firm (fault.Inbox named) = elim (same_or_not named firm) [
+  | inl same ↦ inl (ap fault.Inbox same)
+  | inr apart ↦ inr (λ is. apart (same_number named firm is))
+]
+named_or_not firm (fault.Told dealer) = inr (λ is. cc)
+named_or_not firm (fault.Sweep room) = inr (λ is. cc)
+named_or_not firm (fault.Shown dealer) = inr (λ is. cc)
+named_or_not firm (fault.Relayed room) = inr (λ is. cc)
+named_or_not firm (fault.Answered room) = inr (λ is. cc)
+named_or_not firm fault.Memory = inr (λ is. cc)
 
 module _ (X : Type 0) (why : DayFault) where
   -- what fails is not well
@@ -83,20 +101,24 @@ module _ (X : Type 0) (why : DayFault) where
             subst (IsInboxAmong 0 count) (sym is) among
       ]
 
-  -- the same of an investor
-  pub investor_among : (own firm first count : ℕ) (came inbox : List Inbound) → first ≤ firm
-      → firm < first + count
+  -- the same of an investor, to whom may be answered what its messages did not leave
+  pub investor_among : (own firm first count : ℕ) (came inbox : List Inbound)
+      (answered left : List LeftResponse) → first ≤ firm → firm < first + count
       → (own ≢ firm → ◌≡◌ {A = Result X DayFault} (Err why) (Err (fault.Inbox firm)))
       → (came ≢ inbox → ◌≡◌ {A = Result X DayFault} (Err why) (Err (fault.Inbox firm)))
-      → (own ≡ firm → came ≡ inbox → IsOk {T = X} {E = DayFault} (Err why))
+      → (answered ≢ left → ◌≡◌ {A = Result X DayFault} (Err why) (Err (fault.Inbox firm)))
+      → (own ≡ firm → came ≡ inbox → answered ≡ left → IsOk {T = X} {E = DayFault} (Err why))
       → IsInboxAmong first count why
-  investor_among own firm first count came inbox low high other_desk other_inbox given =
+  investor_among own firm first count came inbox answered left low high other_desk other_inbox
+      other_answers given =
       let among : IsInboxAmong first count (fault.Inbox firm) = (low, high) in
-      elim (same_or_not own firm) [
-        | inl same ↦ subst (IsInboxAmong first count) (sym (fault_is (fault.Inbox firm)
-            (other_inbox (λ all. never_ok (given same all))))) among
-        | inr apart ↦ subst (IsInboxAmong first count) (sym (fault_is (fault.Inbox firm)
-            (other_desk apart))) among
+      elim (named_or_not firm why) [
+        | inl named ↦ subst (IsInboxAmong first count) (sym named) among
+        | inr apart ↦
+            let no : ◌≡◌ {A = Result X DayFault} (Err why) (Err (fault.Inbox firm)) → ⊥ =
+            λ is. apart (fault_is (fault.Inbox firm) is) in
+            absurd (no (other_desk (λ same. no (other_inbox (λ all. no (other_answers (λ each.
+            never_ok (given same all each))))))))
       ]
 
   -- a room is another request's

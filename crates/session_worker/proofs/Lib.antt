@@ -10,6 +10,7 @@ pub mod DealerLockLemmas
 pub mod FaultLemmas
 pub mod InboxLemmas
 pub mod KeepLemmas
+pub mod LeftLemmas
 pub mod LockLemmas
 pub mod MovedLists
 pub mod OutputLemmas

@@ -31,6 +31,7 @@ use Rattle.session_worker.specs.AnsweredResponses.{first_unanswered}
 use Rattle.session_worker.specs.DayActions.{EventsAreOfActions}
 use Rattle.session_worker.specs.DayChecks.{DayRoom, came_from_dealer, came_from_investor}
 use Rattle.session_worker.specs.DayChecks.{first_unswept, first_untold}
+use Rattle.session_worker.specs.LeftResponses.{responses_answered, responses_left}
 use Rattle.session_worker.specs.Locks.{Answer, StandsIn, answers_at, answers_in}
 use Rattle.session_worker.specs.RelayedQuotes.{first_unrelayed}
 use Rattle.session_worker.specs.ShownRequests.{first_unshown}
@@ -102,8 +103,9 @@ DealersKeep config dealers = (firm : ℕ) (dealer : DealerLists)
     → slice_get dealers firm ≡ Some dealer → DealerKeeps config firm dealer
 
 -- What is recorded of an investor: what it was sent, and its blotter, follow from what the venue
--- has for it and from the events at its desk, and the messages that came from it, by these events,
--- are its inbox in order and each once.
+-- has for it and from the events at its desk; the messages that came from it, by these events, are
+-- its inbox in order and each once; and the hits and passes that they left are, in order and each
+-- once, what was answered at its desk.
 pub record InvestorKeeps (config : Configuration) (firm : ℕ) (investor : InvestorLists) : Type 0
   where
     pub market : InvestorMarket
@@ -112,6 +114,8 @@ pub record InvestorKeeps (config : Configuration) (firm : ℕ) (investor : Inves
     pub lines_is : investor.lines ≡ request.lines_of
         (at_investor.book_at (record { market = market; events = investor.events }))
     pub own_is : came_from_investor investor.events ≡ investor.inbox
+    pub answers_are : responses_answered investor.events
+        ≡ responses_left (record { market = market; events = investor.events })
 
 -- what is recorded of all investors: their numbers as firms go on behind those of the dealers
 abbrev pub InvestorsKeep : Configuration → List InvestorLists → Type 0
