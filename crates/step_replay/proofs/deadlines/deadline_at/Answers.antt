@@ -11,13 +11,21 @@ returns-in_default c config facts stands =
 
 pub index-requires : goal.index-requires
 index-requires c =
-    grind (arith, nat_tests, investor_inside c.args.floor.now c.args.room c.in-Some.investor
-    c.in-Some.index c.in-Some.ensures)
+    grind (
+      arith,
+      nat_tests,
+      investor_inside c.args.floor.now c.args.room c.in-Some.investor
+          c.in-Some.index c.in-Some.ensures,
+    )
 
 pub index-requires-2 : goal.index-requires-2
 index-requires-2 c =
-    grind (arith, nat_tests, room_inside c.args.floor.now c.args.room c.in-Some.investor
-    c.in-Some.index c.index.result.now c.in-Some.ensures c.index.ensures)
+    grind (
+      arith,
+      nat_tests,
+      room_inside c.args.floor.now c.args.room c.in-Some.investor
+          c.in-Some.index c.index.result.now c.in-Some.ensures c.index.ensures,
+    )
 
 pub returns : goal.returns
 returns c config facts stands =
