@@ -24,7 +24,7 @@ use Rattle.step_replay.specs.LiveStanding.{desk_of_step, first_in, next_duty, se
 use Rattle.step_replay.specs.LiveStanding.{IsAt, VenueStands, room_of_step}
 use Rattle.step_replay.specs.Queues.{QueueHas, is_known, queue_of}
 use Rattle.step_replay.specs.Standing.{Stands}
-use Rattle.step_replay.specs.StepFaults.{fault_of}
+use Rattle.step_replay.specs.StepFaults.{firms_of, fault_of}
 use Rattle.step_replay.specs.VenueFacts.{Fact}
 use Rattle.step_replay.specs.declared.live.LiveVenue.{LiveVenue}
 use Rattle.step_replay.specs.declared.replay.Replay.{Replay}
