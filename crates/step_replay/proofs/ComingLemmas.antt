@@ -1,16 +1,14 @@
 -- What an action does is what comes by the market's table.
 use Rattle.std.proofs.Common.{◌≡◌, ℕ, Bool, true, false, ◌&&◌, List, map, is_some, Option, Some}
 use Rattle.std.proofs.Common.{None, option_map, option_and_then, if◌then◌else◌, refl, sym, ap}
-use Rattle.std.proofs.Common.{subst, ◌≤◌, ◌<◌, [], length, Result, Ok, Err, IfOk, ◌∙◌, arith}
-use Rattle.std.proofs.lemmas.Option.{same_Some, slice_get_past}
-use Rattle.std.specs.Prelude.{slice_get}
+use Rattle.std.proofs.Common.{subst, ◌<◌, [], length, ◌∙◌}
+use Rattle.std.proofs.lemmas.Option.{same_Some}
 use Rattle.market_terms.specs.declared.duties.Duty.{Duty}
 use Rattle.market_terms.specs.declared.duties.Duty.TheVariants as duty
 use Rattle.market_terms.specs.declared.rooms.ResponseRef.{ResponseRef}
 use Rattle.market_terms.specs.declared.rooms.RoomRef.{RoomRef}
 use Rattle.venue_rows.specs.Rows.{Configuration, dealer_numbered, has_room, investor_numbered}
 use Rattle.venue_rows.specs.declared.dealer_rows.DealerRow.{DealerRow}
-use Rattle.venue_rows.specs.declared.investor_rows.InvestorRow.{InvestorRow}
 use Rattle.investor_desk.specs.InvestorDesk.{market_for, market_of}
 use Rattle.request_room.specs.Book.{event_facts}
 use Rattle.request_room.specs.declared.events.RoomEvent.{RoomEvent}
@@ -29,8 +27,8 @@ use Rattle.venue_places.specs.declared.arrivals.ForInvestor.TheVariants as to_in
 use Rattle.venue_places.specs.declared.arrivals.ForRoom.{ForRoom}
 use Rattle.venue_places.specs.declared.arrivals.ForRoom.TheVariants as to_room
 use Rattle.step_replay.specs.Actions.{Effect, nothing, done_by, done_for, in_room, hit_in}
-use Rattle.step_replay.specs.Actions.{dropped_by, received_by_dealer, received_by_investor}
-use Rattle.step_replay.specs.DutyEffects.{duty_effect, sweep_effect, message_effect}
+use Rattle.step_replay.specs.Actions.{dropped_by}
+use Rattle.step_replay.specs.DutyEffects.{duty_effect, sweep_effect}
 use Rattle.step_replay.specs.Coming.{dealer_gets, investor_gets, room_gets, arrival_effect}
 use Rattle.step_replay.specs.Coming.{effect_where}
 use Rattle.step_replay.specs.VenueFacts.{Fact, InRoom, of_room}
@@ -39,6 +37,10 @@ use Rattle.step_replay.specs.declared.floor.Floor.{Floor}
 use Rattle.step_replay.specs.PlaceLemmas.{has_item}
 use Rattle.step_replay.proofs.FloorLemmas.{dealer_count}
 use Rattle.step_replay.proofs.FoundDealers.{idle_does}
+
+none_there : {A : Type 0} (x : Option A) → is_some x ≡ false → x ≡ None
+none_there None is = refl
+none_there (Some x) is = cc
 
 module _ (config : Configuration) (facts : List Fact) where
   -- what comes to a place, where the venue has it
@@ -99,12 +101,8 @@ module _ (config : Configuration) (facts : List Fact) where
   unfolding arrival_effect
   dealer_comes number what =
       there (is_some (dealer_numbered config number)) (arrival.Dealer number what) _ refl
-      (none (dealer_numbered config number))
-    where
-      none : (row : Option DealerRow) → is_some row ≡ false
-          → done_by (option_map (dealer_of number) row) (dealer_gets config facts what) ≡ nothing
-      none None missing = refl
-      none (Some row) missing = cc
+      (λ no. ap (λ row. done_by (option_map (dealer_of number) row) (dealer_gets config facts what))
+      (none_there (dealer_numbered config number) no))
 
   investor_comes : (number : ℕ) (what : ForInvestor)
       → done_for (market_for config number) (investor_gets facts what)
@@ -112,12 +110,8 @@ module _ (config : Configuration) (facts : List Fact) where
   unfolding arrival_effect
   investor_comes number what =
       there (is_some (investor_numbered config number)) (arrival.Investor number what) _ refl
-      (none (investor_numbered config number))
-    where
-      none : (row : Option InvestorRow) → is_some row ≡ false
-          → done_for (option_map (market_of config number) row) (investor_gets facts what) ≡ nothing
-      none None missing = refl
-      none (Some row) missing = cc
+      (λ no. ap (λ row. done_for (option_map (market_of config number) row) (investor_gets facts what))
+      (none_there (investor_numbered config number) no))
 
   -- The dealer that acts.
 
@@ -137,16 +131,15 @@ module _ (config : Configuration) (facts : List Fact) where
   acts_as : (by : Actor) (dealer : Dealer) → acting_dealer config by ≡ Some dealer
       → dealer_at config dealer.number ≡ Some dealer
   acts_as actor.Clock dealer is = cc
-  acts_as (actor.Firm number) dealer is = by_row (dealer_numbered config number) refl is
+  acts_as (actor.Firm number) dealer is =
+      subst (λ (n : ℕ). dealer_at config n ≡ Some dealer)
+      (by_row (dealer_numbered config number) is) is
     where
-      by_row : (row : Option DealerRow) → dealer_numbered config number ≡ row
-          → option_map (dealer_of number) row ≡ Some dealer
-          → dealer_at config dealer.number ≡ Some dealer
-      by_row None found same = cc
-      by_row (Some row) found same =
-          subst (λ (d : Dealer). dealer_at config d.number ≡ Some d)
-          (same_Some (dealer_of number row) dealer same)
-          (ap (option_map (dealer_of number)) found)
+      by_row : (row : Option DealerRow) → option_map (dealer_of number) row ≡ Some dealer
+          → number ≡ dealer.number
+      by_row None same = cc
+      by_row (Some row) same =
+          ap (λ (d : Dealer). d.number) (same_Some (dealer_of number row) dealer same)
 
   -- The table.
 
@@ -194,20 +187,6 @@ module _ (config : Configuration) (facts : List Fact) where
   unfolding sweep_effect room_gets
   sweep_comes room moment = room_comes room (to_room.Expire moment) true _ _ refl
 
--- what is brought to a place of this kind does what comes there, where it succeeded
-pub brought : {D E : Type 0} (items : D → List Duty) (coming kind : Placement)
-    (effect : Configuration → List Fact → Effect) (before after : Floor) (result : Result D E)
-    → coming ≡ kind
-    → ((config : Configuration) (facts : List Fact)
-    → arrival_effect config facts kind ≡ effect config facts)
-    → IfOk result (λ (d : D). ActsOnce effect before after (items d))
-    → IfOk result (λ (d : D). ActsOnce (λ config facts. arrival_effect config facts coming) before
-    after (items d))
-brought items coming kind effect before after (Ok d) is line acts = λ config facts stands one.
-    subst (λ (e : Effect). Does config facts e after (items d))
-    (sym (ap (arrival_effect config facts) is ∙ line config facts)) (acts config facts stands one)
-brought items coming kind effect before after (Err e) is line acts = tt
-
 -- An action by what the table gives for it, or gives not.
 module _ (effect : Configuration → List Fact → Effect) (gives : Configuration → Option Placement)
     (line : (config : Configuration) (facts : List Fact)
@@ -233,32 +212,10 @@ module _ (effect : Configuration → List Fact → Effect) (gives : Configuratio
   nothing_comes duties is leaves config facts stands one =
       idle_does config facts before _ duties stands leaves (given config facts None stands is)
 
--- A message of a firm: of a dealer where its number is that of one.
-
-pub dealer_message : (config : Configuration) (facts : List Fact) (floor after : Floor)
-    (firm moment : ℕ) (bytes : List ℕ) (duties : List Duty) → Stands config facts floor
-    → firm < length floor.dealers.items
-    → Does config facts (done_by (dealer_at config firm) (received_by_dealer config facts moment bytes))
-    after duties
-    → Does config facts (message_effect config facts firm moment bytes) after duties
-unfolding message_effect
-dealer_message config facts floor after firm moment bytes duties before within does =
-    let count : length floor.dealers.items ≡ length config.dealers =
-    dealer_count config facts floor before in
-    let here : firm < length config.dealers = omega arith in
-    rw (has_item config.dealers firm here) does
-
-pub investor_message : (config : Configuration) (facts : List Fact) (floor after : Floor)
-    (firm moment : ℕ) (bytes : List ℕ) (duties : List Duty) → Stands config facts floor
-    → length floor.dealers.items ≤ firm
-    → Does config facts (done_for (market_for config firm) (received_by_investor facts moment bytes))
-    after duties
-    → Does config facts (message_effect config facts firm moment bytes) after duties
-unfolding message_effect
-investor_message config facts floor after firm moment bytes duties before beyond does =
-    let count : length floor.dealers.items ≡ length config.dealers =
-    dealer_count config facts floor before in
-    let here : length config.dealers ≤ firm = omega arith in
-    let none : is_some (slice_get config.dealers firm) ≡ false =
-    ap is_some (slice_get_past config.dealers firm here) in
-    rw none does
+-- a firm is a dealer where the floor has its place among the dealers'
+pub dealer_here : {config : Configuration} {facts : List Fact} {floor : Floor} (firm : ℕ)
+    → Stands config facts floor → firm < length floor.dealers.items
+    → is_some (dealer_numbered config firm) ≡ true
+dealer_here {config} {facts} {floor} firm before within =
+    has_item config.dealers firm
+    (subst (λ n. firm < n) (dealer_count config facts floor before) within)

@@ -1,24 +1,18 @@
--- Looking an investor of a replay up, and its place after what happens at its desk: its rooms and
--- all other places stay.
-use Rattle.std.proofs.Common.{◌≡◌, ◌≤◌, ℕ, ◌+◌, ◌-◌, List, ◌++◌, map, length, Some, None, sym, ap}
-use Rattle.std.proofs.Common.{◌∙◌, subst, arith}
+-- Looking an investor of a replay up.
+use Rattle.std.proofs.Common.{◌≡◌, ◌≤◌, ◌<◌, ℕ, ◌+◌, ◌-◌, Bool, List, length, nat_le, Some, None}
+use Rattle.std.proofs.Common.{sym, ap, ◌∙◌, subst, arith, if◌then◌else◌, false}
 use Rattle.std.specs.Prelude.{slice_get}
-use Rattle.std.specs.Vec.{with_item}
+use Rattle.std.proofs.lemmas.Bool.Decides.{nat_tests}
+use Rattle.std.proofs.lemmas.Option.{slice_get_past}
 use Rattle.venue_rows.specs.Rows.{Configuration, investor_numbered}
 use Rattle.venue_rows.specs.declared.investor_rows.InvestorRow.{InvestorRow}
-use Rattle.investor_desk.specs.InvestorDesk.{DeskEvents, with_event, market_of}
-use Rattle.investor_desk.specs.InvestorOutput.{DeskState, after_event}
-use Rattle.investor_desk.specs.declared.events.InvestorEvent.{InvestorEvent}
-use Rattle.step_replay.specs.InvestorTrail.{InvestorEntry, entries_of}
-use Rattle.step_replay.specs.VenueFacts.{Fact, AtInvestor, of_investor}
-use Rattle.step_replay.specs.Standing.{InvestorStands, RoomIs, Stands, slots}
+use Rattle.step_replay.specs.VenueFacts.{Fact}
+use Rattle.step_replay.specs.Standing.{InvestorStands, Stands}
 use Rattle.step_replay.specs.declared.floor.InvestorPlace.{InvestorPlace}
 use Rattle.step_replay.specs.declared.floor.Floor.{Floor}
 use Rattle.step_replay.specs.PlaceLemmas.{numbered_at}
-use Rattle.step_replay.specs.InvestorGrowth.{desk_of, desk_push, trail_push}
-use Rattle.step_replay.proofs.FloorLemmas.{at_investor_stands, with_investors, own_investors}
-use Rattle.step_replay.proofs.FloorLemmas.{other_investors, rooms_by_investor, dealers_by_investor}
-use Rattle.step_replay.proofs.MatchLemmas.{found, kept, missing}
+use Rattle.step_replay.proofs.FloorLemmas.{dealer_count}
+use Rattle.step_replay.proofs.MatchLemmas.{found, missing}
 
 -- the row of an investor, by its place behind the dealers
 pub numbered_as : (config : Configuration) (number index : ℕ)
@@ -37,69 +31,41 @@ pub record InvestorFound (config : Configuration) (facts : List Fact) (number in
   pub row_is : investor_numbered config number ≡ Some row
   pub stands : InvestorStands config facts number row place
 
-pub investor_found : (config : Configuration) (facts : List Fact) (floor : Floor)
-    (number index : ℕ) (place : InvestorPlace) → number ≡ length config.dealers + index
-    → Stands config facts floor → slice_get floor.investors.items index ≡ Some place
-    → InvestorFound config facts number index place
-investor_found config facts floor number index place at stands is =
-    let there = found (InvestorStands config facts) (length config.dealers) config.investors
-    floor.investors.items index place stands.investors_are is in
-    record {
-      row = there.item;
-      there = there.there;
-      row_is = numbered_as config number index at ∙ there.there;
-      stands = subst (λ (n : ℕ). InvestorStands config facts n there.item place) (sym at) there.so;
-    }
+module _ {config : Configuration} {facts : List Fact} {floor : Floor}
+    (before : Stands config facts floor) where
+  pub investor_found : {number : ℕ} {place : InvestorPlace} (index : ℕ)
+      → number ≡ length config.dealers + index
+      → slice_get floor.investors.items index ≡ Some place
+      → InvestorFound config facts number index place
+  investor_found {number} {place} index at is =
+      let there = found (InvestorStands config facts) (length config.dealers) config.investors
+      floor.investors.items index place before.investors_are is in
+      record {
+        row = there.item;
+        there = there.there;
+        row_is = numbered_as config number index at ∙ there.there;
+        stands = subst (λ (n : ℕ). InvestorStands config facts n there.item place) (sym at) there.so;
+      }
 
-pub no_investor : (config : Configuration) (facts : List Fact) (floor : Floor) (number index : ℕ)
-    → number ≡ length config.dealers + index → Stands config facts floor
-    → slice_get floor.investors.items index ≡ None → investor_numbered config number ≡ None
-no_investor config facts floor number index at stands none =
-    numbered_as config number index at
-    ∙ missing (InvestorStands config facts) (length config.dealers) config.investors
-    floor.investors.items index stands.investors_are none
+  -- the number of an investor, by the dealers' places
+  pub behind_places : {number : ℕ} (index : ℕ) → number ≡ length floor.dealers.items + index
+      → number ≡ length config.dealers + index
+  behind_places index at = at ∙ ap (λ (n : ℕ). n + index) (dealer_count config facts floor before)
 
--- what an event at the investor's desk adds
-abbrev pub added_by : Configuration → List Fact → ℕ → InvestorRow → InvestorEvent
-    → List InvestorEntry
-added_by config facts number row more =
-    entries_of (market_of config number row) (of_investor number facts) more
+  -- there is no investor where there is no place, nor by the number of a dealer
+  pub no_investor : (number index : ℕ) → number ≡ length floor.dealers.items + index
+      → length floor.investors.items ≤ index → investor_numbered config number ≡ None
+  no_investor number index at past =
+      numbered_as config number index (behind_places index at)
+      ∙ missing (InvestorStands config facts) (length config.dealers) config.investors
+      floor.investors.items index before.investors_are
+      (slice_get_past floor.investors.items index past)
 
--- an investor's place after one event more
-pub investor_event_stands : (config : Configuration) (number : ℕ) (row : InvestorRow)
-    (facts : List Fact) (place : InvestorPlace) (desk : DeskEvents) (more : InvestorEvent)
-    → InvestorStands config facts number row place → desk ≡ with_event place.desk more
-    → InvestorStands config
-    (facts ++ map (AtInvestor number) (added_by config facts number row more)) number row
-    (record place { desk = desk })
-investor_event_stands config number row facts place desk more before is =
-    let added = added_by config facts number row more in
-    let now : List Fact = with_investors facts number added in
-    subst (λ (d : DeskEvents). InvestorStands config now number row (record place { desk = d }))
-    (sym is)
-    (record {
-      market_is = before.market_is;
-      state_is = desk_push (market_of config number row) place.desk.events more
-          ∙ ap (λ (state : DeskState). after_event (market_of config number row) state more)
-          before.state_is
-          ∙ trail_push (market_of config number row) (of_investor number facts) more
-          ∙ ap (λ (l : List InvestorEntry). desk_of l) (sym (own_investors facts number added));
-      rooms_are = kept (RoomIs facts number) (RoomIs now number) 1 (slots row) place.rooms.items
-          (λ n slot events least known. known
-          ∙ sym (rooms_by_investor facts number added (record { investor = number; n = n })))
-          before.rooms_are;
-    })
-
--- the floor after something at an investor's desk
-pub at_desk_stands : (config : Configuration) (facts : List Fact) (floor : Floor)
-    (number index : ℕ) (old place : InvestorPlace) (added : List InvestorEntry)
-    → number ≡ length config.dealers + index → Stands config facts floor
-    → (found : InvestorFound config facts number index old)
-    → InvestorStands config (with_investors facts number added) number found.row place
-    → Stands config (with_investors facts number added)
-    (record floor { investors = with_item floor.investors index place })
-at_desk_stands config facts floor number index old place added at before found stands =
-    at_investor_stands config facts (with_investors facts number added) floor number index found.row
-    place at found.there before (dealers_by_investor facts number added)
-    (other_investors facts number added)
-    (λ n k differs. rooms_by_investor facts number added (record { investor = n; n = k })) stands
+  pub dealers_number : (number : ℕ) → number < length floor.dealers.items
+      → investor_numbered config number ≡ None
+  dealers_number number below =
+      let count : length floor.dealers.items ≡ length config.dealers =
+      dealer_count config facts floor before in
+      let test : nat_le (length config.dealers) number ≡ false = grind (arith, nat_tests) in
+      ap (λ (b : Bool). if b then slice_get config.investors (number - length config.dealers)
+      else None) test

@@ -9,7 +9,6 @@ mod FirmSent
 mod FloorLemmas
 mod FollowLemmas
 mod FoundDealers
-mod HitEffects
 mod HitLemmas
 mod InvestorActionLemmas
 mod InvestorOpeningLemmas

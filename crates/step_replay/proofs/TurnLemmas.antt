@@ -1,7 +1,7 @@
 -- A turn of an actor: its queue and the others, the places and the day.
-use Rattle.std.proofs.Common.{◌≡◌, ◌≢◌, ◌≤◌, ◌<◌, ℕ, ◌+◌, ◌-◌, ◌==◌, Bool, true, false, option_map}
-use Rattle.std.proofs.Common.{List, ◌∷◌, ◌++◌, map, filter_map, length, count_by, slice_set, Some}
-use Rattle.std.proofs.Common.{nat_lt, nat_le, refl, sym, ap, ◌∙◌, subst, arith, eq-eqb}
+use Rattle.std.proofs.Common.{◌≡◌, ◌≢◌, ◌≤◌, ◌<◌, ℕ, ◌+◌, ◌-◌, Bool, true, false, option_map, List}
+use Rattle.std.proofs.Common.{◌∷◌, ◌++◌, map, filter_map, length, count_by, slice_set, Some, get_or}
+use Rattle.std.proofs.Common.{nat_lt, nat_le, refl, sym, ap, ◌∙◌, subst, arith}
 use Rattle.std.specs.Prelude.{slice_get}
 use Rattle.std.proofs.lemmas.Bool.Decides.{nat_tests}
 use Rattle.std.proofs.lemmas.List.{length-set}
@@ -15,7 +15,7 @@ use Rattle.step_replay.specs.AuditTrail.{AuditTrail, is_same_actor, duty_of, pen
 use Rattle.step_replay.specs.Queues.{QueuesStand, QueueHas, is_known, queue_of}
 use Rattle.step_replay.specs.StepFaults.{firms_of}
 use Rattle.step_replay.specs.Following.{index_in}
-use Rattle.step_replay.specs.PlaceLemmas.{get_set_same, get_set_other}
+use Rattle.step_replay.specs.PlaceLemmas.{get_set_same, get_set_other, lent}
 use Rattle.step_replay.specs.QueueLemmas.{turned, own_turned, other_turned, own_within}
 use Rattle.step_replay.specs.QueueLemmas.{other_within, own_pending, other_pending, grown_within}
 use Rattle.step_replay.specs.QueueLemmas.{same_either, one_actor}
@@ -39,30 +39,23 @@ queues_apart : (config : Configuration) (by other : Actor) → is_known config b
     → is_known config other ≡ true → is_same_actor by other ≡ false
     → queue_of config other ≢ queue_of config by
 queues_apart config (actor.Firm one) (actor.Firm two) known known_too differs =
-    λ same. never (eq-eqb one two (sym same))
-  where
-    never : (one == two) ≡ true → ⊥
-    never same =
-        let clash : true ≡ false = sym same ∙ differs in
-        cc
-queues_apart config (actor.Firm one) actor.Clock known known_too differs =
-    let low : one < firms_of config = grind (arith, nat_tests) in
-    λ same. absurd (omega arith)
-queues_apart config actor.Clock (actor.Firm two) known known_too differs =
-    let low : two < firms_of config = grind (arith, nat_tests) in
-    λ same. absurd (omega arith)
+    grind (arith, nat_tests)
+queues_apart config (actor.Firm one) actor.Clock known known_too differs = grind (arith, nat_tests)
+queues_apart config actor.Clock (actor.Firm two) known known_too differs = grind (arith, nat_tests)
 queues_apart config actor.Clock actor.Clock known known_too differs = cc
 
--- what a list of queues holds at a place
-pub map_get : {X Y : Type 0} (f : X → Y) (xs : List X) (i : ℕ) (x : X) → slice_get xs i ≡ Some x
-    → slice_get (map f xs) i ≡ Some (f x)
-map_get f xs i x is = slice_get-map f xs i ∙ ap (option_map f) is
+-- what a list of queues holds at a place that the code has read
+pub queue_at : {Q : Type 0} (items : Q → List Duty) (queues : List Q) (index : ℕ) (queue : Q)
+    → index < length queues → queue ≡ get_or queues index queue
+    → slice_get (map items queues) index ≡ Some (items queue)
+queue_at items queues index queue within is =
+    slice_get-map items queues index ∙ ap (option_map items) (lent queues index queue within is)
 
 -- The queues after one of them changes.
 
-module _ (config : Configuration) (by : Actor) (trail : AuditTrail) (queues : List (List Duty))
-    (known : is_known config by ≡ true) (before : QueuesStand config trail queues)
-    (index : ℕ) (queue : List Duty) (is : index ≡ queue_of config by)
+module _ {config : Configuration} {trail : AuditTrail} {queues : List (List Duty)} {index : ℕ}
+    {queue : List Duty} (by : Actor) (known : is_known config by ≡ true)
+    (before : QueuesStand config trail queues) (is : index ≡ queue_of config by)
     (there : slice_get queues index ≡ Some queue) where
   -- the queue of the actor has what is pending
   pub queue_pending : pending by trail ≡ queue

@@ -29,11 +29,21 @@ impl Floor {
         };
         let place = &mut self.investors[investor].rooms[index];
         let duties = do_hit(place, &mut self.words, room, response, word, moment)?;
-        if !awards(&duties) {
-            return Ok(duties);
+        self.note_award(&duties, word)?;
+        Ok(duties)
+    }
+
+    /// Notes that the quote with this word was lifted, where the hit of it that left these duties is
+    /// awarded.
+    fn note_award(&mut self, duties: &Duties, word: u32) -> Result<(), Memory>
+        ensures { OnOk result (noted.NotesWhere (noted.awards duties.now.items) word self.old
+            self.new) }
+    {
+        if !awards(duties) {
+            return Ok(());
         }
         self.note_lifting(word)?;
-        Ok(duties)
+        Ok(())
     }
 
     /// Notes at the place of its dealer that the quote with this word was lifted.

@@ -1,4 +1,4 @@
-use Rattle.std.proofs.Common.{◌<◌, [], arith, length}
+use Rattle.std.proofs.Common.{[], arith}
 use Rattle.std.proofs.lemmas.Bool.Decides.{nat_tests}
 use Rattle.step_replay.specs.Coming.{dealer_gets}
 use Rattle.step_replay.specs.PlaceLemmas.{lent}
@@ -15,10 +15,8 @@ returns-in_default c config facts stands one =
 pub returns : goal.returns
 returns c config facts stands one =
     let action = dealer_gets config facts c.args.what in
-    let within : c.from.result < length c.args.self.now.dealers.items =
-    grind (arith, nat_tests, c.in-Some.ensures.item.0) in
-    let stood = lent c.args.self.now.dealers.items c.from.result c.in-Some.place.now within
-    c.in-Some.ensures.item.1 in
+    let stood = lent c.args.self.now.dealers.items c.from.result c.in-Some.place.now
+    (grind (arith, nat_tests, c.in-Some.ensures.item.0)) c.in-Some.ensures.item.1 in
     leaving config facts _ _ c.in_ok-duties.duties.items [] c.in_ok-duties.ensures.duties
     (by_number config facts c.from.result c.args.dealer action _ [] c.from.ensures
     (dealer_does config facts c.args.self.now c.from.result c.in-Some.place.now

@@ -32,7 +32,5 @@ returns c config facts stands one =
     let found = found_by_code config facts c.args.self.now c.args.room c.in-Some.investor
     c.in-Some.index c.index_mut.result.now c.index_mut-place.result.now stands
     c.in-Some.ensures c.index_mut.ensures.value c.index_mut-place.ensures.value in
-    room_does config facts c.args.self.now c.args.room c.in-Some.investor c.in-Some.index
-    c.index_mut.result.now c.index_mut-place.result.now stands found c.args.what
-    c.bring_to_room.new.room c.in_ok-duties.duties.items c.in_ok-duties.ensures.ok
-    c.in_ok-duties.ensures.duties
+    room_does stands found c.args.what c.bring_to_room.new.room c.in_ok-duties.duties.items
+    c.in_ok-duties.ensures.ok c.in_ok-duties.ensures.duties
