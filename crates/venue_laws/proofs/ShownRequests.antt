@@ -201,20 +201,16 @@ number_place first [] room number is = cc
 number_place first (shown ∷ rooms) room number is =
     elim (cases_Bool (is_same_room shown room)) [
       | inl same ↦
-          let here : first ≡ number = same_Some first number (rw same at is) in
-          let sum : number ≡ first + 0 = omega arith in
-          (0, sum, ap (λ (r : RoomRef). Some r) (same_room shown room same))
+          let here = same_Some first number (rw same at is) in
+          (0, omega arith, ap (λ (r : RoomRef). Some r) (same_room shown room same))
       | inr other ↦
           let later = number_place (first + 1) rooms room number (rw other at is) in
-          let behind : number ≡ first + 1 + later.0 = later.1 in
-          let sum : number ≡ first + suc later.0 = omega arith in
-          (suc later.0, sum, later.2)
+          (suc later.0, omega arith, later.2)
     ]
 
 request_within : (first : ℕ) (facts : List DealerFact) (number : ℕ) → first ≤ number
     → suc number ≤ first + length (filter_map shown_in facts)
-    → is_some (find (λ (request : StandingRequest). request.number == number)
-    (requests_from first facts)) ≡ true
+    → is_some (found number first facts) ≡ true
 request_within first [] number low high = absurd (omega arith)
 request_within first (Shown ask moment ∷ later) number low high =
     elim (cases_Bool (first == number)) [
