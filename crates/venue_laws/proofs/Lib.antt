@@ -1,4 +1,3 @@
-mod AcceptedQuotes
 mod AnswerLemmas
 mod BlindDues
 mod ConditionMet
