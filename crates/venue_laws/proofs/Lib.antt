@@ -1,10 +1,10 @@
 mod AcceptedQuotes
 mod AnswerLemmas
 mod BlindDues
+mod ComputedDays
 mod ConditionMet
 mod ConditionMetOnce
 mod ErasedActions
-mod ErasedHits
 mod ErasedSteps
 mod Erasing
 mod InvestorVerdicts
