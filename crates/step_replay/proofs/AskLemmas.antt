@@ -2,7 +2,6 @@
 use Rattle.std.proofs.Common.{◌≡◌, ◌<◌, ◌≤◌, ℕ, nat_le, nat_lt, Bool, true, false, ◌&&◌}
 use Rattle.std.proofs.Common.{if◌then◌else◌, List, [], ◌++◌, length, Option, Some, None, IfSome}
 use Rattle.std.proofs.Common.{option_map, refl, sym, ap, ◌∙◌, subst, arith}
-use Rattle.std.specs.Prelude.{slice_get}
 use Rattle.std.specs.List.{list_any}
 use Rattle.std.specs.Vec.{with_item}
 use Rattle.std.proofs.lemmas.Bool.Decides.{nat_tests}
@@ -26,7 +25,7 @@ use Rattle.step_replay.specs.declared.floor.DealerPlace.{DealerPlace}
 use Rattle.step_replay.specs.declared.floor.Floor.{Floor}
 use Rattle.step_replay.proofs.FloorLemmas.{event_stands, at_dealer_stands}
 use Rattle.step_replay.proofs.FoundDealers.{Found}
-use Rattle.step_replay.proofs.UnaskedEvents.{idle_stands, unasked_stands}
+use Rattle.step_replay.proofs.DealerActionLemmas.{idle_stands, unasked_stands}
 use Rattle.step_replay.proofs.LiftingLemmas.{IsDueSo}
 use Rattle.step_replay.proofs.AskedWords.{withdraws_by, answer_is, words_asked}
 
@@ -39,10 +38,9 @@ in_day quote count least most = grind (arith, nat_tests)
 module _ (config : Configuration) (facts : List Fact) (floor : Floor) (number : ℕ)
     (place : DealerPlace) (before : Stands config facts floor)
     (found : Found config facts number place)
-    (stood : slice_get floor.dealers.items number ≡ Some place)
     (event : Option Settled → DealerEvent) (left : Option Settled → List Duty) where
-  abbrev own_trail_of : List DealerEntry
-  own_trail_of = of_dealer number facts
+  abbrev trail : List DealerEntry
+  trail = of_dealer number facts
 
   abbrev dealer : Dealer
   dealer = dealer_of number found.row
@@ -52,15 +50,15 @@ module _ (config : Configuration) (facts : List Fact) (floor : Floor) (number : 
   asked_word asked = option_map (word_for config dealer) asked
 
   -- the effect of an event that asks
-  abbrev effect_of : Option ℕ → Effect
+  abbrev pub effect_of : Option ℕ → Effect
   effect_of asked =
       if has_word (words_of config) (asked_word asked)
-      then at_dealer config facts dealer (event (option_map (answer_to_dealer own_trail_of) asked))
-      (left (option_map (answer_to_dealer own_trail_of) asked))
+      then at_dealer config facts dealer (event (option_map (answer_to_dealer trail) asked))
+      (left (option_map (answer_to_dealer trail) asked))
       else nothing
 
   -- the floor afterwards
-  abbrev floor_with : DeskEvents → List (Option Settled) → Floor
+  abbrev pub floor_with : DeskEvents → List (Option Settled) → Floor
   floor_with desk words = record floor {
     dealers = with_item floor.dealers number (record place { desk = desk });
     words = words;
@@ -73,10 +71,9 @@ module _ (config : Configuration) (facts : List Fact) (floor : Floor) (number : 
   -- what the code has done: by the word that is asked
   pub asks_does : (asked : Option ℕ) (desk : DeskEvents) (words : List (Option Settled))
       → ((settlement : Option Settled) (quote : ℕ) → list_any (withdraws quote)
-      (event_facts config.date found.row (book_by own_trail_of) (event settlement))
+      (event_facts config.date found.row (book_by trail) (event settlement))
       ≡ withdraws_by asked settlement quote)
-      → ((settlement : Option Settled)
-      → IsDueSo config.date found.row own_trail_of (event settlement))
+      → ((settlement : Option Settled) → IsDueSo config.date found.row trail (event settlement))
       → IfSome asked (λ quote. (1 ≤ quote) × (quote ≤ found.row.quotes))
       → AsksAtMost Exchanges entry_in floor.words
       (word_to_ask (length floor.words) (asked_word asked)) settled.Withdrawn words
@@ -89,8 +86,8 @@ module _ (config : Configuration) (facts : List Fact) (floor : Floor) (number : 
   asks_does None desk words withdraws_so due_so inside exchange is = record {
     stands = subst (λ (w : List (Option Settled)).
         Stands config (facts ++ (effect_of None).facts) (floor_with desk w)) (sym exchange)
-        (unasked_stands config facts floor number place desk (event None) before found stood
-        (λ quote. withdraws_so None quote) is (due_so None));
+        (unasked_stands config facts floor number place before found desk (event None)
+        (record { withdraws_none = λ quote. withdraws_so None quote; due_so = due_so None }) is);
     leaves = refl;
   }
   asks_does (Some asked) desk words withdraws_so due_so inside exchange is =
@@ -110,39 +107,38 @@ module _ (config : Configuration) (facts : List Fact) (floor : Floor) (number : 
           rw (none, test) (record {
             stands = subst (λ (w : List (Option Settled)). Stands config (facts ++ []) (floor_with desk w))
                 (sym exchanged)
-                (idle_stands config facts floor number place desk before found stood now_is);
+                (idle_stands config facts floor number place before found desk now_is);
             leaves = refl;
           })
       by_test true test exchanged now_is =
           let there : nat_lt word (words_of config) ≡ true = sym (has_said word) ∙ test in
-          rw (there, test) (by_entry (entry_in words word) refl exchanged now_is)
+          rw (there, test) (by_entry (entry_in words word) exchanged now_is)
         where
-          by_entry : (entry : Option Settled) → entry_in words word ≡ entry
+          by_entry : (entry : Option Settled)
               → SettlesSo Exchanges floor.words word settled.Withdrawn entry words
               → desk ≡ with_event place.desk (event entry)
               → Does config facts
-              (at_dealer config facts dealer (event (Some (answer_to_dealer own_trail_of asked)))
-              (left (Some (answer_to_dealer own_trail_of asked))))
+              (at_dealer config facts dealer (event (Some (answer_to_dealer trail asked)))
+              (left (Some (answer_to_dealer trail asked))))
               (floor_with desk words) (left entry)
-          by_entry None entry_is settles now_is = absurd settles
-          by_entry (Some settlement) entry_is settles now_is =
-              let answered = answer_to_dealer own_trail_of asked in
+          by_entry None settles now_is = absurd settles
+          by_entry (Some settlement) settles now_is =
+              let more = event (Some (answer_to_dealer trail asked)) in
               let within = in_day asked found.row.quotes inside.0 inside.1 in
               let in_row : word < length floor.words = grind (arith, nat_tests) in
-              let so = λ (quote : ℕ). withdraws_so (Some answered) quote in
-              let same : settlement ≡ answered = answer_is config facts number found.row found.row_is
-              (event (Some answered)) asked within so floor.words words settlement before.words_are
-              settles in_row in
-              let desk_is = now_is
-              ∙ ap (λ (a : Settled). with_event place.desk (event (Some a))) same in
+              let so = λ (quote : ℕ). withdraws_so (Some (answer_to_dealer trail asked)) quote in
+              let same : settlement ≡ answer_to_dealer trail asked = answer_is config facts number
+              found.row found.row_is more asked within so floor.words words settlement
+              before.words_are settles in_row in
               record {
-                stands = at_dealer_stands config facts floor number found.row found.row_is before
-                    (entries_of config.date found.row own_trail_of (event (Some answered))) place
-                    (record place { desk = desk }) words stood
-                    (event_stands config number found.row own_trail_of place desk
-                    (event (Some answered)) found.stands desk_is (due_so (Some answered)))
+                stands = at_dealer_stands config facts floor number found.row
+                    (entries_of config.date found.row trail more) (record place { desk = desk })
+                    words found.row_is before
+                    (event_stands config number found.row trail place desk more found.stands
+                    (now_is ∙ ap (λ (a : Settled). with_event place.desk (event (Some a))) same)
+                    (due_so (Some (answer_to_dealer trail asked))))
                     (exchange_keeps_count floor.words words word settled.Withdrawn settlement settles)
-                    (words_asked config facts number found.row found.row_is (event (Some answered))
-                    asked within so floor.words words settlement before.words_are settles in_row);
+                    (words_asked config facts number found.row found.row_is more asked within so
+                    floor.words words settlement before.words_are settles in_row);
                 leaves = ap (λ (a : Settled). left (Some a)) same;
               }

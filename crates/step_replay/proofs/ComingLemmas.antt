@@ -1,8 +1,9 @@
 -- What an action does is what comes by the market's table.
 use Rattle.std.proofs.Common.{◌≡◌, ℕ, Bool, true, false, ◌&&◌, List, map, is_some, Option, Some}
 use Rattle.std.proofs.Common.{None, option_map, option_and_then, if◌then◌else◌, refl, sym, ap}
-use Rattle.std.proofs.Common.{subst}
-use Rattle.std.proofs.lemmas.Option.{same_Some}
+use Rattle.std.proofs.Common.{subst, ◌≤◌, ◌<◌, [], length, Result, Ok, Err, IfOk, ◌∙◌, arith}
+use Rattle.std.proofs.lemmas.Option.{same_Some, slice_get_past}
+use Rattle.std.specs.Prelude.{slice_get}
 use Rattle.market_terms.specs.declared.duties.Duty.{Duty}
 use Rattle.market_terms.specs.declared.duties.Duty.TheVariants as duty
 use Rattle.market_terms.specs.declared.rooms.ResponseRef.{ResponseRef}
@@ -28,11 +29,16 @@ use Rattle.venue_places.specs.declared.arrivals.ForInvestor.TheVariants as to_in
 use Rattle.venue_places.specs.declared.arrivals.ForRoom.{ForRoom}
 use Rattle.venue_places.specs.declared.arrivals.ForRoom.TheVariants as to_room
 use Rattle.step_replay.specs.Actions.{Effect, nothing, done_by, done_for, in_room, hit_in}
-use Rattle.step_replay.specs.Actions.{dropped_by}
-use Rattle.step_replay.specs.DutyEffects.{duty_effect, sweep_effect}
+use Rattle.step_replay.specs.Actions.{dropped_by, received_by_dealer, received_by_investor}
+use Rattle.step_replay.specs.DutyEffects.{duty_effect, sweep_effect, message_effect}
 use Rattle.step_replay.specs.Coming.{dealer_gets, investor_gets, room_gets, arrival_effect}
 use Rattle.step_replay.specs.Coming.{effect_where}
 use Rattle.step_replay.specs.VenueFacts.{Fact, InRoom, of_room}
+use Rattle.step_replay.specs.Standing.{ActsOnce, Does, Stands}
+use Rattle.step_replay.specs.declared.floor.Floor.{Floor}
+use Rattle.step_replay.specs.PlaceLemmas.{has_item}
+use Rattle.step_replay.proofs.FloorLemmas.{dealer_count}
+use Rattle.step_replay.proofs.FoundDealers.{idle_does}
 
 module _ (config : Configuration) (facts : List Fact) where
   -- what comes to a place, where the venue has it
@@ -187,3 +193,72 @@ module _ (config : Configuration) (facts : List Fact) where
       → sweep_effect config facts room moment ≡ effect_where config facts (swept config room moment)
   unfolding sweep_effect room_gets
   sweep_comes room moment = room_comes room (to_room.Expire moment) true _ _ refl
+
+-- what is brought to a place of this kind does what comes there, where it succeeded
+pub brought : {D E : Type 0} (items : D → List Duty) (coming kind : Placement)
+    (effect : Configuration → List Fact → Effect) (before after : Floor) (result : Result D E)
+    → coming ≡ kind
+    → ((config : Configuration) (facts : List Fact)
+    → arrival_effect config facts kind ≡ effect config facts)
+    → IfOk result (λ (d : D). ActsOnce effect before after (items d))
+    → IfOk result (λ (d : D). ActsOnce (λ config facts. arrival_effect config facts coming) before
+    after (items d))
+brought items coming kind effect before after (Ok d) is line acts = λ config facts stands one.
+    subst (λ (e : Effect). Does config facts e after (items d))
+    (sym (ap (arrival_effect config facts) is ∙ line config facts)) (acts config facts stands one)
+brought items coming kind effect before after (Err e) is line acts = tt
+
+-- An action by what the table gives for it, or gives not.
+module _ (effect : Configuration → List Fact → Effect) (gives : Configuration → Option Placement)
+    (line : (config : Configuration) (facts : List Fact)
+    → effect config facts ≡ effect_where config facts (gives config))
+    (before : Floor) where
+  given : (config : Configuration) (facts : List Fact) (coming : Option Placement)
+      → Stands config facts before → coming ≡ gives before.config
+      → effect config facts ≡ effect_where config facts coming
+  given config facts coming stands is =
+      line config facts
+      ∙ ap (effect_where config facts) (ap gives (sym stands.config_is) ∙ sym is)
+
+  pub something_comes : (after : Floor) (duties : List Duty) (coming : Placement)
+      → Some coming ≡ gives before.config
+      → ActsOnce (λ config facts. arrival_effect config facts coming) before after duties
+      → ActsOnce effect before after duties
+  something_comes after duties coming is acts config facts stands one =
+      subst (λ (e : Effect). Does config facts e after duties)
+      (sym (given config facts (Some coming) stands is)) (acts config facts stands one)
+
+  pub nothing_comes : (duties : List Duty) → None ≡ gives before.config → duties ≡ []
+      → ActsOnce effect before before duties
+  nothing_comes duties is leaves config facts stands one =
+      idle_does config facts before _ duties stands leaves (given config facts None stands is)
+
+-- A message of a firm: of a dealer where its number is that of one.
+
+pub dealer_message : (config : Configuration) (facts : List Fact) (floor after : Floor)
+    (firm moment : ℕ) (bytes : List ℕ) (duties : List Duty) → Stands config facts floor
+    → firm < length floor.dealers.items
+    → Does config facts (done_by (dealer_at config firm) (received_by_dealer config facts moment bytes))
+    after duties
+    → Does config facts (message_effect config facts firm moment bytes) after duties
+unfolding message_effect
+dealer_message config facts floor after firm moment bytes duties before within does =
+    let count : length floor.dealers.items ≡ length config.dealers =
+    dealer_count config facts floor before in
+    let here : firm < length config.dealers = omega arith in
+    rw (has_item config.dealers firm here) does
+
+pub investor_message : (config : Configuration) (facts : List Fact) (floor after : Floor)
+    (firm moment : ℕ) (bytes : List ℕ) (duties : List Duty) → Stands config facts floor
+    → length floor.dealers.items ≤ firm
+    → Does config facts (done_for (market_for config firm) (received_by_investor facts moment bytes))
+    after duties
+    → Does config facts (message_effect config facts firm moment bytes) after duties
+unfolding message_effect
+investor_message config facts floor after firm moment bytes duties before beyond does =
+    let count : length floor.dealers.items ≡ length config.dealers =
+    dealer_count config facts floor before in
+    let here : length config.dealers ≤ firm = omega arith in
+    let none : is_some (slice_get config.dealers firm) ≡ false =
+    ap is_some (slice_get_past config.dealers firm here) in
+    rw none does

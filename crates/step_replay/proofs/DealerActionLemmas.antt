@@ -1,105 +1,171 @@
 -- What comes to a dealer's desk of a replay does what it should: a request that is shown, and a
--- closing notice.
-use Rattle.std.proofs.Common.{◌≡◌, ℕ, Bool, true, false, if◌then◌else◌, List, [], ◌∷◌, filter_map}
-use Rattle.std.proofs.Common.{Option, Some, None, is_some, refl, ap, ◌∙◌}
-use Rattle.std.specs.Prelude.{slice_get}
+-- closing notice. Such an event asks no word.
+use Rattle.std.proofs.Common.{◌≡◌, ℕ, Bool, true, false, ◌||◌, if◌then◌else◌, List, [], ◌++◌, refl}
+use Rattle.std.proofs.Common.{sym, ap, ◌∙◌, subst, not, ◌∷◌, filter_map, Option, Some, None}
+use Rattle.std.proofs.Common.{is_some}
 use Rattle.std.specs.List.{list_any}
 use Rattle.std.specs.Vec.{with_item}
+use Rattle.std.proofs.lemmas.List.{append-nil}
+use Rattle.std.proofs.Math.Bool.{or-false}
+use Rattle.std.specs.Prelude.{slice_get}
 use Rattle.venue_rows.specs.Rows.{Configuration}
+use Rattle.dealer_desk.specs.DealerDesk.{DeskEvents, with_event, with_notice_in}
+use Rattle.dealer_desk.specs.DealerOutput.{event_facts, number_in, closable}
+use Rattle.dealer_desk.specs.DeskLaws.{withdraws}
+use Rattle.dealer_desk.specs.declared.events.DealerEvent.{DealerEvent}
+use Rattle.market_terms.specs.declared.asks.Ask.{Ask}
 use Rattle.market_terms.specs.declared.closes.Close.{Close}
 use Rattle.market_terms.specs.declared.rooms.RoomRef.{RoomRef}
 use Rattle.dealer_desk.specs.DealerFacts.{DealerBook, Told}
-use Rattle.dealer_desk.specs.DealerDesk.{DeskEvents, rooms_at, with_event, with_notice_in}
-use Rattle.dealer_desk.specs.DealerOutput.{event_facts, number_in, closable}
-use Rattle.dealer_desk.specs.DeskLaws.{withdraws}
 use Rattle.dealer_desk.specs.declared.events.DealerEvent.TheVariants as event
-use Rattle.step_replay.specs.DealerTrail.{book_by, rooms_by}
-use Rattle.step_replay.specs.DueList.{due_by_fact}
-use Rattle.step_replay.specs.VenueFacts.{Fact, of_dealer}
-use Rattle.step_replay.specs.Actions.{dealer_of, dealer_at, done_by, at_dealer, nothing, told_to}
-use Rattle.step_replay.specs.Actions.{told_of}
-use Rattle.step_replay.specs.Coming.{dealer_gets}
+use Rattle.venue_steps.specs.DealerSteps.{desk_after_show}
 use Rattle.venue_places.specs.Brought.{dealer_with}
 use Rattle.venue_places.specs.declared.arrivals.ForDealer.{ForDealer}
 use Rattle.venue_places.specs.declared.arrivals.ForDealer.TheVariants as to_dealer
-use Rattle.step_replay.specs.Standing.{Stands, Does}
+use Rattle.step_replay.specs.DealerTrail.{DealerEntry, book_by, was_lifted, was_withdrawn}
+use Rattle.step_replay.specs.DealerTrail.{entries_of, rooms_by}
+use Rattle.step_replay.specs.VenueFacts.{Fact, of_dealer}
+use Rattle.step_replay.specs.Actions.{dealer_of, at_dealer, nothing, Effect, dealer_at, done_by}
+use Rattle.step_replay.specs.Actions.{shown_to, told_of}
+use Rattle.step_replay.specs.RowOfWords.{word_if}
+use Rattle.step_replay.specs.Standing.{DealerStands, Does, Stands, WordsStand, word_is}
 use Rattle.step_replay.specs.declared.floor.DealerPlace.{DealerPlace}
 use Rattle.step_replay.specs.declared.floor.Floor.{Floor}
+use Rattle.step_replay.specs.DueList.{due_by_fact}
+use Rattle.step_replay.specs.Coming.{dealer_gets}
+use Rattle.step_replay.proofs.AskedWords.{word_grown}
+use Rattle.step_replay.proofs.FloorLemmas.{event_stands, words_kept, at_dealer_stands, with_dealers}
+use Rattle.step_replay.proofs.FloorLemmas.{all_dealers}
 use Rattle.step_replay.proofs.FoundDealers.{Found, dealer_found, by_found, book_is}
-use Rattle.step_replay.proofs.UnaskedEvents.{idle_stands, unasked_stands, show_does}
-
--- A closing notice.
+use Rattle.step_replay.proofs.LiftingLemmas.{IsDueSo}
 
 module _ (config : Configuration) (facts : List Fact) (floor : Floor) (number : ℕ)
-    (place : DealerPlace) (close : Close) (moment : ℕ) (before : Stands config facts floor)
-    (found : Found config facts number place)
-    (stood : slice_get floor.dealers.items number ≡ Some place) where
-  abbrev told_floor : DeskEvents → Floor
-  told_floor desk =
+    (place : DealerPlace) (before : Stands config facts floor)
+    (found : Found config facts number place) where
+  abbrev trail : List DealerEntry
+  trail = of_dealer number facts
+
+  -- the floor with this desk at the dealer's place
+  abbrev pub with_desk : DeskEvents → Floor
+  with_desk desk =
       record floor { dealers = with_item floor.dealers number (record place { desk = desk }) }
 
-  idle_does : (desk : DeskEvents) → desk ≡ place.desk
-      → Does config facts nothing (told_floor desk) []
-  idle_does desk is = record {
-    stands = idle_stands config facts floor number place desk before found stood is;
-    leaves = refl;
-  }
+  -- it withdraws no quote, and what is due by its facts is due by the event
+  pub record AsksNone (more : DealerEvent) : Type 0 where
+    pub withdraws_none : (quote : ℕ) → list_any (withdraws quote)
+        (event_facts config.date found.row (book_by trail) more) ≡ false
+    pub due_so : IsDueSo config.date found.row trail more
 
-  told_if : (request : ℕ) (desk : DeskEvents) (b : Bool)
-      → is_some (closable (book_by (of_dealer number facts)) request) ≡ b
-      → desk ≡ (if b then with_event place.desk (event.Told request close moment) else place.desk)
+  -- one event that asks no word
+  pub unasked_stands : (desk : DeskEvents) (more : DealerEvent) → AsksNone more
+      → desk ≡ with_event place.desk more
+      → Stands config (with_dealers facts number (entries_of config.date found.row trail more))
+      (with_desk desk)
+  unasked_stands desk more asks is =
+      let added = entries_of config.date found.row trail more in
+      let same : (quote : ℕ) → word_is (trail ++ added) quote ≡ word_is trail quote = λ quote.
+      word_grown config.date found.row trail more quote
+      ∙ ap (λ b. word_if (was_lifted trail quote) (was_withdrawn trail quote || b))
+      (asks.withdraws_none quote)
+      ∙ ap (word_if (was_lifted trail quote)) (or-false (was_withdrawn trail quote)) in
+      at_dealer_stands config facts floor number found.row added (record place { desk = desk })
+      floor.words found.row_is before
+      (event_stands config number found.row trail place desk more found.stands is asks.due_so) refl
+      (words_kept config facts (with_dealers facts number added) floor.words
+      (λ other quote. all_dealers facts number added (λ l. word_is l quote) (same quote) other)
+      before.words_are)
+
+  -- where nothing happens at the desk
+  pub idle_stands : (desk : DeskEvents) → desk ≡ place.desk
+      → Stands config (facts ++ []) (with_desk desk)
+  idle_stands desk same =
+      at_dealer_stands config facts floor number found.row [] (record place { desk = desk })
+      floor.words found.row_is before
+      (subst (λ (d : DeskEvents). DealerStands config number found.row (trail ++ [])
+      (record place { desk = d })) (sym same)
+      (subst (λ l. DealerStands config number found.row l place) (sym (append-nil trail))
+      found.stands))
+      refl
+      (subst (λ (l : List Fact). WordsStand config l floor.words) (sym (append-nil facts))
+      before.words_are)
+
+  -- one event that asks no word, where it may come
+  pub unasked_if : (may : Bool) (desk : DeskEvents) (more : DealerEvent)
+      → (may ≡ true → AsksNone more)
+      → desk ≡ (if may then with_event place.desk more else place.desk)
       → Does config facts
-      (if b then at_dealer config facts (dealer_of number found.row)
-      (event.Told request close moment) [] else nothing)
-      (told_floor desk) []
-  unfolding event_facts
-  told_if request desk true may is = record {
-    stands = unasked_stands config facts floor number place desk (event.Told request close moment)
-        before found stood
-        (λ quote. ap (λ (b : Bool). list_any (withdraws quote)
-        (if b then Told request close moment ∷ [] else [])) may) is
-        (ap (λ (b : Bool). filter_map due_by_fact (if b then Told request close moment ∷ [] else []))
-        may);
-    leaves = refl;
-  }
-  told_if request desk false may is = idle_does desk is
+      (if may then at_dealer config facts (dealer_of number found.row) more [] else nothing)
+      (with_desk desk) []
+  unasked_if true desk more asks is =
+      record { stands = unasked_stands desk more (asks refl) is; leaves = refl }
+  unasked_if false desk more asks is = record { stands = idle_stands desk is; leaves = refl }
 
-  told_by : (request : Option ℕ) (desk : DeskEvents)
+unless : {A : Type 0} (b : Bool) (x y : A) → (if b then x else y) ≡ (if not b then y else x)
+unless true x y = refl
+unless false x y = refl
+
+module _ (config : Configuration) (facts : List Fact) (floor : Floor) (number : ℕ)
+    (place : DealerPlace) (desk : DeskEvents) (before : Stands config facts floor)
+    (found : Found config facts number place) where
+  -- the floor with this desk at the dealer's place
+  abbrev after : Floor
+  after = with_desk config facts floor number place before found desk
+
+  shown_by : (room : RoomRef) (ask : Ask) (moment : ℕ)
+      → desk ≡ desk_after_show place.desk room ask moment
+      → Does config facts (shown_to config facts room ask moment (dealer_of number found.row)) after []
+  unfolding event_facts
+  shown_by room ask moment is =
+      let known = is_some (number_in (rooms_by (of_dealer number facts)) room) in
+      let shown = with_event place.desk (event.Shown room ask moment) in
+      subst (λ (e : Effect). Does config facts e after [])
+      (sym (unless known nothing
+      (at_dealer config facts (dealer_of number found.row) (event.Shown room ask moment) [])))
+      (unasked_if config facts floor number place before found (not known) desk
+      (event.Shown room ask moment)
+      (λ so. record { withdraws_none = λ quote. refl; due_so = refl })
+      (is ∙ ap (λ l. if is_some (number_in l room) then place.desk else shown)
+      found.stands.rooms_are ∙ unless known place.desk shown))
+
+  told_by : (request : Option ℕ) (close : Close) (moment : ℕ)
       → desk ≡ with_notice_in place.desk request close moment
       → Does config facts (told_of config facts (dealer_of number found.row) close moment request)
-      (told_floor desk) []
-  told_by None desk is = idle_does desk is
-  told_by (Some request) desk is =
-      told_if request desk (is_some (closable (book_by (of_dealer number facts)) request)) refl
+      after []
+  unfolding event_facts
+  told_by None close moment is =
+      record { stands = idle_stands config facts floor number place before found desk is; leaves = refl }
+  told_by (Some request) close moment is =
+      unasked_if config facts floor number place before found
+      (is_some (closable (book_by (of_dealer number facts)) request)) desk
+      (event.Told request close moment)
+      (λ so. record {
+        withdraws_none = λ quote. ap (λ (b : Bool). list_any (withdraws quote)
+            (if b then Told request close moment ∷ [] else [])) so;
+        due_so = ap (λ (b : Bool). filter_map due_by_fact
+            (if b then Told request close moment ∷ [] else [])) so;
+      })
       (is ∙ ap (λ (b : DealerBook). if is_some (closable b request)
       then with_event place.desk (event.Told request close moment) else place.desk)
       (book_is config number found.row (of_dealer number facts) place found.stands))
 
-pub tell_does : (config : Configuration) (facts : List Fact) (floor : Floor) (number : ℕ)
-    (place : DealerPlace) (desk : DeskEvents) (room : RoomRef) (close : Close) (moment : ℕ)
-    → Stands config facts floor → slice_get floor.dealers.items number ≡ Some place
-    → desk ≡ with_notice_in place.desk (number_in (rooms_at place.desk) room) close moment
-    → Does config facts
-    (done_by (dealer_at config number) (told_to config facts room close moment))
-    (record floor { dealers = with_item floor.dealers number (record place { desk = desk }) })
-    []
-tell_does config facts floor number place desk room close moment before stood is =
-    let found = dealer_found config facts floor number place before stood in
-    by_found config facts number place found (told_to config facts room close moment) _ []
-    (told_by config facts floor number place close moment before found stood
-    (number_in (rooms_by (of_dealer number facts)) room) desk
-    (is ∙ ap (λ (l : List RoomRef). with_notice_in place.desk (number_in l room) close moment)
-    found.stands.rooms_are))
+  -- by what comes
+  gets : (what : ForDealer) → desk ≡ dealer_with place.desk what
+      → Does config facts (dealer_gets config facts what (dealer_of number found.row)) after []
+  unfolding dealer_with dealer_gets
+  gets (to_dealer.Show room ask moment) is = shown_by room ask moment is
+  gets (to_dealer.Tell room close moment) is =
+      told_by (number_in (rooms_by (of_dealer number facts)) room) close moment
+      (is ∙ ap (λ (l : List RoomRef). with_notice_in place.desk (number_in l room) close moment)
+      found.stands.rooms_are)
 
 -- What comes to a dealer's desk does what it should.
 pub dealer_does : (config : Configuration) (facts : List Fact) (floor : Floor) (number : ℕ)
-    (place : DealerPlace) (desk : DeskEvents) (what : ForDealer) → Stands config facts floor
-    → slice_get floor.dealers.items number ≡ Some place → desk ≡ dealer_with place.desk what
+    (place : DealerPlace) (desk : DeskEvents) (what : ForDealer)
+    (before : Stands config facts floor) → slice_get floor.dealers.items number ≡ Some place
+    → desk ≡ dealer_with place.desk what
     → Does config facts (done_by (dealer_at config number) (dealer_gets config facts what))
-    (record floor { dealers = with_item floor.dealers number (record place { desk = desk }) })
-    []
-unfolding dealer_with dealer_gets
-dealer_does config facts floor number place desk (to_dealer.Show room ask moment) before stood is =
-    show_does config facts floor number place desk room ask moment before stood is
-dealer_does config facts floor number place desk (to_dealer.Tell room close moment) before stood is =
-    tell_does config facts floor number place desk room close moment before stood is
+    (record floor { dealers = with_item floor.dealers number (record place { desk = desk }) }) []
+dealer_does config facts floor number place desk what before stood is =
+    let found = dealer_found config facts floor number place before stood in
+    by_found config facts number place found (dealer_gets config facts what) _ []
+    (gets config facts floor number place desk before found what is)

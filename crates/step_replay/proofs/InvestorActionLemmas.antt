@@ -1,5 +1,5 @@
 -- What happens at the investors' desks of a replay does what it should, wherever the places stood.
-use Rattle.std.proofs.Common.{◌≡◌, ◌≤◌, ℕ, ◌-◌, Bool, true, false, ◌&&◌, List, [], ◌++◌, map}
+use Rattle.std.proofs.Common.{◌≡◌, ◌≤◌, ℕ, ◌+◌, ◌-◌, Bool, true, false, ◌&&◌, List, [], ◌++◌, map}
 use Rattle.std.proofs.Common.{length, nat_le, Option, Some, None, option_map, if◌then◌else◌, refl}
 use Rattle.std.proofs.Common.{sym, ap, ◌∙◌, subst, arith}
 use Rattle.std.specs.Prelude.{slice_get}
@@ -7,7 +7,7 @@ use Rattle.std.specs.Option.{option_to_list}
 use Rattle.std.specs.Vec.{with_item}
 use Rattle.std.proofs.lemmas.Bool.Decides.{nat_tests}
 use Rattle.std.proofs.lemmas.List.{append-nil}
-use Rattle.std.proofs.lemmas.Option.{same_Some}
+use Rattle.std.proofs.lemmas.Option.{cond_some, slice_get_past}
 use Rattle.market_terms.specs.declared.duties.Duty.{Duty}
 use Rattle.venue_rows.specs.Rows.{Configuration}
 use Rattle.investor_desk.specs.InvestorFacts.{InvestorBook, book_of, knows}
@@ -17,70 +17,78 @@ use Rattle.investor_desk.specs.InvestorOutput.{DeskState, desk_after, verdict_du
 use Rattle.investor_desk.specs.declared.events.InvestorEvent.{InvestorEvent}
 use Rattle.investor_desk.specs.declared.events.InvestorEvent.TheVariants as event
 use Rattle.venue_steps.specs.InvestorSteps.{desk_after_own, duties_of_own, where_so, replies_to}
+use Rattle.venue_places.specs.Brought.{investor_with}
+use Rattle.venue_places.specs.declared.arrivals.ForInvestor.{ForInvestor}
+use Rattle.venue_places.specs.declared.arrivals.ForInvestor.TheVariants as to_investor
 use Rattle.step_replay.specs.InvestorTrail.{book_by}
 use Rattle.step_replay.specs.VenueFacts.{Fact, AtInvestor, of_investor}
 use Rattle.step_replay.specs.Actions.{Effect, nothing, done_for, at_market, received_by_investor}
 use Rattle.step_replay.specs.Actions.{where_known}
 use Rattle.step_replay.specs.Coming.{investor_gets}
-use Rattle.venue_places.specs.Brought.{investor_with}
-use Rattle.venue_places.specs.declared.arrivals.ForInvestor.{ForInvestor}
-use Rattle.venue_places.specs.declared.arrivals.ForInvestor.TheVariants as to_investor
 use Rattle.step_replay.specs.Standing.{InvestorStands, Stands, Does}
 use Rattle.step_replay.specs.declared.floor.InvestorPlace.{InvestorPlace}
 use Rattle.step_replay.specs.declared.floor.Floor.{Floor}
+use Rattle.step_replay.proofs.FloorLemmas.{dealer_count}
 use Rattle.step_replay.proofs.FoundDealers.{idle_does}
 use Rattle.step_replay.proofs.InvestorPlaceLemmas.{InvestorFound, investor_found, no_investor}
-use Rattle.step_replay.proofs.InvestorPlaceLemmas.{added_by, investor_event_stands}
-use Rattle.step_replay.proofs.InvestorPlaceLemmas.{at_investor_stands}
+use Rattle.step_replay.proofs.InvestorPlaceLemmas.{added_by, investor_event_stands, at_desk_stands}
 
--- Where an investor's place stands among those of the investors.
-
-pub record Placed (floor : Floor) (number at : ℕ) : Type 0 where
-  pub behind : length floor.dealers.items ≤ number
-  pub at_is : at ≡ number - length floor.dealers.items
-
-pub placed : (floor : Floor) (number at dealers : ℕ) → dealers ≡ length floor.dealers.items
+-- where an investor's place stands among those of the investors
+pub placed : (config : Configuration) (facts : List Fact) (floor : Floor) (number at dealers : ℕ)
+    → Stands config facts floor → dealers ≡ length floor.dealers.items
     → Some at ≡ (if nat_le dealers number then Some (number - dealers) else None)
-    → Placed floor number at
-placed floor number at dealers count is = by_test (nat_le dealers number) refl is
-  where
-    by_test : (b : Bool) → nat_le dealers number ≡ b
-        → Some at ≡ (if b then Some (number - dealers) else None) → Placed floor number at
-    by_test true test found = record {
-      behind = grind (arith, nat_tests);
-      at_is = same_Some at (number - dealers) found ∙ ap (λ (d : ℕ). number - d) count;
-    }
-    by_test false test found = absurd cc
-
-index_is : (config : Configuration) (facts : List Fact) (floor : Floor) (number at : ℕ)
-    → Stands config facts floor → Placed floor number at → at ≡ number - length config.dealers
-index_is config facts floor number at before is =
-    is.at_is ∙ ap (λ (d : ℕ). number - d) before.dealer_count
+    → number ≡ length config.dealers + at
+placed config facts floor number at dealers before same is =
+    let parts = cond_some (nat_le dealers number) (number - dealers) at (sym is) in
+    let test : nat_le dealers number ≡ true = parts.0 in
+    let place : number - dealers ≡ at = parts.1 in
+    let behind : dealers ≤ number = grind (arith, nat_tests, test) in
+    let count : length floor.dealers.items ≡ length config.dealers =
+    dealer_count config facts floor before in
+    omega arith
 
 -- where there is no such investor
 pub no_investor_does : (config : Configuration) (facts : List Fact) (floor : Floor)
-    (number at : ℕ) (action : InvestorMarket → Effect) → Stands config facts floor
-    → Placed floor number at → slice_get floor.investors.items at ≡ None
-    → Does config facts (done_for (market_for config number) action) floor []
-no_investor_does config facts floor number at action before is beyond =
-    idle_does config facts floor _ [] before refl
+    (number at dealers : ℕ) (action : InvestorMarket → Effect) (duties : List Duty)
+    → Stands config facts floor → dealers ≡ length floor.dealers.items
+    → Some at ≡ (if nat_le dealers number then Some (number - dealers) else None)
+    → length floor.investors.items ≤ at → duties ≡ []
+    → Does config facts (done_for (market_for config number) action) floor duties
+no_investor_does config facts floor number at dealers action duties before same is past leaves =
+    idle_does config facts floor _ duties before leaves
     (ap (λ row. done_for (option_map (market_of config number) row) action)
-    (no_investor config facts floor number before
-    (ap (slice_get floor.investors.items)
-    (sym (index_is config facts floor number at before is)) ∙ beyond)))
+    (no_investor config facts floor number at
+    (placed config facts floor number at dealers before same is) before
+    (slice_get_past floor.investors.items at past)))
+
+-- the same where the number is a dealer's
+pub no_place_does : (config : Configuration) (facts : List Fact) (floor : Floor)
+    (number dealers : ℕ) (action : InvestorMarket → Effect) (duties : List Duty)
+    → Stands config facts floor → dealers ≡ length floor.dealers.items
+    → None ≡ (if nat_le dealers number then Some (number - dealers) else None) → duties ≡ []
+    → Does config facts (done_for (market_for config number) action) floor duties
+no_place_does config facts floor number dealers action duties before same none leaves =
+    by_test (nat_le dealers number) refl none
+  where
+    by_test : (b : Bool) → nat_le dealers number ≡ b
+        → None ≡ (if b then Some (number - dealers) else None)
+        → Does config facts (done_for (market_for config number) action) floor duties
+    by_test true test there = cc
+    by_test false test there =
+        let count = dealer_count config facts floor before in
+        let fewer : nat_le (length config.dealers) number ≡ false =
+        ap (λ (n : ℕ). nat_le n number) (sym (same ∙ count)) ∙ test in
+        idle_does config facts floor _ duties before leaves
+        (ap (λ (b : Bool). done_for (option_map (market_of config number)
+        (if b then slice_get config.investors (number - length config.dealers) else None)) action)
+        fewer)
 
 module _ (config : Configuration) (facts : List Fact) (floor : Floor) (number at : ℕ)
-    (place : InvestorPlace) (before : Stands config facts floor) (is : Placed floor number at)
+    (place : InvestorPlace) (before : Stands config facts floor)
+    (is : number ≡ length config.dealers + at)
     (stood : slice_get floor.investors.items at ≡ Some place) where
-  stood_there : slice_get floor.investors.items (number - length config.dealers) ≡ Some place
-  stood_there =
-      ap (slice_get floor.investors.items)
-      (sym (index_is config facts floor number at before is)) ∙ stood
-
-  found : InvestorFound config facts number place
-  found =
-      investor_found config facts floor number place before
-      (subst (λ (d : ℕ). d ≤ number) before.dealer_count is.behind) stood_there
+  found : InvestorFound config facts number at place
+  found = investor_found config facts floor number at place is before stood
 
   module _ (desk : DeskEvents) where
     -- the floor with this desk at the investor's place
@@ -95,39 +103,24 @@ module _ (config : Configuration) (facts : List Fact) (floor : Floor) (number at
         subst (λ (m : Option InvestorMarket). Does config facts (done_for m action) after duties)
         (sym (ap (option_map (market_of config number)) found.row_is)) does
 
-    at_place : (later : List Fact)
-        → Stands config later (record floor {
-          investors = with_item floor.investors (number - length config.dealers)
-              (record place { desk = desk });
-        })
-        → Stands config later after
-    at_place later stands =
-        subst (λ (n : ℕ). Stands config later (record floor {
-          investors = with_item floor.investors n (record place { desk = desk });
-        })) (sym (index_is config facts floor number at before is)) stands
-
     -- one event at its desk
     event_stands : (more : InvestorEvent) → desk ≡ with_event place.desk more
         → Stands config
         (facts ++ map (AtInvestor number) (added_by config facts number found.row more)) after
     event_stands more same =
-        at_place _
-        (at_investor_stands config facts floor number found.row found.row_is before
-        (added_by config facts number found.row more) place
-        (record place { desk = desk }) stood_there
-        (investor_event_stands config number found.row facts place desk more
-        found.stands same))
+        at_desk_stands config facts floor number at place (record place { desk = desk })
+        (added_by config facts number found.row more) is before found
+        (investor_event_stands config number found.row facts place desk more found.stands same)
 
     -- nothing at its desk
     idle_stands : desk ≡ place.desk → Stands config (facts ++ []) after
     idle_stands same =
-        at_place _
-        (at_investor_stands config facts floor number found.row found.row_is before []
-        place (record place { desk = desk }) stood_there
-        (subst (λ d. InvestorStands config number found.row (facts ++ [])
-        (record place { desk = d })) (sym same)
-        (subst (λ l. InvestorStands config number found.row l place)
-        (sym (append-nil facts)) found.stands)))
+        at_desk_stands config facts floor number at place (record place { desk = desk }) [] is before
+        found
+        (subst (λ d. InvestorStands config (facts ++ []) number found.row (record place { desk = d }))
+        (sym same)
+        (subst (λ l. InvestorStands config l number found.row place) (sym (append-nil facts))
+        found.stands))
 
     -- one event at its desk, where it may come
     event_if : (may : Bool) (more : InvestorEvent) → desk ≡ where_so may place.desk more

@@ -1,7 +1,8 @@
 -- The deadlines of the rooms that are opening or open: the earliest, and those that have come.
 use Rattle.std.proofs.Common.{◌≡◌, ◌≤◌, ℕ, ◌==◌, Bool, true, false, ◌&&◌, ◌||◌, nat_le, nat_lt}
-use Rattle.std.proofs.Common.{List, [], ◌∷◌, map, fold, Option, Some, None, if◌then◌else◌, refl}
-use Rattle.std.proofs.Common.{sym, ap, ◌∙◌, arith, eq-eqb}
+use Rattle.std.proofs.Common.{List, [], ◌∷◌, map, fold, ◌⊎◌, inl, inr, Option, Some, None}
+use Rattle.std.proofs.Common.{if◌then◌else◌, refl, sym, ap, ◌∙◌, arith, eq-eqb}
+use Rattle.std.proofs.lemmas.Bool.{and_from, and_parts, or_right}
 use Rattle.std.proofs.lemmas.Bool.Decides.{nat_tests}
 use Rattle.market_terms.specs.declared.rooms.RoomRef.{RoomRef}
 use Rattle.dealer_desk.specs.DealerOutput.{is_same_room}
@@ -13,9 +14,9 @@ use Rattle.step_replay.specs.VenueFacts.{Fact, of_room}
 use Rattle.step_replay.specs.VenueRooms.{rooms_of}
 use Rattle.step_replay.specs.declared.open_rooms.OpenRooms.{OpenRooms}
 use Rattle.step_replay.specs.GrowthLemmas.{same_room}
-use Rattle.step_replay.proofs.OpenRoomLemmas.{due_found, found_due, own_room}
+use Rattle.step_replay.proofs.OpenRoomLemmas.{due_found, found_due, own_room, with_room}
+use Rattle.step_replay.proofs.OpenRoomLemmas.{no_deadline}
 use Rattle.step_replay.proofs.RoomOrder.{is_among, rooms_are}
-use Rattle.step_replay.proofs.OpenRoomStands.{with_room, no_deadline}
 
 -- whether a deadline, where there is one, has come
 abbrev pub has_come : ℕ → Option ℕ → Bool
@@ -75,17 +76,14 @@ module _ (config : Configuration) (facts : List Fact) where
   none_among (room ∷ rooms) none =
       let here : of_facts room ≡ None = none room (rw (own_room room) refl) in
       ap (λ (d : Option ℕ). fold earlier d (map of_facts rooms)) here
-      ∙ none_among rooms (λ other among. none other (behind (is_same_room other room) _ among))
-    where
-      behind : (a b : Bool) → b ≡ true → (a || b) ≡ true
-      behind true b is = refl
-      behind false b is = is
+      ∙ none_among rooms (λ other among. none other (or_right (is_same_room other room) _ among))
 
   -- a deadline that is no later than another, where there is another
   abbrev IsNoLater : ℕ → Option ℕ → Type 0
   IsNoLater deadline None = Unit {0}
   IsNoLater deadline (Some other) = deadline ≤ other
 
+  -- it is the earlier one, behind another and before another
   takes_it : (deadline : ℕ) (before : Option ℕ) → IsNoLater deadline before
       → earlier before (Some deadline) ≡ Some deadline
   takes_it deadline None least = refl
@@ -101,6 +99,14 @@ module _ (config : Configuration) (facts : List Fact) where
           let same : other ≡ deadline = grind (arith, nat_tests, high, low) in
           ap (λ (d : ℕ). Some d) same
 
+  keeps_it : (deadline : ℕ) (next : Option ℕ) → IsNoLater deadline next
+      → earlier (Some deadline) next ≡ Some deadline
+  keeps_it deadline None later = refl
+  keeps_it deadline (Some other) later =
+      let low : deadline ≤ other = later in
+      let test : nat_lt other deadline ≡ false = grind (arith, nat_tests, low) in
+      rw test refl
+
   stays_least : (deadline : ℕ) (before next : Option ℕ) → IsNoLater deadline before
       → IsNoLater deadline next → IsNoLater deadline (earlier before next)
   stays_least deadline None next least other = other
@@ -111,62 +117,46 @@ module _ (config : Configuration) (facts : List Fact) where
       by_test true = other
       by_test false = least
 
-  it_stays : (deadline : ℕ) (rooms : List RoomRef)
-      → ((room : RoomRef) → is_among room rooms ≡ true → IsNoLater deadline (of_facts room))
-      → fold earlier (Some deadline) (map of_facts rooms) ≡ Some deadline
-  it_stays deadline [] least = refl
-  it_stays deadline (room ∷ rooms) least =
-      ap (λ (d : Option ℕ). fold earlier d (map of_facts rooms))
-      (kept (of_facts room) (least room (rw (own_room room) refl)))
-      ∙ it_stays deadline rooms (λ other among. least other
-      (behind (is_same_room other room) _ among))
-    where
-      behind : (a b : Bool) → b ≡ true → (a || b) ≡ true
-      behind true b is = refl
-      behind false b is = is
+  -- one of these rooms has it
+  pub record HasIt (deadline : ℕ) (rooms : List RoomRef) : Type 0 where
+    pub room : RoomRef
+    pub among : is_among room rooms ≡ true
+    pub is : of_facts room ≡ Some deadline
 
-      kept : (next : Option ℕ) → IsNoLater deadline next → earlier (Some deadline) next
-          ≡ Some deadline
-      kept None later = refl
-      kept (Some other) later =
-          let low : deadline ≤ other = later in
-          let test : nat_lt other deadline ≡ false = grind (arith, nat_tests, low) in
-          rw test refl
-
-  least_among : (deadline : ℕ) (first : RoomRef) → of_facts first ≡ Some deadline
-      → (rooms : List RoomRef) (before : Option ℕ) → IsNoLater deadline before
-      → is_among first rooms ≡ true
+  -- it is the least of all, and stands before them or is that of one of them
+  least_among : (deadline : ℕ) (rooms : List RoomRef) (before : Option ℕ)
+      → IsNoLater deadline before
       → ((room : RoomRef) → is_among room rooms ≡ true → IsNoLater deadline (of_facts room))
+      → (before ≡ Some deadline) ⊎ HasIt deadline rooms
       → fold earlier before (map of_facts rooms) ≡ Some deadline
-  least_among deadline first is [] before low among least = cc
-  least_among deadline first is (room ∷ rooms) before low among least =
-      here_or_later deadline first is room rooms before low (least room (rw (own_room room) refl))
-      (λ other there. least other (behind (is_same_room other room) _ there))
-      (λ next low_next there. least_among deadline first is rooms next low_next there
-      (λ other there_too. least other (behind (is_same_room other room) _ there_too)))
-      (is_same_room first room) refl among
+  least_among deadline [] before low least (inl is) = is
+  least_among deadline [] before low least (inr has) = absurd (none has.among)
     where
-      behind : (a b : Bool) → b ≡ true → (a || b) ≡ true
-      behind true b is = refl
-      behind false b is = is
+      none : false ≡ true → ⊥
+      none is = cc
+  least_among deadline (room ∷ rooms) before low least which =
+      least_among deadline rooms (earlier before (of_facts room))
+      (stays_least deadline before (of_facts room) low own)
+      (λ other among. least other (or_right (is_same_room other room) _ among)) (next which)
+    where
+      own : IsNoLater deadline (of_facts room)
+      own = least room (rw (own_room room) refl)
 
-      here_or_later : (deadline : ℕ) (first : RoomRef) → of_facts first ≡ Some deadline
-          → (room : RoomRef) (rooms : List RoomRef) (before : Option ℕ)
-          → IsNoLater deadline before → IsNoLater deadline (of_facts room)
-          → ((other : RoomRef) → is_among other rooms ≡ true → IsNoLater deadline (of_facts other))
-          → ((next : Option ℕ) → IsNoLater deadline next → is_among first rooms ≡ true
-          → fold earlier next (map of_facts rooms) ≡ Some deadline)
-          → (b : Bool) → is_same_room first room ≡ b → (b || is_among first rooms) ≡ true
-          → fold earlier (earlier before (of_facts room)) (map of_facts rooms) ≡ Some deadline
-      here_or_later deadline first is room rooms before low own least later true same among =
-          let here : of_facts room ≡ Some deadline = ap of_facts (sym (same_room first room same))
-          ∙ is in
-          ap (λ (d : Option ℕ). fold earlier d (map of_facts rooms))
-          (ap (earlier before) here ∙ takes_it deadline before low)
-          ∙ it_stays deadline rooms least
-      here_or_later deadline first is room rooms before low own least later false other among =
-          later (earlier before (of_facts room)) (stays_least deadline before
-          (of_facts room) low own) among
+      next : (before ≡ Some deadline) ⊎ HasIt deadline (room ∷ rooms)
+          → (earlier before (of_facts room) ≡ Some deadline) ⊎ HasIt deadline rooms
+      next (inl is) =
+          inl (ap (λ (d : Option ℕ). earlier d (of_facts room)) is
+          ∙ keeps_it deadline (of_facts room) own)
+      next (inr has) = by_room (is_same_room has.room room) refl has.among
+        where
+          by_room : (b : Bool) → is_same_room has.room room ≡ b
+              → (b || is_among has.room rooms) ≡ true
+              → (earlier before (of_facts room) ≡ Some deadline) ⊎ HasIt deadline rooms
+          by_room true same among =
+              let here : of_facts room ≡ Some deadline =
+              ap of_facts (sym (same_room has.room room same)) ∙ has.is in
+              inl (ap (earlier before) here ∙ takes_it deadline before low)
+          by_room false other among = inr (record { room = has.room; among = among; is = has.is })
 
   -- the earliest by the facts
   pub earliest_is : (rooms : OpenRooms) (found : Option ℕ) → RoomsStand config facts rooms
@@ -186,9 +176,13 @@ module _ (config : Configuration) (facts : List Fact) where
           cc
   earliest_is rooms (Some deadline) stands first =
       let there = held_has rooms stands first.room deadline first.held in
-      sym (least_among deadline first.room there.1 (rooms_of config) None tt
-      (rooms_are config first.room ∙ there.0)
-      (λ room among. least room (sym (rooms_are config room) ∙ among) (of_facts room) refl))
+      sym (least_among deadline (rooms_of config) None tt
+      (λ room among. least room (sym (rooms_are config room) ∙ among) (of_facts room) refl)
+      (inr (record {
+        room = first.room;
+        among = rooms_are config first.room ∙ there.0;
+        is = there.1;
+      })))
     where
       least : (room : RoomRef) → has_room config room.investor room.n ≡ true → (found : Option ℕ)
           → of_facts room ≡ found → IsNoLater deadline found
@@ -201,34 +195,26 @@ module _ (config : Configuration) (facts : List Fact) where
   pub due_is : (rooms : OpenRooms) (moment : ℕ) (room : RoomRef) → RoomsStand config facts rooms
       → any_due moment room rooms.by_deadline.keys
       ≡ (has_come moment (of_facts room) && has_room config room.investor room.n)
-  due_is rooms moment room stands = by_any (any_due moment room rooms.by_deadline.keys) refl
+  due_is rooms moment room stands =
+      either_way (any_due moment room rooms.by_deadline.keys) _
+      (λ any.
+      let found = found_due moment room rooms.by_deadline.keys any in
+      let there = held_has rooms stands room found.deadline found.there in
+      let come : nat_le found.deadline moment ≡ true = grind (arith, nat_tests, found.come) in
+      and_from _ _ (ap (has_come moment) there.1 ∙ come) there.0)
+      (λ both.
+      let parts = and_parts (has_come moment (of_facts room)) _ both in
+      by_found (of_facts room) refl parts.0 parts.1)
     where
-      by_any : (b : Bool) → any_due moment room rooms.by_deadline.keys ≡ b
-          → b ≡ (has_come moment (of_facts room) && has_room config room.investor room.n)
-      by_any true any =
-          let found = found_due moment room rooms.by_deadline.keys any in
-          let there = held_has rooms stands room found.deadline found.there in
-          let come : nat_le found.deadline moment ≡ true = grind (arith, nat_tests, found.come) in
-          sym (both (ap (has_come moment) there.1 ∙ come) there.0)
-        where
-          both : {a b : Bool} → a ≡ true → b ≡ true → (a && b) ≡ true
-          both one two = rw (one, two) refl
-      by_any false any =
-          by_found (of_facts room) refl (has_room config room.investor room.n) refl
-        where
-          by_found : (found : Option ℕ) → of_facts room ≡ found → (b : Bool)
-              → has_room config room.investor room.n ≡ b → false ≡ (has_come moment found && b)
-          by_found None is b has = refl
-          by_found (Some deadline) is true has = by_come (nat_le deadline moment) refl
-            where
-              by_come : (c : Bool) → nat_le deadline moment ≡ c → false ≡ (c && true)
-              by_come true come =
-                  let clash : false ≡ true = sym any ∙ due_found moment room deadline
-                  rooms.by_deadline.keys come (held rooms stands room deadline has is) in
-                  cc
-              by_come false come = refl
-          by_found (Some deadline) is false has = by_come (nat_le deadline moment)
-            where
-              by_come : (c : Bool) → false ≡ (c && false)
-              by_come true = refl
-              by_come false = refl
+      either_way : (a b : Bool) → (a ≡ true → b ≡ true) → (b ≡ true → a ≡ true) → a ≡ b
+      either_way true b one other = sym (one refl)
+      either_way false true one other = other refl
+      either_way false false one other = refl
+
+      by_found : (found : Option ℕ) → of_facts room ≡ found → has_come moment found ≡ true
+          → has_room config room.investor room.n ≡ true
+          → any_due moment room rooms.by_deadline.keys ≡ true
+      by_found None is come has = cc
+      by_found (Some deadline) is come has =
+          due_found moment room deadline rooms.by_deadline.keys come
+          (held rooms stands room deadline has is)

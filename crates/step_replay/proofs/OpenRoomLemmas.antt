@@ -1,6 +1,7 @@
--- The rooms that are opening or open, by their deadlines, as the code keeps them.
+-- The rooms that are opening or open, by their deadlines, as the code keeps them and by the facts.
 use Rattle.std.proofs.Common.{◌≡◌, ◌<◌, ◌≤◌, ℕ, ◌==◌, Bool, true, false, ◌&&◌, ◌||◌, cond, nat_le}
-use Rattle.std.proofs.Common.{List, [], ◌∷◌, refl, sym, ap, ◌∙◌, subst, arith, eq-eqb}
+use Rattle.std.proofs.Common.{List, [], ◌∷◌, refl, sym, ap, ap₂, ◌∙◌, subst, arith, eq-eqb, ◌++◌}
+use Rattle.std.proofs.Common.{Option, Some, None, if◌then◌else◌}
 use Rattle.std.specs.BTreeSet.{BTreeSet, contains}
 use Rattle.std.specs.List.{AllByRecursion, list_any}
 use Rattle.std.specs.List.Sorted.{IsStrictlySortedBy}
@@ -11,13 +12,25 @@ use Rattle.std.specs.declared.cmp.Ordering.TheVariants.{Less, Equal, Greater}
 use Rattle.std.proofs.lemmas.Bool.Decides.{nat_tests}
 use Rattle.std.proofs.lemmas.Cmp.{nat_cmp_total, on_total, ranked, then_total}
 use Rattle.std.proofs.lemmas.Map.Keys.{sorted_head, sorted_tail}
-use Rattle.std.proofs.lemmas.Bool.{or_right}
+use Rattle.std.proofs.Math.Bool.{or-false}
+use Rattle.std.proofs.lemmas.Bool.{and_left, and_parts, or_from, or_left, or_right}
 use Rattle.market_terms.specs.declared.rooms.RoomRef.{RoomRef}
 use Rattle.dealer_desk.specs.DealerOutput.{is_same_room}
+use Rattle.request_room.specs.RoomFacts.{RoomFact}
+use Rattle.request_room.specs.Book.{room_after}
+use Rattle.request_room.specs.declared.events.RoomEvent.{RoomEvent}
+use Rattle.venue_rows.specs.Rows.{Configuration, has_room}
 use Rattle.step_replay.specs.OpenRooms.{AreDue, Entry, IsFirst, any_due, entry_cmp, holds}
-use Rattle.step_replay.specs.OpenRooms.{is_due_in, room_cmp}
+use Rattle.step_replay.specs.OpenRooms.{is_due_in, room_cmp, IsEmpty, Notes, RoomsStand}
+use Rattle.step_replay.specs.OpenRooms.{deadline_by, is_deadline}
 use Rattle.step_replay.specs.declared.open_rooms.OpenRooms.{OpenRooms}
 use Rattle.step_replay.specs.GrowthLemmas.{same_room}
+use Rattle.step_replay.specs.Deadlines.{deadline_of}
+use Rattle.step_replay.specs.VenueFacts.{Fact, of_room}
+use Rattle.step_replay.specs.declared.floor.InvestorPlace.{InvestorPlace}
+use Rattle.step_replay.specs.PlaceLemmas.{room_stays}
+use Rattle.step_replay.proofs.StepEffects.{AreOf, is_there}
+use Rattle.step_replay.proofs.RoomPlaceLemmas.{FoundRoom}
 
 -- Orders.
 
@@ -30,19 +43,19 @@ tied_then Less other = refl
 tied_then Equal other = refl
 tied_then Greater other = refl
 
-both : (a b c d : Bool) → a ≡ b → c ≡ d → (a && c) ≡ (b && d)
-both a b c d one other = rw (one, other) refl
+both : {a b c d : Bool} → a ≡ b → c ≡ d → (a && c) ≡ (b && d)
+both one other = ap₂ (λ (x y : Bool). x && y) one other
 
 pub tied_rooms : (one other : RoomRef) → is_eq (room_cmp one other) ≡ is_same_room one other
 tied_rooms one other =
     tied_then (nat_cmp one.investor other.investor) (nat_cmp one.n other.n)
-    ∙ both _ _ _ _ (unsigned_tied one.investor other.investor) (unsigned_tied one.n other.n)
+    ∙ both (unsigned_tied one.investor other.investor) (unsigned_tied one.n other.n)
 
 pub tied_entries : (one other : Entry)
     → is_eq (entry_cmp one other) ≡ ((one.0 == other.0) && is_same_room one.1 other.1)
 tied_entries one other =
     tied_then (nat_cmp one.0 other.0) (room_cmp one.1 other.1)
-    ∙ both _ _ _ _ (unsigned_tied one.0 other.0) (tied_rooms one.1 other.1)
+    ∙ both (unsigned_tied one.0 other.0) (tied_rooms one.1 other.1)
 
 -- a room is itself
 pub own_room : (room : RoomRef) → is_same_room room room ≡ true
@@ -121,16 +134,10 @@ due_stops rooms moment due entry left rest is after ordered sorted each = record
       let others = none_due moment room entry rest after
       (sorted_head entry_cmp entry rest (subst (IsStrictlySortedBy entry_cmp) is sorted)) in
       let none : any_due moment room left ≡ false =
-      ap (any_due moment room) is ∙ nobody _ _ _ past others in
-      sym (or_false _ _ none) ∙ each room;
+      ap (any_due moment room) is ∙ or_from _ _ (and_left _ _ past) others in
+      sym (ap (λ (b : Bool). contains room_cmp due room || b) none
+      ∙ or-false (contains room_cmp due room)) ∙ each room;
 }
-  where
-    nobody : (a b c : Bool) → a ≡ false → c ≡ false → ((a && b) || c) ≡ false
-    nobody a b c first last = rw (first, last) refl
-
-    or_false : (a b : Bool) → b ≡ false → (a || b) ≡ a
-    or_false true b is = refl
-    or_false false b is = is
 
 -- an entry of a room that is due
 pub record Found (moment : ℕ) (room : RoomRef) (entries : List Entry) : Type 0 where
@@ -142,79 +149,58 @@ same_back : (one other : RoomRef) → is_same_room one other ≡ true → is_sam
 same_back one other same =
     subst (λ (r : RoomRef). is_same_room r one ≡ true) (same_room one other same) (own_room one)
 
-second : (a b : Bool) → (a && b) ≡ true → b ≡ true
-second true b is = is
-second false b is = cc
+-- an item of a list that passes a test, so that what it passes some item passes
+record Passing {X : Type 0} (test : X → Bool) (xs : List X) : Type 0 where
+  item : X
+  passes : test item ≡ true
+  there : (other : X → Bool) → other item ≡ true → list_any other xs ≡ true
 
-found_later : (moment : ℕ) (room : RoomRef) (entry : Entry) (entries : List Entry)
-    → Found moment room entries → Found moment room (entry ∷ entries)
-found_later moment room entry entries found = record {
-  deadline = found.deadline;
-  come = found.come;
-  there = or_right (is_eq (entry_cmp (found.deadline, room) entry)) _ found.there;
-}
-
-found_first : (moment : ℕ) (room : RoomRef) (entry : Entry) (entries : List Entry)
-    → nat_le entry.0 moment ≡ true → is_same_room entry.1 room ≡ true
-    → Found moment room (entry ∷ entries)
-found_first moment room entry entries come same =
-    let here : is_eq (entry_cmp (entry.0, room) entry) ≡ true =
-    tied_entries (entry.0, room) entry
-    ∙ both _ _ _ _ (eq-eqb entry.0 entry.0 refl) (same_back entry.1 room same) in
-    record {
-      deadline = entry.0;
-      come = grind (arith, nat_tests, come);
-      there = rw here refl;
+passing : {X : Type 0} (test : X → Bool) (xs : List X) → list_any test xs ≡ true → Passing test xs
+passing test [] any = cc
+passing test (x ∷ xs) any = by_test (test x) refl (passing test xs) any
+  where
+    by_test : (b : Bool) → test x ≡ b → (list_any test xs ≡ true → Passing test xs)
+        → (b || list_any test xs) ≡ true → Passing test (x ∷ xs)
+    by_test true is later found = record {
+      item = x;
+      passes = is;
+      there = λ other so. or_left (other x) _ so;
     }
-
-found_in : (moment : ℕ) (room : RoomRef) (entry : Entry) (entries : List Entry)
-    → (any_due moment room entries ≡ true → Found moment room entries)
-    → (a : Bool) → nat_le entry.0 moment ≡ a → (b : Bool) → is_same_room entry.1 room ≡ b
-    → ((a && b) || any_due moment room entries) ≡ true → Found moment room (entry ∷ entries)
-found_in moment room entry entries rest true come true same is =
-    found_first moment room entry entries come same
-found_in moment room entry entries rest true come false same is =
-    found_later moment room entry entries (rest is)
-found_in moment room entry entries rest false come b same is =
-    found_later moment room entry entries (rest is)
+    by_test false is later found =
+        let rest = later found in
+        record {
+          item = rest.item;
+          passes = rest.passes;
+          there = λ other so. or_right (other x) _ (rest.there other so);
+        }
 
 pub found_due : (moment : ℕ) (room : RoomRef) (entries : List Entry)
     → any_due moment room entries ≡ true → Found moment room entries
-found_due moment room [] any = cc
-found_due moment room (entry ∷ entries) any =
-    found_in moment room entry entries (found_due moment room entries) (nat_le entry.0 moment) refl
-    (is_same_room entry.1 room) refl any
-
-due_here : (moment : ℕ) (room : RoomRef) (deadline : ℕ) (entry : Entry)
-    → nat_le deadline moment ≡ true → is_eq (entry_cmp (deadline, room) entry) ≡ true
-    → is_due_in moment room entry ≡ true
-due_here moment room deadline entry come is =
-    let parts = sym (tied_entries (deadline, room) entry) ∙ is in
-    let same : deadline ≡ entry.0 = grind (arith, nat_tests, parts) in
-    both _ _ _ _ (subst (λ (d : ℕ). nat_le d moment ≡ true) same come)
-    (same_back room entry.1 (second _ _ parts))
-
-due_in : (moment : ℕ) (room : RoomRef) (deadline : ℕ) (entry : Entry) (entries : List Entry)
-    → nat_le deadline moment ≡ true
-    → (list_any (λ entry. is_eq (entry_cmp (deadline, room) entry)) entries ≡ true
-    → any_due moment room entries ≡ true)
-    → (b : Bool) → is_eq (entry_cmp (deadline, room) entry) ≡ b
-    → (b || list_any (λ entry. is_eq (entry_cmp (deadline, room) entry)) entries) ≡ true
-    → (is_due_in moment room entry || any_due moment room entries) ≡ true
-due_in moment room deadline entry entries come rest true is any =
-    rw (due_here moment room deadline entry come is) refl
-due_in moment room deadline entry entries come rest false is any =
-    or_right (is_due_in moment room entry) _ (rest any)
+found_due moment room entries any =
+    let passed = passing (is_due_in moment room) entries any in
+    let entry : Entry = passed.item in
+    let parts = and_parts (nat_le entry.0 moment) (is_same_room entry.1 room) passed.passes in
+    let come : nat_le entry.0 moment ≡ true = parts.0 in
+    record {
+      deadline = entry.0;
+      come = grind (arith, nat_tests, come);
+      there = passed.there (λ other. is_eq (entry_cmp (entry.0, room) other))
+          (tied_entries (entry.0, room) entry
+          ∙ both (eq-eqb entry.0 entry.0 refl) (same_back entry.1 room parts.1));
+    }
 
 pub due_found : (moment : ℕ) (room : RoomRef) (deadline : ℕ) (entries : List Entry)
     → nat_le deadline moment ≡ true
     → list_any (λ entry. is_eq (entry_cmp (deadline, room) entry)) entries ≡ true
     → any_due moment room entries ≡ true
-due_found moment room deadline [] come any = any
-due_found moment room deadline (entry ∷ entries) come any =
-    due_in moment room deadline entry entries come
-    (due_found moment room deadline entries come)
-    (is_eq (entry_cmp (deadline, room) entry)) refl any
+due_found moment room deadline entries come any =
+    let passed = passing (λ (entry : Entry). is_eq (entry_cmp (deadline, room) entry)) entries any in
+    let entry : Entry = passed.item in
+    let parts = sym (tied_entries (deadline, room) entry) ∙ passed.passes in
+    let same : deadline ≡ entry.0 = grind (arith, nat_tests, parts) in
+    passed.there (is_due_in moment room)
+    (both (subst (λ (d : ℕ). nat_le d moment ≡ true) same come)
+    (same_back room entry.1 (and_parts _ _ parts).1))
 
 -- The earliest.
 
@@ -226,3 +212,72 @@ is_first rooms first held least = record {
   held = held;
   least = λ entry there. not_earlier first entry (least entry there);
 }
+
+-- before the first fact no room is opening or open
+pub rooms_begin : (config : Configuration) (rooms : OpenRooms) → IsEmpty rooms
+    → RoomsStand config [] rooms
+unfolding of_room
+rooms_begin config rooms empty entry =
+    empty entry ∙ by_room (has_room config entry.1.investor entry.1.n)
+  where
+    by_room : (b : Bool)
+        → false ≡ is_deadline (if b then deadline_of (of_room entry.1 []) else None) entry.0
+    by_room true = refl
+    by_room false = refl
+
+module _ (config : Configuration) (facts : List Fact) where
+  -- The deadline of a room, by the facts.
+
+  pub with_room : (b : Bool) (room : RoomRef) → has_room config room.investor room.n ≡ b
+      → deadline_by config facts room ≡ (if b then deadline_of (of_room room facts) else None)
+  with_room b room is =
+      ap (λ (c : Bool). if c then deadline_of (of_room room facts) else None) is
+
+  pub no_deadline : (room : RoomRef) → has_room config room.investor room.n ≡ false
+      → None ≡ deadline_by config facts room
+  no_deadline room none = sym (with_room false room none)
+
+  pub deadline_found : (at : RoomRef) (investor index : ℕ) (old : InvestorPlace)
+      (events : List RoomEvent) → FoundRoom config facts at investor index old events
+      → deadline_of (room_after events) ≡ deadline_by config facts at
+  deadline_found at investor index old events found =
+      ap deadline_of found.known ∙ sym (with_room true at found.has)
+
+  -- After facts more.
+
+  deadline_kept : (more : List Fact) (at : Option RoomRef) (room : RoomRef) → AreOf at more
+      → is_there at room ≡ false → deadline_by config (facts ++ more) room
+      ≡ deadline_by config facts room
+  deadline_kept more at room are other =
+      ap (λ (l : List RoomFact). if has_room config room.investor room.n then deadline_of l else None)
+      (room_stays room facts more (are.elsewhere room other))
+
+  pub rooms_kept : (more : List Fact) (rooms : OpenRooms) → RoomsStand config facts rooms
+      → AreOf None more → RoomsStand config (facts ++ more) rooms
+  rooms_kept more rooms stands are entry =
+      stands entry
+      ∙ ap (λ (d : Option ℕ). is_deadline d entry.0) (sym (deadline_kept more None entry.1 are refl))
+
+  pub rooms_noted : (more : List Fact) (room : RoomRef) (had now : Option ℕ)
+      (before after : OpenRooms)
+      → RoomsStand config facts before → AreOf (Some room) more
+      → had ≡ deadline_by config facts room → now ≡ deadline_by config (facts ++ more) room
+      → Notes room had now before after → RoomsStand config (facts ++ more) after
+  rooms_noted more room had now before after stands are had_is now_is notes entry =
+      notes stood entry ∙ by_test (is_same_room room entry.1) refl
+    where
+      stood : (e : Entry) → is_same_room room e.1 ≡ true → holds before e ≡ is_deadline had e.0
+      stood e same =
+          stands e ∙ ap (λ (r : RoomRef). is_deadline (deadline_by config facts r) e.0)
+          (sym (same_room room e.1 same))
+          ∙ ap (λ (d : Option ℕ). is_deadline d e.0) (sym had_is)
+
+      by_test : (b : Bool) → is_same_room room entry.1 ≡ b
+          → (if b then is_deadline now entry.0 else holds before entry)
+          ≡ is_deadline (deadline_by config (facts ++ more) entry.1) entry.0
+      by_test true same =
+          ap (λ (d : Option ℕ). is_deadline d entry.0)
+          (now_is ∙ ap (deadline_by config (facts ++ more)) (same_room room entry.1 same))
+      by_test false other =
+          stands entry ∙ ap (λ (d : Option ℕ). is_deadline d entry.0)
+          (sym (deadline_kept more (Some room) entry.1 are other))

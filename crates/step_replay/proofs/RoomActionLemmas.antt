@@ -1,7 +1,6 @@
 -- What comes to a room of a replay does what it should.
 use Rattle.std.proofs.Common.{◌≡◌, ℕ, Bool, true, false, ◌&&◌, List, [], ◌++◌, map, None}
-use Rattle.std.proofs.Common.{if◌then◌else◌, refl, sym, ap, ◌∙◌, subst}
-use Rattle.std.specs.Vec.{with_item}
+use Rattle.std.proofs.Common.{if◌then◌else◌, refl, sym, ap, ◌∙◌}
 use Rattle.std.proofs.lemmas.List.{append-nil}
 use Rattle.venue_rows.specs.Rows.{Configuration}
 use Rattle.market_terms.specs.declared.duties.Duty.{Duty}
@@ -18,6 +17,7 @@ use Rattle.venue_places.specs.declared.arrivals.ForRoom.TheVariants as to_room
 use Rattle.venue_steps.specs.RoomSteps.{where_done, where_follows, duties_of_open, duties_of_pass}
 use Rattle.venue_steps.specs.RoomSteps.{duties_of_expire, duties_of_decline, duties_of_unpost}
 use Rattle.venue_steps.specs.RoomSteps.{duties_of_post}
+use Rattle.venue_steps.proofs.EndLemmas.{after_more}
 use Rattle.step_replay.specs.VenueFacts.{Fact, InRoom, of_room}
 use Rattle.step_replay.specs.Actions.{in_room, nothing}
 use Rattle.step_replay.specs.Coming.{room_gets}
@@ -26,9 +26,7 @@ use Rattle.step_replay.specs.Standing.{Stands, Does}
 use Rattle.step_replay.specs.declared.floor.InvestorPlace.{InvestorPlace}
 use Rattle.step_replay.specs.declared.floor.Floor.{Floor}
 use Rattle.step_replay.proofs.FoundDealers.{idle_does}
-use Rattle.step_replay.proofs.RoomPlaceLemmas.{FoundRoom, no_room}
-use Rattle.step_replay.proofs.RoomFloor.{in_room_stands}
-use Rattle.venue_steps.proofs.EndLemmas.{after_more}
+use Rattle.step_replay.proofs.RoomPlaceLemmas.{FoundRoom, no_room, floor_with, in_room_stands}
 
 -- The room after one event more.
 
@@ -44,13 +42,10 @@ push_where events event false none =
 module _ (config : Configuration) (facts : List Fact) (floor : Floor) (at : RoomRef)
     (investor index : ℕ) (old : InvestorPlace) (events : List RoomEvent)
     (before : Stands config facts floor)
-    (found : FoundRoom config facts floor at investor index old events) where
+    (found : FoundRoom config facts at investor index old events) where
   -- the floor with new events in the room
-  abbrev floor_with : List RoomEvent → Floor
-  floor_with new = record floor {
-    investors = with_item floor.investors investor
-        (record old { rooms = with_item old.rooms index new });
-  }
+  abbrev after : List RoomEvent → Floor
+  after new = floor_with floor investor index old new
 
   -- What a step does in the room.
 
@@ -58,41 +53,29 @@ module _ (config : Configuration) (facts : List Fact) (floor : Floor) (at : Room
   step_done : (event : RoomEvent) (new : List RoomEvent) (duties left : List Duty)
       → room_after new ≡ room_after events ++ event_facts (room_after events) event
       → left ≡ duties
-      → Does config facts (in_room config facts at true event duties) (floor_with new) left
-  step_done event new duties left grown leaves =
-      subst (λ (b : Bool). Does config facts
-      (if b && true then record {
-        facts = map (InRoom at) (event_facts (of_room at facts) event);
-        duties = duties;
-      } else nothing) (floor_with new) left) (sym found.has)
-      (record {
-        stands = in_room_stands config facts floor at investor index old events before found
-            (event_facts (of_room at facts) event) new
-            (grown ∙ ap (λ l. l ++ event_facts l event) found.known);
-        leaves = leaves;
-      })
+      → Does config facts (in_room config facts at true event duties) (after new) left
+  step_done event new duties left grown leaves = rw found.has (record {
+    stands = in_room_stands config facts floor at investor index old events before found
+        (event_facts (of_room at facts) event) new
+        (grown ∙ ap (λ l. l ++ event_facts l event) found.known);
+    leaves = leaves;
+  })
 
   -- a step that does not
   step_not_done : (event : RoomEvent) (new : List RoomEvent) (duties left : List Duty)
       → new ≡ events → left ≡ []
-      → Does config facts (in_room config facts at false event duties) (floor_with new) left
-  step_not_done event new duties left same leaves =
-      subst (λ (b : Bool). Does config facts
-      (if b && false then record {
-        facts = map (InRoom at) (event_facts (of_room at facts) event);
-        duties = duties;
-      } else nothing) (floor_with new) left) (sym found.has)
-      (record {
-        stands = in_room_stands config facts floor at investor index old events before found [] new
-            (ap room_after same ∙ found.known ∙ sym (append-nil (of_room at facts)));
-        leaves = leaves;
-      })
+      → Does config facts (in_room config facts at false event duties) (after new) left
+  step_not_done event new duties left same leaves = rw found.has (record {
+    stands = in_room_stands config facts floor at investor index old events before found [] new
+        (ap room_after same ∙ found.known ∙ sym (append-nil (of_room at facts)));
+    leaves = leaves;
+  })
 
   -- a step that takes place where this holds
   step_where : (may : Bool) (event : RoomEvent) (new : List RoomEvent) (duties left : List Duty)
       → new ≡ where_done may events event
       → (may ≡ true → left ≡ duties) → (may ≡ false → left ≡ [])
-      → Does config facts (in_room config facts at may event duties) (floor_with new) left
+      → Does config facts (in_room config facts at may event duties) (after new) left
   step_where true event new duties left grown done not_done =
       step_done event new duties left (ap room_after grown ∙ after_more events event) (done refl)
   step_where false event new duties left grown done not_done =
@@ -103,7 +86,7 @@ module _ (config : Configuration) (facts : List Fact) (floor : Floor) (at : Room
       → new ≡ where_done (hears (room_after events) dealer) events event → left ≡ duties
       → (hears (of_room at facts) dealer ≡ false → duties ≡ [])
       → Does config facts (in_room config facts at (hears (of_room at facts) dealer) event duties)
-      (floor_with new) left
+      (after new) left
   heard dealer event new duties left grown leaves none =
       step_where (hears (of_room at facts) dealer) event new duties left
       (grown ∙ ap (λ l. where_done (hears l dealer) events event) found.known)
@@ -112,7 +95,7 @@ module _ (config : Configuration) (facts : List Fact) (floor : Floor) (at : Room
   -- what comes there does what it should
   pub room_does : (what : ForRoom) (new : List RoomEvent) (left : List Duty)
       → new ≡ room_with events what → left ≡ duties_in_room at events what
-      → Does config facts (room_gets config facts at what) (floor_with new) left
+      → Does config facts (room_gets config facts at what) (after new) left
   unfolding event_facts room_with duties_in_room room_gets
   room_does (to_room.Open ask dealers moment) new left grown leaves =
       step_done (at_room.Open (record { ask = ask; dealers = dealers })) new _ left

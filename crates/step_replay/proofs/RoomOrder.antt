@@ -1,13 +1,14 @@
 -- Every room of a venue: in order, and none is left out.
 use Rattle.std.proofs.Common.{◌≡◌, ◌<◌, ◌≤◌, ℕ, zero, suc, ◌+◌, ◌-◌, ◌==◌, Bool, true, false, ◌&&◌}
 use Rattle.std.proofs.Common.{◌||◌, List, [], ◌∷◌, ◌++◌, length, Option, None, if◌then◌else◌}
-use Rattle.std.proofs.Common.{nat_le, nat_lt, refl, sym, ap, ◌∙◌, arith}
+use Rattle.std.proofs.Common.{nat_le, nat_lt, refl, sym, ap, ap₂, ◌∙◌, arith}
 use Rattle.std.specs.Prelude.{slice_get}
 use Rattle.std.specs.List.{AllByRecursion, list_any}
 use Rattle.std.specs.List.Sorted.{IsStrictlySortedBy}
 use Rattle.std.specs.Ordering.{nat_cmp, ordering_then}
 use Rattle.std.specs.declared.cmp.Ordering.{Ordering}
 use Rattle.std.specs.declared.cmp.Ordering.TheVariants.{Less, Equal}
+use Rattle.std.proofs.lemmas.Bool.{and_right}
 use Rattle.std.proofs.lemmas.Bool.Decides.{nat_tests}
 use Rattle.std.proofs.lemmas.List.Folds.{list_any-append}
 use Rattle.market_terms.specs.declared.rooms.RoomRef.{RoomRef}
@@ -107,24 +108,28 @@ abbrev pub is_among : RoomRef → List RoomRef → Bool
 is_among room rooms = list_any (is_same_room room) rooms
 
 -- the rooms of one investor
-behind_other : (room : RoomRef) (investor first more : ℕ) → (room.investor == investor) ≡ false
-    → is_among room (rooms_behind investor first more) ≡ false
-behind_other room investor first zero differs = refl
-behind_other room investor first (suc more) differs =
-    rw differs (behind_other room investor (first + 1) more differs)
-
-behind_has : (room : RoomRef) (investor first more : ℕ) → (room.investor == investor) ≡ true
+behind_is : (room : RoomRef) (investor first more : ℕ)
     → is_among room (rooms_behind investor first more)
-    ≡ (nat_le (first + 1) room.n && nat_le room.n (first + more))
-behind_has room investor first zero same = grind (arith, nat_tests)
-behind_has room investor first (suc more) same =
-    rw same (ap (λ (b : Bool). (room.n == first + 1) || b)
-    (behind_has room investor (first + 1) more same) ∙ by_number room.n first more)
+    ≡ ((room.investor == investor)
+    && (nat_le (first + 1) room.n && nat_le room.n (first + more)))
+behind_is room investor first zero =
+    sym (and_right (room.investor == investor) _ (none_there room.n first))
+  where
+    none_there : (n first : ℕ) → (nat_le (first + 1) n && nat_le n (first + 0)) ≡ false
+    none_there n first = grind (arith, nat_tests)
+behind_is room investor first (suc more) =
+    ap (λ (b : Bool). ((room.investor == investor) && (room.n == first + 1)) || b)
+    (behind_is room investor (first + 1) more)
+    ∙ by_investor (room.investor == investor) _ _ _ (by_number room.n first more)
   where
     by_number : (n first more : ℕ)
         → ((n == first + 1) || (nat_le (first + 1 + 1) n && nat_le n (first + 1 + more)))
         ≡ (nat_le (first + 1) n && nat_le n (first + suc more))
     by_number n first more = grind (arith, nat_tests)
+
+    by_investor : (b x y z : Bool) → (x || y) ≡ z → ((b && x) || (b && y)) ≡ (b && z)
+    by_investor true x y z is = is
+    by_investor false x y z is = refl
 
 -- an investor's row, where the first has this number
 abbrev row_at : ℕ → List InvestorRow → ℕ → Option InvestorRow
@@ -145,7 +150,7 @@ from_has room number [] = sym (no_rows number room.investor room.n)
 from_has room number (row ∷ rows) =
     list_any-append (is_same_room room) (rooms_behind number 0 row.requests)
     (rooms_from (number + 1) (requests_of rows))
-    ∙ ap (λ (b : Bool). is_among room (rooms_behind number 0 row.requests) || b)
+    ∙ ap₂ (λ (one other : Bool). one || other) (behind_is room number 0 row.requests)
     (from_has room (number + 1) rows)
     ∙ by_test (room.investor == number) refl
   where
@@ -183,17 +188,13 @@ from_has room number (row ∷ rows) =
         rw (one, two) refl
 
     by_test : (b : Bool) → (room.investor == number) ≡ b
-        → (is_among room (rooms_behind number 0 row.requests)
+        → ((b && (nat_le (0 + 1) room.n && nat_le room.n (0 + row.requests)))
         || may_request (row_at (number + 1) rows room.investor) room.n)
         ≡ may_request (row_at number (row ∷ rows) room.investor) room.n
     by_test true test =
         let same : room.investor ≡ number = grind (arith, nat_tests, test) in
-        ap (λ (b : Bool). b || may_request (row_at (number + 1) rows room.investor) room.n)
-        (behind_has room number 0 row.requests test) ∙ own same
-    by_test false test =
-        ap (λ (b : Bool). b || may_request (row_at (number + 1) rows room.investor) room.n)
-        (behind_other room number 0 row.requests test)
-        ∙ later (nat_lt number room.investor) refl test
+        own same
+    by_test false test = later (nat_lt number room.investor) refl test
 
 pub rooms_are : (config : Configuration) (room : RoomRef)
     → is_among room (rooms_of config) ≡ has_room config room.investor room.n

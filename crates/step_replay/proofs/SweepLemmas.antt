@@ -18,24 +18,23 @@ use Rattle.request_room.specs.RoomFacts.{RoomFact, Ended, request_of}
 use Rattle.request_room.specs.declared.ends.End.{End}
 use Rattle.venue_rows.specs.Rows.{Configuration, has_room}
 use Rattle.venue_steps.specs.RoomSteps.{close_for, dealers_of, duties_of_expire, told_in}
+use Rattle.venue_places.specs.declared.actors.Actor.{Actor}
+use Rattle.venue_places.specs.declared.actors.Actor.TheVariants as actor
 use Rattle.step_replay.specs.Actions.{Dealer, Effect, at_dealer, at_market, dealer_at, done_by}
-use Rattle.step_replay.specs.Actions.{done_for, nothing, told_of, told_to}
+use Rattle.step_replay.specs.Actions.{done_for, nothing, told_of, told_to, where_known}
 use Rattle.step_replay.specs.DutyEffects.{duty_effect, sweep_effect}
 use Rattle.step_replay.specs.AuditTrail.{AuditTrail, Caused, after_step, after_turn, duty_of}
 use Rattle.step_replay.specs.AuditTrail.{is_same_actor, pending, with_effect}
 use Rattle.step_replay.specs.LiveStanding.{after_turns, room_of_duty}
 use Rattle.step_replay.specs.VenueFacts.{Fact, InRoom, of_room}
-use Rattle.venue_places.specs.declared.actors.Actor.{Actor}
-use Rattle.venue_places.specs.declared.actors.Actor.TheVariants as actor
 use Rattle.step_replay.specs.declared.steps.Step.TheVariants as step
 use Rattle.step_replay.specs.declared.steps.TheConstants.{MOST_TURNS_BEHIND}
 use Rattle.step_replay.specs.GrowthLemmas.{same_room}
-use Rattle.step_replay.proofs.LiveLemmas.{idle_turns, no_turn}
 use Rattle.step_replay.specs.QueueLemmas.{own_pending, own_turned}
 use Rattle.step_replay.specs.ActionKinds.{duty_action, sweep_action}
-use Rattle.step_replay.proofs.RoomEffects.{AreOf, action_there}
-use Rattle.step_replay.proofs.StartLemmas.{swept, turned}
 use Rattle.step_replay.specs.PlaceLemmas.{room_stays}
+use Rattle.step_replay.proofs.StartLemmas.{idle_turns, no_turn, turn_first, swept, turned}
+use Rattle.step_replay.proofs.StepEffects.{AreOf, action_there}
 
 -- A room that is not due.
 
@@ -79,82 +78,70 @@ sweep_not_due config trail room moment none =
 -- The duties of the clock: that of telling how a request ended. They are done in no room, and leave
 -- no other.
 
-pub data IsTelling (d : Duty) : Type 0 where
-  closing : (room : RoomRef) (moment : ℕ) → d ≡ duty.Close room moment → IsTelling d
-  telling : (dealer : ℕ) (room : RoomRef) (close : Close) (moment : ℕ)
-      → d ≡ duty.Tell dealer room close moment → IsTelling d
+pub record IsTelling (d : Duty) : Type 0 where
+  pub nowhere : room_of_duty d ≡ None
+  pub last : (config : Configuration) (facts : List Fact) (by : Actor)
+      → (duty_effect config facts by d).duties ≡ []
 
 abbrev AreTellings : List Duty → Type 0
 AreTellings duties = AllByRecursion IsTelling duties
-
-in_no_room : (d : Duty) → IsTelling d → room_of_duty d ≡ None
-in_no_room d (closing room moment is) = ap room_of_duty is
-in_no_room d (telling dealer room close moment is) = ap room_of_duty is
-
-none_by_investor : (found : Option InvestorMarket) (action : InvestorMarket → Effect)
-    → ((market : InvestorMarket) → (action market).duties ≡ [])
-    → (done_for found action).duties ≡ []
-none_by_investor None action none = refl
-none_by_investor (Some market) action none = none market
-
-none_by_dealer : (found : Option Dealer) (action : Dealer → Effect)
-    → ((dealer : Dealer) → (action dealer).duties ≡ []) → (done_by found action).duties ≡ []
-none_by_dealer None action none = refl
-none_by_dealer (Some dealer) action none = none dealer
 
 none_if : (b : Bool) (effect : Effect) → effect.duties ≡ []
     → (if b then effect else nothing).duties ≡ []
 none_if true effect none = none
 none_if false effect none = refl
 
-module _ (config : Configuration) (facts : List Fact) (by : Actor) where
-  none_by_close : (room : RoomRef) (moment : ℕ)
-      → (duty_effect config facts by (duty.Close room moment)).duties ≡ []
-  unfolding duty_effect
-  none_by_close room moment =
-      none_by_investor (investor_desk.market_for config room.investor) _
-      (λ market. none_if _
-      (at_market facts market (at_investor.Closed room.n moment) []) refl)
+closing : (room : RoomRef) (moment : ℕ) → IsTelling (duty.Close room moment)
+unfolding duty_effect
+closing room moment = record {
+  nowhere = refl;
+  last = λ config facts by. by_market facts (investor_desk.market_for config room.investor);
+}
+  where
+    by_market : (facts : List Fact) (found : Option InvestorMarket) → (done_for found
+        (where_known facts room.n None (at_investor.Closed room.n moment))).duties ≡ []
+    by_market facts None = refl
+    by_market facts (Some market) =
+        none_if _ (at_market facts market (at_investor.Closed room.n moment) []) refl
 
-  told_none : (dealer : Dealer) (close : Close) (moment : ℕ) (request : Option ℕ)
-      → (told_of config facts dealer close moment request).duties ≡ []
-  told_none dealer close moment None = refl
-  told_none dealer close moment (Some request) =
-      none_if _ (at_dealer config facts dealer (at_desk.Told request close moment) []) refl
+telling : (dealer : ℕ) (room : RoomRef) (close : Close) (moment : ℕ)
+    → IsTelling (duty.Tell dealer room close moment)
+unfolding duty_effect
+telling dealer room close moment = record {
+  nowhere = refl;
+  last = λ config facts by. by_dealer config facts (dealer_at config dealer);
+}
+  where
+    told_none : (config : Configuration) (facts : List Fact) (who : Dealer) (request : Option ℕ)
+        → (told_of config facts who close moment request).duties ≡ []
+    told_none config facts who None = refl
+    told_none config facts who (Some request) =
+        none_if _ (at_dealer config facts who (at_desk.Told request close moment) []) refl
 
-  none_by_tell : (dealer : ℕ) (room : RoomRef) (close : Close) (moment : ℕ)
-      → (duty_effect config facts by (duty.Tell dealer room close moment)).duties ≡ []
-  unfolding duty_effect
-  none_by_tell dealer room close moment =
-      none_by_dealer (dealer_at config dealer) (told_to config facts room close moment)
-      (λ who. told_none who close moment _)
+    by_dealer : (config : Configuration) (facts : List Fact) (found : Option Dealer)
+        → (done_by found (told_to config facts room close moment)).duties ≡ []
+    by_dealer config facts None = refl
+    by_dealer config facts (Some who) = told_none config facts who _
 
-  none_by_telling : (d : Duty) → IsTelling d → (duty_effect config facts by d).duties ≡ []
-  none_by_telling d (closing room moment is) =
-      ap (λ (e : Duty). (duty_effect config facts by e).duties) is ∙ none_by_close room moment
-  none_by_telling d (telling dealer room close moment is) =
-      ap (λ (e : Duty). (duty_effect config facts by e).duties) is
-      ∙ none_by_tell dealer room close moment
-
-  in_no_room_by : (d : Duty) → IsTelling d → (room : RoomRef)
-      → of_room room (duty_effect config facts by d).facts ≡ []
-  in_no_room_by d tells room =
-      let there : AreOf None (duty_effect config facts by d).facts =
-      subst (λ (r : Option RoomRef). AreOf r (duty_effect config facts by d).facts)
-      (in_no_room d tells) (action_there config facts _ _ _ (duty_action config facts by d)) in
-      there.elsewhere room refl
+in_no_room : (config : Configuration) (facts : List Fact) (by : Actor) (d : Duty) → IsTelling d
+    → (room : RoomRef) → of_room room (duty_effect config facts by d).facts ≡ []
+in_no_room config facts by d tells room =
+    let there : AreOf None (duty_effect config facts by d).facts =
+    subst (λ (r : Option RoomRef). AreOf r (duty_effect config facts by d).facts) tells.nowhere
+    (action_there config facts _ _ _ (duty_action config facts by d)) in
+    there.elsewhere room refl
 
 -- what a sweep leaves
 tellings_to : (room : RoomRef) (end : End) (dealers : List ℕ) (moment : ℕ)
     → AreTellings (map (λ dealer. duty.Tell dealer room (close_for end dealer) moment) dealers)
 tellings_to room end [] moment = tt
 tellings_to room end (dealer ∷ dealers) moment =
-    (telling dealer room (close_for end dealer) moment refl, tellings_to room end dealers moment)
+    (telling dealer room (close_for end dealer) moment, tellings_to room end dealers moment)
 
 tellings_if : (b : Bool) (room : RoomRef) (facts : List RoomFact) (moment : ℕ)
     → AreTellings (if b then duty.Close room moment ∷ told_in facts room expired moment else [])
 tellings_if true room facts moment =
-    (closing room moment refl, tellings_to room expired (dealers_of (request_of facts)) moment)
+    (closing room moment, tellings_to room expired (dealers_of (request_of facts)) moment)
 tellings_if false room facts moment = tt
 
 tellings_of : (b : Bool) (effect : Effect) → AreTellings effect.duties
@@ -189,7 +176,7 @@ turn_tells config room trail [] is all =
 turn_tells config room trail (first ∷ later) is all =
     let effect = duty_effect config trail.facts actor.Clock first in
     let same = turned config trail actor.Clock ∙ ap (after_turn config actor.Clock trail) is in
-    let none = none_by_telling config trail.facts actor.Clock first all.0 in
+    let none = all.0.last config trail.facts actor.Clock in
     let left : pending actor.Clock (after_step config trail (step.Turn actor.Clock)) ≡ later =
     ap (pending actor.Clock) same
     ∙ own_turned actor.Clock trail effect first later is
@@ -197,15 +184,9 @@ turn_tells config room trail (first ∷ later) is all =
     record {
       kept = ap (λ (t : AuditTrail). of_room room t.facts) same
           ∙ room_stays room trail.facts effect.facts
-          (in_no_room_by config trail.facts actor.Clock first all.0 room);
+          (in_no_room config trail.facts actor.Clock first all.0 room);
       tells = subst AreTellings (sym left) all.1;
     }
-
-turn_first : (config : Configuration) (by : Actor) (count : ℕ) (trail : AuditTrail)
-    → after_turns config by (suc count) trail
-    ≡ after_turns config by count (after_step config trail (step.Turn by))
-unfolding after_turns
-turn_first config by count trail = refl
 
 turns_tell : (config : Configuration) (room : RoomRef) (count : ℕ) (trail : AuditTrail)
     → AreTellings (pending actor.Clock trail)

@@ -1,7 +1,7 @@
 //! What happens at the investors' desks of a replay.
 ghost use Rattle.std.specs.Prelude.{◌≡◌, ◌-◌, nat_le, Some, None, IfOk, if◌then◌else◌};
 ghost use Rattle.investor_desk.specs.InvestorDesk as investor_output;
-ghost use Rattle.step_replay.specs.Standing.{Acts};
+ghost use Rattle.step_replay.specs.Standing.{Acts, ActsOnce};
 ghost use Rattle.step_replay.specs.Actions as action;
 ghost use Rattle.step_replay.specs.Coming as coming;
 
@@ -47,7 +47,7 @@ impl Floor {
 
     /// What comes to an investor's desk is brought to it.
     pub(crate) fn to_investor(&mut self, firm: u16, what: ForInvestor) -> Result<Duties, Memory>
-        ensures { IfOk result (λ duties. Acts (λ config facts.
+        ensures { IfOk result (λ duties. ActsOnce (λ config facts.
             action.done_for (investor_output.market_for config firm)
             (coming.investor_gets facts what))
             self.old self.new duties.items) }

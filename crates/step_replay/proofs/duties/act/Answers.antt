@@ -1,7 +1,6 @@
 use Rattle.step_replay.specs.DutyEffects.{duty_effect}
 use Rattle.venue_places.specs.Placed.{placed}
-use Rattle.step_replay.proofs.ComingLemmas.{duty_comes}
-use Rattle.step_replay.proofs.DutyLemmas.{nothing_comes, something_comes}
+use Rattle.step_replay.proofs.ComingLemmas.{duty_comes, nothing_comes, something_comes}
 use Rattle.step_replay.proofs.duties.act.Goals as goal
 
 pub returns-in_default : goal.returns-in_default

@@ -1,6 +1,6 @@
 use Rattle.std.proofs.Common.{◌<◌, ◌≤◌, length, arith}
 use Rattle.std.proofs.lemmas.Bool.Decides.{nat_tests}
-use Rattle.step_replay.proofs.DutyLemmas.{dealer_message, investor_message}
+use Rattle.step_replay.proofs.ComingLemmas.{dealer_message, investor_message}
 use Rattle.step_replay.proofs.duties.receive.Goals as goal
 
 pub returns-then-from-len : goal.returns-then-from-len

@@ -1,7 +1,6 @@
 use Rattle.step_replay.specs.DutyEffects.{sweep_effect}
 use Rattle.venue_places.specs.Placed.{swept}
-use Rattle.step_replay.proofs.ComingLemmas.{sweep_comes}
-use Rattle.step_replay.proofs.DutyLemmas.{nothing_comes, something_comes}
+use Rattle.step_replay.proofs.ComingLemmas.{sweep_comes, nothing_comes, something_comes}
 use Rattle.step_replay.proofs.duties.sweep.Goals as goal
 
 pub returns-in_default : goal.returns-in_default

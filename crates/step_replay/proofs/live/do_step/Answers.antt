@@ -1,6 +1,5 @@
 use Rattle.std.proofs.Common.{◌++◌, refl}
-use Rattle.step_replay.proofs.LiveLemmas.{actor_known}
-use Rattle.step_replay.proofs.LiveSteps.{noted_step, plain_step}
+use Rattle.step_replay.proofs.LiveLemmas.{actor_known, noted_step, plain_step}
 use Rattle.step_replay.proofs.live.do_step.Goals as goal
 
 pub returns-in_default : goal.returns-in_default

@@ -1,12 +1,11 @@
-use Rattle.std.proofs.Common.{◌++◌, ◌∷◌, [], List, map, length, sym, subst}
+use Rattle.std.proofs.Common.{◌++◌, ◌∷◌, [], map, length}
 use Rattle.std.specs.Map.Iter.{deref}
 use Rattle.std.proofs.lemmas.List.{map-append}
 use Rattle.std.proofs.lemmas.Map.Iter.{iter_end, iter_turn}
 use Rattle.market_terms.specs.declared.rooms.RoomRef.{RoomRef}
-use Rattle.step_replay.specs.LiveDays.{Sent, live_messages, live_trail}
+use Rattle.step_replay.specs.LiveDays.{live_messages, live_trail}
 use Rattle.step_replay.specs.VenueRooms.{sweeps_at}
-use Rattle.step_replay.proofs.SweptLemmas.{SweptSo, swept_all, swept_more, swept_none}
-use Rattle.step_replay.proofs.SweptRooms.{room_known}
+use Rattle.step_replay.proofs.SweptLemmas.{swept_all, swept_more, swept_none, room_known}
 use Rattle.step_replay.proofs.live.LiveVenue.sweep.Goals as goal
 
 pub loop-room-init : goal.loop-room-init
@@ -14,8 +13,7 @@ loop-room-init c = record {
   can_next = tt;
   is_finite = tt;
   swept = λ config steps is_at.
-      subst (λ (l : List Sent). SweptSo config steps c.args.moment [] c.args.self.now l)
-      (sym c.new-told.ensures.items)
+      rw c.new-told.ensures.items
       (swept_none config steps c.args.moment c.args.self.now is_at);
 }
 
@@ -33,9 +31,7 @@ loop-room-preserved c = record {
       c.in-Some.is c.next.ensures.steps in
       let none = room_known config steps c.args.self.now c.args.moment c.in_ok-due.due
       (length c.loop-room.yielded) room is_at c.in_ok-due.ensures there.1 in
-      subst (λ (l : List RoomRef). SweptSo config steps c.args.moment l c.send_all.new.venue
-      c.send_all.new.told.items)
-      (sym (map-append deref c.loop-room.yielded (c.in-Some.room ∷ [])))
+      rw (map-append deref c.loop-room.yielded (c.in-Some.room ∷ []))
       (swept_more config steps c.args.moment done room c.loop-room.self c.send_all.new.venue
       c.loop-room.told.items c.send_all.new.told.items had
       (c.in_ok-send_all.ensures config

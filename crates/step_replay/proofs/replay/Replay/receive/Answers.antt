@@ -1,9 +1,10 @@
 use Rattle.std.proofs.Common.{◌<◌, length, map, slice_set, arith, refl, ap, ◌∙◌}
 use Rattle.std.proofs.lemmas.Bool.Decides.{nat_tests}
+use Rattle.std.proofs.lemmas.List.{map-set}
 use Rattle.step_replay.specs.DutyEffects.{message_effect}
 use Rattle.venue_places.specs.declared.actors.Actor.TheVariants as actor
 use Rattle.step_replay.specs.PlaceLemmas.{lent}
-use Rattle.step_replay.proofs.TurnLemmas.{map_set, map_get}
+use Rattle.step_replay.proofs.TurnLemmas.{map_get}
 use Rattle.step_replay.proofs.FollowLemmas.{step_follows, message_one, found_here}
 use Rattle.step_replay.proofs.replay.Replay.receive.Goals as goal
 
@@ -21,5 +22,5 @@ returns c config trail known before =
     (map_get (λ q. q.items) queues index queue there)
     (c.in_ok-duties.ensures config trail.facts before.floor_stands)
     (message_one config trail.facts c.args.firm c.args.moment c.args.bytes.now before.are_one_of) refl
-    (map_set (λ q. q.items) queues index c.leave.new.queue
+    (map-set (λ q. q.items) queues index c.leave.new.queue
     ∙ ap (slice_set (map (λ q. q.items) queues) index) c.in_ok-leave.ensures)

@@ -3,7 +3,7 @@ use Rattle.std.proofs.lemmas.Iterator.Adapters.{YieldsList-from_vec}
 use Rattle.std.proofs.lemmas.Iterator.Consumers.{YieldsList-end, YieldsList-turn}
 use Rattle.step_replay.specs.DoneSteps.{after_steps}
 use Rattle.step_replay.specs.Following.{ReplayStands}
-use Rattle.step_replay.proofs.DoneLemmas.{step_done}
+use Rattle.step_replay.proofs.StartLemmas.{step_done}
 use Rattle.step_replay.proofs.replay.Replay.run.Goals as goal
 
 pub loop-step-init : goal.loop-step-init

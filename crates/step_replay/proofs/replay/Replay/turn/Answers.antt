@@ -1,8 +1,9 @@
 use Rattle.std.proofs.Common.{◌<◌, ◌++◌, length, map, slice_set, arith, sym, ap, refl, ◌∙◌}
 use Rattle.std.proofs.lemmas.Bool.Decides.{nat_tests}
+use Rattle.std.proofs.lemmas.List.{map-set, set-set}
 use Rattle.std.proofs.lemmas.Option.{same_Some}
 use Rattle.step_replay.specs.PlaceLemmas.{lent, get_set_same}
-use Rattle.step_replay.proofs.TurnLemmas.{map_set, map_get, set_twice}
+use Rattle.step_replay.proofs.TurnLemmas.{map_get}
 use Rattle.step_replay.proofs.FollowLemmas.{full_turn, idle_turn, found_here, none_left}
 use Rattle.step_replay.proofs.replay.Replay.turn.Goals as goal
 
@@ -18,7 +19,7 @@ returns-in_default-pop_front c config trail known before =
     idle_turn config c.args.by trail c.args.self.now _ index queue.items known before
     (found_here c.args.self.now c.args.by index c.in-Some.ensures)
     (map_get (λ q. q.items) queues index queue there) empty refl
-    (map_set (λ q. q.items) queues index c.pop_front.new.self
+    (map-set (λ q. q.items) queues index c.pop_front.new.self
     ∙ ap (slice_set (map (λ q. q.items) queues) index) (sym popped.items ∙ empty))
 
 pub returns : goal.returns
@@ -41,7 +42,7 @@ returns c config trail known before =
     (found_here c.args.self.now c.args.by index c.in-Some.ensures)
     (map_get (λ q. q.items) queues index queue there) c.in-Some-pop_front.ensures.items
     c.in_ok-duties.ensures refl
-    (ap (map (λ q. q.items)) (set_twice queues index popped c.leave.new.queue)
-    ∙ map_set (λ q. q.items) queues index c.leave.new.queue
+    (ap (map (λ q. q.items)) (set-set queues index popped c.leave.new.queue)
+    ∙ map-set (λ q. q.items) queues index c.leave.new.queue
     ∙ ap (slice_set (map (λ q. q.items) queues) index)
     (c.in_ok-leave.ensures ∙ ap (λ q. q.items ++ left) (sym same)))

@@ -1,39 +1,100 @@
--- What a step sends, it sends to one firm.
-use Rattle.std.proofs.Common.{◌≡◌, ◌<◌, ℕ, Bool, true, false, nat_lt, List, [], ◌∷◌, ◌++◌, length}
-use Rattle.std.proofs.Common.{map, filter_map, Option, Some, None, refl, sym, ap, ◌∙◌, subst, arith}
-use Rattle.std.specs.Prelude.{is_some, Result, Ok, Err}
+-- What a step adds to the facts of rooms, it adds in the one room in which it takes place, and what it
+-- sends, it sends to one firm.
+use Rattle.std.proofs.Common.{◌≡◌, ℕ, Bool, false, List, [], ◌∷◌, ◌++◌, map, Option, Some, None}
+use Rattle.std.proofs.Common.{refl, sym, ap, ◌∙◌, ◌<◌, true, nat_lt, length, filter_map, arith}
+use Rattle.std.specs.Prelude.{Result, Ok, Err, is_some}
 use Rattle.std.proofs.lemmas.Bool.Decides.{nat_tests}
 use Rattle.std.proofs.lemmas.List.{append-nil}
 use Rattle.std.proofs.lemmas.List.Elements.{filter_map-append}
 use Rattle.std.proofs.lemmas.Option.{slice_get_past, slice_get_within}
-use Rattle.market_terms.specs.declared.duties.Duty.{Duty}
 use Rattle.market_terms.specs.declared.rooms.RoomRef.{RoomRef}
 use Rattle.market_terms.specs.declared.closes.HitRefusal.{HitRefusal}
 use Rattle.request_room.specs.RoomFacts.{RoomFact}
 use Rattle.request_room.specs.declared.ends.End.{End}
 use Rattle.venue_rows.specs.Rows.{Configuration, dealer_numbered, investor_numbered}
+use Rattle.dealer_desk.specs.DealerOutput.{is_same_room}
+use Rattle.market_terms.specs.declared.duties.Duty.{Duty}
 use Rattle.venue_rows.specs.declared.dealer_rows.DealerRow.{DealerRow}
 use Rattle.venue_rows.specs.declared.investor_rows.InvestorRow.{InvestorRow}
-use Rattle.step_replay.specs.AuditTrail.{AuditTrail, after_step, after_turn, pending}
+use Rattle.venue_places.specs.declared.actors.Actor.{Actor}
 use Rattle.step_replay.specs.ActionKinds.{IsAction, by_dealer, by_hit, by_investor, by_room, idle}
 use Rattle.step_replay.specs.ActionKinds.{duty_action, message_action, sweep_action}
-use Rattle.step_replay.specs.Actions.{Effect, QuoteRef, quote_with_word, nothing, lifting}
+use Rattle.step_replay.specs.Actions.{Effect, QuoteRef, lifting, quote_with_word, nothing}
+use Rattle.step_replay.specs.DealerTrail.{DealerEntry, Lifted}
+use Rattle.step_replay.specs.InvestorTrail.{InvestorEntry}
+use Rattle.step_replay.specs.VenueFacts.{Fact, AtDealer, InRoom, AtInvestor, of_room, of_dealer}
+use Rattle.step_replay.specs.VenueFacts.{of_investor}
+use Rattle.step_replay.specs.PlaceLemmas.{other_room, room_at_dealer, room_at_investor, room_grown}
+use Rattle.step_replay.specs.PlaceLemmas.{behind_dealers, nothing_of, own_trail, own_investor}
+use Rattle.step_replay.specs.PlaceLemmas.{investor_within}
+use Rattle.step_replay.specs.AuditTrail.{AuditTrail, after_step, after_turn, pending}
 use Rattle.step_replay.specs.DutyEffects.{duty_effect, message_effect, sweep_effect}
 use Rattle.step_replay.specs.DealerTrail as dealer_trail
-use Rattle.step_replay.specs.DealerTrail.{DealerEntry}
 use Rattle.step_replay.specs.InvestorTrail as investor_trail
-use Rattle.step_replay.specs.InvestorTrail.{InvestorEntry}
 use Rattle.step_replay.specs.LiveDays.{Sent, actor_of, is_dealer, messages_in, sent_by_facts}
 use Rattle.step_replay.specs.LiveDays.{sent_in}
 use Rattle.step_replay.specs.LiveStanding.{desk_of_step, first_in, room_of_step}
 use Rattle.step_replay.specs.StepFaults.{firms_of}
-use Rattle.step_replay.specs.VenueFacts.{Fact, AtDealer, InRoom, AtInvestor, of_dealer, of_investor}
-use Rattle.venue_places.specs.declared.actors.Actor.{Actor}
 use Rattle.step_replay.specs.declared.steps.Step.{Step}
 use Rattle.step_replay.specs.declared.steps.Step.TheVariants as step
-use Rattle.step_replay.specs.PlaceLemmas.{behind_dealers, nothing_of, own_trail, own_investor}
-use Rattle.step_replay.specs.PlaceLemmas.{investor_within}
-use Rattle.step_replay.proofs.RoomEffects.{AreOf, action_there, nothing_there}
+
+-- whether a room is the one in which something takes place
+abbrev pub is_there : Option RoomRef → RoomRef → Bool
+is_there None room = false
+is_there (Some at) room = is_same_room at room
+
+-- facts that say nothing of any other room
+pub record AreOf (at : Option RoomRef) (facts : List Fact) : Type 0 where
+  pub elsewhere : (room : RoomRef) → is_there at room ≡ false → of_room room facts ≡ []
+
+pub nothing_there : (at : Option RoomRef) → AreOf at []
+unfolding of_room
+nothing_there at = record { elsewhere = λ room other. refl }
+
+happened_there : (room : RoomRef) (happened : List RoomFact)
+    → AreOf (Some room) (map (InRoom room) happened)
+happened_there room happened =
+    record { elsewhere = λ other differs. other_room other room differs happened }
+
+dealer_there : (at : Option RoomRef) (number : ℕ) (entries : List DealerEntry)
+    → AreOf at (map (AtDealer number) entries)
+dealer_there at number entries =
+    record { elsewhere = λ room other. room_at_dealer room number entries }
+
+investor_there : (at : Option RoomRef) (number : ℕ) (entries : List InvestorEntry)
+    → AreOf at (map (AtInvestor number) entries)
+investor_there at number entries =
+    record { elsewhere = λ room other. room_at_investor room number entries }
+
+both_there : (at : Option RoomRef) (one two : List Fact) → AreOf at one → AreOf at two
+    → AreOf at (one ++ two)
+both_there at one two first second = record {
+  elsewhere = λ room other. room_grown room one two
+      ∙ ap (λ (l : List RoomFact). l ++ of_room room two) (first.elsewhere room other)
+      ∙ second.elsewhere room other;
+}
+
+lifting_there : (at : Option RoomRef) (found : Option QuoteRef) (outcome : Result End HitRefusal)
+    → AreOf at (lifting found outcome)
+lifting_there at None (Ok award) = nothing_there at
+lifting_there at None (Err refused) = nothing_there at
+lifting_there at (Some hit) (Ok award) = dealer_there at hit.dealer (Lifted hit.quote ∷ [])
+lifting_there at (Some hit) (Err refused) = nothing_there at
+
+-- all actions, by their kinds
+pub action_there : (config : Configuration) (facts : List Fact) (desk : Option ℕ)
+    (room : Option RoomRef) (effect : Effect) → IsAction config facts desk room effect
+    → AreOf room effect.facts
+action_there config facts desk room effect (idle is) = rw is (nothing_there room)
+action_there config facts desk room effect (by_dealer number row event duties at found comes is) =
+    rw is (dealer_there room number _)
+action_there config facts desk room effect (by_investor number row event duties at found is) =
+    rw is (investor_there room number _)
+action_there config facts desk room effect (by_room at event duties here is) =
+    rw (here, is) (happened_there at _)
+action_there config facts desk room effect (by_hit at response word moment here is) =
+    rw (here, is) (both_there (Some at) (lifting _ _) (map (InRoom at) _)
+    (lifting_there (Some at) (quote_with_word config word) _) (happened_there at _))
 
 -- a message and its firm
 abbrev pub to : ℕ → List ℕ → Sent
@@ -164,9 +225,7 @@ module _ (config : Configuration) where
   -- one that may send to a firm
   sent_by : (firm : ℕ) (desk : Option ℕ) (effect other : Effect) → desk ≡ Some firm
       → effect ≡ other → SendAt (Some firm) other.facts → SendAt desk effect.facts
-  sent_by firm desk effect other at is sends =
-      subst (λ (d : Option ℕ). SendAt d effect.facts) (sym at)
-      (subst (λ (e : Effect). SendAt (Some firm) e.facts) (sym is) sends)
+  sent_by firm desk effect other desk_is is sends = rw (desk_is, is) sends
 
   nothing_sent : messages_in config [] ≡ []
   unfolding messages_in
@@ -208,12 +267,8 @@ module _ (config : Configuration) where
   turn_adds by trail (first ∷ later) is = record {
     more = (duty_effect config trail.facts by first).facts;
     grown = ap (λ (d : List Duty). (after_turn config by trail d).facts) is;
-    sent = subst (λ (d : List Duty). SendAt (desk_of_step (step.Turn by) (first_in d))
-        (duty_effect config trail.facts by first).facts) (sym is)
-        (action_at trail.facts _ _ _ (duty_action config trail.facts by first));
-    inside = subst (λ (d : List Duty). AreOf (room_of_step (step.Turn by) (first_in d))
-        (duty_effect config trail.facts by first).facts) (sym is)
-        (action_there config trail.facts _ _ _ (duty_action config trail.facts by first));
+    sent = rw is (action_at trail.facts _ _ _ (duty_action config trail.facts by first));
+    inside = rw is (action_there config trail.facts _ _ _ (duty_action config trail.facts by first));
   }
 
   pub step_adds : (trail : AuditTrail) (next : Step) → Adds trail next

@@ -1,0 +1,228 @@
+-- The day of each firm: what a venue has of it by the facts, and at its places.
+use Rattle.std.proofs.Common.{◌≡◌, ◌<◌, ◌≤◌, ℕ, zero, suc, ◌+◌, ◌-◌, Bool, true, false, nat_lt}
+use Rattle.std.proofs.Common.{if◌then◌else◌, List, [], ◌∷◌, ◌++◌, length, map, Some, None}
+use Rattle.std.proofs.Common.{option_map, is_some, refl, sym, ap, ◌∙◌, subst, arith, append_assoc}
+use Rattle.std.specs.Prelude.{slice_get}
+use Rattle.std.proofs.lemmas.Bool.Decides.{nat_tests}
+use Rattle.std.proofs.lemmas.List.{length-append, map-append}
+use Rattle.std.proofs.lemmas.Option.{slice_get_past}
+use Rattle.std.proofs.lemmas.Simd.{map-map}
+use Rattle.venue_rows.specs.Rows.{Configuration}
+use Rattle.venue_rows.specs.declared.dealer_rows.DealerRow.{DealerRow}
+use Rattle.venue_rows.specs.declared.investor_rows.InvestorRow.{InvestorRow}
+use Rattle.dealer_desk.specs.DealerFacts.{book_of}
+use Rattle.dealer_desk.specs.DealerOutput.{DeskState, desk_after}
+use Rattle.dealer_desk.specs.QuoteLines as quotes
+use Rattle.investor_desk.specs.InvestorFacts as investor_facts
+use Rattle.investor_desk.specs.InvestorOutput as investor
+use Rattle.investor_desk.specs.InvestorRules.{InvestorMarket}
+use Rattle.investor_desk.specs.RequestLines as requests
+use Rattle.market_terms.specs.DayLines.{OfDealer, OfInvestor}
+use Rattle.step_replay.specs.DealerTrail as dealer_trail
+use Rattle.step_replay.specs.FirmDays.{FirmDay, dealer_day, dealer_days, firm_days, investor_day}
+use Rattle.step_replay.specs.FirmDays.{investor_days}
+use Rattle.step_replay.specs.FloorDays.{dealer_day_at, investor_day_at, days_of_floor}
+use Rattle.step_replay.specs.InvestorTrail as investor_trail
+use Rattle.step_replay.specs.LiveDays.{is_dealer, sent_by_facts}
+use Rattle.step_replay.specs.Matching.{Match}
+use Rattle.step_replay.specs.PlaceLemmas.{get_first, has_item}
+use Rattle.step_replay.specs.Standing.{DealerIs, InvestorStands, Stands}
+use Rattle.step_replay.specs.StepFaults.{firms_of}
+use Rattle.step_replay.specs.VenueFacts.{Fact, of_dealer, of_investor}
+use Rattle.step_replay.specs.declared.floor.DealerPlace.{DealerPlace}
+use Rattle.step_replay.specs.declared.floor.Floor.{Floor}
+use Rattle.step_replay.specs.declared.floor.InvestorPlace.{InvestorPlace}
+use Rattle.step_replay.proofs.ListEnds.{get_second}
+
+-- What is so of each number from one on, as many as a list has items.
+
+abbrev numbered : {X Y : Type 0} → (ℕ → Y) → ℕ → List X → List Y
+numbered f number [] = []
+numbered f number (x ∷ xs) = f number ∷ numbered f (number + 1) xs
+
+numbered_count : {X Y : Type 0} (f : ℕ → Y) (k : ℕ) (xs : List X)
+    → length (numbered f k xs) ≡ length xs
+numbered_count f k [] = refl
+numbered_count f k (x ∷ xs) = ap suc (numbered_count f (k + 1) xs)
+
+numbered_get : {X Y : Type 0} (f : ℕ → Y) (k : ℕ) (xs : List X) (i : ℕ) → i < length xs
+    → slice_get (numbered f k xs) i ≡ Some (f (k + i))
+numbered_get f k [] i within = absurd (omega arith)
+numbered_get f k (x ∷ xs) zero within =
+    let here : k ≡ k + 0 = omega arith in
+    ap (λ (n : ℕ). Some (f n)) here
+numbered_get f k (x ∷ xs) (suc i) within =
+    let inner : i < length xs = omega arith in
+    let same : k + 1 + i ≡ k + suc i = omega arith in
+    numbered_get f (k + 1) xs i inner ∙ ap (λ (n : ℕ). Some (f n)) same
+
+mapped : {X Y Z : Type 0} (P : ℕ → X → Y → Type 0) (f : ℕ → Z) (g : Y → Z)
+    → ((n : ℕ) (x : X) (y : Y) → P n x y → g y ≡ f n) → (k : ℕ) (xs : List X) (ys : List Y)
+    → Match P k xs ys → map g ys ≡ numbered f k xs
+mapped P f g each k [] [] all = refl
+mapped P f g each k [] (y ∷ ys) all = absurd all
+mapped P f g each k (x ∷ xs) [] all = absurd all
+mapped P f g each k (x ∷ xs) (y ∷ ys) all =
+    ap (λ z. z ∷ map g ys) (each k x y all.0)
+    ∙ ap (λ l. f k ∷ l) (mapped P f g each (k + 1) xs ys all.1)
+
+dealers_numbered : (facts : List Fact) (number : ℕ) (rows : List DealerRow)
+    → dealer_days facts number rows ≡ numbered (dealer_day facts) number rows
+dealers_numbered facts number [] = refl
+dealers_numbered facts number (row ∷ rows) =
+    ap (λ l. dealer_day facts number ∷ l) (dealers_numbered facts (number + 1) rows)
+
+investors_numbered : (facts : List Fact) (number : ℕ) (rows : List InvestorRow)
+    → investor_days facts number rows ≡ numbered (investor_day facts) number rows
+investors_numbered facts number [] = refl
+investors_numbered facts number (row ∷ rows) =
+    ap (λ l. investor_day facts number ∷ l) (investors_numbered facts (number + 1) rows)
+
+-- One firm at its place.
+
+dealer_day_is : (config : Configuration) (facts : List Fact) (number : ℕ) (row : DealerRow)
+    (place : DealerPlace) → DealerIs config facts number row place
+    → dealer_day_at place ≡ dealer_day facts number
+dealer_day_is config facts number row place stands =
+    ap (λ (state : DeskState). record {
+      sent = state.sent;
+      lines = OfDealer (quotes.lines_of (book_of state.facts));
+    })
+    (ap (λ d. desk_after d place.desk.row place.desk.events) stands.date_is
+    ∙ ap (λ r. desk_after config.date r place.desk.events) stands.row_is
+    ∙ stands.state_is)
+
+investor_day_is : (config : Configuration) (facts : List Fact) (number : ℕ) (row : InvestorRow)
+    (place : InvestorPlace) → InvestorStands config facts number row place
+    → investor_day_at place ≡ investor_day facts number
+investor_day_is config facts number row place stands =
+    ap (λ (state : investor.DeskState). record {
+      sent = state.sent;
+      lines = OfInvestor (requests.lines_of (investor_facts.book_of state.facts));
+    })
+    (ap (λ (m : InvestorMarket). investor.desk_after m place.desk.events) stands.market_is
+    ∙ stands.state_is)
+
+module _ (config : Configuration) (facts : List Fact) where
+  -- the days of the dealers, and of the investors
+  abbrev dealers : List FirmDay
+  dealers = numbered (dealer_day facts) 0 config.dealers
+
+  abbrev investors : List FirmDay
+  investors = numbered (investor_day facts) (length config.dealers) config.investors
+
+  days_are : firm_days config facts ≡ dealers ++ investors
+  days_are =
+      ap (λ l. l ++ investor_days facts (length config.dealers) config.investors)
+      (dealers_numbered facts 0 config.dealers)
+      ∙ ap (λ l. dealers ++ l) (investors_numbered facts (length config.dealers) config.investors)
+
+  pub days_stand : (floor : Floor) → Stands config facts floor
+      → days_of_floor floor ≡ firm_days config facts
+  days_stand floor stands =
+      ap (λ l. l ++ map investor_day_at floor.investors.items)
+      (mapped (DealerIs config facts) (dealer_day facts) dealer_day_at (dealer_day_is config facts)
+      0 config.dealers floor.dealers.items stands.dealers_are)
+      ∙ ap (λ l. dealers ++ l)
+      (mapped (InvestorStands config facts) (investor_day facts) investor_day_at
+      (investor_day_is config facts) (length config.dealers) config.investors
+      floor.investors.items stands.investors_are)
+      ∙ sym days_are
+
+  -- The day of the firm with a number.
+
+  abbrev day_by : Bool → ℕ → FirmDay
+  day_by dealer firm = if dealer then dealer_day facts firm else investor_day facts firm
+
+  day_get : (firm : ℕ) → nat_lt firm (firms_of config) ≡ true
+      → slice_get (firm_days config facts) firm ≡ Some (day_by (is_dealer config firm) firm)
+  day_get firm known =
+      ap (λ l. slice_get l firm) days_are ∙ by_side (nat_lt firm (length config.dealers)) refl
+    where
+      by_side : (b : Bool) → nat_lt firm (length config.dealers) ≡ b
+          → slice_get (dealers ++ investors) firm ≡ Some (day_by (is_dealer config firm) firm)
+      by_side true test =
+          let within : firm < length config.dealers = grind (arith, nat_tests, test) in
+          let mapped_within : firm < length dealers = subst (λ (n : ℕ). firm < n)
+          (sym (numbered_count (dealer_day facts) 0 config.dealers)) within in
+          let here : 0 + firm ≡ firm = omega arith in
+          let dealer : is_dealer config firm ≡ true = has_item config.dealers firm within in
+          get_first dealers investors firm mapped_within
+          ∙ numbered_get (dealer_day facts) 0 config.dealers firm within
+          ∙ ap (λ (n : ℕ). Some (dealer_day facts n)) here
+          ∙ ap (λ (b : Bool). Some (day_by b firm)) (sym dealer)
+      by_side false test =
+          let behind : length config.dealers ≤ firm = grind (arith, nat_tests, test) in
+          let below : firm < firms_of config = grind (arith, nat_tests, known) in
+          let inner : firm - length config.dealers < length config.investors = omega arith in
+          let here : length config.dealers + (firm - length config.dealers) ≡ firm = omega arith in
+          let count = numbered_count (dealer_day facts) 0 config.dealers in
+          let investor : is_dealer config firm ≡ false =
+          ap is_some (slice_get_past config.dealers firm behind) in
+          get_second dealers investors firm (subst (λ (n : ℕ). n ≤ firm) (sym count) behind)
+          ∙ ap (λ (n : ℕ). slice_get investors (firm - n)) count
+          ∙ numbered_get (investor_day facts) (length config.dealers) config.investors
+          (firm - length config.dealers) inner
+          ∙ ap (λ (n : ℕ). Some (investor_day facts n)) here
+          ∙ ap (λ (b : Bool). Some (day_by b firm)) (sym investor)
+
+  pub no_day : (firm : ℕ) → nat_lt firm (firms_of config) ≡ false
+      → slice_get (firm_days config facts) firm ≡ None
+  no_day firm unknown =
+      let one : length dealers ≡ length config.dealers =
+      numbered_count (dealer_day facts) 0 config.dealers in
+      let other : length investors ≡ length config.investors =
+      numbered_count (investor_day facts) (length config.dealers) config.investors in
+      let all : length (dealers ++ investors) ≡ length dealers + length investors =
+      length-append dealers investors in
+      let past : firms_of config ≤ firm = grind (arith, nat_tests, unknown) in
+      let beyond : length (dealers ++ investors) ≤ firm = omega arith in
+      ap (λ l. slice_get l firm) days_are ∙ slice_get_past (dealers ++ investors) firm beyond
+
+  -- the messages of the day of a firm are those of the audit trail
+  pub sent_on_its_day : (firm : ℕ) → nat_lt firm (firms_of config) ≡ true
+      → option_map (λ (day : FirmDay). day.sent) (slice_get (firm_days config facts) firm)
+      ≡ Some (sent_by_facts config firm facts)
+  sent_on_its_day firm known =
+      ap (option_map (λ (day : FirmDay). day.sent)) (day_get firm known)
+      ∙ ap Some (by_role (is_dealer config firm))
+    where
+      by_role : (b : Bool) → (day_by b firm).sent
+          ≡ (if b then dealer_trail.sent_by (of_dealer firm facts)
+          else investor_trail.sent_by (of_investor firm facts))
+      by_role true = refl
+      by_role false = refl
+
+-- one more
+pub mapped_more : {A B C : Type 0} (f : A → C) (g : B → C) (start : List C) (done : List B)
+    (before now : List A) (y : B) (x : A) → map f before ≡ start ++ map g done
+    → now ≡ before ++ x ∷ [] → f x ≡ g y → map f now ≡ start ++ map g (done ++ y ∷ [])
+mapped_more f g start done before now y x was is same =
+    ap (map f) is ∙ map-append f before (x ∷ []) ∙ ap (λ l. l ++ f x ∷ []) was
+    ∙ ap (λ z. (start ++ map g done) ++ z ∷ []) same
+    ∙ append_assoc start (map g done) (g y ∷ [])
+    ∙ ap (λ l. start ++ l) (sym (map-append g done (y ∷ [])))
+
+sent_mapped : (dealers : List DealerPlace) (investors : List InvestorPlace)
+    → map (λ (day : FirmDay). day.sent) (map dealer_day_at dealers ++ map investor_day_at investors)
+    ≡ map (λ place. (dealer_day_at place).sent) dealers
+    ++ map (λ place. (investor_day_at place).sent) investors
+sent_mapped dealers investors =
+    map-append (λ (day : FirmDay). day.sent) (map dealer_day_at dealers)
+    (map investor_day_at investors)
+    ∙ ap (λ l. l ++ map (λ (day : FirmDay). day.sent) (map investor_day_at investors))
+    (map-map (λ (day : FirmDay). day.sent) dealer_day_at dealers)
+    ∙ ap (λ l. map (λ place. (dealer_day_at place).sent) dealers ++ l)
+    (map-map (λ (day : FirmDay). day.sent) investor_day_at investors)
+
+-- the dealers' first, and then the investors'
+pub all_sent : {X : Type 0} (items : X → List (List ℕ)) (dealers : List DealerPlace)
+    (investors : List InvestorPlace) (start first all : List X) → start ≡ []
+    → map items first ≡ map items start ++ map (λ place. (dealer_day_at place).sent) dealers
+    → map items all ≡ map items first ++ map (λ place. (investor_day_at place).sent) investors
+    → map items all ≡ map (λ (day : FirmDay). day.sent)
+    (map dealer_day_at dealers ++ map investor_day_at investors)
+all_sent items dealers investors start first all none are is =
+    is ∙ ap (λ l. l ++ map (λ place. (investor_day_at place).sent) investors)
+    (are ∙ ap (λ l. map items l ++ map (λ place. (dealer_day_at place).sent) dealers) none)
+    ∙ sym (sent_mapped dealers investors)
