@@ -1,7 +1,7 @@
 -- Blindness to prices: two days that are one but for the prices of other dealers stay one without
 -- prices, step by step, and what is due to a dealer is one in both but for the cover.
 use Rattle.std.proofs.Common.{◌≡◌, ℕ, List, [], ◌∷◌, ◌++◌, map, filter_map, drop, count_by, fold}
-use Rattle.std.proofs.Common.{Some, refl, sym, ap, ◌∙◌, ◌⊎◌, inl, inr, true, eq-eqb}
+use Rattle.std.proofs.Common.{Some, refl, sym, ap, ◌∙◌, ◌==◌, ◌⊎◌, inl, inr, true, eq-eqb}
 use Rattle.std.proofs.lemmas.Bool.{cases_Bool}
 use Rattle.std.proofs.lemmas.List.{drop-map, map-append}
 use mathlib.Core.List.{map-map}
@@ -119,8 +119,8 @@ module _ (config : Configuration) (own : ℕ) where
     either_left trail more later stood (inr priced) =
         let prices = priced.prices in
         let said : left own (message_effect config (bare own trail.facts) priced.firm priced.moment
-            priced.priced)
-            ≡ left own (message_effect config trail.facts priced.firm priced.moment priced.message) =
+        priced.priced)
+        ≡ left own (message_effect config trail.facts priced.firm priced.moment priced.message) =
         rw priced.is_dealer (said_left config own trail.facts priced.moment priced.priced
         priced.message (dealer_of priced.firm priced.row)
         (sym (verdicts_alike config config.date priced.row

@@ -117,11 +117,15 @@ module _ (config : Configuration) (own : ℕ) (facts : List Fact) where
   told_left dealer close moment None = refl
   told_left dealer close moment (Some request) =
       let is_told : closable (book_by (of_dealer dealer.number known)) request
-          ≡ closable (book_by (of_dealer dealer.number facts)) request =
+      ≡ closable (book_by (of_dealer dealer.number facts)) request =
       rw (book_known own facts dealer.number)
       (closable_same (book_by (of_dealer dealer.number facts)) request) in
-      simp (effects, is_told, desk_kept own facts dealer.number config.date dealer.row
-      (at_desk.Told request close moment))
+      simp (
+        effects,
+        is_told,
+        desk_kept own facts dealer.number config.date dealer.row
+            (at_desk.Told request close moment),
+      )
 
   -- an event at an investor's desk on a request that it knows
   pub known_left : (request : ℕ) (quote : Option ℕ) (more : InvestorEvent)
@@ -130,7 +134,7 @@ module _ (config : Configuration) (own : ℕ) (facts : List Fact) where
       ≡ left own (where_known facts request quote more market)
   known_left request quote more market =
       let is_known : knows (investor_trail.book_by (of_investor market.firm known)) request quote
-          ≡ knows (investor_trail.book_by (of_investor market.firm facts)) request quote =
+      ≡ knows (investor_trail.book_by (of_investor market.firm facts)) request quote =
       rw (market_known own facts market.firm)
       (knows_same (investor_trail.book_by (of_investor market.firm facts)) request quote) in
       simp (effects, is_known, market_kept own facts market more)
@@ -181,7 +185,8 @@ module _ (config : Configuration) (own : ℕ) (facts : List Fact) (dealer : Deal
         number_known own facts dealer.number last,
         facts_known own facts dealer.number,
         map-append,
-        settled_bare,
+        settled_bare (dealer.number == own) (number_to_drop (book_by trail) last)
+            (answer_to_drop trail last),
       )
 
   duties_known : left_by_drop config (bare own facts) last moment dealer
@@ -200,8 +205,10 @@ module _ (config : Configuration) (own : ℕ) (facts : List Fact) (dealer : Deal
   pub dropped_left : left own (dropped_by config (bare own facts) last moment dealer)
       ≡ left own (dropped_by config facts last moment dealer)
   dropped_left =
-      rw (duties_known, settlement_known, number_known own facts dealer.number last) (simp (effects,
-      desk_kept own facts dealer.number config.date dealer.row (drop_at trail last moment)))
+      rw (duties_known, settlement_known, number_known own facts dealer.number last) (simp (
+        effects,
+        desk_kept own facts dealer.number config.date dealer.row (drop_at trail last moment),
+      ))
 
 -- A hit.
 
@@ -231,8 +238,13 @@ module _ (config : Configuration) (own : ℕ) (facts : List Fact) (room : RoomRe
       ≡ left own (hit_as here refused settlement)
   left_as None (Some settled.Lifted) =
       rw (lifting_same (quote_with_word config word) (award_of (map unpriced_in_room here) word)
-      (award_of here word)) (simp (in_rooms, bare_append, told_each, covered,
-      kept_same here (at_room.Hit word moment (Some settled.Lifted))))
+      (award_of here word)) (simp (
+        in_rooms,
+        bare_append,
+        told_each,
+        covered,
+        kept_same here (at_room.Hit word moment (Some settled.Lifted)),
+      ))
   left_as None settlement =
       simp (in_rooms, bare_append, kept_same here (at_room.Hit word moment settlement))
   left_as (Some refused) settlement =
@@ -252,5 +264,8 @@ module _ (config : Configuration) (own : ℕ) (facts : List Fact) (room : RoomRe
   hit_left =
       let asked = quote_asked config (hit_word here word moment) in
       rw (room_left own room facts, refusal_same, settled_known asked)
-      (simp (left_if, left_as (hit_refusal here word moment)
-      (option_map (answer_to_hit facts) asked)))
+      (simp (
+        left_if,
+        left_as (hit_refusal here word moment)
+            (option_map (answer_to_hit facts) asked),
+      ))

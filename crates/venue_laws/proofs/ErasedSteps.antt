@@ -55,17 +55,21 @@ module _ (config : Configuration) (own : ℕ) (facts : List Fact) where
   duty_left by (duty.Open room ask dealers moment) =
       simp (in_rooms, kept_same (here room) (at_room.Open (record { ask = ask; dealers = dealers })))
   duty_left by (duty.Show dealer room ask moment) =
-      left_done own (dealer_at config dealer) _ _ (λ desk. simp (effects, rooms_known,
-      desk_kept own facts desk.number config.date desk.row (at_desk.Shown room ask moment)))
+      left_done own (dealer_at config dealer) _ _ (λ desk.
+      let shown = desk_kept own facts desk.number config.date desk.row
+      (at_desk.Shown room ask moment) in
+      simp (effects, rooms_known, shown))
   duty_left by (duty.Ready room moment) = simp (in_rooms, kept_same (here room) at_room.Ready)
   duty_left by (duty.Post room quote price valid_until moment) =
-      left_done own (acting_dealer config by) _ _ (λ desk. simp (in_rooms, kept_same (here room)
-      (at_room.Post desk.number (word_for config desk quote) price valid_until)))
+      left_done own (acting_dealer config by) _ _ (λ desk.
+      let posted = at_room.Post desk.number (word_for config desk quote) price valid_until in
+      simp (in_rooms, kept_same (here room) posted))
   duty_left by (duty.Relay room offer moment) =
       to_investor room (at_investor.QuoteCame room.n offer moment)
   duty_left by (duty.Unpost room quote moment) =
-      left_done own (acting_dealer config by) _ _ (λ desk. simp (in_rooms,
-      kept_same (here room) (at_room.Unpost desk.number (word_for config desk quote))))
+      left_done own (acting_dealer config by) _ _ (λ desk.
+      let unposted = at_room.Unpost desk.number (word_for config desk quote) in
+      simp (in_rooms, kept_same (here room) unposted))
   duty_left by (duty.Gone room word moment) =
       to_investor room (at_investor.QuoteGone room.n word moment)
   duty_left by (duty.Decline room moment) =
@@ -79,8 +83,10 @@ module _ (config : Configuration) (own : ℕ) (facts : List Fact) where
   duty_left by (duty.Pass room response moment) =
       simp (in_rooms, kept_same (here room) (at_room.Pass moment))
   duty_left by (duty.Answer room response reply moment) =
-      left_for own (market_for config room.investor) _ _ (λ market. simp (known_left config own facts
-      room.n response.k (at_investor.Answered room.n response reply moment) market, left_if))
+      left_for own (market_for config room.investor) _ _ (λ market.
+      let answered = known_left config own facts room.n response.k
+      (at_investor.Answered room.n response reply moment) market in
+      simp (answered, left_if))
   duty_left by (duty.Close room moment) = to_investor room (at_investor.Closed room.n moment)
   duty_left by (duty.Tell dealer room close moment) =
       left_done own (dealer_at config dealer) _ _ (λ desk. rw (rooms_known own facts desk.number)
@@ -149,8 +155,8 @@ module _ (config : Configuration) (own : ℕ) (facts : List Fact) where
       ≡ left own (received_by_investor facts moment bytes market)
   said_to_investor moment bytes market =
       let verdict_is : investor_verdict market (investor_book_by (of_investor market.firm known))
-          moment bytes
-          ≡ investor_verdict market (investor_book_by (of_investor market.firm facts)) moment bytes =
+      moment bytes
+      ≡ investor_verdict market (investor_book_by (of_investor market.firm facts)) moment bytes =
       rw (market_known own facts market.firm) (investors.verdict_same market
       (investor_book_by (of_investor market.firm facts)) moment bytes) in
       rw verdict_is (simp (effects, market_kept own facts market (at_investor.Received moment bytes)))

@@ -36,7 +36,7 @@ module _ (c : goal.After-frame_of_is_the_reading) where
   unfolding computed
   priced =
       let prices : ArePricesOf (bond_meant venue (fields dear)) (133, codes "99.515625")
-          (133, codes "99.5") =
+      (133, codes "99.5") =
       record {
         is_price = refl;
         tag = refl;
