@@ -1,6 +1,6 @@
 -- Every word that a dealer asks is answered as the dealer view says.
 use Rattle.std.proofs.Common.{List, None, Option, Some, ℕ, [], ap, filter_map, fold, if◌then◌else◌}
-use Rattle.std.proofs.Common.{map, option_map, option_to_list, refl, sym, ◌++◌, ◌==◌, ◌∙◌, ◌∷◌}
+use Rattle.std.proofs.Common.{map, option_map, option_to_list, refl, ◌++◌, ◌==◌, ◌∙◌, ◌∷◌}
 use Rattle.std.proofs.Common.{◌≡◌}
 use Rattle.std.proofs.lemmas.List.{append-nil, append_cancel_left}
 use Rattle.std.proofs.lemmas.List.Elements.{filter_map-append}
@@ -35,7 +35,7 @@ use Rattle.step_replay.specs.TrailKept.{IsKept}
 use Rattle.step_replay.specs.VenueFacts.{of_dealer}
 use Rattle.step_replay.specs.declared.steps.Step.{Step}
 use Rattle.venue_laws.proofs.ListLemmas.{every_map, first_grown}
-use Rattle.venue_laws.specs.Answers.{asked_at, asked_by_fact, next_settlement, settlement_by_view}
+use Rattle.venue_laws.specs.Answers.{asked_at, next_settlement, settlement_by_view}
 use Rattle.venue_laws.specs.Answers.{settlement_in}
 
 -- what one event more asks at a desk
@@ -137,8 +137,11 @@ module _ (date : List ℕ) (row : DealerRow) where
   )
 
   module _ (law : WordsAsked) (trail : List DealerEntry) (seen : Seen date row trail) where
-    word_answered : (asked : Option ℕ)
-        → Every (IsAnswer seen.lifted) (asked_word asked (option_map (answer_to_dealer trail) asked))
+    -- the word that is asked, if one, with its answer
+    abbrev answers : Option ℕ → List (ℕ × Settled)
+    answers asked = asked_word asked (option_map (answer_to_dealer trail) asked)
+
+    word_answered : (asked : Option ℕ) → Every (IsAnswer seen.lifted) (answers asked)
     word_answered None = tt
     word_answered (Some quote) = (rw (seen.lifted_are quote) refl, tt)
 
@@ -146,23 +149,21 @@ module _ (date : List ℕ) (row : DealerRow) where
     event_each : (more : DealerEvent) (first : DealerFact) (rest : List DealerFact)
         → event_facts date row (book_by trail) more ≡ first ∷ rest
         → filter_map due_by_fact rest ≡ [] → settled_word first ≡ None
-        → (asked : Option ℕ) → asked_by_fact date row (book_by trail) first ≡ asked
-        → asked_by date row (book_by trail) more
-        ≡ asked_word asked (option_map (answer_to_dealer trail) asked)
+        → asked_by date row (book_by trail) more ≡ answers (asked_at date row trail (AtDesk first))
         → Each IsAnswered trail (entries_of date row trail more)
     unfolding entries_of
-    event_each more first rest is undue still asked asks words =
+    event_each more first rest is undue still words =
         rw is (
           record {
             asked = λ quote so. next_stays _ (map AtDesk rest ++ rooms) sent
-                (next_stays _ (map AtDesk rest) rooms (next quote (sym asks ∙ so)));
+                (next_stays _ (map AtDesk rest) rooms (next quote so));
             answered = λ quote settlement says. cc;
           },
           each_quiet seen.lifted (trail ++ AtDesk first ∷ []) (map AtDesk rest ++ rooms ++ sent)
               (fact_keeps trail first ∙ ap (λ (view : DealerView). view.lifted) seen.view_is)
               (every_both (IsQuiet seen.lifted) (map AtDesk rest ++ rooms) sent
               (every_both (IsQuiet seen.lifted) (map AtDesk rest) rooms
-              (quiet_facts seen.lifted rest undue (rw settles (word_answered asked)))
+              (quiet_facts seen.lifted rest undue (rw settles (word_answered _)))
               (every_map (IsQuiet seen.lifted) ShownIn _ (λ room among. (refl, tt))))
               (every_map (IsQuiet seen.lifted) Sent _ (λ message among. (refl, tt)))),
         )
@@ -173,14 +174,15 @@ module _ (date : List ℕ) (row : DealerRow) where
         sent : List DealerEntry
         sent = map Sent (option_to_list (message_by date row trail more))
 
-        settles : settled_words rest ≡ asked_word asked (option_map (answer_to_dealer trail) asked)
+        settles : settled_words rest ≡ answers (asked_at date row trail (AtDesk first))
         settles =
             let grown =
             rw (desk_push, seen.state_is, filter_map-append) at (law date row seen.events more) in
             let added = append_cancel_left (settled_words (facts_of trail)) _ _ grown in
             (rw (is, still) at added) ∙ words
 
-        next : (quote : ℕ) → asked ≡ Some quote → next_settlement (map AtDesk rest)
+        next : (quote : ℕ) → asked_at date row trail (AtDesk first) ≡ Some quote
+            → next_settlement (map AtDesk rest)
             ≡ Some (quote, settlement_by_view date row trail quote)
         next quote so =
             rw (seen.view_is, seen.lifted_are quote)
@@ -204,20 +206,20 @@ module _ (date : List ℕ) (row : DealerRow) where
         kept_more trail _ before (views.own trail moment bytes before.0)
         (event_each law trail before.0 (event.Received moment bytes (settlement_of trail v))
         (Came moment bytes (uses_number v)) (verdict_facts v (settlement_of trail v)) refl
-        (verdict_undue v (settlement_of trail v)) refl _ refl refl);
+        (verdict_undue v (settlement_of trail v)) refl refl);
     drop = λ trail last moment before.
         kept_more trail _ before (views.drop trail last moment before.0)
         (event_each law trail before.0 (drop_at trail last moment) (Dropped last moment)
         (settled_facts (number_to_drop (book_by trail) last) by.Cancel (answer_to_drop trail last))
-        refl (settled_undue _ by.Cancel _) refl _ refl refl);
+        refl (settled_undue _ by.Cancel _) refl refl);
     shown = λ trail room ask moment before.
         kept_more trail _ before (views.shown trail room ask moment before.0)
         (event_each law trail before.0 (event.Shown room ask moment) (Shown ask moment) [] refl
-        refl refl None refl refl);
+        refl refl refl);
     told = λ trail request close moment may before.
         kept_more trail _ before (views.told trail request close moment may before.0)
         (event_each law trail before.0 (event.Told request close moment)
-        (Told request close moment) [] (rw may refl) refl refl None refl refl);
+        (Told request close moment) [] (rw may refl) refl refl refl);
     lifted = λ trail quote within still before.
         kept_more trail _ before (views.lifted trail quote within still before.0)
         (record { asked = λ other asks. cc; answered = λ other settlement says. cc }, tt);

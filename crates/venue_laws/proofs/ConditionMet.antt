@@ -26,7 +26,7 @@ use Rattle.step_replay.specs.Actions.{word_for, words_of}
 use Rattle.step_replay.specs.AuditTrail.{AuditTrail}
 use Rattle.step_replay.specs.DealerTrail.{book_by}
 use Rattle.step_replay.specs.VenueFacts.{of_dealer, of_room}
-use Rattle.venue_laws.proofs.AcceptedQuotes.{none_holds}
+use Rattle.day_parts.specs.AcceptedQuotes.{none_holds}
 use Rattle.venue_laws.proofs.ConditionMetOnce.{open_met, ready_met, show_met, tell_met}
 use Rattle.venue_laws.proofs.ListLemmas.{cases_some}
 use Rattle.venue_laws.proofs.VenueDesk.{OfRow, WordsOfDay, asks_of_day, drops_of_day, within_row}

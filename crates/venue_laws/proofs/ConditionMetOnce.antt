@@ -24,8 +24,8 @@ use Rattle.step_replay.specs.DealerTrail.{AtDesk, DealerEntry, book_by, facts_of
 use Rattle.step_replay.specs.GrowthLemmas.{all_in}
 use Rattle.step_replay.specs.VenueFacts.{AtDealer, of_dealer, of_room}
 use Rattle.venue_laws.proofs.ListLemmas.{cases_some, found_in, slice_holds, some_of}
-use Rattle.venue_laws.proofs.ShownRequests.{in_facts, number_place, numbered_shown, told_in}
-use Rattle.venue_laws.proofs.ShownRequests.{told_or_closable}
+use Rattle.venue_laws.proofs.NoticeLemmas.{told_if_closed}
+use Rattle.venue_laws.proofs.ShownRequests.{in_facts, number_place, told_in}
 use Rattle.venue_laws.proofs.VenueGrowth.{later_same}
 use Rattle.venue_laws.proofs.VenueInvariant.{ClosedIn, Did, FactOk, OpensIn, ReadiesBy, ShownTo}
 use Rattle.venue_laws.proofs.VenueInvariant.{ShowsIn, TellsIn, VenueOk}
@@ -115,8 +115,8 @@ module _ {config : Configuration} {venue : AuditTrail} (stood : VenueOk config v
       dealer_met room dealer fits.named (is_untold venue.facts room)
       (λ row is. rw (number.1) (true_from_ne_false (is_some (closable (book_by trail) number.0))
       (λ closed.
-      let told = told_in number.0 (facts_of trail) (told_or_closable trail number.0
-      (numbered_shown trail room number.0 (stood.desks dealer row is).counted number.1) closed) in
+      let told = told_in number.0 (facts_of trail) (told_if_closed trail
+      (stood.desks dealer row is).noticed room number.0 number.1 closed) in
       told_never number.0 number.1
       (all_in (λ entry. Still (FactOk config (AtDealer dealer entry)) venue)
       (AtDesk (Told number.0 told.0 told.1)) trail (all_there stood dealer)

@@ -46,7 +46,7 @@ use Rattle.investor_desk.specs.declared.verdicts.InvestorVerdict.{InvestorVerdic
 use Rattle.investor_desk.specs.declared.verdicts.InvestorVerdict.TheVariants as verdict
 use Rattle.step_replay.specs.EachLemmas.{Each, Every, every_weaker}
 use Rattle.step_replay.specs.PlaceLemmas.{has_item}
-use Rattle.venue_laws.proofs.AcceptedQuotes.{next_of_day, none_holds}
+use Rattle.day_parts.specs.AcceptedQuotes.{next_of_day, none_holds}
 use Rattle.venue_laws.proofs.KnownDesks.{DeskFit, IsKnown, MayCome, asked, asked_grown, asked_is}
 use Rattle.venue_laws.proofs.KnownDesks.{asked_known, facts_fit, offers_both, requests_both}
 use Rattle.venue_laws.proofs.ListLemmas.{first_of_every, found_all, found_passes, position_within}

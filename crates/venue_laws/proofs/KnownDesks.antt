@@ -107,7 +107,6 @@ found_last : (most : ℕ) (offers : List ShownOffer) (shown : ShownOffer)
     → find (λ (s : ShownOffer). s.number == shown.number) (offers ++ shown ∷ []) ≡ Some shown
 found_last most [] shown below beyond = rw (eq-eqb shown.number shown.number refl) refl
 found_last most (other ∷ offers) shown below beyond =
-    let least : other.number ≤ most = below.0 in
     rw (ne_eqb other.number shown.number (λ same. omega arith))
     (found_last most offers shown below.1 beyond)
 
@@ -140,7 +139,6 @@ module _ (may : ℕ → Bool) where
           (elim (or_cases _ _ (rw list_any-append at asks_it)) [
             | inl before ↦
                 let stood = fit.asked_ok number before in
-                let least : number ≤ length (requests_of facts) = stood.0 in
                 (omega arith, stood.1)
             | inr now ↦ elim (or_cases (asks number fact) false now) [
               | inl so ↦ added number so
@@ -155,10 +153,8 @@ module _ (may : ℕ → Bool) where
   fact_fit facts fit (Asked request) later next =
       fit_with facts fit (Asked request) tt tt (λ number test.
       let same = eqb-true request.number number test in
-      let last : request.number ≡ length (requests_of facts) + 1 = next.0 in
       (omega arith, rw same at next.1))
   fact_fit facts fit (Offered shown) later next =
-      let last : shown.number ≡ length (offers_of facts) + 1 = next.1 in
       let beyond : length (offers_of facts) < shown.number = omega arith in
       fit_with facts fit (Offered shown) (
         rw (

@@ -128,7 +128,7 @@ module _ (lone : LoneQuotes) (config : Configuration) (facts : List Fact) (deale
       standing =
           live_stands own (facts_of trail) hit.quoted.quoted
           (rw lifted at (desk.one_of own.number))
-          (rw request_is (desk.noticed.told_is request ∙ (untold_is _ may).2))
+          (rw request_is (desk.noticed.told_as request ∙ (untold_is _ may).2))
 
       few : length (filter (is_live_on request) (standings (facts_of trail))) ≤ 1
       few = rw desk.seen.state_is at (lone config.date row desk.seen.events request)

@@ -35,7 +35,7 @@ use Rattle.step_replay.specs.PlaceLemmas.{dealer_grown, own_trail}
 use Rattle.step_replay.specs.SeenLemmas.{Seen}
 use Rattle.step_replay.specs.TrailLemmas.{facts_added}
 use Rattle.step_replay.specs.VenueFacts.{AtDealer, of_dealer}
-use Rattle.venue_laws.proofs.AcceptedQuotes.{AcceptOk, verdict_accepts}
+use Rattle.day_parts.specs.AcceptedQuotes.{AcceptOk, verdict_accepts}
 use Rattle.venue_laws.proofs.ListLemmas.{cases_some, slice_holds}
 use Rattle.venue_laws.proofs.PlainFacts.{event_plain, settled_plain, verdict_plain}
 use Rattle.venue_laws.proofs.VenueGrowth.{named_later, number_later, quoted_later}

@@ -1,5 +1,5 @@
 -- What the verdict of a dealer's desk says where it accepts a quote.
-use Rattle.std.proofs.Common.{Bool, IfSome, List, None, Option, Some, ℕ, [], arith, false, inl}
+use Rattle.std.proofs.Common.{Bool, IfSome, List, None, Option, Some, ℕ, [], arith, false, find, inl}
 use Rattle.std.proofs.Common.{inr, is_none, nat_le, refl, true, ◌&&◌, ◌+◌, ◌∷◌, ◌≡◌, ◌≤◌}
 use Rattle.std.proofs.lemmas.Bool.{cases_Bool, cond_both}
 use Rattle.std.proofs.lemmas.Bool.Decides.{nat_tests}
@@ -16,7 +16,7 @@ use Rattle.quote_messages.specs.declared.reject_reasons.QuoteRejectReason.{Quote
 use Rattle.venue_rows.specs.declared.dealer_rows.DealerRow.{DealerRow}
 use Rattle.dealer_desk.specs.DealerFacts.{DealerBook, DealerFact, Shown, book_of, expected_number}
 use Rattle.dealer_desk.specs.DealerFacts.{quote_to_drop, quote_with_id, quotes_accepted}
-use Rattle.dealer_desk.specs.DealerFacts.{request_named, requests_from}
+use Rattle.dealer_desk.specs.DealerFacts.{request_named, requests_from, standing_request}
 use Rattle.dealer_desk.specs.DealerRules.{arrival_verdict, cancel_answer, cancel_checks, cancel_of}
 use Rattle.dealer_desk.specs.DealerRules.{cancel_verdict, dealer_verdict, decline_answer}
 use Rattle.dealer_desk.specs.DealerRules.{decline_verdict, quote_answer, quote_checks}
@@ -26,7 +26,6 @@ use Rattle.dealer_desk.specs.declared.standing.StandingRequest.{StandingRequest}
 use Rattle.dealer_desk.specs.declared.verdicts.DealerVerdict.{DealerVerdict}
 use Rattle.dealer_desk.specs.declared.verdicts.DealerVerdict.TheVariants as verdict
 use Rattle.step_replay.specs.EachLemmas.{Every}
-use Rattle.venue_laws.proofs.ListLemmas.{first_of_every}
 
 -- the first refusal of some checks is none, where none of them holds
 pub none_holds : {A : Type 0} (checks : List (Bool × A)) → first_refusal checks ≡ None
@@ -48,12 +47,16 @@ AcceptOk row (verdict.QuoteAccepted name id quote replaced) =
     (1 ≤ quote.request) × ((nat_le 1 quote.number && nat_le quote.number row.quotes) ≡ true)
 AcceptOk row other = Unit {0}
 
-from_first : (first : ℕ) (facts : List DealerFact) → 1 ≤ first
-    → Every (λ (request : StandingRequest). 1 ≤ request.number) (requests_from first facts)
-from_first first [] least = tt
-from_first first (Shown ask moment ∷ later) least =
-    (least, from_first (first + 1) later (omega arith))
-from_first first (fact ∷ later) least = from_first first later least
+-- requests are numbered from the first on
+from_first : (test : StandingRequest → Bool) (first : ℕ) (facts : List DealerFact) → 1 ≤ first
+    → IfSome (find test (requests_from first facts)) (λ (shown : StandingRequest). 1 ≤ shown.number)
+from_first test first [] least = tt
+from_first test first (Shown ask moment ∷ later) least =
+    cond_both (test (standing_request first ask later)) (Some (standing_request first ask later))
+    (find test (requests_from (first + 1) later))
+    (λ (found : Option StandingRequest). IfSome found (λ (r : StandingRequest). 1 ≤ r.number))
+    (λ is. least) (λ isnt. from_first test (first + 1) later (omega arith))
+from_first test first (fact ∷ later) least = from_first test first later least
 
 module _ (row : DealerRow) (facts : List DealerFact) (moment : ℕ) where
   -- the book by these facts
@@ -98,8 +101,7 @@ module _ (row : DealerRow) (facts : List DealerFact) (moment : ℕ) where
   unfolding quote_verdict decline_verdict request_named
   arrival_accepts (arrival.Taken (message.Quote quote)) =
       quote_accepts quote (request_named book quote.request) _ refl
-      (first_of_every (λ (shown : StandingRequest). 1 ≤ shown.number) _ _
-      (from_first 1 facts (omega arith)))
+      (from_first _ 1 facts (omega arith))
   arrival_accepts (arrival.Taken (message.Cancel cancel)) = cancel_accepts cancel.scope
   arrival_accepts (arrival.Taken (message.Decline decline)) = decline_accepts decline.request _ _
   arrival_accepts other = tt
