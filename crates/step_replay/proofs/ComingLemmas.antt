@@ -1,7 +1,7 @@
 -- What an action does is what comes by the market's table.
-use Rattle.std.proofs.Common.{◌≡◌, ℕ, Bool, true, false, ◌&&◌, List, map, is_some, Option, Some}
-use Rattle.std.proofs.Common.{None, option_map, option_and_then, if◌then◌else◌, refl, sym, ap}
-use Rattle.std.proofs.Common.{subst, ◌<◌, [], length, ◌∙◌}
+use Rattle.std.proofs.Common.{◌≡◌, ℕ, Bool, true, false, ◌&&◌, List, is_some, Option, Some, None}
+use Rattle.std.proofs.Common.{option_map, option_and_then, if◌then◌else◌, refl, sym, ap, subst, ◌<◌}
+use Rattle.std.proofs.Common.{[], length, ◌∙◌}
 use Rattle.std.proofs.lemmas.Option.{same_Some}
 use Rattle.market_terms.specs.declared.duties.Duty.{Duty}
 use Rattle.market_terms.specs.declared.duties.Duty.TheVariants as duty
@@ -10,7 +10,6 @@ use Rattle.market_terms.specs.declared.rooms.RoomRef.{RoomRef}
 use Rattle.venue_rows.specs.Rows.{Configuration, dealer_numbered, has_room, investor_numbered}
 use Rattle.venue_rows.specs.declared.dealer_rows.DealerRow.{DealerRow}
 use Rattle.investor_desk.specs.InvestorDesk.{market_for, market_of}
-use Rattle.request_room.specs.Book.{event_facts}
 use Rattle.request_room.specs.declared.events.RoomEvent.{RoomEvent}
 use Rattle.venue_places.specs.Dealers.{Dealer, acting_dealer, dealer_at, dealer_of, offer_of}
 use Rattle.venue_places.specs.Dealers.{has_word_for, word_for}
@@ -31,16 +30,21 @@ use Rattle.step_replay.specs.Actions.{dropped_by}
 use Rattle.step_replay.specs.DutyEffects.{duty_effect, sweep_effect}
 use Rattle.step_replay.specs.Coming.{dealer_gets, investor_gets, room_gets, arrival_effect}
 use Rattle.step_replay.specs.Coming.{effect_where}
-use Rattle.step_replay.specs.VenueFacts.{Fact, InRoom, of_room}
+use Rattle.step_replay.specs.VenueFacts.{Fact}
 use Rattle.step_replay.specs.Standing.{ActsOnce, Does, Stands}
 use Rattle.step_replay.specs.declared.floor.Floor.{Floor}
 use Rattle.step_replay.specs.PlaceLemmas.{has_item}
 use Rattle.step_replay.proofs.FloorLemmas.{dealer_count}
 use Rattle.step_replay.proofs.FoundDealers.{idle_does}
+use Rattle.step_replay.proofs.RoomActionLemmas.{none_gets}
 
 none_there : {A : Type 0} (x : Option A) → is_some x ≡ false → x ≡ None
 none_there None is = refl
 none_there (Some x) is = cc
+
+left_out : (b : Bool) (effect : Effect) → (if b && false then effect else nothing) ≡ nothing
+left_out true effect = refl
+left_out false effect = refl
 
 module _ (config : Configuration) (facts : List Fact) where
   -- what comes to a place, where the venue has it
@@ -52,25 +56,13 @@ module _ (config : Configuration) (facts : List Fact) where
 
   -- Rooms.
 
-  -- what an event adds in a room, by whether the venue has it and the event may come
-  abbrev added_by : RoomRef → RoomEvent → List Duty → Bool → Effect
-  added_by room event duties may =
-      if may
-      then record {
-        facts = map (InRoom room) (event_facts (of_room room facts) event);
-        duties = duties;
-      }
-      else nothing
-
-  room_comes : (room : RoomRef) (what : ForRoom) (may : Bool) (event : RoomEvent)
-      (duties : List Duty)
-      → in_room config facts room may event duties ≡ room_gets config facts room what
-      → in_room config facts room may event duties
+  room_comes : (room : RoomRef) (what : ForRoom)
+      → room_gets config facts room what
       ≡ effect_where config facts (table.in_room config room what)
   unfolding arrival_effect
-  room_comes room what may event duties is =
-      there (has_room config room.investor room.n) (arrival.Room room what) _ is
-      (λ no. ap (λ b. added_by room event duties (b && may)) no)
+  room_comes room what =
+      there (has_room config room.investor room.n) (arrival.Room room what) _ refl
+      (λ no. none_gets config facts room no what)
 
   -- the same of a dealer's quote, where the venue has its word
   word_comes : (room : RoomRef) (what : ForRoom) (has may : Bool) (event : RoomEvent)
@@ -78,12 +70,8 @@ module _ (config : Configuration) (facts : List Fact) where
       → in_room config facts room may event duties ≡ room_gets config facts room what
       → in_room config facts room (has && may) event duties
       ≡ effect_where config facts (if has then table.in_room config room what else None)
-  word_comes room what true may event duties is = room_comes room what may event duties is
-  word_comes room what false may event duties is = by_room (has_room config room.investor room.n)
-    where
-      by_room : (b : Bool) → added_by room event duties (b && false) ≡ nothing
-      by_room true = refl
-      by_room false = refl
+  word_comes room what true may event duties is = is ∙ room_comes room what
+  word_comes room what false may event duties is = left_out (has_room config room.investor room.n) _
 
   hit_comes : (room : RoomRef) (response : ResponseRef) (word moment : ℕ)
       → hit_in config facts room response word moment
@@ -147,10 +135,10 @@ module _ (config : Configuration) (facts : List Fact) where
       → duty_effect config facts by d ≡ effect_where config facts (placed config by d)
   unfolding duty_effect placed arrival_effect dealer_gets investor_gets room_gets
   duty_comes by (duty.Open room ask dealers moment) =
-      room_comes room (to_room.Open ask dealers moment) true _ _ refl
+      room_comes room (to_room.Open ask dealers moment)
   duty_comes by (duty.Show dealer room ask moment) =
       dealer_comes dealer (to_dealer.Show room ask moment)
-  duty_comes by (duty.Ready room moment) = room_comes room (to_room.Ready moment) true _ _ refl
+  duty_comes by (duty.Ready room moment) = room_comes room (to_room.Ready moment)
   duty_comes by (duty.Post room quote price until moment) =
       acting_comes by _ _ (λ dealer is. word_comes room
       (to_room.Post dealer.number (offer_of config dealer quote price until) moment)
@@ -164,14 +152,13 @@ module _ (config : Configuration) (facts : List Fact) where
   duty_comes by (duty.Gone room word moment) =
       investor_comes room.investor (to_investor.Gone room.n word moment)
   duty_comes by (duty.Decline room moment) =
-      acting_comes by _ _ (λ dealer is. room_comes room (to_room.Decline dealer.number moment)
-      _ _ _ refl)
+      acting_comes by _ _ (λ dealer is. room_comes room (to_room.Decline dealer.number moment))
   duty_comes by (duty.Declined room moment) =
       acting_comes by _ _ (λ dealer is. investor_comes room.investor
       (to_investor.Declined room.n dealer.row.name moment))
   duty_comes by (duty.Hit room response word moment) = hit_comes room response word moment
   duty_comes by (duty.Pass room response moment) =
-      room_comes room (to_room.Pass response moment) true _ _ refl
+      room_comes room (to_room.Pass response moment)
   duty_comes by (duty.Answer room response reply moment) =
       investor_comes room.investor (to_investor.Answer room.n response reply moment)
   duty_comes by (duty.Close room moment) =
@@ -185,10 +172,10 @@ module _ (config : Configuration) (facts : List Fact) where
   pub sweep_comes : (room : RoomRef) (moment : ℕ)
       → sweep_effect config facts room moment ≡ effect_where config facts (swept config room moment)
   unfolding sweep_effect room_gets
-  sweep_comes room moment = room_comes room (to_room.Expire moment) true _ _ refl
+  sweep_comes room moment = room_comes room (to_room.Expire moment)
 
 -- An action by what the table gives for it, or gives not.
-module _ (effect : Configuration → List Fact → Effect) (gives : Configuration → Option Placement)
+module _ {effect : Configuration → List Fact → Effect} (gives : Configuration → Option Placement)
     (line : (config : Configuration) (facts : List Fact)
     → effect config facts ≡ effect_where config facts (gives config))
     (before : Floor) where

@@ -6,7 +6,6 @@ use Rattle.std.specs.List.{list_any}
 use Rattle.std.specs.Vec.{with_item}
 use Rattle.std.proofs.lemmas.List.{append-nil}
 use Rattle.std.proofs.Math.Bool.{or-false}
-use Rattle.std.specs.Prelude.{slice_get}
 use Rattle.venue_rows.specs.Rows.{Configuration}
 use Rattle.dealer_desk.specs.DealerDesk.{DeskEvents, with_event, with_notice_in}
 use Rattle.dealer_desk.specs.DealerOutput.{event_facts, number_in, closable}
@@ -23,7 +22,7 @@ use Rattle.venue_places.specs.declared.arrivals.ForDealer.TheVariants as to_deal
 use Rattle.step_replay.specs.DealerTrail.{DealerEntry, book_by, was_lifted, was_withdrawn}
 use Rattle.step_replay.specs.DealerTrail.{entries_of, rooms_by}
 use Rattle.step_replay.specs.VenueFacts.{Fact, of_dealer}
-use Rattle.step_replay.specs.Actions.{dealer_of, at_dealer, nothing, dealer_at, done_by, told_of}
+use Rattle.step_replay.specs.Actions.{dealer_of, at_dealer, nothing, told_of}
 use Rattle.step_replay.specs.RowOfWords.{word_if}
 use Rattle.step_replay.specs.Standing.{DealerStands, Does, Stands, WordsStand, word_is}
 use Rattle.step_replay.specs.declared.floor.DealerPlace.{DealerPlace}
@@ -31,9 +30,9 @@ use Rattle.step_replay.specs.declared.floor.Floor.{Floor}
 use Rattle.step_replay.specs.DueList.{due_by_fact}
 use Rattle.step_replay.specs.Coming.{dealer_gets}
 use Rattle.step_replay.proofs.AskedWords.{word_grown}
-use Rattle.step_replay.proofs.FloorLemmas.{event_stands, words_kept, at_dealer_stands, with_dealers}
+use Rattle.step_replay.proofs.FloorLemmas.{event_stands, at_dealer_stands, with_dealers}
 use Rattle.step_replay.proofs.FloorLemmas.{all_dealers}
-use Rattle.step_replay.proofs.FoundDealers.{Found, dealer_found, by_found, book_is}
+use Rattle.step_replay.proofs.FoundDealers.{Found, book_is}
 use Rattle.step_replay.proofs.LiftingLemmas.{IsDueSo}
 
 module _ {config : Configuration} {facts : List Fact} {floor : Floor} {number : ℕ}
@@ -66,9 +65,8 @@ module _ {config : Configuration} {facts : List Fact} {floor : Floor} {number : 
         ∙ ap (word_if (was_lifted trail quote)) (or-false (was_withdrawn trail quote)) in
         at_dealer_stands added floor.words before found.row_is
         (event_stands config number found.row trail place desk more found.stands is asks.due_so) refl
-        (words_kept config facts (with_dealers facts number added) floor.words
-        (λ other quote. all_dealers facts number added (λ l. word_is l quote) (same quote) other)
-        before.words_are)
+        (λ n r q known within. before.words_are n r q known within
+        ∙ sym (all_dealers facts number added (λ l. word_is l q) (same q) n))
 
     -- where nothing happens at the desk
     pub idle_stands : desk ≡ place.desk → Stands config (facts ++ []) after
@@ -126,8 +124,8 @@ module _ {config : Configuration} {facts : List Fact} {floor : Floor} {number : 
         then with_event place.desk (event.Told request close moment) else place.desk)
         (book_is config number found.row trail place found.stands))
 
-    -- by what comes
-    gets : (what : ForDealer) → desk ≡ dealer_with place.desk what
+    -- What comes to its desk does what it should.
+    pub gets : (what : ForDealer) → desk ≡ dealer_with place.desk what
         → Does config facts (dealer_gets config facts what (dealer_of number found.row)) after []
     unfolding dealer_with dealer_gets
     gets (to_dealer.Show room ask moment) is =
@@ -138,15 +136,3 @@ module _ {config : Configuration} {facts : List Fact} {floor : Floor} {number : 
         told_by (number_in (rooms_by trail) room) close moment
         (is ∙ ap (λ (l : List RoomRef). with_notice_in place.desk (number_in l room) close moment)
         found.stands.rooms_are)
-
--- What comes to a dealer's desk does what it should.
-pub dealer_does : (config : Configuration) (facts : List Fact) (floor : Floor) (number : ℕ)
-    (place : DealerPlace) (desk : DeskEvents) (what : ForDealer)
-    (before : Stands config facts floor) → slice_get floor.dealers.items number ≡ Some place
-    → desk ≡ dealer_with place.desk what
-    → Does config facts (done_by (dealer_at config number) (dealer_gets config facts what))
-    (record floor { dealers = with_item floor.dealers number (record place { desk = desk }) }) []
-dealer_does config facts floor number place desk what before stood is =
-    let found = dealer_found config facts floor number place before stood in
-    by_found config facts number place found (dealer_gets config facts what) _ []
-    (gets before found desk what is)

@@ -107,14 +107,6 @@ event_stands config number row trail place desk more before is due_so =
 
 -- Where a dealer's place changes, and the words with it.
 
--- the words, where what each is stays for all quotes
-pub words_kept : (config : Configuration) (facts now : List Fact) (words : List (Option Settled))
-    → ((number quote : ℕ) → word_is (of_dealer number now) quote
-    ≡ word_is (of_dealer number facts) quote)
-    → WordsStand config facts words → WordsStand config now words
-words_kept config facts now words same stand number row quote is within =
-    stand number row quote is within ∙ sym (same number quote)
-
 -- facts that say nothing of an investor, nor of its rooms
 pub record NotOf (number : ℕ) (more : List Fact) : Type 0 where
   pub trail : of_investor number more ≡ []
@@ -193,7 +185,7 @@ at_investor_stands {config} {facts} {floor} {number} {row} more index place at i
           (λ n r p differs stood. investor_kept config facts more n r p (others n differs) stood)
           before.investors_are;
       word_count = before.word_count;
-      words_are = words_kept config facts now floor.words
-          (λ n quote. ap (λ l. word_is l quote) (same n)) before.words_are;
+      words_are = λ n r q known within. before.words_are n r q known within
+          ∙ sym (ap (λ l. word_is l q) (same n));
       owners_are = before.owners_are;
     }

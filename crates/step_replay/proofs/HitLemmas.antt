@@ -32,32 +32,21 @@ use Rattle.step_replay.specs.Actions.{Effect, QuoteRef, nothing, dealer_of, firs
 use Rattle.step_replay.specs.Actions.{quote_with_word, quote_asked, answer_to_hit, lifting, hit_in}
 use Rattle.step_replay.specs.OwnerLemmas.{quote_at}
 use Rattle.step_replay.specs.Liftings.{Noted, NotedAt, NotesWhere, awards}
-use Rattle.step_replay.specs.RoomPlaces.{room_place}
 use Rattle.step_replay.specs.Standing.{WordsStand, Stands, Does, AreOneOf}
 use Rattle.step_replay.specs.declared.floor.InvestorPlace.{InvestorPlace}
 use Rattle.step_replay.specs.declared.floor.Floor.{Floor}
 use Rattle.step_replay.proofs.AskedWords.{WordOwner, word_owner}
 use Rattle.step_replay.proofs.FloorLemmas.{at_dealer_stands, with_dealers}
-use Rattle.step_replay.proofs.FoundDealers.{PlaceOf, idle_does, place_of}
+use Rattle.step_replay.proofs.FoundDealers.{PlaceOf, place_of}
 use Rattle.step_replay.proofs.LiftLemmas.{lift_answer, lift_stands, lifted_place, refused_stands}
 use Rattle.step_replay.proofs.RoomActionLemmas.{pushed}
 use Rattle.step_replay.proofs.RoomPlaceLemmas.{FoundRoom, RoomAt, floor_with, in_room_stands}
-use Rattle.step_replay.proofs.RoomPlaceLemmas.{no_room, room_found}
+use Rattle.step_replay.proofs.RoomPlaceLemmas.{room_found}
 
 -- nothing is lifted where a hit does not award
 no_lifting : (found : Option QuoteRef) (why : HitRefusal) → lifting found (Err why) ≡ []
 no_lifting None why = refl
 no_lifting (Some hit) why = refl
-
--- a hit in a room that the venue does not have
-pub no_room_hit : (config : Configuration) (facts : List Fact) (floor : Floor) (at : RoomRef)
-    (response : ResponseRef) (word moment : ℕ) (duties : List Duty) → Stands config facts floor
-    → room_place floor at ≡ None → duties ≡ []
-    → Does config facts (hit_in config facts at response word moment) floor duties
-no_room_hit config facts floor at response word moment duties before none leaves =
-    let missing = no_room config facts floor at before none in
-    let idle = idle_does config facts floor nothing duties before leaves refl in
-    rw missing idle
 
 module _ {config : Configuration} {facts : List Fact} {floor : Floor} {at : RoomRef}
     {investor index : ℕ} {old : InvestorPlace} {events : List RoomEvent}

@@ -10,7 +10,6 @@ mod FloorLemmas
 mod FollowLemmas
 mod FoundDealers
 mod HitLemmas
-mod InvestorActionLemmas
 mod InvestorOpeningLemmas
 mod InvestorPlaceLemmas
 mod ItemLemmas
@@ -31,4 +30,3 @@ mod StepEffects
 mod SteppedLemmas
 mod SweepLemmas
 mod SweptLemmas
-mod TurnLemmas

@@ -1,6 +1,6 @@
 -- What comes to a room of a replay does what it should.
-use Rattle.std.proofs.Common.{◌≡◌, ℕ, Bool, true, false, ◌&&◌, List, [], ◌++◌, None, if◌then◌else◌}
-use Rattle.std.proofs.Common.{refl, sym, ap, ◌∙◌}
+use Rattle.std.proofs.Common.{◌≡◌, ℕ, Bool, true, false, ◌&&◌, List, [], ◌++◌, if◌then◌else◌, refl}
+use Rattle.std.proofs.Common.{sym, ap, ◌∙◌}
 use Rattle.std.proofs.lemmas.List.{append-nil}
 use Rattle.venue_rows.specs.Rows.{Configuration, has_room}
 use Rattle.market_terms.specs.declared.duties.Duty.{Duty}
@@ -21,12 +21,10 @@ use Rattle.venue_steps.proofs.EndLemmas.{after_more}
 use Rattle.step_replay.specs.VenueFacts.{Fact, of_room}
 use Rattle.step_replay.specs.Actions.{in_room, nothing}
 use Rattle.step_replay.specs.Coming.{room_gets}
-use Rattle.step_replay.specs.RoomPlaces.{room_place}
 use Rattle.step_replay.specs.Standing.{Stands, Does}
 use Rattle.step_replay.specs.declared.floor.InvestorPlace.{InvestorPlace}
 use Rattle.step_replay.specs.declared.floor.Floor.{Floor}
-use Rattle.step_replay.proofs.FoundDealers.{idle_does}
-use Rattle.step_replay.proofs.RoomPlaceLemmas.{FoundRoom, no_room, floor_with, in_room_stands}
+use Rattle.step_replay.proofs.RoomPlaceLemmas.{FoundRoom, floor_with, in_room_stands}
 
 -- the room after an event, where it takes place
 pub pushed : (events new : List RoomEvent) (event : RoomEvent) (b : Bool)
@@ -119,7 +117,7 @@ module _ {config : Configuration} {facts : List Fact} {floor : Floor} {at : Room
 
 -- Where the venue has no such room.
 
-none_gets : (config : Configuration) (facts : List Fact) (at : RoomRef)
+pub none_gets : (config : Configuration) (facts : List Fact) (at : RoomRef)
     → has_room config at.investor at.n ≡ false → (what : ForRoom)
     → room_gets config facts at what ≡ nothing
 unfolding room_gets
@@ -130,10 +128,3 @@ none_gets config facts at missing (to_room.Unpost dealer word moment) = rw missi
 none_gets config facts at missing (to_room.Decline dealer moment) = rw missing refl
 none_gets config facts at missing (to_room.Pass response moment) = rw missing refl
 none_gets config facts at missing (to_room.Expire moment) = rw missing refl
-
-pub no_room_does : (config : Configuration) (facts : List Fact) (floor : Floor) (at : RoomRef)
-    (what : ForRoom) (left : List Duty) → Stands config facts floor → room_place floor at ≡ None
-    → left ≡ [] → Does config facts (room_gets config facts at what) floor left
-no_room_does config facts floor at what left before none leaves =
-    idle_does config facts floor _ left before leaves
-    (none_gets config facts at (no_room config facts floor at before none) what)

@@ -18,10 +18,9 @@ use Rattle.step_replay.specs.RoomPlaces.{within, room_place}
 use Rattle.step_replay.specs.Standing.{InvestorStands, RoomIs, Stands, slots}
 use Rattle.step_replay.specs.declared.floor.InvestorPlace.{InvestorPlace}
 use Rattle.step_replay.specs.declared.floor.Floor.{Floor}
-use Rattle.step_replay.specs.PlaceLemmas.{own_room}
-use Rattle.step_replay.specs.PlaceLemmas.{behind_dealers, lent, numbered_at, investor_in_room}
-use Rattle.step_replay.specs.PlaceLemmas.{investor_stays, other_room, room_grown, room_stays}
-use Rattle.step_replay.specs.PlaceLemmas.{trail_in_room}
+use Rattle.step_replay.specs.PlaceLemmas.{own_room, behind_dealers, lent, numbered_at}
+use Rattle.step_replay.specs.PlaceLemmas.{investor_in_room, investor_stays, other_room, room_grown}
+use Rattle.step_replay.specs.PlaceLemmas.{room_stays, trail_in_room}
 use Rattle.step_replay.specs.InvestorGrowth.{desk_of}
 use Rattle.step_replay.proofs.FloorLemmas.{dealer_count, at_investor_stands}
 use Rattle.step_replay.proofs.InvestorPlaceLemmas.{investor_found}
@@ -36,46 +35,44 @@ pub record PlaceOf (floor : Floor) (at : RoomRef) (investor index : ℕ) : Type 
   pub there : slice_get floor.investors.items investor ≡ Some place
   pub inside : index < length place.rooms.items
 
+when_some : {A : Type 0} (b : Bool) (x : Option A) (y : A) → (if b then x else None) ≡ Some y
+    → (b ≡ true) × (x ≡ Some y)
+when_some true x y is = (refl, is)
+when_some false x y is = cc
+
 pub place_of : (floor : Floor) (at : RoomRef) (investor index : ℕ)
     → Some (investor, index) ≡ room_place floor at → PlaceOf floor at investor index
 place_of floor at investor index is =
-    by_tests (nat_le (length floor.dealers.items) at.investor && nat_le 1 at.n) refl (sym is)
+    by_place (slice_get floor.investors.items first) refl outer.1
   where
     first : ℕ
     first = at.investor - length floor.dealers.items
 
-    first_place : ℕ × ℕ
-    first_place = (first, at.n - 1)
+    outer : ((nat_le (length floor.dealers.items) at.investor && nat_le 1 at.n) ≡ true)
+        × (within first (at.n - 1) (slice_get floor.investors.items first) ≡ Some (investor, index))
+    outer = when_some (nat_le (length floor.dealers.items) at.investor && nat_le 1 at.n)
+        (within first (at.n - 1) (slice_get floor.investors.items first)) (investor, index) (sym is)
 
-    by_place : (nat_le (length floor.dealers.items) at.investor && nat_le 1 at.n) ≡ true
-        → (place : Option InvestorPlace) → slice_get floor.investors.items first ≡ place
+    by_place : (place : Option InvestorPlace) → slice_get floor.investors.items first ≡ place
         → within first (at.n - 1) place ≡ Some (investor, index)
         → PlaceOf floor at investor index
-    by_place tests None there same = cc
-    by_place tests (Some place) there same =
-        let parts = cond_some (nat_lt (at.n - 1) (length place.rooms.items)) first_place
+    by_place None there same = cc
+    by_place (Some place) there same =
+        let parts = cond_some (nat_lt (at.n - 1) (length place.rooms.items)) (first, at.n - 1)
         (investor, index) same in
         let inner : nat_lt (at.n - 1) (length place.rooms.items) ≡ true = parts.0 in
         let one : at.investor - length floor.dealers.items ≡ investor =
         ap (λ (p : ℕ × ℕ). p.0) parts.1 in
         let two : at.n - 1 ≡ index = ap (λ (p : ℕ × ℕ). p.1) parts.1 in
-        let from : length floor.dealers.items ≤ at.investor = grind (arith, nat_tests, tests) in
-        let least : 1 ≤ at.n = grind (arith, nat_tests, tests) in
-        let small : at.n - 1 < length place.rooms.items = grind (arith, nat_tests, inner) in
+        let from : length floor.dealers.items ≤ at.investor = grind (arith, nat_tests, outer.0) in
+        let least : 1 ≤ at.n = grind (arith, nat_tests, outer.0) in
         record {
           investor_is = omega arith;
           n_is = omega arith;
           place = place;
           there = ap (slice_get floor.investors.items) (sym one) ∙ there;
-          inside = subst (λ n. n < length place.rooms.items) two small;
+          inside = grind (arith, nat_tests, inner);
         }
-
-    by_tests : (b : Bool) → (nat_le (length floor.dealers.items) at.investor && nat_le 1 at.n) ≡ b
-        → (if b then within first (at.n - 1) (slice_get floor.investors.items first) else None)
-        ≡ Some (investor, index)
-        → PlaceOf floor at investor index
-    by_tests true tests same = by_place tests (slice_get floor.investors.items first) refl same
-    by_tests false tests same = cc
 
 -- a room that stands where its facts have come
 pub record FoundRoom (config : Configuration) (facts : List Fact) (at : RoomRef)
@@ -202,21 +199,18 @@ no_room config facts floor at before none = by_row (investor_numbered config at.
             (sym (numbered_at config at.investor behind) ∙ is) in
             let place : InvestorPlace = own.item in
             let number : ℕ = length config.dealers + (at.investor - length config.dealers) in
-            let rooms : length place.rooms.items ≡ length (slots row) =
-            as_many (RoomIs facts number) 1 (slots row) place.rooms.items own.so.rooms_are in
-            let many : length (slots row) ≡ row.requests = length-replicate row.requests tt in
+            let many : length place.rooms.items ≡ row.requests =
+            as_many (RoomIs facts number) 1 (slots row) place.rooms.items own.so.rooms_are
+            ∙ length-replicate row.requests tt in
             let count : length floor.dealers.items ≡ length config.dealers =
             dealer_count config facts floor before in
             let there : slice_get floor.investors.items first ≡ Some place =
             ap (λ (n : ℕ). slice_get floor.investors.items (at.investor - n)) count ∙ own.there in
-            let least : 1 ≤ at.n = grind (arith, nat_tests, test) in
-            let most : at.n ≤ row.requests = grind (arith, nat_tests, test) in
             let from_test : nat_le (length floor.dealers.items) at.investor ≡ true =
             grind (arith, nat_tests, count, behind) in
-            let least_test : nat_le 1 at.n ≡ true = grind (arith, nat_tests, least) in
-            let small : at.n - 1 < length place.rooms.items = omega arith in
+            let least_test : nat_le 1 at.n ≡ true = grind (arith, nat_tests, test) in
             let inside_test : nat_lt (at.n - 1) (length place.rooms.items) ≡ true =
-            grind (arith, nat_tests, small) in
+            grind (arith, nat_tests, test, many) in
             let is_found : room_place floor at ≡ Some (first, at.n - 1) =
             rw (from_test, least_test, there, inside_test) refl in
             cc

@@ -20,7 +20,7 @@ use Rattle.venue_places.specs.declared.actors.Actor.{Actor}
 use Rattle.step_replay.specs.ActionKinds.{IsAction, by_dealer, by_hit, by_investor, by_room, idle}
 use Rattle.step_replay.specs.ActionKinds.{duty_action, message_action, sweep_action}
 use Rattle.step_replay.specs.Actions.{Effect, QuoteRef, lifting, quote_with_word}
-use Rattle.step_replay.specs.DealerTrail.{DealerEntry, Lifted}
+use Rattle.step_replay.specs.DealerTrail.{DealerEntry}
 use Rattle.step_replay.specs.InvestorTrail.{InvestorEntry}
 use Rattle.step_replay.specs.VenueFacts.{Fact, AtDealer, InRoom, AtInvestor, of_room}
 use Rattle.step_replay.specs.PlaceLemmas.{other_room, room_at_dealer, room_at_investor, room_grown}
@@ -50,35 +50,14 @@ pub nothing_there : (at : Option RoomRef) → AreOf at []
 unfolding of_room
 nothing_there at = record { elsewhere = λ room other. refl }
 
-happened_there : (room : RoomRef) (happened : List RoomFact)
-    → AreOf (Some room) (map (InRoom room) happened)
-happened_there room happened =
-    record { elsewhere = λ other differs. other_room other room differs happened }
-
-dealer_there : (at : Option RoomRef) (number : ℕ) (entries : List DealerEntry)
-    → AreOf at (map (AtDealer number) entries)
-dealer_there at number entries =
-    record { elsewhere = λ room other. room_at_dealer room number entries }
-
-investor_there : (at : Option RoomRef) (number : ℕ) (entries : List InvestorEntry)
-    → AreOf at (map (AtInvestor number) entries)
-investor_there at number entries =
-    record { elsewhere = λ room other. room_at_investor room number entries }
-
-both_there : (at : Option RoomRef) (one two : List Fact) → AreOf at one → AreOf at two
-    → AreOf at (one ++ two)
-both_there at one two first second = record {
-  elsewhere = λ room other. room_grown room one two
-      ∙ ap (λ (l : List RoomFact). l ++ of_room room two) (first.elsewhere room other)
-      ∙ second.elsewhere room other;
-}
-
-lifting_there : (at : Option RoomRef) (found : Option QuoteRef) (outcome : Result End HitRefusal)
-    → AreOf at (lifting found outcome)
-lifting_there at None (Ok award) = nothing_there at
-lifting_there at None (Err refused) = nothing_there at
-lifting_there at (Some hit) (Ok award) = dealer_there at hit.dealer (Lifted hit.quote ∷ [])
-lifting_there at (Some hit) (Err refused) = nothing_there at
+-- a room says nothing of what is lifted
+none_lifted : (room : RoomRef) (found : Option QuoteRef) (outcome : Result End HitRefusal)
+    → of_room room (lifting found outcome) ≡ []
+unfolding of_room
+none_lifted room None (Ok award) = refl
+none_lifted room None (Err refused) = refl
+none_lifted room (Some hit) (Ok award) = refl
+none_lifted room (Some hit) (Err refused) = refl
 
 -- all actions, by their kinds
 pub action_there : (config : Configuration) (facts : List Fact) (desk : Option ℕ)
@@ -86,14 +65,17 @@ pub action_there : (config : Configuration) (facts : List Fact) (desk : Option �
     → AreOf room effect.facts
 action_there config facts desk room effect (idle is) = rw is (nothing_there room)
 action_there config facts desk room effect (by_dealer number row event duties at found comes is) =
-    rw is (dealer_there room number _)
+    rw is (record { elsewhere = λ other differs. room_at_dealer other number _ })
 action_there config facts desk room effect (by_investor number row event duties at found is) =
-    rw is (investor_there room number _)
+    rw is (record { elsewhere = λ other differs. room_at_investor other number _ })
 action_there config facts desk room effect (by_room at event duties here is) =
-    rw (here, is) (happened_there at _)
+    rw (here, is) (record { elsewhere = λ other differs. other_room other at differs _ })
 action_there config facts desk room effect (by_hit at response word moment here is) =
-    rw (here, is) (both_there (Some at) (lifting _ _) (map (InRoom at) _)
-    (lifting_there (Some at) (quote_with_word config word) _) (happened_there at _))
+    rw (here, is) (record {
+      elsewhere = λ other differs. room_grown other (lifting (quote_with_word config word) _) _
+          ∙ ap₂ (λ (l m : List RoomFact). l ++ m) (none_lifted other _ _)
+          (other_room other at differs _);
+    })
 
 -- a message and its firm
 abbrev pub to : ℕ → List ℕ → Sent

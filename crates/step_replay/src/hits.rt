@@ -13,6 +13,7 @@ use venue_steps::{Duties, do_hit};
 impl Floor {
     /// The investor hits a quote in the room of its request. Where it is awarded, the place of the
     /// quote's dealer notes the lifting.
+    #[tactic(auto, using(crate::proofs::RoomPlaceLemmas::investor_inside, crate::proofs::RoomPlaceLemmas::room_inside))]
     pub(crate) fn hit(
         &mut self,
         room: RoomRef,

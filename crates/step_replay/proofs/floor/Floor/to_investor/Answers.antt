@@ -4,7 +4,7 @@ use Rattle.step_replay.specs.Coming.{investor_gets}
 use Rattle.step_replay.specs.PlaceLemmas.{lent}
 use Rattle.step_replay.proofs.FoundDealers.{leaving}
 use Rattle.step_replay.proofs.InvestorPlaceLemmas.{behind_places, dealers_number, no_investor}
-use Rattle.step_replay.proofs.InvestorActionLemmas.{investor_does, no_investor_does}
+use Rattle.step_replay.proofs.InvestorPlaceLemmas.{investor_does, no_investor_does}
 use Rattle.step_replay.proofs.floor.Floor.to_investor.Goals as goal
 
 pub returns-in_default : goal.returns-in_default

@@ -3,8 +3,7 @@ use Rattle.std.proofs.lemmas.Bool.Decides.{nat_tests}
 use Rattle.std.proofs.lemmas.List.{map-set}
 use Rattle.venue_places.specs.declared.actors.Actor.TheVariants as actor
 use Rattle.step_replay.specs.ActionKinds.{message_action}
-use Rattle.step_replay.proofs.TurnLemmas.{queue_at}
-use Rattle.step_replay.proofs.FollowLemmas.{step_follows}
+use Rattle.step_replay.proofs.FollowLemmas.{queue_at, step_follows}
 use Rattle.step_replay.proofs.replay.Replay.receive.Goals as goal
 
 pub returns : goal.returns

@@ -3,8 +3,7 @@ use Rattle.std.proofs.lemmas.Bool.Decides.{nat_tests}
 use Rattle.std.proofs.lemmas.List.{map-set, set-set}
 use Rattle.std.proofs.lemmas.Option.{same_Some}
 use Rattle.step_replay.specs.PlaceLemmas.{lent, get_set_same}
-use Rattle.step_replay.proofs.TurnLemmas.{queue_at}
-use Rattle.step_replay.proofs.FollowLemmas.{full_turn, idle_turn, none_left}
+use Rattle.step_replay.proofs.FollowLemmas.{full_turn, idle_turn, none_left, queue_at}
 use Rattle.step_replay.proofs.replay.Replay.turn.Goals as goal
 
 pub returns-in_default-pop_front : goal.returns-in_default-pop_front
