@@ -1,11 +1,14 @@
 -- The day of each firm: what a venue has of it by the facts, and at its places.
-use Rattle.std.proofs.Common.{◌≡◌, ◌<◌, ◌≤◌, ℕ, zero, suc, ◌+◌, ◌-◌, Bool, true, false, nat_lt}
+use Rattle.std.proofs.Common.{◌≡◌, ◌<◌, ◌≤◌, ℕ, suc, ◌+◌, ◌-◌, Bool, true, false, nat_lt, ◌⊎◌, inl, inr}
 use Rattle.std.proofs.Common.{if◌then◌else◌, List, [], ◌∷◌, ◌++◌, length, map, Some, None}
 use Rattle.std.proofs.Common.{option_map, is_some, refl, sym, ap, ◌∙◌, subst, arith, append_assoc}
 use Rattle.std.specs.Prelude.{slice_get}
+use Rattle.std.specs.List.{range_with_len}
+use Rattle.std.proofs.lemmas.Bool.{cases_lt, ltb-true}
 use Rattle.std.proofs.lemmas.Bool.Decides.{nat_tests}
+use Rattle.std.proofs.lemmas.List.FromFn.{get_or-map-range_with_len, length-map-range_with_len}
 use Rattle.std.proofs.lemmas.List.{length-append, map-append}
-use Rattle.std.proofs.lemmas.Option.{slice_get_past}
+use Rattle.std.proofs.lemmas.Option.{slice_get-get_or, slice_get_past}
 use Rattle.std.proofs.lemmas.Simd.{map-map}
 use Rattle.venue_rows.specs.Rows.{Configuration}
 use Rattle.venue_rows.specs.declared.dealer_rows.DealerRow.{DealerRow}
@@ -37,24 +40,15 @@ use Rattle.step_replay.proofs.ListEnds.{get_second}
 -- What is so of each number from one on, as many as a list has items.
 
 abbrev numbered : {X Y : Type 0} → (ℕ → Y) → ℕ → List X → List Y
-numbered f number [] = []
-numbered f number (x ∷ xs) = f number ∷ numbered f (number + 1) xs
+numbered f number xs = map f (range_with_len number (length xs))
 
-numbered_count : {X Y : Type 0} (f : ℕ → Y) (k : ℕ) (xs : List X)
-    → length (numbered f k xs) ≡ length xs
-numbered_count f k [] = refl
-numbered_count f k (x ∷ xs) = ap suc (numbered_count f (k + 1) xs)
-
-numbered_get : {X Y : Type 0} (f : ℕ → Y) (k : ℕ) (xs : List X) (i : ℕ) → i < length xs
-    → slice_get (numbered f k xs) i ≡ Some (f (k + i))
-numbered_get f k [] i within = absurd (omega arith)
-numbered_get f k (x ∷ xs) zero within =
-    let here : k ≡ k + 0 = omega arith in
-    ap (λ (n : ℕ). Some (f n)) here
-numbered_get f k (x ∷ xs) (suc i) within =
-    let inner : i < length xs = omega arith in
-    let same : k + 1 + i ≡ k + suc i = omega arith in
-    numbered_get f (k + 1) xs i inner ∙ ap (λ (n : ℕ). Some (f n)) same
+numbered_get : {X Y : Type 0} (f : ℕ → Y) (k : ℕ) (xs : List X) (i number : ℕ) → i < length xs
+    → k + i ≡ number → slice_get (numbered f k xs) i ≡ Some (f number)
+numbered_get f k xs i number within is =
+    let inside : i < length (numbered f k xs) =
+    omega (arith, length-map-range_with_len f k (length xs)) in
+    slice_get-get_or (numbered f k xs) i (f k) inside
+    ∙ ap Some (get_or-map-range_with_len f k (length xs) i number (f k) within is)
 
 mapped : {X Y Z : Type 0} (P : ℕ → X → Y → Type 0) (f : ℕ → Z) (g : Y → Z)
     → ((n : ℕ) (x : X) (y : Y) → P n x y → g y ≡ f n) → (k : ℕ) (xs : List X) (ys : List Y)
@@ -112,71 +106,58 @@ module _ (config : Configuration) (facts : List Fact) where
   investors = numbered (investor_day facts) (length config.dealers) config.investors
 
   days_are : firm_days config facts ≡ dealers ++ investors
-  days_are =
-      ap (λ l. l ++ investor_days facts (length config.dealers) config.investors)
-      (dealers_numbered facts 0 config.dealers)
-      ∙ ap (λ l. dealers ++ l) (investors_numbered facts (length config.dealers) config.investors)
+  days_are = rw (dealers_numbered facts 0 config.dealers,
+      investors_numbered facts (length config.dealers) config.investors) refl
 
   pub days_stand : (floor : Floor) → Stands config facts floor
       → days_of_floor floor ≡ firm_days config facts
   days_stand floor stands =
-      ap (λ l. l ++ map investor_day_at floor.investors.items)
-      (mapped (DealerIs config facts) (dealer_day facts) dealer_day_at (dealer_day_is config facts)
-      0 config.dealers floor.dealers.items stands.dealers_are)
-      ∙ ap (λ l. dealers ++ l)
-      (mapped (InvestorStands config facts) (investor_day facts) investor_day_at
+      rw (mapped (DealerIs config facts) (dealer_day facts) dealer_day_at (dealer_day_is config facts)
+      0 config.dealers floor.dealers.items stands.dealers_are,
+      mapped (InvestorStands config facts) (investor_day facts) investor_day_at
       (investor_day_is config facts) (length config.dealers) config.investors
-      floor.investors.items stands.investors_are)
-      ∙ sym days_are
+      floor.investors.items stands.investors_are) (sym days_are)
 
   -- The day of the firm with a number.
 
   abbrev day_by : Bool → ℕ → FirmDay
   day_by dealer firm = if dealer then dealer_day facts firm else investor_day facts firm
 
-  day_get : (firm : ℕ) → nat_lt firm (firms_of config) ≡ true
+  dealer_count : length dealers ≡ length config.dealers
+  dealer_count = length-map-range_with_len (dealer_day facts) 0 (length config.dealers)
+
+  day_get : (firm : ℕ) → firm < firms_of config
       → slice_get (firm_days config facts) firm ≡ Some (day_by (is_dealer config firm) firm)
   day_get firm known =
-      ap (λ l. slice_get l firm) days_are ∙ by_side (nat_lt firm (length config.dealers)) refl
+      ap (λ l. slice_get l firm) days_are ∙ by_side (cases_lt firm (length config.dealers))
     where
-      by_side : (b : Bool) → nat_lt firm (length config.dealers) ≡ b
+      by_side : (firm < length config.dealers) ⊎ (length config.dealers ≤ firm)
           → slice_get (dealers ++ investors) firm ≡ Some (day_by (is_dealer config firm) firm)
-      by_side true test =
-          let within : firm < length config.dealers = grind (arith, nat_tests, test) in
-          let mapped_within : firm < length dealers = subst (λ (n : ℕ). firm < n)
-          (sym (numbered_count (dealer_day facts) 0 config.dealers)) within in
+      by_side (inl within) =
+          let inside : firm < length dealers = omega (arith, dealer_count) in
           let here : 0 + firm ≡ firm = omega arith in
-          let dealer : is_dealer config firm ≡ true = has_item config.dealers firm within in
-          get_first dealers investors firm mapped_within
-          ∙ numbered_get (dealer_day facts) 0 config.dealers firm within
-          ∙ ap (λ (n : ℕ). Some (dealer_day facts n)) here
-          ∙ ap (λ (b : Bool). Some (day_by b firm)) (sym dealer)
-      by_side false test =
-          let behind : length config.dealers ≤ firm = grind (arith, nat_tests, test) in
-          let below : firm < firms_of config = grind (arith, nat_tests, known) in
+          get_first dealers investors firm inside
+          ∙ numbered_get (dealer_day facts) 0 config.dealers firm firm within here
+          ∙ ap (λ (b : Bool). Some (day_by b firm)) (sym (has_item config.dealers firm within))
+      by_side (inr behind) =
+          let past : length dealers ≤ firm = omega (arith, dealer_count) in
           let inner : firm - length config.dealers < length config.investors = omega arith in
           let here : length config.dealers + (firm - length config.dealers) ≡ firm = omega arith in
-          let count = numbered_count (dealer_day facts) 0 config.dealers in
-          let investor : is_dealer config firm ≡ false =
-          ap is_some (slice_get_past config.dealers firm behind) in
-          get_second dealers investors firm (subst (λ (n : ℕ). n ≤ firm) (sym count) behind)
-          ∙ ap (λ (n : ℕ). slice_get investors (firm - n)) count
+          get_second dealers investors firm past
+          ∙ ap (λ (n : ℕ). slice_get investors (firm - n)) dealer_count
           ∙ numbered_get (investor_day facts) (length config.dealers) config.investors
-          (firm - length config.dealers) inner
-          ∙ ap (λ (n : ℕ). Some (investor_day facts n)) here
-          ∙ ap (λ (b : Bool). Some (day_by b firm)) (sym investor)
+          (firm - length config.dealers) firm inner here
+          ∙ ap (λ (b : Bool). Some (day_by b firm))
+          (sym (ap is_some (slice_get_past config.dealers firm behind)))
 
   pub no_day : (firm : ℕ) → nat_lt firm (firms_of config) ≡ false
       → slice_get (firm_days config facts) firm ≡ None
   no_day firm unknown =
-      let one : length dealers ≡ length config.dealers =
-      numbered_count (dealer_day facts) 0 config.dealers in
       let other : length investors ≡ length config.investors =
-      numbered_count (investor_day facts) (length config.dealers) config.investors in
-      let all : length (dealers ++ investors) ≡ length dealers + length investors =
-      length-append dealers investors in
+      length-map-range_with_len (investor_day facts) (length config.dealers) (length config.investors) in
       let past : firms_of config ≤ firm = grind (arith, nat_tests, unknown) in
-      let beyond : length (dealers ++ investors) ≤ firm = omega arith in
+      let beyond : length (dealers ++ investors) ≤ firm =
+      omega (arith, dealer_count, length-append dealers investors) in
       ap (λ l. slice_get l firm) days_are ∙ slice_get_past (dealers ++ investors) firm beyond
 
   -- the messages of the day of a firm are those of the audit trail
@@ -184,7 +165,7 @@ module _ (config : Configuration) (facts : List Fact) where
       → option_map (λ (day : FirmDay). day.sent) (slice_get (firm_days config facts) firm)
       ≡ Some (sent_by_facts config firm facts)
   sent_on_its_day firm known =
-      ap (option_map (λ (day : FirmDay). day.sent)) (day_get firm known)
+      ap (option_map (λ (day : FirmDay). day.sent)) (day_get firm (ltb-true _ _ known))
       ∙ ap Some (by_role (is_dealer config firm))
     where
       by_role : (b : Bool) → (day_by b firm).sent
@@ -198,22 +179,14 @@ pub mapped_more : {A B C : Type 0} (f : A → C) (g : B → C) (start : List C) 
     (before now : List A) (y : B) (x : A) → map f before ≡ start ++ map g done
     → now ≡ before ++ x ∷ [] → f x ≡ g y → map f now ≡ start ++ map g (done ++ y ∷ [])
 mapped_more f g start done before now y x was is same =
-    ap (map f) is ∙ map-append f before (x ∷ []) ∙ ap (λ l. l ++ f x ∷ []) was
-    ∙ ap (λ z. (start ++ map g done) ++ z ∷ []) same
-    ∙ append_assoc start (map g done) (g y ∷ [])
-    ∙ ap (λ l. start ++ l) (sym (map-append g done (y ∷ [])))
+    rw (is, map-append f before (x ∷ []), was, same, map-append g done (y ∷ []),
+    append_assoc start (map g done) (g y ∷ [])) refl
 
 sent_mapped : (dealers : List DealerPlace) (investors : List InvestorPlace)
     → map (λ (day : FirmDay). day.sent) (map dealer_day_at dealers ++ map investor_day_at investors)
     ≡ map (λ place. (dealer_day_at place).sent) dealers
     ++ map (λ place. (investor_day_at place).sent) investors
-sent_mapped dealers investors =
-    map-append (λ (day : FirmDay). day.sent) (map dealer_day_at dealers)
-    (map investor_day_at investors)
-    ∙ ap (λ l. l ++ map (λ (day : FirmDay). day.sent) (map investor_day_at investors))
-    (map-map (λ (day : FirmDay). day.sent) dealer_day_at dealers)
-    ∙ ap (λ l. map (λ place. (dealer_day_at place).sent) dealers ++ l)
-    (map-map (λ (day : FirmDay). day.sent) investor_day_at investors)
+sent_mapped dealers investors = simp (map-append, map-map)
 
 -- the dealers' first, and then the investors'
 pub all_sent : {X : Type 0} (items : X → List (List ℕ)) (dealers : List DealerPlace)

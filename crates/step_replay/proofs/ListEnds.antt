@@ -1,15 +1,15 @@
 -- Items of a list: one of many that are the same, and those of a second list behind a first.
 use Rattle.std.proofs.Common.{◌≡◌, ◌<◌, ◌≤◌, ℕ, zero, suc, ◌-◌, List, [], ◌∷◌, ◌++◌, length}
-use Rattle.std.proofs.Common.{replicate, Some, refl, ap, ◌∙◌, arith}
+use Rattle.std.proofs.Common.{replicate, Some, ap, ◌∙◌, arith}
 use Rattle.std.specs.Prelude.{slice_get}
+use Rattle.std.proofs.lemmas.List.{get_or-replicate, length-replicate}
+use Rattle.std.proofs.lemmas.Option.{slice_get-get_or}
 
 pub get_same : {X : Type 0} (many : ℕ) (x : X) (at : ℕ) → at < many
     → slice_get (replicate many x) at ≡ Some x
-get_same zero x at within = absurd (omega arith)
-get_same (suc many) x zero within = refl
-get_same (suc many) x (suc at) within =
-    let inner : at < many = omega arith in
-    get_same many x at inner
+get_same many x at within =
+    let inside : at < length (replicate many x) = omega (arith, length-replicate many x) in
+    slice_get-get_or (replicate many x) at x inside ∙ ap Some (get_or-replicate many at x x within)
 
 pub get_second : {X : Type 0} (xs ys : List X) (i : ℕ) → length xs ≤ i
     → slice_get (xs ++ ys) i ≡ slice_get ys (i - length xs)

@@ -1,11 +1,11 @@
 -- The places of a venue at the start of a day stand where no fact stands.
 use Rattle.std.proofs.Common.{◌≡◌, ◌<◌, ◌≤◌, ℕ, zero, suc, ◌+◌, ◌-◌, nat_lt, Bool, true, false}
-use Rattle.std.proofs.Common.{if◌then◌else◌, List, [], ◌∷◌, ◌++◌, length, take, get_or, replicate}
+use Rattle.std.proofs.Common.{if◌then◌else◌, List, [], ◌∷◌, ◌++◌, length, take, drop, get_or, replicate}
 use Rattle.std.proofs.Common.{Option, Some, None, option_map, refl, sym, ap, ◌∙◌, subst, arith}
 use Rattle.std.specs.Prelude.{slice_get}
 use Rattle.std.proofs.lemmas.Bool.Decides.{nat_tests}
 use Rattle.std.proofs.lemmas.List.{append-nil, append_assoc, length-replicate, length-append}
-use Rattle.std.proofs.lemmas.List.{length-take-le, take_all, take_more}
+use Rattle.std.proofs.lemmas.List.{drop_all, drop_more, take_all}
 use Rattle.std.proofs.lemmas.List.Sums.{sum_by-cons, sum_by_more}
 use Rattle.quote_word.specs.PlainWords.{entry_in}
 use Rattle.quote_word.specs.declared.settled.Settled.{Settled}
@@ -70,37 +70,23 @@ owners_count number (row ∷ rows) =
     ∙ ap (λ n. row.quotes + n) (owners_count (number + 1) rows)
     ∙ sym (sum_by-cons (λ (r : DealerRow). r.quotes) row rows)
 
-plus_none : (number : ℕ) → number ≡ number + 0
-plus_none number = omega arith
+-- the owners of the next row's words are put behind those so far, and the rest is left
+pub owners_next : (rows : List DealerRow) (at : ℕ) (row : DealerRow) (before now all : List ℕ)
+    → at < length rows → row ≡ get_or rows at row → before ++ owners_from at (drop at rows) ≡ all
+    → now ≡ before ++ replicate row.quotes at → now ++ owners_from (at + 1) (drop (at + 1) rows) ≡ all
+owners_next rows at row before now all within is was put =
+    ap (λ l. l ++ owners_from (at + 1) (drop (at + 1) rows)) put
+    ∙ append_assoc before (replicate row.quotes at) (owners_from (at + 1) (drop (at + 1) rows))
+    ∙ ap (λ l. before ++ owners_from at l) (sym next) ∙ was
+  where
+    next : drop at rows ≡ row ∷ drop (at + 1) rows
+    next = drop_more rows at row within ∙ ap (λ r. r ∷ drop (at + 1) rows) (sym is)
 
--- one row more
-pub owners_more : (number : ℕ) (rows : List DealerRow) (row : DealerRow)
-    → owners_from number (rows ++ row ∷ [])
-    ≡ owners_from number rows ++ replicate row.quotes (number + length rows)
-owners_more number [] row =
-    append-nil (replicate row.quotes number)
-    ∙ ap (λ n. replicate row.quotes n) (plus_none number)
-owners_more number (first ∷ rows) row =
-    let is : number + 1 + length rows ≡ number + length (first ∷ rows) = omega arith in
-    ap (λ l. replicate first.quotes number ++ l) (owners_more (number + 1) rows row)
-    ∙ sym (append_assoc (replicate first.quotes number) (owners_from (number + 1) rows)
-    (replicate row.quotes (number + 1 + length rows)))
-    ∙ ap (λ n. (replicate first.quotes number ++ owners_from (number + 1) rows)
-    ++ replicate row.quotes n) is
-
--- one row more of a list
-pub owners_grow : (rows : List DealerRow) (at : ℕ) (row : DealerRow)
-    → at < length rows → row ≡ get_or rows at row
-    → owners_from 0 (take (at + 1) rows) ≡ owners_from 0 (take at rows) ++ replicate row.quotes at
-owners_grow rows at row within is =
-    let more : take (at + 1) rows ≡ take at rows ++ row ∷ [] =
-    take_more rows at row within
-    ∙ ap (λ (found : DealerRow). take at rows ++ found ∷ []) (sym is) in
-    let all : at ≤ length rows = omega arith in
-    let taken : length (take at rows) ≡ at = length-take-le at rows all in
-    let count : 0 + length (take at rows) ≡ at = omega arith in
-    ap (owners_from 0) more ∙ owners_more 0 (take at rows) row
-    ∙ ap (λ n. owners_from 0 (take at rows) ++ replicate row.quotes n) count
+-- none is left
+pub owners_whole : (rows : List DealerRow) (at : ℕ) (owners all : List ℕ) → length rows ≤ at
+    → owners ++ owners_from at (drop at rows) ≡ all → owners ≡ all
+owners_whole rows at owners all done was =
+    sym (ap (λ l. owners ++ owners_from at l) (drop_all at rows done) ∙ append-nil owners) ∙ was
 
 -- the words of one dealer more
 pub words_grow : (rows : List DealerRow) (at : ℕ) (row : DealerRow)

@@ -169,10 +169,7 @@ fn do_step(venue: &mut LiveVenue, step: &Step, told: &mut Vec<SentTo>) -> Result
     ensures { OnOk result
         (SendsStep step.now venue.old venue.new told.old.items told.new.items) }
 {
-    let Some(room) = room_of(&venue.replay, step) else {
-        send_step(&mut venue.replay, step, told)?;
-        return Ok(());
-    };
+    let room = room_of(&venue.replay, step);
     let before = deadline_at(&venue.replay.floor, room);
     send_step(&mut venue.replay, step, told)?;
     let after = deadline_at(&venue.replay.floor, room);
