@@ -249,19 +249,19 @@ pub at_investor_stands : (config : Configuration) (facts now : List Fact) (floor
     → Stands config now (record floor { investors = with_item floor.investors index place })
 at_investor_stands config facts now floor number index row place at is before dealers investors
     rooms stands = record {
-  config_is = before.config_is;
-  dealers_are = kept (DealerIs config facts) (DealerIs config now) 0 config.dealers
-      floor.dealers.items
-      (λ n r p least stood. subst (λ l. DealerStands config n r l p) (sym (dealers n)) stood)
-      before.dealers_are;
-  investors_are = changed (InvestorStands config facts) (InvestorStands config now)
-      (length config.dealers) config.investors floor.investors.items index number row place at is
-      stands
-      (λ n r p differs stood. investor_kept config facts now n r p (investors n differs)
-      (λ k. rooms n k differs) stood)
-      before.investors_are;
-  word_count = before.word_count;
-  words_are = words_kept config facts now floor.words
-      (λ n quote. ap (λ l. word_is l quote) (dealers n)) before.words_are;
-  owners_are = before.owners_are;
-}
+      config_is = before.config_is;
+      dealers_are = kept (DealerIs config facts) (DealerIs config now) 0 config.dealers
+          floor.dealers.items
+          (λ n r p least stood. subst (λ l. DealerStands config n r l p) (sym (dealers n)) stood)
+          before.dealers_are;
+      investors_are = changed (InvestorStands config facts) (InvestorStands config now)
+          (length config.dealers) config.investors floor.investors.items index number row place at is
+          stands
+          (λ n r p differs stood. investor_kept config facts now n r p (investors n differs)
+          (λ k. rooms n k differs) stood)
+          before.investors_are;
+      word_count = before.word_count;
+      words_are = words_kept config facts now floor.words
+          (λ n quote. ap (λ l. word_is l quote) (dealers n)) before.words_are;
+      owners_are = before.owners_are;
+    }

@@ -109,8 +109,7 @@ module _ {X Y : Type 0} (P Q : ℕ → X → Y → Type 0) where
   changed k [] ys i number x y at there own others all = cc
   changed k (w ∷ xs) [] i number x y at there own others all = absurd all
   changed k (w ∷ xs) (z ∷ ys) zero number x y at there own others all =
-      let here : number ≡ k = omega arith in
-      (
+      let here : number ≡ k = omega arith in (
         subst (λ (n : ℕ). Q n w y) here
             (subst (λ (v : X). Q number v y) (sym (same_Some w x there)) own),
         kept (k + 1) xs ys (λ n v u least so. others n v u (differs number k n here least) so) all.1,

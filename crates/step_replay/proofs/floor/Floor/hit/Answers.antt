@@ -12,13 +12,21 @@ returns-in_default c config facts stands one =
 
 pub index_mut-requires : goal.index_mut-requires
 index_mut-requires c =
-    grind (arith, nat_tests, investor_inside c.args.self.now c.args.room c.in-Some.investor
-    c.in-Some.index c.in-Some.ensures)
+    grind (
+      arith,
+      nat_tests,
+      investor_inside c.args.self.now c.args.room c.in-Some.investor
+          c.in-Some.index c.in-Some.ensures,
+    )
 
 pub index_mut-place-requires : goal.index_mut-place-requires
 index_mut-place-requires c =
-    grind (arith, nat_tests, room_inside c.args.self.now c.args.room c.in-Some.investor
-    c.in-Some.index c.index_mut.result.now c.in-Some.ensures c.index_mut.ensures.value)
+    grind (
+      arith,
+      nat_tests,
+      room_inside c.args.self.now c.args.room c.in-Some.investor
+          c.in-Some.index c.index_mut.result.now c.in-Some.ensures c.index_mut.ensures.value,
+    )
 
 pub returns-then-not-awards : goal.returns-then-not-awards
 returns-then-not-awards c config facts stands one =

@@ -5,8 +5,11 @@ use Rattle.step_replay.proofs.replay.Replay.step.Goals as goal
 pub returns-in_ok-receive-in-In : goal.returns-in_ok-receive-in-In
 returns-in_ok-receive-in-In c config trail none before =
     let known = known_firm config 0 c.in-In.firm (rw c.in-In.is at none) in
-    rw (c.in-In.is, said config trail c.in-In.firm c.in-In.moment c.in-In.message,
-    ← c.as_bytes.ensures)
+    rw (
+      c.in-In.is,
+      said config trail c.in-In.firm c.in-In.moment c.in-In.message,
+      ← c.as_bytes.ensures,
+    )
     (c.in_ok-receive-in-In.ensures config trail known before)
 
 pub returns-in_ok-turn-in-Turn : goal.returns-in_ok-turn-in-Turn
