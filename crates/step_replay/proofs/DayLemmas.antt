@@ -4,11 +4,11 @@ use Rattle.std.proofs.Common.{if◌then◌else◌, List, [], ◌∷◌, ◌++◌
 use Rattle.std.proofs.Common.{option_map, is_some, refl, sym, ap, ◌∙◌, subst, arith, append_assoc}
 use Rattle.std.specs.Prelude.{slice_get}
 use Rattle.std.specs.List.{range_with_len}
-use Rattle.std.proofs.lemmas.Bool.{cases_lt, ltb-true}
-use Rattle.std.proofs.lemmas.Bool.Decides.{nat_tests}
+use Rattle.std.proofs.lemmas.Bool.{cases_lt, ltb-false, ltb-true}
+use Rattle.std.proofs.lemmas.Grind.{elements}
 use Rattle.std.proofs.lemmas.List.FromFn.{get_or-map-range_with_len, length-map-range_with_len}
 use Rattle.std.proofs.lemmas.List.{length-append, map-append}
-use Rattle.std.proofs.lemmas.Option.{slice_get-get_or, slice_get_past}
+use Rattle.std.proofs.lemmas.Option.{gets, slice_get_past}
 use Rattle.std.proofs.lemmas.Simd.{map-map}
 use Rattle.venue_rows.specs.Rows.{Configuration}
 use Rattle.venue_rows.specs.declared.dealer_rows.DealerRow.{DealerRow}
@@ -28,27 +28,33 @@ use Rattle.step_replay.specs.FloorDays.{dealer_day_at, investor_day_at, days_of_
 use Rattle.step_replay.specs.InvestorTrail as investor_trail
 use Rattle.step_replay.specs.LiveDays.{is_dealer, sent_by_facts}
 use Rattle.step_replay.specs.Matching.{Match}
-use Rattle.step_replay.specs.PlaceLemmas.{get_first, has_item}
+use Rattle.step_replay.specs.PlaceLemmas.{has_item}
 use Rattle.step_replay.specs.Standing.{DealerIs, InvestorStands, Stands}
 use Rattle.step_replay.specs.StepFaults.{firms_of}
 use Rattle.step_replay.specs.VenueFacts.{Fact, of_dealer, of_investor}
 use Rattle.step_replay.specs.declared.floor.DealerPlace.{DealerPlace}
 use Rattle.step_replay.specs.declared.floor.Floor.{Floor}
 use Rattle.step_replay.specs.declared.floor.InvestorPlace.{InvestorPlace}
-use Rattle.step_replay.proofs.ListEnds.{get_second}
 
 -- What is so of each number from one on, as many as a list has items.
 
 abbrev numbered : {X Y : Type 0} → (ℕ → Y) → ℕ → List X → List Y
 numbered f number xs = map f (range_with_len number (length xs))
 
-numbered_get : {X Y : Type 0} (f : ℕ → Y) (k : ℕ) (xs : List X) (i number : ℕ) → i < length xs
-    → k + i ≡ number → slice_get (numbered f k xs) i ≡ Some (f number)
-numbered_get f k xs i number within is =
-    let inside : i < length (numbered f k xs) =
-    omega (arith, length-map-range_with_len f k (length xs)) in
-    slice_get-get_or (numbered f k xs) i (f k) inside
-    ∙ ap Some (get_or-map-range_with_len f k (length xs) i number (f k) within is)
+-- by two functions, one behind the other
+module _ {Y : Type 0} (f g : ℕ → Y) (n m i : ℕ) where
+  abbrev both : List Y
+  both = map f (range_with_len 0 n) ++ map g (range_with_len n m)
+
+  get_first : i < n → slice_get both i ≡ Some (f i)
+  get_first low = grind (arith, gets, elements, get_or-map-range_with_len, length-map-range_with_len)
+
+  get_second : n ≤ i → i < n + m → slice_get both i ≡ Some (g i)
+  get_second high low =
+      grind (arith, gets, elements, get_or-map-range_with_len, length-map-range_with_len)
+
+  get_none : n + m ≤ i → slice_get both i ≡ None
+  get_none past = grind (arith, gets, length-append, length-map-range_with_len)
 
 mapped : {X Y Z : Type 0} (P : ℕ → X → Y → Type 0) (f : ℕ → Z) (g : Y → Z)
     → ((n : ℕ) (x : X) (y : Y) → P n x y → g y ≡ f n) → (k : ℕ) (xs : List X) (ys : List Y)
@@ -123,9 +129,6 @@ module _ (config : Configuration) (facts : List Fact) where
   abbrev day_by : Bool → ℕ → FirmDay
   day_by dealer firm = if dealer then dealer_day facts firm else investor_day facts firm
 
-  dealer_count : length dealers ≡ length config.dealers
-  dealer_count = length-map-range_with_len (dealer_day facts) 0 (length config.dealers)
-
   day_get : (firm : ℕ) → firm < firms_of config
       → slice_get (firm_days config facts) firm ≡ Some (day_by (is_dealer config firm) firm)
   day_get firm known =
@@ -134,31 +137,20 @@ module _ (config : Configuration) (facts : List Fact) where
       by_side : (firm < length config.dealers) ⊎ (length config.dealers ≤ firm)
           → slice_get (dealers ++ investors) firm ≡ Some (day_by (is_dealer config firm) firm)
       by_side (inl within) =
-          let inside : firm < length dealers = omega (arith, dealer_count) in
-          let here : 0 + firm ≡ firm = omega arith in
-          get_first dealers investors firm inside
-          ∙ numbered_get (dealer_day facts) 0 config.dealers firm firm within here
+          get_first (dealer_day facts) (investor_day facts) (length config.dealers)
+          (length config.investors) firm within
           ∙ ap (λ (b : Bool). Some (day_by b firm)) (sym (has_item config.dealers firm within))
       by_side (inr behind) =
-          let past : length dealers ≤ firm = omega (arith, dealer_count) in
-          let inner : firm - length config.dealers < length config.investors = omega arith in
-          let here : length config.dealers + (firm - length config.dealers) ≡ firm = omega arith in
-          get_second dealers investors firm past
-          ∙ ap (λ (n : ℕ). slice_get investors (firm - n)) dealer_count
-          ∙ numbered_get (investor_day facts) (length config.dealers) config.investors
-          (firm - length config.dealers) firm inner here
+          get_second (dealer_day facts) (investor_day facts) (length config.dealers)
+          (length config.investors) firm behind known
           ∙ ap (λ (b : Bool). Some (day_by b firm))
           (sym (ap is_some (slice_get_past config.dealers firm behind)))
 
   pub no_day : (firm : ℕ) → nat_lt firm (firms_of config) ≡ false
       → slice_get (firm_days config facts) firm ≡ None
-  no_day firm unknown =
-      let other : length investors ≡ length config.investors =
-      length-map-range_with_len (investor_day facts) (length config.dealers) (length config.investors) in
-      let past : firms_of config ≤ firm = grind (arith, nat_tests, unknown) in
-      let beyond : length (dealers ++ investors) ≤ firm =
-      omega (arith, dealer_count, length-append dealers investors) in
-      ap (λ l. slice_get l firm) days_are ∙ slice_get_past (dealers ++ investors) firm beyond
+  no_day firm unknown = ap (λ l. slice_get l firm) days_are
+      ∙ get_none (dealer_day facts) (investor_day facts) (length config.dealers)
+      (length config.investors) firm (ltb-false _ _ unknown)
 
   -- the messages of the day of a firm are those of the audit trail
   pub sent_on_its_day : (firm : ℕ) → nat_lt firm (firms_of config) ≡ true

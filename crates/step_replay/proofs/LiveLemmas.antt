@@ -18,7 +18,7 @@ use Rattle.step_replay.specs.AuditTrail.{is_same_actor, pending}
 use Rattle.step_replay.specs.Following.{ReplayStands, duties_in}
 use Rattle.step_replay.specs.LiveDays.{Sent, actor_of, live_steps, live_trail, messages_in}
 use Rattle.step_replay.specs.LiveDays.{with_turns}
-use Rattle.step_replay.specs.LiveStanding.{SendsAllOf, SendsOf, VenueSends, after_turns, count_at}
+use Rattle.step_replay.specs.LiveStanding.{SendsAllOf, VenueSends, after_turns, count_at}
 use Rattle.step_replay.specs.LiveStanding.{desk_of_step, first_in, next_duty, sent_behind, Answers}
 use Rattle.step_replay.specs.LiveStanding.{IsAt, VenueStands, room_of_step}
 use Rattle.step_replay.specs.Queues.{QueueHas, is_known, queue_of}
@@ -34,7 +34,7 @@ use Rattle.step_replay.specs.DutyEffects.{duty_effect, message_effect, sweep_eff
 use Rattle.step_replay.specs.OpenRooms.{IsEmpty, Notes, deadline_in}
 use Rattle.step_replay.specs.QueueLemmas.{other_pending, other_turned, same_either}
 use Rattle.step_replay.proofs.FollowLemmas.{has_queue}
-use Rattle.step_replay.proofs.StepEffects.{SendAt, messages_both, step_adds}
+use Rattle.step_replay.proofs.StepEffects.{messages_both, step_adds}
 use Rattle.step_replay.proofs.StartLemmas.{known_actor, idle_turns, turns_both, turns_keep}
 use Rattle.step_replay.proofs.FirmSent.{behind_is}
 use Rattle.step_replay.proofs.OpenRoomLemmas.{rooms_begin, rooms_noted}
@@ -65,31 +65,6 @@ next_unknown config (actor.Firm number) trail replay unknown stands =
     sym (length-map replay.queues.items (λ queue. queue.items)) ∙ stands.queues_stand.count in
     let far : nat_lt (number + 1) (length replay.queues.items) ≡ false = grind (arith, nat_tests) in
     rw far refl
-
--- A step is told.
-pub tells_step : (config : Configuration) (trail : AuditTrail) (next : Step) (before after : Replay)
-    (start old : List Sent) (desk : Option ℕ) → is_known config (actor_of next) ≡ true
-    → ReplayStands config trail before → ReplayStands config (after_step config trail next) after
-    → desk ≡ desk_of_step next (next_duty before (actor_of next))
-    → messages_in config trail.facts ≡ start ++ old
-    → SendsOf config (after_step config trail next) after
-    (start ++ (old ++ sent_behind after.floor desk (count_at before.floor desk)))
-tells_step config trail next before after start old desk known stood stands is told =
-    let adds = step_adds config trail next in
-    let desk_is : desk ≡ desk_of_step next (first_in (pending (actor_of next) trail)) =
-    is ∙ ap (desk_of_step next) (next_is config (actor_of next) trail before known stood) in
-    let sent : SendAt config desk adds.more = rw desk_is adds.sent in
-    let grown : Stands config (trail.facts ++ adds.more) after.floor =
-    rw adds.grown at stands.floor_stands in
-    record {
-      stands = stands;
-      told_is = ap (messages_in config) adds.grown ∙ messages_both config trail.facts adds.more
-          ∙ ap (λ (l : List Sent). l ++ messages_in config adds.more) told
-          ∙ append_assoc start old (messages_in config adds.more)
-          ∙ ap (λ (l : List Sent). start ++ (old ++ l))
-          (behind_is config trail.facts adds.more before.floor after.floor stood.floor_stands grown
-          desk sent);
-    }
 
 pub actor_known : (config : Configuration) (next : Step) → fault_of config 0 next ≡ None
     → is_known config (actor_of next) ≡ true
@@ -141,37 +116,42 @@ live_more config steps next =
     ∙ fold-append (after_step config) no_steps (live_steps steps) (with_turns next ++ [])
     ∙ ap (fold (after_step config) (live_trail config steps)) (append-nil (with_turns next))
 
--- A step is done.
-
--- it takes place in a room, whose deadline is noted, or in none
-pub noted_step : (config : Configuration) (trail : AuditTrail) (next : Step)
-    (before after : LiveVenue) (told : List Sent) → is_known config (actor_of next) ≡ true
-    → VenueStands config trail before
-    → SendsOf config (after_step config trail next) after.replay told
-    → (room : Option RoomRef) (had now : Option ℕ)
+-- A step is done: what it sent is told, and where it takes place in a room its deadline is noted.
+pub step_told : (config : Configuration) (trail : AuditTrail) (next : Step)
+    (before after : LiveVenue) (start old : List Sent) (room : Option RoomRef)
+    (desk had now : Option ℕ) → is_known config (actor_of next) ≡ true
+    → VenueStands config trail before → messages_in config trail.facts ≡ start ++ old
     → room ≡ room_of_step next (next_duty before.replay (actor_of next))
+    → desk ≡ desk_of_step next (next_duty before.replay (actor_of next))
+    → ReplayStands config (after_step config trail next) after.replay
     → ((c : Configuration) (facts : List Fact) → Stands c facts before.replay.floor
     → had ≡ deadline_in c facts room)
     → ((c : Configuration) (facts : List Fact) → Stands c facts after.replay.floor
     → now ≡ deadline_in c facts room)
     → Notes room had now before.open_rooms after.open_rooms
-    → VenueSends config (after_step config trail next) after told
-noted_step config trail next before after told known stood tells room had now is had_is now_is notes =
+    → VenueSends config (after_step config trail next) after
+    (start ++ (old ++ sent_behind after.replay.floor desk (count_at before.replay.floor desk)))
+step_told config trail next before after start old room desk had now known stood told room_is desk_is
+    stands had_is now_is notes =
     let adds = step_adds config trail next in
+    let floor_stood = stood.replay_stands.floor_stands in
     let grown : Stands config (trail.facts ++ adds.more) after.replay.floor =
-    rw adds.grown at tells.stands.floor_stands in
-    let there : room ≡ room_of_step next (first_in (pending (actor_of next) trail)) =
-    is ∙ ap (room_of_step next) (next_is config (actor_of next) trail before.replay known
-    stood.replay_stands) in
+    rw adds.grown at stands.floor_stands in
+    let comes = next_is config (actor_of next) trail before.replay known stood.replay_stands in
     record {
       stands = record {
-        replay_stands = tells.stands;
+        replay_stands = stands;
         rooms_stand = rw adds.grown (rooms_noted config trail.facts adds.more room had now
-            before.open_rooms after.open_rooms stood.rooms_stand (rw there adds.inside)
-            (had_is config trail.facts stood.replay_stands.floor_stands)
-            (now_is config (trail.facts ++ adds.more) grown) notes);
+            before.open_rooms after.open_rooms stood.rooms_stand
+            (rw (room_is ∙ ap (room_of_step next) comes) adds.inside)
+            (had_is config trail.facts floor_stood) (now_is config (trail.facts ++ adds.more) grown) notes);
       };
-      told_is = tells.told_is;
+      told_is = ap (messages_in config) adds.grown ∙ messages_both config trail.facts adds.more
+          ∙ ap (λ (l : List Sent). l ++ messages_in config adds.more) told
+          ∙ append_assoc start old (messages_in config adds.more)
+          ∙ ap (λ (l : List Sent). start ++ (old ++ l))
+          (behind_is config trail.facts adds.more before.replay.floor after.replay.floor floor_stood grown
+          desk (rw (desk_is ∙ ap (desk_of_step next) comes) adds.sent));
     }
 
 -- The clock has no duty but behind its own steps.

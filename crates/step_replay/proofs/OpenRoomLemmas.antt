@@ -134,10 +134,7 @@ module _ (moment : ℕ) (x : Bor Entry) (left rest : List Entry) (next : Option 
         ∙ ap (λ (l : List Entry). before || any_due moment room l) (sym left_is) ∙ was
       where
         moved : (here due b a : Bool) → due ≡ true → (cond here true b || a) ≡ (b || ((due && here) || a))
-        moved true true true a is = refl
-        moved true true false a is = refl
-        moved false true b a is = refl
-        moved here false b a is = cc
+        moved here due b a is = grind (arith, nat_tests)
 
     -- it is not due, and none behind it is
     pub due_stops : nat_le x.now.0 moment ≡ false → before ≡ all

@@ -35,13 +35,12 @@ behind_is room investor first zero = none (room.investor == investor) room.n fir
 behind_is room investor first (suc more) =
     rw (tied_rooms room (record { investor = investor; n = first + 1 }),
     behind_is room investor (first + 1) more)
-    (one_more (room.investor == investor) room.n first more)
+    (one_more room.investor room.n)
   where
-    one_more : (b : Bool) (n first more : ℕ) → ((b && (n == first + 1))
-        || (b && (nat_le (first + 1 + 1) n && nat_le n (first + 1 + more))))
-        ≡ (b && (nat_le (first + 1) n && nat_le n (first + suc more)))
-    one_more true n first more = grind (arith, nat_tests)
-    one_more false n first more = refl
+    one_more : (i n : ℕ) → (((i == investor) && (n == first + 1))
+        || ((i == investor) && (nat_le (first + 1 + 1) n && nat_le n (first + 1 + more))))
+        ≡ ((i == investor) && (nat_le (first + 1) n && nat_le n (first + suc more)))
+    one_more i n = grind (arith, nat_tests)
 
 not_behind : (room : RoomRef) (investor first more : ℕ) → (room.investor == investor) ≡ false
     → is_among room (rooms_behind investor first more) ≡ false

@@ -25,14 +25,10 @@ use Rattle.step_replay.specs.RowOfWords.{word_if, word_of}
 -- Tests.
 
 pub or_true : (b here : Bool) → here ≡ true → (b || (here || false)) ≡ true
-or_true true here is = refl
-or_true false true is = refl
-or_true false false is = is
+or_true b here is = grind (arith, nat_tests)
 
 pub or_none : (b c here : Bool) → here ≡ false → (b || ((c && here) || false)) ≡ b
-or_none b true true is = cc
-or_none b true false is = or-false b
-or_none b false here is = or-false b
+or_none b c here is = grind (arith, nat_tests)
 
 -- a quote of the row by its test
 pub in_row : (quote count : ℕ) → (nat_le 1 quote && nat_le quote count) ≡ true → IsOfRow count quote

@@ -76,44 +76,35 @@ module _ (config : Configuration) (moment : ℕ) (kept : RoomRef → Bool) where
     pub whole_is : all_swept config moment trail rooms ≡ whole
 
   -- the rooms up to the first that is kept may be left out
-  abbrev Reaches : AuditTrail → List RoomRef → List RoomRef → Type 0
-  Reaches trail rooms [] = all_swept config moment trail rooms ≡ trail
-  Reaches trail rooms (room ∷ left) = (kept room ≡ true) × (rest : List RoomRef)
+  abbrev Reaches : AuditTrail → AuditTrail → List RoomRef → Type 0
+  Reaches whole trail [] = whole ≡ trail
+  Reaches whole trail (room ∷ left) = (kept room ≡ true) × (rest : List RoomRef)
       × (filter kept rest ≡ left)
-      × (all_swept config moment trail rooms
-      ≡ all_swept config moment (after_sweep config moment trail room) rest)
+      × (whole ≡ all_swept config moment (after_sweep config moment trail room) rest)
 
   reached : (trail : AuditTrail) → pending actor.Clock trail ≡ []
       → ((room : RoomRef) → kept room ≡ false → is_due config moment trail.facts room ≡ false)
-      → (rooms : List RoomRef) → Reaches trail rooms (filter kept rooms)
+      → (rooms : List RoomRef)
+      → Reaches (all_swept config moment trail rooms) trail (filter kept rooms)
   reached trail idle late [] = refl
   reached trail idle late (room ∷ rooms) =
       by_kept (kept room) refl (reached trail idle late rooms)
     where
-      skipped : (left : List RoomRef) → kept room ≡ false → Reaches trail rooms left
-          → Reaches trail (room ∷ rooms) left
-      skipped left none later =
-          let same : after_sweep config moment trail room ≡ trail =
-          idle_not_due config moment trail room idle (late room none) in
-          by_left left later (ap (λ (t : AuditTrail). all_swept config moment t rooms) same)
-        where
-          by_left : (l : List RoomRef) → Reaches trail rooms l
-              → all_swept config moment trail (room ∷ rooms) ≡ all_swept config moment trail rooms
-              → Reaches trail (room ∷ rooms) l
-          by_left [] is same = same ∙ is
-          by_left (next ∷ l) is same = (is.0, is.1, is.2, same ∙ is.3)
-
-      by_kept : (b : Bool) → kept room ≡ b → Reaches trail rooms (filter kept rooms)
-          → Reaches trail (room ∷ rooms) (cond b (room ∷ filter kept rooms) (filter kept rooms))
+      by_kept : (b : Bool) → kept room ≡ b
+          → Reaches (all_swept config moment trail rooms) trail (filter kept rooms)
+          → Reaches (all_swept config moment trail (room ∷ rooms)) trail
+          (cond b (room ∷ filter kept rooms) (filter kept rooms))
       by_kept true is later = (is, rooms, refl, refl)
-      by_kept false is later = skipped (filter kept rooms) is later
+      by_kept false is later =
+          subst (λ t. Reaches (all_swept config moment t rooms) trail (filter kept rooms))
+          (sym (idle_not_due config moment trail room idle (late room is))) later
 
   module _ (whole : AuditTrail) (live : LiveVenue) (told : List Sent) where
     -- what is left reaches so far
     left_reaches : (left : List RoomRef) (had : SweepsLeft whole left live told)
-        → Reaches had.trail had.rooms left
+        → Reaches whole had.trail left
     left_reaches left had =
-        subst (Reaches had.trail had.rooms) had.left_is (reached had.trail had.idle had.late had.rooms)
+        rw (← had.left_is, ← had.whole_is) (reached had.trail had.idle had.late had.rooms)
 
     pub room_known : (room : RoomRef) (left : List RoomRef) → SweepsLeft whole (room ∷ left) live told
         → fault_of config 0 (step.Expire room moment) ≡ None
@@ -143,7 +134,7 @@ module _ (config : Configuration) (moment : ℕ) (kept : RoomRef → Bool) where
               ∙ had.late other none;
           rooms = next.1;
           left_is = next.2;
-          whole_is = sym next.3 ∙ had.whole_is;
+          whole_is = sym next.3;
         }
 
 -- Sweeps of every room.
@@ -201,9 +192,9 @@ pub sweeps_end : (config : Configuration) (steps : List Step) (moment : ℕ) (ke
     (live_messages config steps ++ told)
     → AnswersSweeps config steps moment after told
 sweeps_end config steps moment kept after told had =
-    let same = sym (left_reaches config moment kept _ after _ [] had) ∙ had.whole_is in
+    let same = left_reaches config moment kept _ after _ [] had in
     record {
-      stands = record { stands = rw (sym same) had.stands; clock_idle = rw (sym same) had.idle };
-      told_is = rw (sym same) had.told_is;
-      none_left = rw (sym same) had.idle;
+      stands = record { stands = rw same had.stands; clock_idle = rw same had.idle };
+      told_is = rw same had.told_is;
+      none_left = rw same had.idle;
     }

@@ -15,7 +15,7 @@ invariant-loop-room l = record {
   can_next : (goal.iterator-loop-room).can_next l.room-iterator;
   is_finite : (goal.iterator-loop-room).is_finite l.room-iterator;
   swept : (config : Configuration) (steps : List Step) → IsAt config steps l.fn.self
-      → SweepsLeft config l.moment (contains room_cmp l.due)
+      → SweepsLeft config l.moment (contains room_cmp (record { keys = l.initial.room-iterator }))
       (live_trail config (steps ++ sweeps_at l.moment (rooms_of config))) l.room-iterator l.self
       (live_messages config steps ++ l.told.items);
 }
