@@ -112,17 +112,17 @@ module _ (config : Configuration) (facts : List Fact) where
   investors = numbered (investor_day facts) (length config.dealers) config.investors
 
   days_are : firm_days config facts ≡ dealers ++ investors
-  days_are = rw (dealers_numbered facts 0 config.dealers,
-      investors_numbered facts (length config.dealers) config.investors) refl
+  days_are = rw (dealers_numbered, investors_numbered) refl
 
   pub days_stand : (floor : Floor) → Stands config facts floor
       → days_of_floor floor ≡ firm_days config facts
   days_stand floor stands =
-      rw (mapped (DealerIs config facts) (dealer_day facts) dealer_day_at (dealer_day_is config facts)
-      0 config.dealers floor.dealers.items stands.dealers_are,
-      mapped (InvestorStands config facts) (investor_day facts) investor_day_at
-      (investor_day_is config facts) (length config.dealers) config.investors
-      floor.investors.items stands.investors_are) (sym days_are)
+      let one = mapped (DealerIs config facts) (dealer_day facts) dealer_day_at
+      (dealer_day_is config facts) 0 config.dealers floor.dealers.items stands.dealers_are in
+      let other = mapped (InvestorStands config facts) (investor_day facts) investor_day_at
+      (investor_day_is config facts) (length config.dealers) config.investors floor.investors.items
+      stands.investors_are in
+      rw (one, other) (sym days_are)
 
   -- The day of the firm with a number.
 
@@ -171,8 +171,7 @@ pub mapped_more : {A B C : Type 0} (f : A → C) (g : B → C) (start : List C) 
     (before now : List A) (y : B) (x : A) → map f before ≡ start ++ map g done
     → now ≡ before ++ x ∷ [] → f x ≡ g y → map f now ≡ start ++ map g (done ++ y ∷ [])
 mapped_more f g start done before now y x was is same =
-    rw (is, map-append f before (x ∷ []), was, same, map-append g done (y ∷ []),
-    append_assoc start (map g done) (g y ∷ [])) refl
+    rw (is, map-append, was, same, map-append, append_assoc) refl
 
 sent_mapped : (dealers : List DealerPlace) (investors : List InvestorPlace)
     → map (λ (day : FirmDay). day.sent) (map dealer_day_at dealers ++ map investor_day_at investors)

@@ -23,10 +23,8 @@ run_grown dues events from index event since inside is =
     omega (arith, length-drop from events) in
     let here : get_or (drop from events) (index - from) event ≡ event =
     grind (arith, common_steps) in
-    rw (next, take_more (drop from events) (index - from) event within, here,
-    map-append due_by_event (take (index - from) (drop from events)) (event ∷ []),
-    append_assoc dues (map due_by_event (take (index - from) (drop from events)))
-    (due_by_event event ∷ [])) refl
+    let more = take_more (drop from events) (index - from) event within in
+    rw (next, more, here, map-append, append_assoc) refl
 
 -- what was due by one event more is put behind them
 pub run_pushed : (dues before now : List Due) (events : List DealerEvent) (from index : ℕ)

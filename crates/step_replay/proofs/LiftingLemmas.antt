@@ -38,11 +38,8 @@ events_push count events more (lifting ∷ later) least within =
     let here : lifting.after ≤ length events = within.0 in
     let size : length (drop count events) ≡ length events - count = length-drop count events in
     let fits : lifting.after - count ≤ length (drop count events) = omega arith in
-    rw (drop-append-le count events (more ∷ []) least,
-    take-append-le (lifting.after - count) (drop count events) (more ∷ []) fits,
-    events_push lifting.after events more later here within.1,
-    append_assoc (map due_by_event (take (lifting.after - count) (drop count events)))
-    (due.Lifted lifting.quote ∷ dues_behind lifting.after events later) (due_by_event more ∷ [])) refl
+    let behind = events_push lifting.after events more later here within.1 in
+    rw (drop-append-le, take-append-le, behind, append_assoc) refl
 
 -- One lifting more.
 
@@ -54,9 +51,8 @@ liftings_push : (count : ℕ) (events : List DealerEvent) (liftings : List Lifti
 liftings_push count events [] quote =
     rw (← length-drop count events, take-length (drop count events), drop-length events) refl
 liftings_push count events (lifting ∷ later) quote =
-    rw (liftings_push lifting.after events later quote,
-    append_assoc (map due_by_event (take (lifting.after - count) (drop count events)))
-    (due.Lifted lifting.quote ∷ dues_behind lifting.after events later) (due.Lifted quote ∷ [])) refl
+    let behind = liftings_push lifting.after events later quote in
+    rw (behind, append_assoc) refl
 
 -- At a dealer's place.
 

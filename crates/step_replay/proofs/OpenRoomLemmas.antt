@@ -82,10 +82,11 @@ pub own_room : (room : RoomRef) → is_eq (room_cmp room room) ≡ true
 own_room room = ap is_eq (tied_itself room_total room)
 
 pub tied_rooms : (one other : RoomRef) → is_eq (room_cmp one other) ≡ is_same_room one other
-tied_rooms one other = same_from_decides {P = is_same_room one other ≡ true} _ _
-    (λ is. subst (λ (r : RoomRef). is_same_room one r ≡ true) (one_room one other is) itself,
-    λ same. subst (λ (r : RoomRef). is_eq (room_cmp one r) ≡ true) (same_room one other same)
-    (own_room one))
+tied_rooms one other = same_from_decides {P = is_same_room one other ≡ true} _ _ (
+  λ is. subst (λ (r : RoomRef). is_same_room one r ≡ true) (one_room one other is) itself,
+  λ same. subst (λ (r : RoomRef). is_eq (room_cmp one r) ≡ true) (same_room one other same)
+      (own_room one),
+)
     (λ is. is, λ is. is)
   where
     itself : is_same_room one one ≡ true

@@ -33,9 +33,9 @@ behind_is room investor first zero = none (room.investor == investor) room.n fir
     none : (b : Bool) (n first : ℕ) → false ≡ (b && (nat_le (first + 1) n && nat_le n (first + 0)))
     none b n first = grind (arith, nat_tests)
 behind_is room investor first (suc more) =
-    rw (tied_rooms room (record { investor = investor; n = first + 1 }),
-    behind_is room investor (first + 1) more)
-    (one_more room.investor room.n)
+    let here = tied_rooms room (record { investor = investor; n = first + 1 }) in
+    let later = behind_is room investor (first + 1) more in
+    rw (here, later) (one_more room.investor room.n)
   where
     one_more : (i n : ℕ) → (((i == investor) && (n == first + 1))
         || ((i == investor) && (nat_le (first + 1 + 1) n && nat_le n (first + 1 + more))))
@@ -67,10 +67,12 @@ from_has investor zero n (row ∷ rows) room is =
     let here : room.investor ≡ investor = ap (λ (r : RoomRef). r.investor) is ∙ omega arith in
     let own : (room.investor == investor) ≡ true = eq-eqb _ _ here in
     let next : room.investor < investor + 1 = omega arith in
-    list_any-append (is_room room) (rooms_behind investor 0 row.requests) (rooms_from (investor + 1) (requests_of rows))
-    ∙ rw (behind_is room investor 0 row.requests, own,
-    none_before room (investor + 1) (requests_of rows) next, ap (λ (r : RoomRef). r.n) is)
-    (in_range n row.requests)
+    let behind = behind_is room investor 0 row.requests in
+    let none = none_before room (investor + 1) (requests_of rows) next in
+    let number = ap (λ (r : RoomRef). r.n) is in
+    list_any-append (is_room room) (rooms_behind investor 0 row.requests)
+    (rooms_from (investor + 1) (requests_of rows))
+    ∙ rw (behind, own, none, number) (in_range n row.requests)
   where
     in_range : (n requests : ℕ) → ((nat_le 1 n && nat_le n (0 + requests)) || false)
         ≡ (nat_le 1 n && nat_le n requests)
@@ -119,8 +121,9 @@ comes_later : (one other : RoomRef)
 comes_later one other (inl low) = rw (lt-ltb one.investor other.investor low) refl
 comes_later one other (inr later) =
     let least : other.investor ≤ one.investor = omega arith in
-    rw (le-ltb one.investor other.investor least, eq-eqb one.investor other.investor later.0,
-    lt-ltb one.n other.n later.1) refl
+    let not_less = le-ltb one.investor other.investor least in
+    let same = eq-eqb one.investor other.investor later.0 in
+    rw (not_less, same, lt-ltb one.n other.n later.1) refl
 
 -- the rooms of one investor, and behind them those of later ones
 both_sorted : (investor first more : ℕ) (requests : List ℕ)

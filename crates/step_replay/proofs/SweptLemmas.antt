@@ -141,50 +141,50 @@ module _ (config : Configuration) (moment : ℕ) (kept : RoomRef → Bool) where
 
 module _ (config : Configuration) (steps : List Step) (moment : ℕ) (live : LiveVenue)
     (due : BTreeSet RoomRef) (is_at : IsAt config steps live) (are : AreDue live.open_rooms moment due)
-    where
-  is_kept : (room : RoomRef)
-      → contains room_cmp due room ≡ is_due config moment (live_trail config steps).facts room
-  is_kept room = are.each room ∙ due_is config (live_trail config steps).facts live.open_rooms
-      is_at.stands.rooms_stand room moment
+  where
+    is_kept : (room : RoomRef)
+        → contains room_cmp due room ≡ is_due config moment (live_trail config steps).facts room
+    is_kept room = are.each room ∙ due_is config (live_trail config steps).facts live.open_rooms
+        is_at.stands.rooms_stand room moment
 
-  has : (room : RoomRef) → contains room_cmp due room ≡ true
-      → has_room config room.investor room.n ≡ true
-  has room kept = by_room (has_room config room.investor room.n) _ (sym (is_kept room) ∙ kept)
-    where
-      by_room : (b : Bool) (deadline : Option ℕ)
-          → has_come moment (if b then deadline else None) ≡ true → b ≡ true
-      by_room true deadline is = refl
-      by_room false deadline is = cc
+    has : (room : RoomRef) → contains room_cmp due room ≡ true
+        → has_room config room.investor room.n ≡ true
+    has room kept = by_room (has_room config room.investor room.n) _ (sym (is_kept room) ∙ kept)
+      where
+        by_room : (b : Bool) (deadline : Option ℕ)
+            → has_come moment (if b then deadline else None) ≡ true → b ≡ true
+        by_room true deadline is = refl
+        by_room false deadline is = cc
 
-  due_keys : filter (contains room_cmp due) (rooms_of config) ≡ due.keys
-  due_keys = btree_set_from_contains room_total (record { keys = filter kept (rooms_of config) }) due
-      (IsStrictlySortedBy-filter room_cmp kept (rooms_of config) (rooms_sorted config)) are.ordered
-      (λ room. any-filter_same (λ (k : RoomRef). is_eq (room_cmp room k)) kept (kept room)
-      (λ k tied. ap kept (sym (one_room room k tied))) (rooms_of config)
-      ∙ by_kept room (kept room) refl)
-      rooms_exact
-    where
-      kept : RoomRef → Bool
-      kept = contains room_cmp due
+    due_keys : filter (contains room_cmp due) (rooms_of config) ≡ due.keys
+    due_keys = btree_set_from_contains room_total (record { keys = filter kept (rooms_of config) }) due
+        (IsStrictlySortedBy-filter room_cmp kept (rooms_of config) (rooms_sorted config)) are.ordered
+        (λ room. any-filter_same (λ (k : RoomRef). is_eq (room_cmp room k)) kept (kept room)
+        (λ k tied. ap kept (sym (one_room room k tied))) (rooms_of config)
+        ∙ by_kept room (kept room) refl)
+        rooms_exact
+      where
+        kept : RoomRef → Bool
+        kept = contains room_cmp due
 
-      by_kept : (room : RoomRef) (b : Bool) → kept room ≡ b → (b && is_among room (rooms_of config)) ≡ kept room
-      by_kept room true is = rooms_are config room ∙ has room is ∙ sym is
-      by_kept room false is = sym is
+        by_kept : (room : RoomRef) (b : Bool) → kept room ≡ b → (b && is_among room (rooms_of config)) ≡ kept room
+        by_kept room true is = rooms_are config room ∙ has room is ∙ sym is
+        by_kept room false is = sym is
 
-  pub sweeps_begin : SweepsLeft config moment (contains room_cmp due)
-      (live_trail config (steps ++ sweeps_at moment (rooms_of config))) due.keys live
-      (live_messages config steps ++ [])
-  sweeps_begin = record {
-    trail = live_trail config steps;
-    stands = is_at.stands;
-    idle = is_at.clock_idle;
-    told_is = sym (append-nil (live_messages config steps));
-    known = has;
-    late = λ room none. sym (is_kept room) ∙ none;
-    rooms = rooms_of config;
-    left_is = due_keys;
-    whole_is = sym (swept_is config steps moment (rooms_of config));
-  }
+    pub sweeps_begin : SweepsLeft config moment (contains room_cmp due)
+        (live_trail config (steps ++ sweeps_at moment (rooms_of config))) due.keys live
+        (live_messages config steps ++ [])
+    sweeps_begin = record {
+      trail = live_trail config steps;
+      stands = is_at.stands;
+      idle = is_at.clock_idle;
+      told_is = sym (append-nil (live_messages config steps));
+      known = has;
+      late = λ room none. sym (is_kept room) ∙ none;
+      rooms = rooms_of config;
+      left_is = due_keys;
+      whole_is = sym (swept_is config steps moment (rooms_of config));
+    }
 
 pub sweeps_end : (config : Configuration) (steps : List Step) (moment : ℕ) (kept : RoomRef → Bool)
     (after : LiveVenue) (told : List Sent) → SweepsLeft config moment kept

@@ -13,13 +13,15 @@ returns-in_default-room_place c config facts stands =
 
 pub index-requires : goal.index-requires
 index-requires c =
-    grind (arith, nat_tests, investor_inside c.args.floor.now c.in-Some.room c.in-Some-room_place.investor
-    c.in-Some-room_place.index c.in-Some-room_place.ensures)
+    let inside = investor_inside c.args.floor.now c.in-Some.room c.in-Some-room_place.investor
+    c.in-Some-room_place.index c.in-Some-room_place.ensures in
+    grind (arith, nat_tests, inside)
 
 pub index-requires-2 : goal.index-requires-2
 index-requires-2 c =
-    grind (arith, nat_tests, room_inside c.args.floor.now c.in-Some.room c.in-Some-room_place.investor
-    c.in-Some-room_place.index c.index.result.now c.in-Some-room_place.ensures c.index.ensures)
+    let inside = room_inside c.args.floor.now c.in-Some.room c.in-Some-room_place.investor
+    c.in-Some-room_place.index c.index.result.now c.in-Some-room_place.ensures c.index.ensures in
+    grind (arith, nat_tests, inside)
 
 pub returns : goal.returns
 returns c config facts stands =
