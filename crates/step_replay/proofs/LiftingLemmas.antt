@@ -84,11 +84,9 @@ module _ (date : List ℕ) (row : DealerRow) (trail : List DealerEntry) (place :
     pub dues_after_lifting : dues_behind 0 now.desk.events now.liftings.items
         ≡ due_list (trail ++ Lifted quote ∷ [])
     dues_after_lifting =
-        ap (λ (d : DeskEvents). dues_behind 0 d.events now.liftings.items) noted.desk_is
-        ∙ ap (dues_behind 0 place.desk.events) noted.liftings_are
-        ∙ liftings_push 0 place.desk.events place.liftings.items quote
-        ∙ ap (λ (l : List Due). l ++ due.Lifted quote ∷ []) dues_are
-        ∙ sym (filter_map-append due_by trail (Lifted quote ∷ []))
+        let pushed = liftings_push 0 place.desk.events place.liftings.items quote in
+        rw (noted.desk_is, noted.liftings_are, pushed, dues_are)
+        (sym (filter_map-append due_by trail (Lifted quote ∷ [])))
 
     pub within_after_lifting : AreWithin (length now.desk.events) now.liftings.items
     within_after_lifting =

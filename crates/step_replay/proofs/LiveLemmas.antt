@@ -138,6 +138,8 @@ step_told config trail next before after start old room desk had now known stood
     let grown : Stands config (trail.facts ++ adds.more) after.replay.floor =
     rw adds.grown at stands.floor_stands in
     let comes = next_is config (actor_of next) trail before.replay known stood.replay_stands in
+    let behind = behind_is config trail.facts adds.more before.replay.floor after.replay.floor
+    floor_stood grown desk (rw (desk_is ∙ ap (desk_of_step next) comes) adds.sent) in
     record {
       stands = record {
         replay_stands = stands;
@@ -146,12 +148,7 @@ step_told config trail next before after start old room desk had now known stood
             (rw (room_is ∙ ap (room_of_step next) comes) adds.inside)
             (had_is config trail.facts floor_stood) (now_is config (trail.facts ++ adds.more) grown) notes);
       };
-      told_is = ap (messages_in config) adds.grown ∙ messages_both config trail.facts adds.more
-          ∙ ap (λ (l : List Sent). l ++ messages_in config adds.more) told
-          ∙ append_assoc start old (messages_in config adds.more)
-          ∙ ap (λ (l : List Sent). start ++ (old ++ l))
-          (behind_is config trail.facts adds.more before.replay.floor after.replay.floor floor_stood grown
-          desk (rw (desk_is ∙ ap (desk_of_step next) comes) adds.sent));
+      told_is = rw (adds.grown, messages_both, told, append_assoc, behind) refl;
     }
 
 -- The clock has no duty but behind its own steps.

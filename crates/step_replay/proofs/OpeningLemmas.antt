@@ -61,10 +61,8 @@ pub owners_count : (number : ℕ) (rows : List DealerRow)
     → length (owners_from number rows) ≡ quotes_of rows
 owners_count number [] = refl
 owners_count number (row ∷ rows) =
-    length-append (replicate row.quotes number) (owners_from (number + 1) rows)
-    ∙ ap (λ n. n + length (owners_from (number + 1) rows)) (length-replicate row.quotes number)
-    ∙ ap (λ n. row.quotes + n) (owners_count (number + 1) rows)
-    ∙ sym (sum_by-cons (λ (r : DealerRow). r.quotes) row rows)
+    rw (length-append, length-replicate, owners_count (number + 1) rows)
+    (sym (sum_by-cons (λ (r : DealerRow). r.quotes) row rows))
 
 -- the owners of the next row's words are put behind those so far, and the rest is left
 pub owners_next : (rows : List DealerRow) (at : ℕ) (row : DealerRow) (before now all : List ℕ)
@@ -72,15 +70,12 @@ pub owners_next : (rows : List DealerRow) (at : ℕ) (row : DealerRow) (before n
     → now ≡ before ++ replicate row.quotes at → now ++ owners_from (at + 1) (drop (at + 1) rows) ≡ all
 owners_next rows at row before now all within is was put =
     let next : drop at rows ≡ row ∷ drop (at + 1) rows = grind (arith, common_steps) in
-    ap (λ l. l ++ owners_from (at + 1) (drop (at + 1) rows)) put
-    ∙ append_assoc before (replicate row.quotes at) (owners_from (at + 1) (drop (at + 1) rows))
-    ∙ ap (λ l. before ++ owners_from at l) (sym next) ∙ was
+    rw (put, append_assoc) (rw next at was)
 
 -- none is left
 pub owners_whole : (rows : List DealerRow) (at : ℕ) (owners all : List ℕ) → length rows ≤ at
     → owners ++ owners_from at (drop at rows) ≡ all → owners ≡ all
-owners_whole rows at owners all done was =
-    sym (ap (λ l. owners ++ owners_from at l) (drop_all at rows done) ∙ append-nil owners) ∙ was
+owners_whole rows at owners all done was = rw (drop_all rows at done, append-nil owners) at was
 
 -- the words of one dealer more
 pub words_grow : (rows : List DealerRow) (at : ℕ) (row : DealerRow)

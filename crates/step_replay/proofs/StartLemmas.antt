@@ -8,6 +8,7 @@ use Rattle.std.proofs.lemmas.Bool.Decides.{nat_tests}
 use Rattle.std.proofs.lemmas.List.{length-replicate, take_more, take-append-drop}
 use Rattle.std.proofs.lemmas.List.{replicate-append-replicate}
 use Rattle.std.proofs.lemmas.List.Elements.{All-cons, All-nil, All-drop, All-same, All-take}
+use Rattle.std.proofs.lemmas.Grind.{common_steps}
 use Rattle.std.proofs.lemmas.List.Sums.{fold-append}
 use Rattle.market_terms.specs.declared.duties.Duty.{Duty}
 use Rattle.venue_rows.specs.Rows.{Configuration, has_room}
@@ -145,9 +146,8 @@ pub day_more : (config : Configuration) (steps : List Step) (at : ℕ) (s : Step
     ≡ after_step config (audit_trail config (take at steps)) s
 unfolding audit_trail
 day_more config steps at s within is =
-    ap (fold (after_step config) no_steps) (take_more steps at s within
-    ∙ ap (λ (found : Step). take at steps ++ found ∷ []) (sym is))
-    ∙ fold-append (after_step config) no_steps (take at steps) (s ∷ [])
+    let more : take (at + 1) steps ≡ take at steps ++ s ∷ [] = grind (arith, common_steps) in
+    rw (more, fold-append) refl
 
 -- one step more
 steps_longer : (config : Configuration) (trail : AuditTrail) (done : List Step) (step : Step)
