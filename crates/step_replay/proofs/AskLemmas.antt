@@ -27,7 +27,7 @@ use Rattle.step_replay.proofs.FloorLemmas.{event_stands, at_dealer_stands}
 use Rattle.step_replay.proofs.FoundDealers.{Found}
 use Rattle.step_replay.proofs.DealerActionLemmas.{idle_stands, unasked_stands}
 use Rattle.step_replay.proofs.LiftingLemmas.{IsDueSo}
-use Rattle.step_replay.proofs.AskedWords.{withdraws_by, answer_is, words_asked}
+use Rattle.step_replay.proofs.AskedWords.{IsWord, withdraws_by, answer_is, words_asked}
 
 -- An event that asks a word where there is one, by what the desk, the words and the duties are.
 
@@ -86,7 +86,7 @@ module _ (config : Configuration) (facts : List Fact) (floor : Floor) (number : 
   asks_does None desk words withdraws_so due_so inside exchange is = record {
     stands = subst (λ (w : List (Option Settled)).
         Stands config (facts ++ (effect_of None).facts) (floor_with desk w)) (sym exchange)
-        (unasked_stands config facts floor number place before found desk (event None)
+        (unasked_stands before found desk (event None)
         (record { withdraws_none = λ quote. withdraws_so None quote; due_so = due_so None }) is);
     leaves = refl;
   }
@@ -107,7 +107,7 @@ module _ (config : Configuration) (facts : List Fact) (floor : Floor) (number : 
           rw (none, test) (record {
             stands = subst (λ (w : List (Option Settled)). Stands config (facts ++ []) (floor_with desk w))
                 (sym exchanged)
-                (idle_stands config facts floor number place before found desk now_is);
+                (idle_stands before found desk now_is);
             leaves = refl;
           })
       by_test true test exchanged now_is =
@@ -124,21 +124,22 @@ module _ (config : Configuration) (facts : List Fact) (floor : Floor) (number : 
           by_entry None settles now_is = absurd settles
           by_entry (Some settlement) settles now_is =
               let more = event (Some (answer_to_dealer trail asked)) in
-              let within = in_day asked found.row.quotes inside.0 inside.1 in
+              let of : IsWord config word number found.row asked = record {
+                is = found.row_is;
+                within = in_day asked found.row.quotes inside.0 inside.1;
+                word_is = refl;
+              } in
               let in_row : word < length floor.words = grind (arith, nat_tests) in
               let so = λ (quote : ℕ). withdraws_so (Some (answer_to_dealer trail asked)) quote in
-              let same : settlement ≡ answer_to_dealer trail asked = answer_is config facts number
-              found.row found.row_is more asked within so floor.words words settlement
-              before.words_are settles in_row in
+              let same : settlement ≡ answer_to_dealer trail asked =
+              answer_is facts more of so before.words_are settles in_row in
               record {
-                stands = at_dealer_stands config facts floor number found.row
-                    (entries_of config.date found.row trail more) (record place { desk = desk })
-                    words found.row_is before
+                stands = at_dealer_stands (entries_of config.date found.row trail more) words before
+                    found.row_is
                     (event_stands config number found.row trail place desk more found.stands
                     (now_is ∙ ap (λ (a : Settled). with_event place.desk (event (Some a))) same)
                     (due_so (Some (answer_to_dealer trail asked))))
                     (exchange_keeps_count floor.words words word settled.Withdrawn settlement settles)
-                    (words_asked config facts number found.row found.row_is more asked within so
-                    floor.words words settlement before.words_are settles in_row);
+                    (words_asked facts more of so before.words_are settles in_row);
                 leaves = ap (λ (a : Settled). left (Some a)) same;
               }

@@ -1,7 +1,7 @@
 -- The words of quotes after an event that asks one of them.
-use Rattle.std.proofs.Common.{◌≡◌, ◌≢◌, ◌<◌, ℕ, ◌+◌, ◌==◌, nat_le, Bool, true, false, ◌&&◌, ◌||◌}
-use Rattle.std.proofs.Common.{if◌then◌else◌, List, ◌++◌, length, Option, Some, None, refl, sym, ap}
-use Rattle.std.proofs.Common.{◌∙◌, subst, arith, eq-eqb}
+use Rattle.std.proofs.Common.{◌≡◌, ◌≢◌, ◌<◌, ℕ, ◌+◌, ◌==◌, nat_lt, nat_le, Bool, true, false, ◌&&◌}
+use Rattle.std.proofs.Common.{◌||◌, if◌then◌else◌, List, ◌++◌, length, Option, Some, None, refl}
+use Rattle.std.proofs.Common.{sym, ap, ◌∙◌, subst, arith, eq-eqb, ap₂}
 use Rattle.std.specs.List.{list_any}
 use Rattle.std.proofs.lemmas.Bool.{ne_eqb}
 use Rattle.std.proofs.lemmas.Bool.Decides.{nat_tests}
@@ -20,54 +20,72 @@ use Rattle.dealer_desk.specs.declared.events.DealerEvent.{DealerEvent}
 use Rattle.step_replay.specs.DealerTrail.{DealerEntry, facts_of, book_by, was_lifted, was_withdrawn}
 use Rattle.step_replay.specs.DealerTrail.{answer_to_dealer, entries_of}
 use Rattle.step_replay.specs.VenueFacts.{Fact, of_dealer}
-use Rattle.step_replay.specs.Actions.{dealer_of, word_for, quote_among, QuoteRef}
+use Rattle.step_replay.specs.Actions.{dealer_of, word_for, words_of, quote_among, QuoteRef}
+use Rattle.step_replay.specs.Actions.{quote_with_word}
 use Rattle.step_replay.specs.RowOfWords.{word_if}
 use Rattle.step_replay.specs.Standing.{WordsStand, word_is}
-use Rattle.step_replay.specs.OwnerLemmas.{owner_among, quote_at}
+use Rattle.step_replay.specs.OwnerLemmas.{has_owner, owned_by, owner_among, quote_at}
 use Rattle.step_replay.specs.DealerGrowth.{facts_grown, lifted_grown}
 use Rattle.step_replay.proofs.FloorLemmas.{with_dealers, own_dealers, other_dealers}
 
--- Words of two quotes are two words.
+-- a word of the venue is that of this quote of the dealer with this number and row
+pub record IsWord (config : Configuration) (word number : ℕ) (row : DealerRow) (quote : ℕ)
+    : Type 0 where
+  pub is : dealer_numbered config number ≡ Some row
+  pub within : (nat_le 1 quote && nat_le quote row.quotes) ≡ true
+  pub word_is : word ≡ word_for config (dealer_of number row) quote
 
-words_apart : (config : Configuration) (number other : ℕ) (row row_too : DealerRow)
-    (quote quote_too : ℕ) → dealer_numbered config number ≡ Some row
-    → dealer_numbered config other ≡ Some row_too
-    → (nat_le 1 quote && nat_le quote row.quotes) ≡ true
-    → (nat_le 1 quote_too && nat_le quote_too row_too.quotes) ≡ true
-    → word_for config (dealer_of number row) quote
-    ≡ word_for config (dealer_of other row_too) quote_too
-    → (number ≡ other) × (quote ≡ quote_too)
-words_apart config number other row row_too quote quote_too is is_too within within_too same =
-    let here = owner_among 0 config.dealers number row quote is within in
-    let there = owner_among 0 config.dealers other row_too quote_too is_too within_too in
+-- a word of the venue is of a quote of its day
+pub record WordOwner (config : Configuration) (word : ℕ) : Type 0 where
+  pub number : ℕ
+  pub row : DealerRow
+  pub quote : ℕ
+  pub of : IsWord config word number row quote
+  pub found : quote_with_word config word ≡ Some (quote_at number quote)
+
+pub word_owner : (config : Configuration) (word : ℕ) → nat_lt word (words_of config) ≡ true
+    → WordOwner config word
+word_owner config word inside =
+    let some = has_owner 0 config.dealers word inside in
+    let owned = owned_by 0 config.dealers word some.0 some.1 in
+    let dealer : some.0.dealer ≡ 0 + owned.place = owned.dealer_is in
+    let number : some.0.dealer ≡ owned.place = omega arith in
+    record {
+      number = owned.place;
+      row = owned.row;
+      quote = some.0.quote;
+      of = record { is = owned.row_is; within = owned.within; word_is = owned.word_is };
+      found = some.1 ∙ ap (λ (n : ℕ). Some (quote_at n some.0.quote)) number;
+    }
+
+-- it is of no other quote
+only_of : {config : Configuration} {word number other : ℕ} {row row_too : DealerRow}
+    {quote quote_too : ℕ} → IsWord config word number row quote
+    → IsWord config word other row_too quote_too → (number ≡ other) × (quote ≡ quote_too)
+only_of {config} {word} {number} {other} {row} {row_too} {quote} {quote_too} one two =
+    let here = owner_among 0 config.dealers number row quote one.is one.within in
+    let there = owner_among 0 config.dealers other row_too quote_too two.is two.within in
     let equal = same_Some (quote_at (0 + number) quote) (quote_at (0 + other) quote_too)
-    (sym here ∙ ap (quote_among 0 config.dealers) same ∙ there) in
+    (sym here ∙ ap (quote_among 0 config.dealers) (sym one.word_is ∙ two.word_is) ∙ there) in
     let dealers : 0 + number ≡ 0 + other = ap (λ (q : QuoteRef). q.dealer) equal in
     let dealer : number ≡ other = omega arith in
     (dealer, ap (λ (q : QuoteRef). q.quote) equal)
 
 -- The words after one exchange, by what the trail of the dealer whose word is asked then says.
-module _ (config : Configuration) (facts : List Fact) (number : ℕ) (row : DealerRow) (quote : ℕ)
-    (is : dealer_numbered config number ≡ Some row)
-    (within : (nat_le 1 quote && nat_le quote row.quotes) ≡ true)
-    (words after : List (Option Settled)) (wish settlement : Settled)
-    (stand : WordsStand config facts words)
-    (exchange : Exchanges words (word_for config (dealer_of number row) quote) wish settlement after)
-    (there : word_for config (dealer_of number row) quote < length words)
-    (added : List DealerEntry) where
-  -- the word that is asked, and the facts then
-  abbrev word : ℕ
-  word = word_for config (dealer_of number row) quote
-
-  abbrev now : List Fact
-  now = with_dealers facts number added
-
-  pub exchanged_stand : Some settlement ≡ word_is (of_dealer number facts ++ added) quote
+module _ {config : Configuration} {word number quote : ℕ} {row : DealerRow}
+    {words after : List (Option Settled)} {wish settlement : Settled} (facts : List Fact)
+    (of : IsWord config word number row quote) (stand : WordsStand config facts words)
+    (exchange : Exchanges words word wish settlement after) (there : word < length words) where
+  pub exchanged_stand : (added : List DealerEntry)
+      → Some settlement ≡ word_is (of_dealer number facts ++ added) quote
       → ((q : ℕ) → (quote == q) ≡ false → word_is (of_dealer number facts ++ added) q
       ≡ word_is (of_dealer number facts) q)
-      → WordsStand config now after
-  exchanged_stand asked others n r q is_too within_too = by_word (w == word) refl
+      → WordsStand config (with_dealers facts number added) after
+  exchanged_stand added asked others n r q is_too within_too = by_word (w == word) refl
     where
+      now : List Fact
+      now = with_dealers facts number added
+
       w : ℕ
       w = word_for config (dealer_of n r) q
 
@@ -76,24 +94,22 @@ module _ (config : Configuration) (facts : List Fact) (number : ℕ) (row : Deal
       kept differs false test = ap (λ l. word_is l q) (other_dealers facts number added n test)
       kept differs true test =
           let equal : number ≡ n = grind (arith, nat_tests) in
-          let rows : row ≡ r = same_Some row r
-          (sym is ∙ ap (dealer_numbered config) equal ∙ is_too) in
           let unlike : (quote == q) ≡ false = ne_eqb quote q (λ same.
-          differs (ap (λ (m : ℕ). word_for config (dealer_of m r) q) (sym equal)
-          ∙ ap (λ (d : DealerRow). word_for config (dealer_of number d) q) (sym rows)
-          ∙ ap (word_for config (dealer_of number row)) (sym same))) in
+          differs (ap₂ (λ (m k : ℕ). word_for config (dealer_of m r) k) (sym equal) (sym same)
+          ∙ sym of.word_is)) in
           subst (λ (m : ℕ). word_is (of_dealer m now) q ≡ word_is (of_dealer m facts) q) equal
           (ap (λ l. word_is l q) (own_dealers facts number added) ∙ others q unlike)
 
       by_word : (b : Bool) → (w == word) ≡ b → entry_in after w ≡ word_is (of_dealer n now) q
       by_word true test =
           let same : w ≡ word = grind (arith, nat_tests) in
-          let apart = words_apart config n number r row q quote is_too is within_too within same in
+          let theirs : IsWord config word n r q =
+          record { is = is_too; within = within_too; word_is = sym same } in
+          let apart = only_of of theirs in
           ap (entry_in after) same
           ∙ exchange_answers_entry words after word wish settlement there exchange ∙ asked
           ∙ ap (λ l. word_is l quote) (sym (own_dealers facts number added))
-          ∙ ap (λ (m : ℕ). word_is (of_dealer m now) quote) (sym apart.0)
-          ∙ ap (word_is (of_dealer n now)) (sym apart.1)
+          ∙ ap₂ (λ (m k : ℕ). word_is (of_dealer m now) k) apart.0 apart.1
       by_word false test =
           let differs : w ≢ word = grind (arith, nat_tests) in
           exchange_keeps_others words after word w wish settlement exchange differs
@@ -140,17 +156,15 @@ or_and_false false true = refl
 or_and_false false false = refl
 
 -- The words after an event that asks the word of a quote.
-module _ (config : Configuration) (facts : List Fact) (number : ℕ) (row : DealerRow)
-    (is : dealer_numbered config number ≡ Some row) (more : DealerEvent) (asked : ℕ)
-    (within : (nat_le 1 asked && nat_le asked row.quotes) ≡ true)
+module _ {config : Configuration} {word number asked : ℕ} {row : DealerRow}
+    {words after : List (Option Settled)} {settlement : Settled} (facts : List Fact)
+    (more : DealerEvent) (of : IsWord config word number row asked)
     (withdraws_so : (quote : ℕ) → list_any (withdraws quote)
     (event_facts config.date row (book_by (of_dealer number facts)) more)
     ≡ withdraws_by (Some asked) (Some (answer_to_dealer (of_dealer number facts) asked)) quote)
-    (words after : List (Option Settled)) (settlement : Settled)
     (stand : WordsStand config facts words)
-    (exchange : Exchanges words (word_for config (dealer_of number row) asked)
-    settled.Withdrawn settlement after)
-    (there : word_for config (dealer_of number row) asked < length words) where
+    (exchange : Exchanges words word settled.Withdrawn settlement after)
+    (there : word < length words) where
   -- the dealer's trail, and what is added to it
   abbrev trail : List DealerEntry
   trail = of_dealer number facts
@@ -166,20 +180,19 @@ module _ (config : Configuration) (facts : List Fact) (number : ℕ) (row : Deal
   word_then quote same test =
       word_grown config.date row trail more quote
       ∙ ap (λ b. word_if (was_lifted trail quote) (was_withdrawn trail quote || b))
-      (withdraws_so quote)
-      ∙ ap (λ b. word_if (was_lifted trail quote) (was_withdrawn trail quote
-      || (is_withdrawn (Some (answer_to_dealer trail asked)) && b))) test
+      (withdraws_so quote
+      ∙ ap (λ b. is_withdrawn (Some (answer_to_dealer trail asked)) && b) test)
 
   pub answer_is : settlement ≡ answer_to_dealer trail asked
   answer_is =
       exchange.answered
-      ∙ ap (λ e. settlement_of e settled.Withdrawn) (stand number row asked is within)
+      ∙ ap (λ e. settlement_of e settled.Withdrawn)
+      (ap (entry_in words) of.word_is ∙ stand number row asked of.is of.within)
       ∙ taken_is (was_lifted trail asked) (was_withdrawn trail asked)
 
   pub words_asked : WordsStand config (with_dealers facts number entries) after
   words_asked =
-      exchanged_stand config facts number row asked is within words after settled.Withdrawn
-      settlement stand exchange there entries
+      exchanged_stand facts of stand exchange there entries
       (ap Some answer_is ∙ sym (word_then asked true (eq-eqb asked asked refl)
       ∙ word_taken (was_lifted trail asked) (was_withdrawn trail asked)))
       (λ quote differs. word_then quote false differs

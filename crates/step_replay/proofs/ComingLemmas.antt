@@ -1,18 +1,15 @@
 -- What an action does is what comes by the market's table.
-use Rattle.std.proofs.Common.{◌≡◌, ℕ, Bool, true, false, ◌&&◌, List, map, is_some, Option, Some}
-use Rattle.std.proofs.Common.{None, option_map, option_and_then, if◌then◌else◌, refl, sym, ap}
-use Rattle.std.proofs.Common.{subst, ◌≤◌, ◌<◌, [], length, Result, Ok, Err, IfOk, ◌∙◌, arith}
-use Rattle.std.proofs.lemmas.Option.{same_Some, slice_get_past}
-use Rattle.std.specs.Prelude.{slice_get}
+use Rattle.std.proofs.Common.{◌≡◌, ℕ, Bool, true, false, ◌&&◌, List, is_some, Option, Some, None}
+use Rattle.std.proofs.Common.{option_map, option_and_then, if◌then◌else◌, refl, sym, ap, subst, ◌<◌}
+use Rattle.std.proofs.Common.{[], length, ◌∙◌}
+use Rattle.std.proofs.lemmas.Option.{same_Some}
 use Rattle.market_terms.specs.declared.duties.Duty.{Duty}
 use Rattle.market_terms.specs.declared.duties.Duty.TheVariants as duty
 use Rattle.market_terms.specs.declared.rooms.ResponseRef.{ResponseRef}
 use Rattle.market_terms.specs.declared.rooms.RoomRef.{RoomRef}
 use Rattle.venue_rows.specs.Rows.{Configuration, dealer_numbered, has_room, investor_numbered}
 use Rattle.venue_rows.specs.declared.dealer_rows.DealerRow.{DealerRow}
-use Rattle.venue_rows.specs.declared.investor_rows.InvestorRow.{InvestorRow}
 use Rattle.investor_desk.specs.InvestorDesk.{market_for, market_of}
-use Rattle.request_room.specs.Book.{event_facts}
 use Rattle.request_room.specs.declared.events.RoomEvent.{RoomEvent}
 use Rattle.venue_places.specs.Dealers.{Dealer, acting_dealer, dealer_at, dealer_of, offer_of}
 use Rattle.venue_places.specs.Dealers.{has_word_for, word_for}
@@ -29,16 +26,25 @@ use Rattle.venue_places.specs.declared.arrivals.ForInvestor.TheVariants as to_in
 use Rattle.venue_places.specs.declared.arrivals.ForRoom.{ForRoom}
 use Rattle.venue_places.specs.declared.arrivals.ForRoom.TheVariants as to_room
 use Rattle.step_replay.specs.Actions.{Effect, nothing, done_by, done_for, in_room, hit_in}
-use Rattle.step_replay.specs.Actions.{dropped_by, received_by_dealer, received_by_investor}
-use Rattle.step_replay.specs.DutyEffects.{duty_effect, sweep_effect, message_effect}
+use Rattle.step_replay.specs.Actions.{dropped_by}
+use Rattle.step_replay.specs.DutyEffects.{duty_effect, sweep_effect}
 use Rattle.step_replay.specs.Coming.{dealer_gets, investor_gets, room_gets, arrival_effect}
 use Rattle.step_replay.specs.Coming.{effect_where}
-use Rattle.step_replay.specs.VenueFacts.{Fact, InRoom, of_room}
+use Rattle.step_replay.specs.VenueFacts.{Fact}
 use Rattle.step_replay.specs.Standing.{ActsOnce, Does, Stands}
 use Rattle.step_replay.specs.declared.floor.Floor.{Floor}
 use Rattle.step_replay.specs.PlaceLemmas.{has_item}
 use Rattle.step_replay.proofs.FloorLemmas.{dealer_count}
 use Rattle.step_replay.proofs.FoundDealers.{idle_does}
+use Rattle.step_replay.proofs.RoomActionLemmas.{none_gets}
+
+none_there : {A : Type 0} (x : Option A) → is_some x ≡ false → x ≡ None
+none_there None is = refl
+none_there (Some x) is = cc
+
+left_out : (b : Bool) (effect : Effect) → (if b && false then effect else nothing) ≡ nothing
+left_out true effect = refl
+left_out false effect = refl
 
 module _ (config : Configuration) (facts : List Fact) where
   -- what comes to a place, where the venue has it
@@ -50,25 +56,13 @@ module _ (config : Configuration) (facts : List Fact) where
 
   -- Rooms.
 
-  -- what an event adds in a room, by whether the venue has it and the event may come
-  abbrev added_by : RoomRef → RoomEvent → List Duty → Bool → Effect
-  added_by room event duties may =
-      if may
-      then record {
-        facts = map (InRoom room) (event_facts (of_room room facts) event);
-        duties = duties;
-      }
-      else nothing
-
-  room_comes : (room : RoomRef) (what : ForRoom) (may : Bool) (event : RoomEvent)
-      (duties : List Duty)
-      → in_room config facts room may event duties ≡ room_gets config facts room what
-      → in_room config facts room may event duties
+  room_comes : (room : RoomRef) (what : ForRoom)
+      → room_gets config facts room what
       ≡ effect_where config facts (table.in_room config room what)
   unfolding arrival_effect
-  room_comes room what may event duties is =
-      there (has_room config room.investor room.n) (arrival.Room room what) _ is
-      (λ no. ap (λ b. added_by room event duties (b && may)) no)
+  room_comes room what =
+      there (has_room config room.investor room.n) (arrival.Room room what) _ refl
+      (λ no. none_gets config facts room no what)
 
   -- the same of a dealer's quote, where the venue has its word
   word_comes : (room : RoomRef) (what : ForRoom) (has may : Bool) (event : RoomEvent)
@@ -76,12 +70,8 @@ module _ (config : Configuration) (facts : List Fact) where
       → in_room config facts room may event duties ≡ room_gets config facts room what
       → in_room config facts room (has && may) event duties
       ≡ effect_where config facts (if has then table.in_room config room what else None)
-  word_comes room what true may event duties is = room_comes room what may event duties is
-  word_comes room what false may event duties is = by_room (has_room config room.investor room.n)
-    where
-      by_room : (b : Bool) → added_by room event duties (b && false) ≡ nothing
-      by_room true = refl
-      by_room false = refl
+  word_comes room what true may event duties is = is ∙ room_comes room what
+  word_comes room what false may event duties is = left_out (has_room config room.investor room.n) _
 
   hit_comes : (room : RoomRef) (response : ResponseRef) (word moment : ℕ)
       → hit_in config facts room response word moment
@@ -99,12 +89,8 @@ module _ (config : Configuration) (facts : List Fact) where
   unfolding arrival_effect
   dealer_comes number what =
       there (is_some (dealer_numbered config number)) (arrival.Dealer number what) _ refl
-      (none (dealer_numbered config number))
-    where
-      none : (row : Option DealerRow) → is_some row ≡ false
-          → done_by (option_map (dealer_of number) row) (dealer_gets config facts what) ≡ nothing
-      none None missing = refl
-      none (Some row) missing = cc
+      (λ no. ap (λ row. done_by (option_map (dealer_of number) row) (dealer_gets config facts what))
+      (none_there (dealer_numbered config number) no))
 
   investor_comes : (number : ℕ) (what : ForInvestor)
       → done_for (market_for config number) (investor_gets facts what)
@@ -112,12 +98,8 @@ module _ (config : Configuration) (facts : List Fact) where
   unfolding arrival_effect
   investor_comes number what =
       there (is_some (investor_numbered config number)) (arrival.Investor number what) _ refl
-      (none (investor_numbered config number))
-    where
-      none : (row : Option InvestorRow) → is_some row ≡ false
-          → done_for (option_map (market_of config number) row) (investor_gets facts what) ≡ nothing
-      none None missing = refl
-      none (Some row) missing = cc
+      (λ no. ap (λ row. done_for (option_map (market_of config number) row) (investor_gets facts what))
+      (none_there (investor_numbered config number) no))
 
   -- The dealer that acts.
 
@@ -137,16 +119,15 @@ module _ (config : Configuration) (facts : List Fact) where
   acts_as : (by : Actor) (dealer : Dealer) → acting_dealer config by ≡ Some dealer
       → dealer_at config dealer.number ≡ Some dealer
   acts_as actor.Clock dealer is = cc
-  acts_as (actor.Firm number) dealer is = by_row (dealer_numbered config number) refl is
+  acts_as (actor.Firm number) dealer is =
+      subst (λ (n : ℕ). dealer_at config n ≡ Some dealer)
+      (by_row (dealer_numbered config number) is) is
     where
-      by_row : (row : Option DealerRow) → dealer_numbered config number ≡ row
-          → option_map (dealer_of number) row ≡ Some dealer
-          → dealer_at config dealer.number ≡ Some dealer
-      by_row None found same = cc
-      by_row (Some row) found same =
-          subst (λ (d : Dealer). dealer_at config d.number ≡ Some d)
-          (same_Some (dealer_of number row) dealer same)
-          (ap (option_map (dealer_of number)) found)
+      by_row : (row : Option DealerRow) → option_map (dealer_of number) row ≡ Some dealer
+          → number ≡ dealer.number
+      by_row None same = cc
+      by_row (Some row) same =
+          ap (λ (d : Dealer). d.number) (same_Some (dealer_of number row) dealer same)
 
   -- The table.
 
@@ -154,10 +135,10 @@ module _ (config : Configuration) (facts : List Fact) where
       → duty_effect config facts by d ≡ effect_where config facts (placed config by d)
   unfolding duty_effect placed arrival_effect dealer_gets investor_gets room_gets
   duty_comes by (duty.Open room ask dealers moment) =
-      room_comes room (to_room.Open ask dealers moment) true _ _ refl
+      room_comes room (to_room.Open ask dealers moment)
   duty_comes by (duty.Show dealer room ask moment) =
       dealer_comes dealer (to_dealer.Show room ask moment)
-  duty_comes by (duty.Ready room moment) = room_comes room (to_room.Ready moment) true _ _ refl
+  duty_comes by (duty.Ready room moment) = room_comes room (to_room.Ready moment)
   duty_comes by (duty.Post room quote price until moment) =
       acting_comes by _ _ (λ dealer is. word_comes room
       (to_room.Post dealer.number (offer_of config dealer quote price until) moment)
@@ -171,14 +152,13 @@ module _ (config : Configuration) (facts : List Fact) where
   duty_comes by (duty.Gone room word moment) =
       investor_comes room.investor (to_investor.Gone room.n word moment)
   duty_comes by (duty.Decline room moment) =
-      acting_comes by _ _ (λ dealer is. room_comes room (to_room.Decline dealer.number moment)
-      _ _ _ refl)
+      acting_comes by _ _ (λ dealer is. room_comes room (to_room.Decline dealer.number moment))
   duty_comes by (duty.Declined room moment) =
       acting_comes by _ _ (λ dealer is. investor_comes room.investor
       (to_investor.Declined room.n dealer.row.name moment))
   duty_comes by (duty.Hit room response word moment) = hit_comes room response word moment
   duty_comes by (duty.Pass room response moment) =
-      room_comes room (to_room.Pass response moment) true _ _ refl
+      room_comes room (to_room.Pass response moment)
   duty_comes by (duty.Answer room response reply moment) =
       investor_comes room.investor (to_investor.Answer room.n response reply moment)
   duty_comes by (duty.Close room moment) =
@@ -192,24 +172,10 @@ module _ (config : Configuration) (facts : List Fact) where
   pub sweep_comes : (room : RoomRef) (moment : ℕ)
       → sweep_effect config facts room moment ≡ effect_where config facts (swept config room moment)
   unfolding sweep_effect room_gets
-  sweep_comes room moment = room_comes room (to_room.Expire moment) true _ _ refl
-
--- what is brought to a place of this kind does what comes there, where it succeeded
-pub brought : {D E : Type 0} (items : D → List Duty) (coming kind : Placement)
-    (effect : Configuration → List Fact → Effect) (before after : Floor) (result : Result D E)
-    → coming ≡ kind
-    → ((config : Configuration) (facts : List Fact)
-    → arrival_effect config facts kind ≡ effect config facts)
-    → IfOk result (λ (d : D). ActsOnce effect before after (items d))
-    → IfOk result (λ (d : D). ActsOnce (λ config facts. arrival_effect config facts coming) before
-    after (items d))
-brought items coming kind effect before after (Ok d) is line acts = λ config facts stands one.
-    subst (λ (e : Effect). Does config facts e after (items d))
-    (sym (ap (arrival_effect config facts) is ∙ line config facts)) (acts config facts stands one)
-brought items coming kind effect before after (Err e) is line acts = tt
+  sweep_comes room moment = room_comes room (to_room.Expire moment)
 
 -- An action by what the table gives for it, or gives not.
-module _ (effect : Configuration → List Fact → Effect) (gives : Configuration → Option Placement)
+module _ {effect : Configuration → List Fact → Effect} (gives : Configuration → Option Placement)
     (line : (config : Configuration) (facts : List Fact)
     → effect config facts ≡ effect_where config facts (gives config))
     (before : Floor) where
@@ -233,32 +199,10 @@ module _ (effect : Configuration → List Fact → Effect) (gives : Configuratio
   nothing_comes duties is leaves config facts stands one =
       idle_does config facts before _ duties stands leaves (given config facts None stands is)
 
--- A message of a firm: of a dealer where its number is that of one.
-
-pub dealer_message : (config : Configuration) (facts : List Fact) (floor after : Floor)
-    (firm moment : ℕ) (bytes : List ℕ) (duties : List Duty) → Stands config facts floor
-    → firm < length floor.dealers.items
-    → Does config facts (done_by (dealer_at config firm) (received_by_dealer config facts moment bytes))
-    after duties
-    → Does config facts (message_effect config facts firm moment bytes) after duties
-unfolding message_effect
-dealer_message config facts floor after firm moment bytes duties before within does =
-    let count : length floor.dealers.items ≡ length config.dealers =
-    dealer_count config facts floor before in
-    let here : firm < length config.dealers = omega arith in
-    rw (has_item config.dealers firm here) does
-
-pub investor_message : (config : Configuration) (facts : List Fact) (floor after : Floor)
-    (firm moment : ℕ) (bytes : List ℕ) (duties : List Duty) → Stands config facts floor
-    → length floor.dealers.items ≤ firm
-    → Does config facts (done_for (market_for config firm) (received_by_investor facts moment bytes))
-    after duties
-    → Does config facts (message_effect config facts firm moment bytes) after duties
-unfolding message_effect
-investor_message config facts floor after firm moment bytes duties before beyond does =
-    let count : length floor.dealers.items ≡ length config.dealers =
-    dealer_count config facts floor before in
-    let here : length config.dealers ≤ firm = omega arith in
-    let none : is_some (slice_get config.dealers firm) ≡ false =
-    ap is_some (slice_get_past config.dealers firm here) in
-    rw none does
+-- a firm is a dealer where the floor has its place among the dealers'
+pub dealer_here : {config : Configuration} {facts : List Fact} {floor : Floor} (firm : ℕ)
+    → Stands config facts floor → firm < length floor.dealers.items
+    → is_some (dealer_numbered config firm) ≡ true
+dealer_here {config} {facts} {floor} firm before within =
+    has_item config.dealers firm
+    (subst (λ n. firm < n) (dealer_count config facts floor before) within)

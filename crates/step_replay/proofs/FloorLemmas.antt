@@ -3,15 +3,12 @@ use Rattle.std.proofs.Common.{◌≡◌, ℕ, ◌==◌, Bool, true, false, List,
 use Rattle.std.proofs.Common.{subst, arith, ◌+◌, [], ◌∷◌, filter_map, length, Option, Some, sym}
 use Rattle.std.proofs.Common.{ap₂}
 use Rattle.std.proofs.lemmas.Bool.Decides.{nat_tests}
-use Rattle.std.proofs.lemmas.Bool.{and_left, and_right}
 use Rattle.std.specs.Prelude.{slice_get}
 use Rattle.std.specs.Option.{option_to_list}
 use Rattle.std.specs.Vec.{with_item}
 use Rattle.std.proofs.lemmas.List.Elements.{filter_map-append}
-use Rattle.market_terms.specs.declared.rooms.RoomRef.{RoomRef}
-use Rattle.dealer_desk.specs.DealerOutput.{is_same_room, DeskState, after_event, event_message}
-use Rattle.dealer_desk.specs.DealerOutput.{moment_of, shown_room}
-use Rattle.request_room.specs.RoomFacts.{RoomFact}
+use Rattle.dealer_desk.specs.DealerOutput.{DeskState, after_event, event_message, moment_of}
+use Rattle.dealer_desk.specs.DealerOutput.{shown_room}
 use Rattle.quote_word.specs.declared.settled.Settled.{Settled}
 use Rattle.venue_rows.specs.Rows.{Configuration, dealer_numbered}
 use Rattle.venue_rows.specs.declared.dealer_rows.DealerRow.{DealerRow}
@@ -20,14 +17,10 @@ use Rattle.dealer_desk.specs.DealerDesk.{DeskEvents, with_event}
 use Rattle.dealer_desk.specs.declared.events.DealerEvent.{DealerEvent}
 use Rattle.dealer_desk.specs.declared.events.DealerEvent.TheVariants as event
 use Rattle.step_replay.specs.DealerTrail.{DealerEntry, book_by, rooms_by, sent_by, entries_of}
-use Rattle.step_replay.specs.InvestorTrail.{InvestorEntry}
-use Rattle.step_replay.specs.VenueFacts.{Fact, AtDealer, InRoom, AtInvestor, of_dealer, of_room}
-use Rattle.step_replay.specs.VenueFacts.{of_investor}
-use Rattle.step_replay.specs.PlaceLemmas.{dealer_grown, room_grown, investor_grown, dealer_stays}
-use Rattle.step_replay.specs.PlaceLemmas.{room_stays, investor_stays, own_trail, other_trail}
-use Rattle.step_replay.specs.PlaceLemmas.{trail_in_room, trail_at_investor, own_room, other_room}
-use Rattle.step_replay.specs.PlaceLemmas.{room_at_dealer, room_at_investor, own_investor}
-use Rattle.step_replay.specs.PlaceLemmas.{other_investor, investor_at_dealer, investor_in_room}
+use Rattle.step_replay.specs.VenueFacts.{Fact, AtDealer, of_dealer, of_room, of_investor}
+use Rattle.step_replay.specs.PlaceLemmas.{dealer_grown, dealer_stays, room_stays, investor_stays}
+use Rattle.step_replay.specs.PlaceLemmas.{own_trail, other_trail, room_at_dealer}
+use Rattle.step_replay.specs.PlaceLemmas.{investor_at_dealer}
 use Rattle.step_replay.specs.DealerGrowth.{desk_with, desk_push, sent_is, facts_grown, sent_grown}
 use Rattle.step_replay.specs.DealerGrowth.{rooms_grown}
 use Rattle.step_replay.specs.InvestorGrowth.{desk_of}
@@ -54,14 +47,6 @@ module _ (facts : List Fact) (number : ℕ) (added : List DealerEntry) where
   other_dealers other differs =
       dealer_stays other facts (map (AtDealer number) added) (other_trail other number differs added)
 
-  pub rooms_by_dealer : (room : RoomRef) → of_room room with_dealers ≡ of_room room facts
-  rooms_by_dealer room =
-      room_stays room facts (map (AtDealer number) added) (room_at_dealer room number added)
-
-  pub investors_by_dealer : (other : ℕ) → of_investor other with_dealers ≡ of_investor other facts
-  investors_by_dealer other =
-      investor_stays other facts (map (AtDealer number) added) (investor_at_dealer other number added)
-
   -- what is kept of the dealer's own trail is kept of each dealer's
   pub all_dealers : {V : Type 0} (f : List DealerEntry → V)
       → f (of_dealer number facts ++ added) ≡ f (of_dealer number facts)
@@ -75,68 +60,6 @@ module _ (facts : List Fact) (number : ℕ) (added : List DealerEntry) where
           subst (λ (n : ℕ). f (of_dealer n with_dealers) ≡ f (of_dealer n facts)) equal
           (ap f own_dealers ∙ own)
       by_test false test = ap f (other_dealers other test)
-
-module _ (facts : List Fact) (number : ℕ) (added : List InvestorEntry) where
-  -- the facts with these more of an investor
-  abbrev pub with_investors : List Fact
-  with_investors = facts ++ map (AtInvestor number) added
-
-  pub own_investors : of_investor number with_investors ≡ of_investor number facts ++ added
-  own_investors =
-      investor_grown number facts (map (AtInvestor number) added)
-      ∙ ap (λ l. of_investor number facts ++ l) (own_investor number added)
-
-  pub other_investors : (other : ℕ) → (number == other) ≡ false
-      → of_investor other with_investors ≡ of_investor other facts
-  other_investors other differs =
-      investor_stays other facts (map (AtInvestor number) added)
-      (other_investor other number differs added)
-
-  pub rooms_by_investor : (room : RoomRef) → of_room room with_investors ≡ of_room room facts
-  rooms_by_investor room =
-      room_stays room facts (map (AtInvestor number) added) (room_at_investor room number added)
-
-  pub dealers_by_investor : (other : ℕ) → of_dealer other with_investors ≡ of_dealer other facts
-  dealers_by_investor other =
-      dealer_stays other facts (map (AtInvestor number) added) (trail_at_investor other number added)
-
-module _ (facts : List Fact) (at : RoomRef) (added : List RoomFact) where
-  -- the facts with these more of a room
-  abbrev pub with_rooms : List Fact
-  with_rooms = facts ++ map (InRoom at) added
-
-  pub own_rooms : of_room at with_rooms ≡ of_room at facts ++ added
-  own_rooms =
-      room_grown at facts (map (InRoom at) added)
-      ∙ ap (λ l. of_room at facts ++ l) (own_room at added)
-
-  other_rooms : (room : RoomRef) → is_same_room at room ≡ false
-      → of_room room with_rooms ≡ of_room room facts
-  other_rooms room differs =
-      room_stays room facts (map (InRoom at) added) (other_room room at differs added)
-
-  -- another room of the same investor, and a room of another one
-  pub other_numbers : (n : ℕ) → (at.n == n) ≡ false
-      → of_room (record { investor = at.investor; n = n }) with_rooms
-      ≡ of_room (record { investor = at.investor; n = n }) facts
-  other_numbers n differs =
-      other_rooms (record { investor = at.investor; n = n })
-      (and_right (at.investor == at.investor) (at.n == n) differs)
-
-  pub other_owners : (investor n : ℕ) → (at.investor == investor) ≡ false
-      → of_room (record { investor = investor; n = n }) with_rooms
-      ≡ of_room (record { investor = investor; n = n }) facts
-  other_owners investor n differs =
-      other_rooms (record { investor = investor; n = n })
-      (and_left (at.investor == investor) (at.n == n) differs)
-
-  pub dealers_by_room : (number : ℕ) → of_dealer number with_rooms ≡ of_dealer number facts
-  dealers_by_room number =
-      dealer_stays number facts (map (InRoom at) added) (trail_in_room number at added)
-
-  pub investors_by_room : (number : ℕ) → of_investor number with_rooms ≡ of_investor number facts
-  investors_by_room number =
-      investor_stays number facts (map (InRoom at) added) (investor_in_room number at added)
 
 -- as many places as rows
 pub dealer_count : (config : Configuration) (facts : List Fact) (floor : Floor)
@@ -184,37 +107,34 @@ event_stands config number row trail place desk more before is due_so =
 
 -- Where a dealer's place changes, and the words with it.
 
--- the words, where what each is stays for all quotes
-pub words_kept : (config : Configuration) (facts now : List Fact) (words : List (Option Settled))
-    → ((number quote : ℕ) → word_is (of_dealer number now) quote
-    ≡ word_is (of_dealer number facts) quote)
-    → WordsStand config facts words → WordsStand config now words
-words_kept config facts now words same stand number row quote is within =
-    stand number row quote is within ∙ sym (same number quote)
+-- facts that say nothing of an investor, nor of its rooms
+pub record NotOf (number : ℕ) (more : List Fact) : Type 0 where
+  pub trail : of_investor number more ≡ []
+  pub rooms : (n : ℕ) → of_room (record { investor = number; n = n }) more ≡ []
 
--- an investor's place, where the facts of it and of its rooms stay
-pub investor_kept : (config : Configuration) (facts now : List Fact) (number : ℕ)
-    (row : InvestorRow) (place : InvestorPlace)
-    → of_investor number now ≡ of_investor number facts
-    → ((n : ℕ) → of_room (record { investor = number; n = n }) now
-    ≡ of_room (record { investor = number; n = n }) facts)
-    → InvestorStands config facts number row place → InvestorStands config now number row place
-investor_kept config facts now number row place trail rooms stands = record {
+investor_kept : (config : Configuration) (facts more : List Fact) (number : ℕ) (row : InvestorRow)
+    (place : InvestorPlace) → NotOf number more → InvestorStands config facts number row place
+    → InvestorStands config (facts ++ more) number row place
+investor_kept config facts more number row place none stands = record {
   market_is = stands.market_is;
-  state_is = stands.state_is ∙ ap desk_of (sym trail);
-  rooms_are = kept (RoomIs facts number) (RoomIs now number) 1 (slots row) place.rooms.items
-      (λ n slot events least known. known ∙ sym (rooms n)) stands.rooms_are;
+  state_is = stands.state_is ∙ ap desk_of (sym (investor_stays number facts more none.trail));
+  rooms_are = kept (RoomIs facts number) (RoomIs (facts ++ more) number) 1 (slots row)
+      place.rooms.items
+      (λ n slot events least known. known
+      ∙ sym (room_stays (record { investor = number; n = n }) facts more (none.rooms n)))
+      stands.rooms_are;
 }
 
-pub at_dealer_stands : (config : Configuration) (facts : List Fact) (floor : Floor) (number : ℕ)
-    (row : DealerRow) (added : List DealerEntry) (place : DealerPlace)
-    (words : List (Option Settled)) → dealer_numbered config number ≡ Some row
-    → Stands config facts floor
+pub at_dealer_stands : {config : Configuration} {facts : List Fact} {floor : Floor} {number : ℕ}
+    {row : DealerRow} {place : DealerPlace} (added : List DealerEntry)
+    (words : List (Option Settled)) → Stands config facts floor
+    → dealer_numbered config number ≡ Some row
     → DealerStands config number row (of_dealer number facts ++ added) place
     → length words ≡ length floor.words → WordsStand config (with_dealers facts number added) words
     → Stands config (with_dealers facts number added)
     (record floor { dealers = with_item floor.dealers number place; words = words })
-at_dealer_stands config facts floor number row added place words is before stands count said =
+at_dealer_stands {config} {facts} {floor} {number} {row} {place} added words before is stands count
+    said =
     let now = with_dealers facts number added in
     let first : number ≡ 0 + number = omega arith in
     record {
@@ -228,9 +148,11 @@ at_dealer_stands config facts floor number row added place words is before stand
           before.dealers_are;
       investors_are = kept (InvestorStands config facts) (InvestorStands config now)
           (length config.dealers) config.investors floor.investors.items
-          (λ n r p least stood. investor_kept config facts now n r p
-          (investors_by_dealer facts number added n)
-          (λ k. rooms_by_dealer facts number added (record { investor = n; n = k })) stood)
+          (λ n r p least stood. investor_kept config facts (map (AtDealer number) added) n r p
+          (record {
+            trail = investor_at_dealer n number added;
+            rooms = λ k. room_at_dealer (record { investor = n; n = k }) number added;
+          }) stood)
           before.investors_are;
       word_count = count ∙ before.word_count;
       words_are = said;
@@ -238,30 +160,32 @@ at_dealer_stands config facts floor number row added place words is before stand
     }
 
 -- Where an investor's place changes, with its trail or the facts of its rooms.
-pub at_investor_stands : (config : Configuration) (facts now : List Fact) (floor : Floor)
-    (number index : ℕ) (row : InvestorRow) (place : InvestorPlace)
+pub at_investor_stands : {config : Configuration} {facts : List Fact} {floor : Floor} {number : ℕ}
+    {row : InvestorRow} (more : List Fact) (index : ℕ) (place : InvestorPlace)
     → number ≡ length config.dealers + index → slice_get config.investors index ≡ Some row
-    → Stands config facts floor → ((n : ℕ) → of_dealer n now ≡ of_dealer n facts)
-    → ((n : ℕ) → (number == n) ≡ false → of_investor n now ≡ of_investor n facts)
-    → ((n k : ℕ) → (number == n) ≡ false → of_room (record { investor = n; n = k }) now
-    ≡ of_room (record { investor = n; n = k }) facts)
-    → InvestorStands config now number row place
-    → Stands config now (record floor { investors = with_item floor.investors index place })
-at_investor_stands config facts now floor number index row place at is before dealers investors
-    rooms stands = record {
+    → Stands config facts floor → ((n : ℕ) → of_dealer n more ≡ [])
+    → ((n : ℕ) → (number == n) ≡ false → NotOf n more)
+    → InvestorStands config (facts ++ more) number row place
+    → Stands config (facts ++ more)
+    (record floor { investors = with_item floor.investors index place })
+at_investor_stands {config} {facts} {floor} {number} {row} more index place at is before dealers
+    others stands =
+    let now : List Fact = facts ++ more in
+    let same : (n : ℕ) → of_dealer n now ≡ of_dealer n facts =
+    λ n. dealer_stays n facts more (dealers n) in
+    record {
       config_is = before.config_is;
       dealers_are = kept (DealerIs config facts) (DealerIs config now) 0 config.dealers
           floor.dealers.items
-          (λ n r p least stood. subst (λ l. DealerStands config n r l p) (sym (dealers n)) stood)
+          (λ n r p least stood. subst (λ l. DealerStands config n r l p) (sym (same n)) stood)
           before.dealers_are;
       investors_are = changed (InvestorStands config facts) (InvestorStands config now)
           (length config.dealers) config.investors floor.investors.items index number row place at is
           stands
-          (λ n r p differs stood. investor_kept config facts now n r p (investors n differs)
-          (λ k. rooms n k differs) stood)
+          (λ n r p differs stood. investor_kept config facts more n r p (others n differs) stood)
           before.investors_are;
       word_count = before.word_count;
-      words_are = words_kept config facts now floor.words
-          (λ n quote. ap (λ l. word_is l quote) (dealers n)) before.words_are;
+      words_are = λ n r q known within. before.words_are n r q known within
+          ∙ sym (ap (λ l. word_is l q) (same n));
       owners_are = before.owners_are;
     }

@@ -1,7 +1,7 @@
 -- Looking a dealer of a replay up: one that stands has a place, a row and the book of its trail, and
 -- what it does is done by it.
-use Rattle.std.proofs.Common.{◌≡◌, ◌<◌, ◌≤◌, ℕ, ◌+◌, List, [], length, get_or, Option, Some}
-use Rattle.std.proofs.Common.{None, option_map, sym, ap, ◌∙◌, subst, arith}
+use Rattle.std.proofs.Common.{◌≡◌, ◌<◌, ◌≤◌, ℕ, ◌+◌, List, [], length, get_or, Some, None}
+use Rattle.std.proofs.Common.{option_map, sym, ap, ◌∙◌, subst, arith}
 use Rattle.std.specs.Prelude.{slice_get}
 use Rattle.std.proofs.lemmas.List.{append-nil}
 use Rattle.std.proofs.lemmas.Option.{slice_get_past}
@@ -91,9 +91,7 @@ module _ (config : Configuration) (facts : List Fact) where
       (action : Dealer → Effect) (after : Floor) (duties : List Duty)
       → Does config facts (action (dealer_of number found.row)) after duties
       → Does config facts (done_by (dealer_at config number) action) after duties
-  by_found number place found action after duties does =
-      subst (λ (d : Option Dealer). Does config facts (done_by d action) after duties)
-      (sym (ap (option_map (dealer_of number)) found.row_is)) does
+  by_found number place found action after duties does = rw found.row_is does
 
   -- where nothing happens
   pub idle_does : (floor : Floor) (effect : Effect) (left : List Duty) → Stands config facts floor

@@ -9,9 +9,7 @@ mod FirmSent
 mod FloorLemmas
 mod FollowLemmas
 mod FoundDealers
-mod HitEffects
 mod HitLemmas
-mod InvestorActionLemmas
 mod InvestorOpeningLemmas
 mod InvestorPlaceLemmas
 mod ItemLemmas
@@ -32,4 +30,3 @@ mod StepEffects
 mod SteppedLemmas
 mod SweepLemmas
 mod SweptLemmas
-mod TurnLemmas

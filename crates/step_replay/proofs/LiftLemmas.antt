@@ -1,5 +1,5 @@
 -- A lift of a quote in a replay: the words, the dealer's place and its trail.
-use Rattle.std.proofs.Common.{◌≡◌, ◌<◌, ℕ, zero, suc, ◌==◌, nat_le, Bool, true, false, ◌&&◌, ◌||◌}
+use Rattle.std.proofs.Common.{◌≡◌, ◌<◌, ℕ, zero, suc, ◌==◌, Bool, true, false, ◌&&◌, ◌||◌}
 use Rattle.std.proofs.Common.{if◌then◌else◌, List, [], ◌∷◌, ◌++◌, length, slice_set, Option, Some}
 use Rattle.std.proofs.Common.{refl, sym, ap, ◌∙◌, subst, eq-eqb, ap₂}
 use Rattle.std.specs.Prelude.{slice_get}
@@ -12,7 +12,7 @@ use Rattle.std.proofs.lemmas.Option.{same_Some}
 use Rattle.quote_word.specs.PlainWords.{settlement_of, Exchanges}
 use Rattle.quote_word.specs.declared.settled.Settled.{Settled}
 use Rattle.quote_word.specs.declared.settled.Settled.TheVariants as settled
-use Rattle.venue_rows.specs.Rows.{Configuration, dealer_numbered}
+use Rattle.venue_rows.specs.Rows.{Configuration}
 use Rattle.venue_rows.specs.declared.dealer_rows.DealerRow.{DealerRow}
 use Rattle.dealer_desk.specs.DealerDesk.{DeskEvents}
 use Rattle.dealer_desk.specs.DealerOutput.{desk_after, rooms_of}
@@ -21,13 +21,12 @@ use Rattle.step_replay.specs.DealerTrail.{DealerEntry, Lifted, fact_in, room_in,
 use Rattle.step_replay.specs.DealerTrail.{facts_of, rooms_by, sent_by, lifts, was_lifted}
 use Rattle.step_replay.specs.DealerTrail.{was_withdrawn}
 use Rattle.step_replay.specs.VenueFacts.{Fact, of_dealer}
-use Rattle.step_replay.specs.Actions.{dealer_of, word_for}
 use Rattle.step_replay.specs.Liftings.{Noted}
 use Rattle.step_replay.specs.RowOfWords.{word_if}
 use Rattle.step_replay.specs.Standing.{DealerStands, WordsStand, word_is}
 use Rattle.step_replay.specs.declared.floor.DealerPlace.{DealerPlace}
 use Rattle.step_replay.specs.DealerGrowth.{desk_with}
-use Rattle.step_replay.proofs.AskedWords.{exchanged_stand}
+use Rattle.step_replay.proofs.AskedWords.{IsWord, exchanged_stand}
 use Rattle.step_replay.proofs.FloorLemmas.{with_dealers}
 use Rattle.step_replay.proofs.LiftingLemmas.{dues_after_lifting, within_after_lifting}
 
@@ -89,26 +88,19 @@ word_lifted trail quote other =
     (list_any (withdraws other) f))
     (filter_map-append fact_in trail (Lifted quote ∷ []) ∙ append-nil (facts_of trail))
 
-module _ (config : Configuration) (facts : List Fact) (number : ℕ) (row : DealerRow) (quote : ℕ)
-    (is : dealer_numbered config number ≡ Some row)
-    (within : (nat_le 1 quote && nat_le quote row.quotes) ≡ true)
-    (words after : List (Option Settled)) (stand : WordsStand config facts words)
-    (there : word_for config (dealer_of number row) quote < length words) where
+module _ {config : Configuration} {word number quote : ℕ} {row : DealerRow} (facts : List Fact)
+    (words : List (Option Settled)) (of : IsWord config word number row quote)
+    (stand : WordsStand config facts words) (there : word < length words) where
   -- the dealer's trail
   abbrev trail : List DealerEntry
   trail = of_dealer number facts
 
-  -- an exchange by which the word is then this settlement
-  abbrev Lifts : Settled → Type 0
-  Lifts settlement = Exchanges words (word_for config (dealer_of number row) quote) settled.Lifted
-      settlement after
-
   -- a lift that finds the word open, or lifted before
-  pub lift_stands : Lifts settled.Lifted
+  pub lift_stands : {after : List (Option Settled)}
+      → Exchanges words word settled.Lifted settled.Lifted after
       → WordsStand config (with_dealers facts number (Lifted quote ∷ [])) after
   lift_stands exchange =
-      exchanged_stand config facts number row quote is within words after settled.Lifted
-      settled.Lifted stand exchange there (Lifted quote ∷ [])
+      exchanged_stand facts of stand exchange there (Lifted quote ∷ [])
       (sym (word_lifted trail quote quote
       ∙ ap (λ b. word_if b (was_withdrawn trail quote))
       (ap (λ b. was_lifted trail quote || (b || false)) (eq-eqb quote quote refl)
@@ -119,13 +111,14 @@ module _ (config : Configuration) (facts : List Fact) (number : ℕ) (row : Deal
       ∙ or-false (was_lifted trail other)))
 
   -- a lift that finds it withdrawn
-  pub refused_stands : Lifts settled.Withdrawn → was_withdrawn trail quote ≡ true
+  pub refused_stands : {after : List (Option Settled)}
+      → Exchanges words word settled.Lifted settled.Withdrawn after
+      → was_withdrawn trail quote ≡ true
       → (was_lifted trail quote && was_withdrawn trail quote) ≡ false
       → WordsStand config facts after
-  refused_stands exchange withdrawn one =
+  refused_stands {after} exchange withdrawn one =
       subst (λ (l : List Fact). WordsStand config l after) (append-nil facts)
-      (exchanged_stand config facts number row quote is within words after settled.Lifted
-      settled.Withdrawn stand exchange there []
+      (exchanged_stand facts of stand exchange there []
       (if_withdrawn (was_lifted trail quote) (was_withdrawn trail quote) withdrawn one
       ∙ ap (λ l. word_is l quote) (sym (append-nil trail)))
       (λ other differs. ap (λ l. word_is l other) (append-nil trail)))

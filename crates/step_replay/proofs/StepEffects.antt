@@ -1,7 +1,7 @@
 -- What a step adds to the facts of rooms, it adds in the one room in which it takes place, and what it
 -- sends, it sends to one firm.
 use Rattle.std.proofs.Common.{◌≡◌, ℕ, Bool, false, List, [], ◌∷◌, ◌++◌, map, Option, Some, None}
-use Rattle.std.proofs.Common.{refl, sym, ap, ◌∙◌, ◌<◌, true, nat_lt, length, filter_map, arith}
+use Rattle.std.proofs.Common.{refl, sym, ap, ◌∙◌, ◌<◌, true, nat_lt, length, filter_map, arith, ap₂}
 use Rattle.std.specs.Prelude.{Result, Ok, Err, is_some}
 use Rattle.std.proofs.lemmas.Bool.Decides.{nat_tests}
 use Rattle.std.proofs.lemmas.List.{append-nil}
@@ -19,11 +19,10 @@ use Rattle.venue_rows.specs.declared.investor_rows.InvestorRow.{InvestorRow}
 use Rattle.venue_places.specs.declared.actors.Actor.{Actor}
 use Rattle.step_replay.specs.ActionKinds.{IsAction, by_dealer, by_hit, by_investor, by_room, idle}
 use Rattle.step_replay.specs.ActionKinds.{duty_action, message_action, sweep_action}
-use Rattle.step_replay.specs.Actions.{Effect, QuoteRef, lifting, quote_with_word, nothing}
-use Rattle.step_replay.specs.DealerTrail.{DealerEntry, Lifted}
+use Rattle.step_replay.specs.Actions.{Effect, QuoteRef, lifting, quote_with_word}
+use Rattle.step_replay.specs.DealerTrail.{DealerEntry}
 use Rattle.step_replay.specs.InvestorTrail.{InvestorEntry}
-use Rattle.step_replay.specs.VenueFacts.{Fact, AtDealer, InRoom, AtInvestor, of_room, of_dealer}
-use Rattle.step_replay.specs.VenueFacts.{of_investor}
+use Rattle.step_replay.specs.VenueFacts.{Fact, AtDealer, InRoom, AtInvestor, of_room}
 use Rattle.step_replay.specs.PlaceLemmas.{other_room, room_at_dealer, room_at_investor, room_grown}
 use Rattle.step_replay.specs.PlaceLemmas.{behind_dealers, nothing_of, own_trail, own_investor}
 use Rattle.step_replay.specs.PlaceLemmas.{investor_within}
@@ -51,35 +50,14 @@ pub nothing_there : (at : Option RoomRef) → AreOf at []
 unfolding of_room
 nothing_there at = record { elsewhere = λ room other. refl }
 
-happened_there : (room : RoomRef) (happened : List RoomFact)
-    → AreOf (Some room) (map (InRoom room) happened)
-happened_there room happened =
-    record { elsewhere = λ other differs. other_room other room differs happened }
-
-dealer_there : (at : Option RoomRef) (number : ℕ) (entries : List DealerEntry)
-    → AreOf at (map (AtDealer number) entries)
-dealer_there at number entries =
-    record { elsewhere = λ room other. room_at_dealer room number entries }
-
-investor_there : (at : Option RoomRef) (number : ℕ) (entries : List InvestorEntry)
-    → AreOf at (map (AtInvestor number) entries)
-investor_there at number entries =
-    record { elsewhere = λ room other. room_at_investor room number entries }
-
-both_there : (at : Option RoomRef) (one two : List Fact) → AreOf at one → AreOf at two
-    → AreOf at (one ++ two)
-both_there at one two first second = record {
-  elsewhere = λ room other. room_grown room one two
-      ∙ ap (λ (l : List RoomFact). l ++ of_room room two) (first.elsewhere room other)
-      ∙ second.elsewhere room other;
-}
-
-lifting_there : (at : Option RoomRef) (found : Option QuoteRef) (outcome : Result End HitRefusal)
-    → AreOf at (lifting found outcome)
-lifting_there at None (Ok award) = nothing_there at
-lifting_there at None (Err refused) = nothing_there at
-lifting_there at (Some hit) (Ok award) = dealer_there at hit.dealer (Lifted hit.quote ∷ [])
-lifting_there at (Some hit) (Err refused) = nothing_there at
+-- a room says nothing of what is lifted
+none_lifted : (room : RoomRef) (found : Option QuoteRef) (outcome : Result End HitRefusal)
+    → of_room room (lifting found outcome) ≡ []
+unfolding of_room
+none_lifted room None (Ok award) = refl
+none_lifted room None (Err refused) = refl
+none_lifted room (Some hit) (Ok award) = refl
+none_lifted room (Some hit) (Err refused) = refl
 
 -- all actions, by their kinds
 pub action_there : (config : Configuration) (facts : List Fact) (desk : Option ℕ)
@@ -87,14 +65,17 @@ pub action_there : (config : Configuration) (facts : List Fact) (desk : Option �
     → AreOf room effect.facts
 action_there config facts desk room effect (idle is) = rw is (nothing_there room)
 action_there config facts desk room effect (by_dealer number row event duties at found comes is) =
-    rw is (dealer_there room number _)
+    rw is (record { elsewhere = λ other differs. room_at_dealer other number _ })
 action_there config facts desk room effect (by_investor number row event duties at found is) =
-    rw is (investor_there room number _)
+    rw is (record { elsewhere = λ other differs. room_at_investor other number _ })
 action_there config facts desk room effect (by_room at event duties here is) =
-    rw (here, is) (happened_there at _)
+    rw (here, is) (record { elsewhere = λ other differs. other_room other at differs _ })
 action_there config facts desk room effect (by_hit at response word moment here is) =
-    rw (here, is) (both_there (Some at) (lifting _ _) (map (InRoom at) _)
-    (lifting_there (Some at) (quote_with_word config word) _) (happened_there at _))
+    rw (here, is) (record {
+      elsewhere = λ other differs. room_grown other (lifting (quote_with_word config word) _) _
+          ∙ ap₂ (λ (l m : List RoomFact). l ++ m) (none_lifted other _ _)
+          (other_room other at differs _);
+    })
 
 -- a message and its firm
 abbrev pub to : ℕ → List ℕ → Sent
@@ -155,14 +136,8 @@ module _ (config : Configuration) where
   own_dealer firm row entries is =
       let dealer = dealer_is config firm row is in
       own firm refl (dealer_within config firm row is)
-      (dealer_sends config firm dealer entries
-      ∙ ap (map (to firm)) (ap (filter_map dealer_trail.message_in) (sym (own_trail firm entries))
-      ∙ sym (by_dealer dealer)))
-    where
-      by_dealer : is_dealer config firm ≡ true
-          → sent_by_facts config firm (map (AtDealer firm) entries)
-          ≡ dealer_trail.sent_by (of_dealer firm (map (AtDealer firm) entries))
-      by_dealer dealer = rw dealer refl
+      (rw dealer (dealer_sends config firm dealer entries
+      ∙ ap (λ l. map (to firm) (filter_map dealer_trail.message_in l)) (sym (own_trail firm entries))))
 
   own_market : (firm : ℕ) (row : InvestorRow) (entries : List InvestorEntry)
       → investor_numbered config firm ≡ Some row
@@ -171,33 +146,23 @@ module _ (config : Configuration) where
   own_market firm row entries is =
       let investor = investor_is config firm row is in
       own firm refl (investor_within config firm row is)
-      (investor_sends config firm investor entries
-      ∙ ap (map (to firm))
-      (ap (filter_map investor_trail.message_in) (sym (own_investor firm entries))
-      ∙ sym (by_investor investor)))
-    where
-      by_investor : is_dealer config firm ≡ false
-          → sent_by_facts config firm (map (AtInvestor firm) entries)
-          ≡ investor_trail.sent_by (of_investor firm (map (AtInvestor firm) entries))
-      by_investor investor = rw investor refl
+      (rw investor (investor_sends config firm investor entries
+      ∙ ap (λ l. map (to firm) (filter_map investor_trail.message_in l))
+      (sym (own_investor firm entries))))
 
   -- a hit sends nothing
-  lifted_quiet : (hit : QuoteRef) → messages_in config (AtDealer hit.dealer (dealer_trail.Lifted hit.quote) ∷ []) ≡ []
-  unfolding messages_in
-  lifted_quiet hit = by_dealer (is_dealer config hit.dealer) refl
-    where
-      by_dealer : (b : Bool) → is_dealer config hit.dealer ≡ b
-          → filter_map (sent_in config) (AtDealer hit.dealer (dealer_trail.Lifted hit.quote) ∷ []) ≡ []
-      by_dealer true is = rw is refl
-      by_dealer false is = rw is refl
-
   lifting_quiet : (found : Option QuoteRef) (outcome : Result End HitRefusal)
       → messages_in config (lifting found outcome) ≡ []
   unfolding messages_in
   lifting_quiet None (Ok award) = refl
   lifting_quiet None (Err refused) = refl
-  lifting_quiet (Some hit) (Ok award) = lifted_quiet hit
   lifting_quiet (Some hit) (Err refused) = refl
+  lifting_quiet (Some hit) (Ok award) = by_dealer (is_dealer config hit.dealer) refl
+    where
+      by_dealer : (b : Bool) → is_dealer config hit.dealer ≡ b
+          → filter_map (sent_in config) (AtDealer hit.dealer (dealer_trail.Lifted hit.quote) ∷ []) ≡ []
+      by_dealer true is = rw is refl
+      by_dealer false is = rw is refl
 
   pub messages_both : (facts more : List Fact)
       → messages_in config (facts ++ more) ≡ messages_in config facts ++ messages_in config more
@@ -209,41 +174,24 @@ module _ (config : Configuration) where
   unfolding messages_in
   room_quiet room happened = nothing_of (sent_in config) (InRoom room) (λ x. refl) happened
 
-  quiet_both : (one two : List Fact) → messages_in config one ≡ [] → messages_in config two ≡ []
-      → messages_in config (one ++ two) ≡ []
-  quiet_both one two first second =
-      messages_both one two ∙ ap (λ (l : List Sent). l ++ messages_in config two) first ∙ second
-
-  -- All actions, by their kinds.
-
-  -- an action that sends nothing
-  quiet_by : (desk : Option ℕ) (effect other : Effect) → effect ≡ other
-      → messages_in config other.facts ≡ [] → SendAt desk effect.facts
-  quiet_by desk effect other is none =
-      quiet (ap (λ (e : Effect). messages_in config e.facts) is ∙ none)
-
-  -- one that may send to a firm
-  sent_by : (firm : ℕ) (desk : Option ℕ) (effect other : Effect) → desk ≡ Some firm
-      → effect ≡ other → SendAt (Some firm) other.facts → SendAt desk effect.facts
-  sent_by firm desk effect other desk_is is sends = rw (desk_is, is) sends
-
   nothing_sent : messages_in config [] ≡ []
   unfolding messages_in
   nothing_sent = refl
 
+  -- all actions, by their kinds
   action_at : (facts : List Fact) (desk : Option ℕ) (room : Option RoomRef) (effect : Effect)
       → IsAction config facts desk room effect → SendAt desk effect.facts
-  action_at facts desk room effect (idle is) = quiet_by desk effect nothing is nothing_sent
+  action_at facts desk room effect (idle is) = rw is (quiet nothing_sent)
   action_at facts desk room effect (by_dealer number row event duties at found comes is) =
-      sent_by number desk effect _ at is (own_dealer number row _ found)
+      rw (at, is) (own_dealer number row _ found)
   action_at facts desk room effect (by_investor number row event duties at found is) =
-      sent_by number desk effect _ at is (own_market number row _ found)
+      rw (at, is) (own_market number row _ found)
   action_at facts desk room effect (by_room at event duties here is) =
-      quiet_by desk effect _ is (room_quiet at _)
+      rw is (quiet (room_quiet at _))
   action_at facts desk room effect (by_hit at response word moment here is) =
-      quiet_by desk effect _ is
-      (quiet_both (lifting _ _) (map (InRoom at) _)
-      (lifting_quiet (quote_with_word config word) _) (room_quiet at _))
+      rw is (quiet (messages_both (lifting _ _) (map (InRoom at) _)
+      ∙ ap₂ (λ (l m : List Sent). l ++ m) (lifting_quiet (quote_with_word config word) _)
+      (room_quiet at _)))
 
   -- All steps.
 

@@ -25,6 +25,7 @@ impl Floor {
     }
 
     /// What comes to a room is brought to it.
+    #[tactic(auto, using(crate::proofs::RoomPlaceLemmas::investor_inside, crate::proofs::RoomPlaceLemmas::room_inside))]
     pub(crate) fn to_room(&mut self, room: RoomRef, what: ForRoom) -> Result<Duties, Memory>
         ensures { IfOk result (λ duties. ActsOnce
             (λ config facts. coming.room_gets config facts room what)

@@ -1,4 +1,4 @@
-use Rattle.std.proofs.Common.{◌<◌, arith, length}
+use Rattle.std.proofs.Common.{arith}
 use Rattle.std.proofs.lemmas.Bool.Decides.{nat_tests}
 use Rattle.step_replay.specs.Actions.{received_by_dealer}
 use Rattle.step_replay.specs.PlaceLemmas.{lent}
@@ -15,10 +15,8 @@ returns-in_default c config facts stands =
 pub returns : goal.returns
 returns c config facts stands =
     let action = received_by_dealer config facts c.args.moment c.args.bytes.now in
-    let within : c.from.result < length c.args.self.now.dealers.items =
-    grind (arith, nat_tests, c.in-Some.ensures.item.0) in
-    let stood = lent c.args.self.now.dealers.items c.from.result c.in-Some.place.now within
-    c.in-Some.ensures.item.1 in
+    let stood = lent c.args.self.now.dealers.items c.from.result c.in-Some.place.now
+    (grind (arith, nat_tests, c.in-Some.ensures.item.0)) c.in-Some.ensures.item.1 in
     by_number config facts c.from.result c.args.dealer action _ _ c.from.ensures
     (said_does config facts c.args.self.now c.from.result c.in-Some.place.now c.args.moment
     c.args.bytes.now c.own_dealer.new.desk c.own_dealer.new.words

@@ -20,17 +20,6 @@ loop-step-preserved c config trail known stands =
     step_done config trail c.args.steps.items done step c.loop-step.self c.step.new.self known
     turn.0 turn.1 c.in_ok-step.ensures (c.loop-step.invariant config trail known stands)
 
-pub loop-step-preserved-in_ok-step : goal.loop-step-preserved-in_ok-step
-loop-step-preserved-in_ok-step c config trail known stands =
-    let done = c.loop-step.yielded in
-    let step = c.in-Some.step in
-    let turn = YieldsList-turn (YieldsList-from_vec {s = c.into_iter-step-iterator.result}
-    c.args.steps.items (search rules) (search rules)) done c.loop-step.step-iterator
-    c.loop-step.yielded_by c.next.result c.next.new.self step c.in-Some.is
-    c.next.ensures.steps in
-    step_done config trail c.args.steps.items done step c.loop-step.self c.step.new.self known
-    turn.0 turn.1 c.in_ok-step.ensures (c.loop-step.invariant config trail known stands)
-
 pub returns : goal.returns
 returns c config trail known stands =
     let done = c.loop-step.yielded in
