@@ -84,12 +84,24 @@ dealer_day_is : (config : Configuration) (facts : List Fact) (number : ℕ) (row
     (place : DealerPlace) → DealerIs config facts number row place
     → dealer_day_at place ≡ dealer_day facts number
 dealer_day_is config facts number row place stands =
-    rw (stands.date_is, stands.row_is, stands.state_is) refl
+    ap (λ (state : DeskState). record {
+      sent = state.sent;
+      lines = OfDealer (quotes.lines_of (book_of state.facts));
+    })
+    (ap (λ d. desk_after d place.desk.row place.desk.events) stands.date_is
+    ∙ ap (λ r. desk_after config.date r place.desk.events) stands.row_is
+    ∙ stands.state_is)
 
 investor_day_is : (config : Configuration) (facts : List Fact) (number : ℕ) (row : InvestorRow)
     (place : InvestorPlace) → InvestorStands config facts number row place
     → investor_day_at place ≡ investor_day facts number
-investor_day_is config facts number row place stands = rw (stands.market_is, stands.state_is) refl
+investor_day_is config facts number row place stands =
+    ap (λ (state : investor.DeskState). record {
+      sent = state.sent;
+      lines = OfInvestor (requests.lines_of (investor_facts.book_of state.facts));
+    })
+    (ap (λ (m : InvestorMarket). investor.desk_after m place.desk.events) stands.market_is
+    ∙ stands.state_is)
 
 module _ (config : Configuration) (facts : List Fact) where
   -- the days of the dealers, and of the investors

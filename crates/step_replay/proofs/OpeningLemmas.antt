@@ -75,7 +75,7 @@ owners_next rows at row before now all within is was put =
 -- none is left
 pub owners_whole : (rows : List DealerRow) (at : ℕ) (owners all : List ℕ) → length rows ≤ at
     → owners ++ owners_from at (drop at rows) ≡ all → owners ≡ all
-owners_whole rows at owners all done was = rw (drop_all rows at done, append-nil owners) at was
+owners_whole rows at owners all done was = rw (drop_all at rows done, append-nil owners) at was
 
 -- the words of one dealer more
 pub words_grow : (rows : List DealerRow) (at : ℕ) (row : DealerRow)
