@@ -1,11 +1,14 @@
 -- The day of each firm: what a venue has of it by the facts, and at its places.
-use Rattle.std.proofs.Common.{◌≡◌, ◌<◌, ◌≤◌, ℕ, zero, suc, ◌+◌, ◌-◌, Bool, true, false, nat_lt}
+use Rattle.std.proofs.Common.{◌≡◌, ◌<◌, ◌≤◌, ℕ, suc, ◌+◌, ◌-◌, Bool, true, false, nat_lt, ◌⊎◌, inl, inr}
 use Rattle.std.proofs.Common.{if◌then◌else◌, List, [], ◌∷◌, ◌++◌, length, map, Some, None}
 use Rattle.std.proofs.Common.{option_map, is_some, refl, sym, ap, ◌∙◌, subst, arith, append_assoc}
 use Rattle.std.specs.Prelude.{slice_get}
-use Rattle.std.proofs.lemmas.Bool.Decides.{nat_tests}
+use Rattle.std.specs.List.{range_with_len}
+use Rattle.std.proofs.lemmas.Bool.{cases_lt, ltb-false, ltb-true}
+use Rattle.std.proofs.lemmas.Grind.{elements}
+use Rattle.std.proofs.lemmas.List.FromFn.{get_or-map-range_with_len, length-map-range_with_len}
 use Rattle.std.proofs.lemmas.List.{length-append, map-append}
-use Rattle.std.proofs.lemmas.Option.{slice_get_past}
+use Rattle.std.proofs.lemmas.Option.{gets, slice_get_past}
 use Rattle.std.proofs.lemmas.Simd.{map-map}
 use Rattle.venue_rows.specs.Rows.{Configuration}
 use Rattle.venue_rows.specs.declared.dealer_rows.DealerRow.{DealerRow}
@@ -25,36 +28,33 @@ use Rattle.step_replay.specs.FloorDays.{dealer_day_at, investor_day_at, days_of_
 use Rattle.step_replay.specs.InvestorTrail as investor_trail
 use Rattle.step_replay.specs.LiveDays.{is_dealer, sent_by_facts}
 use Rattle.step_replay.specs.Matching.{Match}
-use Rattle.step_replay.specs.PlaceLemmas.{get_first, has_item}
+use Rattle.step_replay.specs.PlaceLemmas.{has_item}
 use Rattle.step_replay.specs.Standing.{DealerIs, InvestorStands, Stands}
 use Rattle.step_replay.specs.StepFaults.{firms_of}
 use Rattle.step_replay.specs.VenueFacts.{Fact, of_dealer, of_investor}
 use Rattle.step_replay.specs.declared.floor.DealerPlace.{DealerPlace}
 use Rattle.step_replay.specs.declared.floor.Floor.{Floor}
 use Rattle.step_replay.specs.declared.floor.InvestorPlace.{InvestorPlace}
-use Rattle.step_replay.proofs.ListEnds.{get_second}
 
 -- What is so of each number from one on, as many as a list has items.
 
 abbrev numbered : {X Y : Type 0} → (ℕ → Y) → ℕ → List X → List Y
-numbered f number [] = []
-numbered f number (x ∷ xs) = f number ∷ numbered f (number + 1) xs
+numbered f number xs = map f (range_with_len number (length xs))
 
-numbered_count : {X Y : Type 0} (f : ℕ → Y) (k : ℕ) (xs : List X)
-    → length (numbered f k xs) ≡ length xs
-numbered_count f k [] = refl
-numbered_count f k (x ∷ xs) = ap suc (numbered_count f (k + 1) xs)
+-- by two functions, one behind the other
+module _ {Y : Type 0} (f g : ℕ → Y) (n m i : ℕ) where
+  abbrev both : List Y
+  both = map f (range_with_len 0 n) ++ map g (range_with_len n m)
 
-numbered_get : {X Y : Type 0} (f : ℕ → Y) (k : ℕ) (xs : List X) (i : ℕ) → i < length xs
-    → slice_get (numbered f k xs) i ≡ Some (f (k + i))
-numbered_get f k [] i within = absurd (omega arith)
-numbered_get f k (x ∷ xs) zero within =
-    let here : k ≡ k + 0 = omega arith in
-    ap (λ (n : ℕ). Some (f n)) here
-numbered_get f k (x ∷ xs) (suc i) within =
-    let inner : i < length xs = omega arith in
-    let same : k + 1 + i ≡ k + suc i = omega arith in
-    numbered_get f (k + 1) xs i inner ∙ ap (λ (n : ℕ). Some (f n)) same
+  get_first : i < n → slice_get both i ≡ Some (f i)
+  get_first low = grind (arith, gets, elements, get_or-map-range_with_len, length-map-range_with_len)
+
+  get_second : n ≤ i → i < n + m → slice_get both i ≡ Some (g i)
+  get_second high low =
+      grind (arith, gets, elements, get_or-map-range_with_len, length-map-range_with_len)
+
+  get_none : n + m ≤ i → slice_get both i ≡ None
+  get_none past = grind (arith, gets, length-append, length-map-range_with_len)
 
 mapped : {X Y Z : Type 0} (P : ℕ → X → Y → Type 0) (f : ℕ → Z) (g : Y → Z)
     → ((n : ℕ) (x : X) (y : Y) → P n x y → g y ≡ f n) → (k : ℕ) (xs : List X) (ys : List Y)
@@ -112,79 +112,52 @@ module _ (config : Configuration) (facts : List Fact) where
   investors = numbered (investor_day facts) (length config.dealers) config.investors
 
   days_are : firm_days config facts ≡ dealers ++ investors
-  days_are =
-      ap (λ l. l ++ investor_days facts (length config.dealers) config.investors)
-      (dealers_numbered facts 0 config.dealers)
-      ∙ ap (λ l. dealers ++ l) (investors_numbered facts (length config.dealers) config.investors)
+  days_are = rw (dealers_numbered, investors_numbered) refl
 
   pub days_stand : (floor : Floor) → Stands config facts floor
       → days_of_floor floor ≡ firm_days config facts
   days_stand floor stands =
-      ap (λ l. l ++ map investor_day_at floor.investors.items)
-      (mapped (DealerIs config facts) (dealer_day facts) dealer_day_at (dealer_day_is config facts)
-      0 config.dealers floor.dealers.items stands.dealers_are)
-      ∙ ap (λ l. dealers ++ l)
-      (mapped (InvestorStands config facts) (investor_day facts) investor_day_at
-      (investor_day_is config facts) (length config.dealers) config.investors
-      floor.investors.items stands.investors_are)
-      ∙ sym days_are
+      let one = mapped (DealerIs config facts) (dealer_day facts) dealer_day_at
+      (dealer_day_is config facts) 0 config.dealers floor.dealers.items stands.dealers_are in
+      let other = mapped (InvestorStands config facts) (investor_day facts) investor_day_at
+      (investor_day_is config facts) (length config.dealers) config.investors floor.investors.items
+      stands.investors_are in
+      rw (one, other) (sym days_are)
 
   -- The day of the firm with a number.
 
   abbrev day_by : Bool → ℕ → FirmDay
   day_by dealer firm = if dealer then dealer_day facts firm else investor_day facts firm
 
-  day_get : (firm : ℕ) → nat_lt firm (firms_of config) ≡ true
+  day_get : (firm : ℕ) → firm < firms_of config
       → slice_get (firm_days config facts) firm ≡ Some (day_by (is_dealer config firm) firm)
   day_get firm known =
-      ap (λ l. slice_get l firm) days_are ∙ by_side (nat_lt firm (length config.dealers)) refl
+      ap (λ l. slice_get l firm) days_are ∙ by_side (cases_lt firm (length config.dealers))
     where
-      by_side : (b : Bool) → nat_lt firm (length config.dealers) ≡ b
+      by_side : (firm < length config.dealers) ⊎ (length config.dealers ≤ firm)
           → slice_get (dealers ++ investors) firm ≡ Some (day_by (is_dealer config firm) firm)
-      by_side true test =
-          let within : firm < length config.dealers = grind (arith, nat_tests, test) in
-          let mapped_within : firm < length dealers = subst (λ (n : ℕ). firm < n)
-          (sym (numbered_count (dealer_day facts) 0 config.dealers)) within in
-          let here : 0 + firm ≡ firm = omega arith in
-          let dealer : is_dealer config firm ≡ true = has_item config.dealers firm within in
-          get_first dealers investors firm mapped_within
-          ∙ numbered_get (dealer_day facts) 0 config.dealers firm within
-          ∙ ap (λ (n : ℕ). Some (dealer_day facts n)) here
-          ∙ ap (λ (b : Bool). Some (day_by b firm)) (sym dealer)
-      by_side false test =
-          let behind : length config.dealers ≤ firm = grind (arith, nat_tests, test) in
-          let below : firm < firms_of config = grind (arith, nat_tests, known) in
-          let inner : firm - length config.dealers < length config.investors = omega arith in
-          let here : length config.dealers + (firm - length config.dealers) ≡ firm = omega arith in
-          let count = numbered_count (dealer_day facts) 0 config.dealers in
-          let investor : is_dealer config firm ≡ false =
-          ap is_some (slice_get_past config.dealers firm behind) in
-          get_second dealers investors firm (subst (λ (n : ℕ). n ≤ firm) (sym count) behind)
-          ∙ ap (λ (n : ℕ). slice_get investors (firm - n)) count
-          ∙ numbered_get (investor_day facts) (length config.dealers) config.investors
-          (firm - length config.dealers) inner
-          ∙ ap (λ (n : ℕ). Some (investor_day facts n)) here
-          ∙ ap (λ (b : Bool). Some (day_by b firm)) (sym investor)
+      by_side (inl within) =
+          get_first (dealer_day facts) (investor_day facts) (length config.dealers)
+          (length config.investors) firm within
+          ∙ ap (λ (b : Bool). Some (day_by b firm)) (sym (has_item config.dealers firm within))
+      by_side (inr behind) =
+          get_second (dealer_day facts) (investor_day facts) (length config.dealers)
+          (length config.investors) firm behind known
+          ∙ ap (λ (b : Bool). Some (day_by b firm))
+          (sym (ap is_some (slice_get_past config.dealers firm behind)))
 
   pub no_day : (firm : ℕ) → nat_lt firm (firms_of config) ≡ false
       → slice_get (firm_days config facts) firm ≡ None
-  no_day firm unknown =
-      let one : length dealers ≡ length config.dealers =
-      numbered_count (dealer_day facts) 0 config.dealers in
-      let other : length investors ≡ length config.investors =
-      numbered_count (investor_day facts) (length config.dealers) config.investors in
-      let all : length (dealers ++ investors) ≡ length dealers + length investors =
-      length-append dealers investors in
-      let past : firms_of config ≤ firm = grind (arith, nat_tests, unknown) in
-      let beyond : length (dealers ++ investors) ≤ firm = omega arith in
-      ap (λ l. slice_get l firm) days_are ∙ slice_get_past (dealers ++ investors) firm beyond
+  no_day firm unknown = ap (λ l. slice_get l firm) days_are
+      ∙ get_none (dealer_day facts) (investor_day facts) (length config.dealers)
+      (length config.investors) firm (ltb-false _ _ unknown)
 
   -- the messages of the day of a firm are those of the audit trail
   pub sent_on_its_day : (firm : ℕ) → nat_lt firm (firms_of config) ≡ true
       → option_map (λ (day : FirmDay). day.sent) (slice_get (firm_days config facts) firm)
       ≡ Some (sent_by_facts config firm facts)
   sent_on_its_day firm known =
-      ap (option_map (λ (day : FirmDay). day.sent)) (day_get firm known)
+      ap (option_map (λ (day : FirmDay). day.sent)) (day_get firm (ltb-true _ _ known))
       ∙ ap Some (by_role (is_dealer config firm))
     where
       by_role : (b : Bool) → (day_by b firm).sent
@@ -198,22 +171,13 @@ pub mapped_more : {A B C : Type 0} (f : A → C) (g : B → C) (start : List C) 
     (before now : List A) (y : B) (x : A) → map f before ≡ start ++ map g done
     → now ≡ before ++ x ∷ [] → f x ≡ g y → map f now ≡ start ++ map g (done ++ y ∷ [])
 mapped_more f g start done before now y x was is same =
-    ap (map f) is ∙ map-append f before (x ∷ []) ∙ ap (λ l. l ++ f x ∷ []) was
-    ∙ ap (λ z. (start ++ map g done) ++ z ∷ []) same
-    ∙ append_assoc start (map g done) (g y ∷ [])
-    ∙ ap (λ l. start ++ l) (sym (map-append g done (y ∷ [])))
+    rw (is, map-append, was, same, map-append, append_assoc) refl
 
 sent_mapped : (dealers : List DealerPlace) (investors : List InvestorPlace)
     → map (λ (day : FirmDay). day.sent) (map dealer_day_at dealers ++ map investor_day_at investors)
     ≡ map (λ place. (dealer_day_at place).sent) dealers
     ++ map (λ place. (investor_day_at place).sent) investors
-sent_mapped dealers investors =
-    map-append (λ (day : FirmDay). day.sent) (map dealer_day_at dealers)
-    (map investor_day_at investors)
-    ∙ ap (λ l. l ++ map (λ (day : FirmDay). day.sent) (map investor_day_at investors))
-    (map-map (λ (day : FirmDay). day.sent) dealer_day_at dealers)
-    ∙ ap (λ l. map (λ place. (dealer_day_at place).sent) dealers ++ l)
-    (map-map (λ (day : FirmDay). day.sent) investor_day_at investors)
+sent_mapped dealers investors = simp (map-append, map-map)
 
 -- the dealers' first, and then the investors'
 pub all_sent : {X : Type 0} (items : X → List (List ℕ)) (dealers : List DealerPlace)
@@ -223,6 +187,4 @@ pub all_sent : {X : Type 0} (items : X → List (List ℕ)) (dealers : List Deal
     → map items all ≡ map (λ (day : FirmDay). day.sent)
     (map dealer_day_at dealers ++ map investor_day_at investors)
 all_sent items dealers investors start first all none are is =
-    is ∙ ap (λ l. l ++ map (λ place. (investor_day_at place).sent) investors)
-    (are ∙ ap (λ l. map items l ++ map (λ place. (dealer_day_at place).sent) dealers) none)
-    ∙ sym (sent_mapped dealers investors)
+    rw (is, are, none) (sym (sent_mapped dealers investors))

@@ -66,16 +66,7 @@ same_seen : (config : Configuration) (number : ℕ) (row : DealerRow) (trail : L
     (place : DealerPlace) → DealerStands config number row trail place
     → seen_at place ≡ seen_of config number row trail
 same_seen config number row trail place stands =
-    ap (λ (b : DealerBook). seen_by place.first_word place.desk.date place.desk.row b
-    (rooms_at place.desk)) (book_is config number row trail place stands)
-    ∙ ap (λ (f : ℕ). seen_by f place.desk.date place.desk.row (book_by trail) (rooms_at place.desk))
-    stands.first_is
-    ∙ ap (λ (d : List ℕ). seen_by (first_word config (dealer_of number row)) d place.desk.row
-    (book_by trail) (rooms_at place.desk)) stands.date_is
-    ∙ ap (λ (r : DealerRow). seen_by (first_word config (dealer_of number row)) config.date r
-    (book_by trail) (rooms_at place.desk)) stands.row_is
-    ∙ ap (seen_by (first_word config (dealer_of number row)) config.date row (book_by trail))
-    stands.rooms_are
+    cc (book_is config number row trail place stands)
 
 -- A step that asks at most the word of a quote, by what the code has done.
 module _ (config : Configuration) (facts : List Fact) (floor : Floor) (number : ℕ)

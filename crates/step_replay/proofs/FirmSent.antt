@@ -36,10 +36,8 @@ twice : {X Y W Z : Type 0} (f : X → Option Y) (g : Y → Option Z) (h : X → 
     → (xs : List X) → filter_map g (filter_map f xs) ≡ filter_map k (filter_map h xs)
 twice f g h k each [] = refl
 twice f g h k each (x ∷ xs) =
-    two_filters g (f x) (filter_map f xs)
-    ∙ ap (λ o. cons_option o (filter_map g (filter_map f xs))) (each x)
-    ∙ ap (λ l. cons_option (option_and_then k (h x)) l) (twice f g h k each xs)
-    ∙ sym (two_filters k (h x) (filter_map h xs))
+    let later = twice f g h k each xs in
+    rw (two_filters, each, later, two_filters) refl
 
 -- The messages of a firm among all.
 

@@ -3,6 +3,7 @@ use Rattle.std.proofs.Common.{◌≡◌, ◌≤◌, ◌<◌, ℕ, ◌+◌, ◌-�
 use Rattle.std.proofs.Common.{if◌then◌else◌, List, [], ◌∷◌, ◌++◌, length, get_or, replicate, take}
 use Rattle.std.proofs.Common.{Option, None, IfSome, option_map, refl, sym, ap, ◌∙◌, subst, arith}
 use Rattle.std.proofs.lemmas.List.{get_or-replicate, take_all, take_more}
+use Rattle.std.proofs.lemmas.Grind.{common_steps}
 use Rattle.std.proofs.lemmas.List.Sums.{fold-append}
 use Rattle.quote_word.specs.PlainWords.{entry_in}
 use Rattle.quote_word.specs.declared.settled.Settled.{Settled}
@@ -133,12 +134,8 @@ pub item_stands : (date : List ℕ) (row : DealerRow) (dues : List Due) (place :
     → StandsFor (after_due (view_after date row (take place dues)) item) desk words
     → StandsFor (view_after date row (take (place + 1) dues)) desk words
 item_stands date row dues place item desk words within is stands =
-    let front : List Due = take place dues in
-    let more : take (place + 1) dues ≡ front ++ item ∷ [] =
-    take_more dues place item within ∙ ap (λ (found : Due). front ++ found ∷ []) (sym is) in
-    let start = view_at_start date row in
-    let view = ap (view_after date row) more ∙ fold-append after_due start front (item ∷ []) in
-    subst (λ (after : DealerView). StandsFor after desk words) (sym view) stands
+    let more : take (place + 1) dues ≡ take place dues ++ item ∷ [] = grind (arith, common_steps) in
+    rw (more, fold-append) stands
 
 -- the whole list
 pub all_sent : (date : List ℕ) (row : DealerRow) (dues : List Due) (place : ℕ)

@@ -1,7 +1,7 @@
 -- The due list that the code keeps, from the events of a desk and the liftings, grows as that of the
 -- dealer's trail does.
 use Rattle.std.proofs.Common.{◌≡◌, ◌≤◌, ℕ, ◌+◌, ◌-◌, List, [], ◌∷◌, ◌++◌, map, filter_map, length}
-use Rattle.std.proofs.Common.{take, drop, get_or, Some, subst, sym, ap, ◌∙◌, arith}
+use Rattle.std.proofs.Common.{take, drop, get_or, Some, refl, subst, sym, ap, ◌∙◌, arith}
 use Rattle.std.specs.Prelude.{slice_get}
 use Rattle.std.specs.Vec.{with_item}
 use Rattle.std.proofs.lemmas.Option.{get_or_from_slice_get}
@@ -38,17 +38,8 @@ events_push count events more (lifting ∷ later) least within =
     let here : lifting.after ≤ length events = within.0 in
     let size : length (drop count events) ≡ length events - count = length-drop count events in
     let fits : lifting.after - count ≤ length (drop count events) = omega arith in
-    let shown : List DealerEvent = take (lifting.after - count) (drop count events) in
-    let behind : List Due = dues_behind lifting.after (events ++ more ∷ []) later in
-    ap (λ (l : List DealerEvent). map due_by_event (take (lifting.after - count) l)
-    ++ due.Lifted lifting.quote ∷ behind) (drop-append-le count events (more ∷ []) least)
-    ∙ ap (λ (l : List DealerEvent). map due_by_event l ++ due.Lifted lifting.quote ∷ behind)
-    (take-append-le (lifting.after - count) (drop count events) (more ∷ []) fits)
-    ∙ ap (λ (l : List Due). map due_by_event shown ++ due.Lifted lifting.quote ∷ l)
-    (events_push lifting.after events more later here within.1)
-    ∙ sym (append_assoc (map due_by_event shown)
-    (due.Lifted lifting.quote ∷ dues_behind lifting.after events later)
-    (due_by_event more ∷ []))
+    let behind = events_push lifting.after events more later here within.1 in
+    rw (drop-append-le, take-append-le, behind, append_assoc) refl
 
 -- One lifting more.
 
@@ -58,19 +49,10 @@ liftings_push : (count : ℕ) (events : List DealerEvent) (liftings : List Lifti
     (liftings ++ record { quote = quote; after = length events } ∷ [])
     ≡ dues_behind count events liftings ++ due.Lifted quote ∷ []
 liftings_push count events [] quote =
-    ap (λ (l : List DealerEvent). map due_by_event l
-    ++ due.Lifted quote ∷ map due_by_event (drop (length events) events))
-    (ap (λ (n : ℕ). take n (drop count events)) (sym (length-drop count events))
-    ∙ take-length (drop count events))
-    ∙ ap (λ (l : List DealerEvent). map due_by_event (drop count events)
-    ++ due.Lifted quote ∷ map due_by_event l) (drop-length events)
+    rw (← length-drop count events, take-length (drop count events), drop-length events) refl
 liftings_push count events (lifting ∷ later) quote =
-    let shown : List Due = map due_by_event (take (lifting.after - count) (drop count events)) in
-    ap (λ (l : List Due). shown ++ due.Lifted lifting.quote ∷ l)
-    (liftings_push lifting.after events later quote)
-    ∙ sym (append_assoc shown
-    (due.Lifted lifting.quote ∷ dues_behind lifting.after events later)
-    (due.Lifted quote ∷ []))
+    let behind = liftings_push lifting.after events later quote in
+    rw (behind, append_assoc) refl
 
 -- At a dealer's place.
 
@@ -95,24 +77,16 @@ module _ (date : List ℕ) (row : DealerRow) (trail : List DealerEntry) (place :
     pub within_after_event : AreWithin (length (place.desk.events ++ more ∷ [])) place.liftings.items
     within_after_event = every_weaker (λ (lifting : Lifting). lifting.after ≤ length place.desk.events)
         (λ (lifting : Lifting). lifting.after ≤ length (place.desk.events ++ more ∷ []))
-        (λ lifting least. later lifting.after least) place.liftings.items within
-      where
-        later : (after : ℕ) → after ≤ length place.desk.events
-            → after ≤ length (place.desk.events ++ more ∷ [])
-        later after least =
-            let size : length (place.desk.events ++ more ∷ []) ≡ length place.desk.events + 1 =
-            length-append place.desk.events (more ∷ []) in
-            omega arith
+        (λ lifting least. omega (arith, length-append place.desk.events (more ∷ [])))
+        place.liftings.items within
 
   module _ (quote : ℕ) (now : DealerPlace) (noted : Noted quote place now) where
     pub dues_after_lifting : dues_behind 0 now.desk.events now.liftings.items
         ≡ due_list (trail ++ Lifted quote ∷ [])
     dues_after_lifting =
-        ap (λ (d : DeskEvents). dues_behind 0 d.events now.liftings.items) noted.desk_is
-        ∙ ap (dues_behind 0 place.desk.events) noted.liftings_are
-        ∙ liftings_push 0 place.desk.events place.liftings.items quote
-        ∙ ap (λ (l : List Due). l ++ due.Lifted quote ∷ []) dues_are
-        ∙ sym (filter_map-append due_by trail (Lifted quote ∷ []))
+        let pushed = liftings_push 0 place.desk.events place.liftings.items quote in
+        rw (noted.desk_is, noted.liftings_are, pushed, dues_are)
+        (sym (filter_map-append due_by trail (Lifted quote ∷ [])))
 
     pub within_after_lifting : AreWithin (length now.desk.events) now.liftings.items
     within_after_lifting =

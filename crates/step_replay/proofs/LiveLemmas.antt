@@ -1,8 +1,7 @@
 -- A venue that answers as steps come: what is told, each step with the duties behind it, and where it
 -- stands.
-use Rattle.std.proofs.Common.{◌≡◌, ◌<◌, ◌≤◌, ℕ, zero, suc, ◌+◌, ◌-◌, true, false, List, [], ◌∷◌}
-use Rattle.std.proofs.Common.{◌++◌, length, fold, Option, Some, None, refl, sym, ap, ◌∙◌, subst}
-use Rattle.std.proofs.Common.{arith}
+use Rattle.std.proofs.Common.{◌≡◌, ◌≤◌, ℕ, ◌+◌, ◌-◌, true, false, List, [], ◌∷◌, ◌++◌, length, fold}
+use Rattle.std.proofs.Common.{Option, Some, None, refl, sym, ap, ◌∙◌, arith}
 use Rattle.std.specs.Prelude.{nat_lt, slice_get}
 use Rattle.std.specs.Option.{option_and_then}
 use Rattle.std.proofs.lemmas.Bool.Decides.{nat_tests}
@@ -15,31 +14,30 @@ use Rattle.venue_places.specs.declared.actors.Actor.{Actor}
 use Rattle.venue_places.specs.declared.actors.Actor.TheVariants as actor
 use Rattle.market_terms.specs.declared.rooms.RoomRef.{RoomRef}
 use Rattle.step_replay.specs.AuditTrail.{AuditTrail, after_step, after_turn, audit_trail, no_steps}
-use Rattle.step_replay.specs.AuditTrail.{pending}
+use Rattle.step_replay.specs.AuditTrail.{is_same_actor, pending}
 use Rattle.step_replay.specs.Following.{ReplayStands, duties_in}
 use Rattle.step_replay.specs.LiveDays.{Sent, actor_of, live_steps, live_trail, messages_in}
 use Rattle.step_replay.specs.LiveDays.{with_turns}
-use Rattle.step_replay.specs.LiveStanding.{SendsAllOf, SendsOf, VenueSends, after_turns, count_at}
+use Rattle.step_replay.specs.LiveStanding.{SendsAllOf, VenueSends, after_turns, count_at}
 use Rattle.step_replay.specs.LiveStanding.{desk_of_step, first_in, next_duty, sent_behind, Answers}
 use Rattle.step_replay.specs.LiveStanding.{IsAt, VenueStands, room_of_step}
 use Rattle.step_replay.specs.Queues.{QueueHas, is_known, queue_of}
 use Rattle.step_replay.specs.Standing.{Stands}
-use Rattle.step_replay.specs.StepFaults.{firms_of, fault_of}
+use Rattle.step_replay.specs.StepFaults.{fault_of, firms_of}
 use Rattle.step_replay.specs.VenueFacts.{Fact}
 use Rattle.step_replay.specs.declared.live.LiveVenue.{LiveVenue}
 use Rattle.step_replay.specs.declared.replay.Replay.{Replay}
 use Rattle.step_replay.specs.declared.steps.Step.{Step}
 use Rattle.step_replay.specs.declared.steps.Step.TheVariants as step
 use Rattle.step_replay.specs.declared.steps.TheConstants.{MOST_TURNS_BEHIND}
-use Rattle.step_replay.specs.DutyEffects.{duty_effect, message_effect}
-use Rattle.step_replay.specs.OpenRooms.{IsEmpty, Notes, deadline_by}
-use Rattle.step_replay.specs.QueueLemmas.{other_pending, other_turned}
+use Rattle.step_replay.specs.DutyEffects.{duty_effect, message_effect, sweep_effect}
+use Rattle.step_replay.specs.OpenRooms.{IsEmpty, Notes, deadline_in}
+use Rattle.step_replay.specs.QueueLemmas.{other_pending, other_turned, same_either}
 use Rattle.step_replay.proofs.FollowLemmas.{has_queue}
-use Rattle.step_replay.proofs.StepEffects.{SendAt, messages_both, step_adds, AreOf}
-use Rattle.step_replay.proofs.StartLemmas.{known_actor, said, turned, idle_turns, no_turn}
-use Rattle.step_replay.proofs.StartLemmas.{turn_first, turns_both}
+use Rattle.step_replay.proofs.StepEffects.{messages_both, step_adds}
+use Rattle.step_replay.proofs.StartLemmas.{known_actor, idle_turns, turns_both, turns_keep}
 use Rattle.step_replay.proofs.FirmSent.{behind_is}
-use Rattle.step_replay.proofs.OpenRoomLemmas.{rooms_begin, rooms_kept, rooms_noted}
+use Rattle.step_replay.proofs.OpenRoomLemmas.{rooms_begin, rooms_noted}
 
 -- The duty that comes next.
 
@@ -67,31 +65,6 @@ next_unknown config (actor.Firm number) trail replay unknown stands =
     sym (length-map replay.queues.items (λ queue. queue.items)) ∙ stands.queues_stand.count in
     let far : nat_lt (number + 1) (length replay.queues.items) ≡ false = grind (arith, nat_tests) in
     rw far refl
-
--- A step is told.
-pub tells_step : (config : Configuration) (trail : AuditTrail) (next : Step) (before after : Replay)
-    (start old : List Sent) (desk : Option ℕ) → is_known config (actor_of next) ≡ true
-    → ReplayStands config trail before → ReplayStands config (after_step config trail next) after
-    → desk ≡ desk_of_step next (next_duty before (actor_of next))
-    → messages_in config trail.facts ≡ start ++ old
-    → SendsOf config (after_step config trail next) after
-    (start ++ (old ++ sent_behind after.floor desk (count_at before.floor desk)))
-tells_step config trail next before after start old desk known stood stands is told =
-    let adds = step_adds config trail next in
-    let desk_is : desk ≡ desk_of_step next (first_in (pending (actor_of next) trail)) =
-    is ∙ ap (desk_of_step next) (next_is config (actor_of next) trail before known stood) in
-    let sent : SendAt config desk adds.more = rw desk_is adds.sent in
-    let grown : Stands config (trail.facts ++ adds.more) after.floor =
-    rw adds.grown at stands.floor_stands in
-    record {
-      stands = stands;
-      told_is = ap (messages_in config) adds.grown ∙ messages_both config trail.facts adds.more
-          ∙ ap (λ (l : List Sent). l ++ messages_in config adds.more) told
-          ∙ append_assoc start old (messages_in config adds.more)
-          ∙ ap (λ (l : List Sent). start ++ (old ++ l))
-          (behind_is config trail.facts adds.more before.floor after.floor stood.floor_stands grown
-          desk sent);
-    }
 
 pub actor_known : (config : Configuration) (next : Step) → fault_of config 0 next ≡ None
     → is_known config (actor_of next) ≡ true
@@ -143,91 +116,59 @@ live_more config steps next =
     ∙ fold-append (after_step config) no_steps (live_steps steps) (with_turns next ++ [])
     ∙ ap (fold (after_step config) (live_trail config steps)) (append-nil (with_turns next))
 
--- A step is done.
-
-module _ (config : Configuration) (trail : AuditTrail) (next : Step) (before after : LiveVenue)
-    (told : List Sent) (known : is_known config (actor_of next) ≡ true)
-    (stood : VenueStands config trail before)
-    (tells : SendsOf config (after_step config trail next) after.replay told) where
-  room_is : (room : Option RoomRef) → room ≡ room_of_step next
-      (next_duty before.replay (actor_of next))
-      → AreOf room (step_adds config trail next).more
-  room_is room is =
-      subst (λ (r : Option RoomRef). AreOf r (step_adds config trail next).more)
-      (sym (is ∙ ap (room_of_step next) (next_is config (actor_of next) trail before.replay known
-      stood.replay_stands))) (step_adds config trail next).inside
-
-  -- it takes place in no room
-  pub plain_step : None ≡ room_of_step next (next_duty before.replay (actor_of next))
-      → after.open_rooms ≡ before.open_rooms
-      → VenueSends config (after_step config trail next) after told
-  plain_step none same =
-      let adds = step_adds config trail next in
-      record {
-        stands = record {
-          replay_stands = tells.stands;
-          rooms_stand = rw (adds.grown, same) (rooms_kept config trail.facts adds.more
-              before.open_rooms stood.rooms_stand (room_is None none));
-        };
-        told_is = tells.told_is;
-      }
-
-  -- it takes place in a room, whose deadline is noted
-  pub noted_step : (room : RoomRef) (had now : Option ℕ)
-      → Some room ≡ room_of_step next (next_duty before.replay (actor_of next))
-      → ((c : Configuration) (facts : List Fact) → Stands c facts before.replay.floor
-      → had ≡ deadline_by c facts room)
-      → ((c : Configuration) (facts : List Fact) → Stands c facts after.replay.floor
-      → now ≡ deadline_by c facts room)
-      → Notes room had now before.open_rooms after.open_rooms
-      → VenueSends config (after_step config trail next) after told
-  noted_step room had now is had_is now_is notes =
-      let adds = step_adds config trail next in
-      let grown : Stands config (trail.facts ++ adds.more) after.replay.floor =
-      rw adds.grown at tells.stands.floor_stands in
-      record {
-        stands = record {
-          replay_stands = tells.stands;
-          rooms_stand = rw adds.grown (rooms_noted config trail.facts adds.more room had now
-              before.open_rooms after.open_rooms stood.rooms_stand (room_is (Some room) is)
-              (had_is config trail.facts stood.replay_stands.floor_stands)
-              (now_is config (trail.facts ++ adds.more) grown) notes);
-        };
-        told_is = tells.told_is;
-      }
+-- A step is done: what it sent is told, and where it takes place in a room its deadline is noted.
+pub step_told : (config : Configuration) (trail : AuditTrail) (next : Step)
+    (before after : LiveVenue) (start old : List Sent) (room : Option RoomRef)
+    (desk had now : Option ℕ) → is_known config (actor_of next) ≡ true
+    → VenueStands config trail before → messages_in config trail.facts ≡ start ++ old
+    → room ≡ room_of_step next (next_duty before.replay (actor_of next))
+    → desk ≡ desk_of_step next (next_duty before.replay (actor_of next))
+    → ReplayStands config (after_step config trail next) after.replay
+    → ((c : Configuration) (facts : List Fact) → Stands c facts before.replay.floor
+    → had ≡ deadline_in c facts room)
+    → ((c : Configuration) (facts : List Fact) → Stands c facts after.replay.floor
+    → now ≡ deadline_in c facts room)
+    → Notes room had now before.open_rooms after.open_rooms
+    → VenueSends config (after_step config trail next) after
+    (start ++ (old ++ sent_behind after.replay.floor desk (count_at before.replay.floor desk)))
+step_told config trail next before after start old room desk had now known stood told room_is desk_is
+    stands had_is now_is notes =
+    let adds = step_adds config trail next in
+    let floor_stood = stood.replay_stands.floor_stands in
+    let grown : Stands config (trail.facts ++ adds.more) after.replay.floor =
+    rw adds.grown at stands.floor_stands in
+    let comes = next_is config (actor_of next) trail before.replay known stood.replay_stands in
+    let behind = behind_is config trail.facts adds.more before.replay.floor after.replay.floor
+    floor_stood grown desk (rw (desk_is ∙ ap (desk_of_step next) comes) adds.sent) in
+    record {
+      stands = record {
+        replay_stands = stands;
+        rooms_stand = rw adds.grown (rooms_noted config trail.facts adds.more room had now
+            before.open_rooms after.open_rooms stood.rooms_stand
+            (rw (room_is ∙ ap (room_of_step next) comes) adds.inside)
+            (had_is config trail.facts floor_stood) (now_is config (trail.facts ++ adds.more) grown) notes);
+      };
+      told_is = rw (adds.grown, messages_both, told, append_assoc, behind) refl;
+    }
 
 -- The clock has no duty but behind its own steps.
 
-turn_of_firm : (config : Configuration) (firm : ℕ) (trail : AuditTrail) (duties : List Duty)
-    → pending actor.Clock (after_turn config (actor.Firm firm) trail duties)
-    ≡ pending actor.Clock trail
-turn_of_firm config firm trail [] = refl
-turn_of_firm config firm trail (duty ∷ later) =
-    other_turned (actor.Firm firm) actor.Clock trail
-    (duty_effect config trail.facts (actor.Firm firm) duty) refl refl
-
-step_of_firm : (config : Configuration) (s : Step) (firm : ℕ) (trail : AuditTrail)
-    → actor_of s ≡ actor.Firm firm
-    → pending actor.Clock (after_step config trail s) ≡ pending actor.Clock trail
-step_of_firm config (step.In by moment message) firm trail is =
-    ap (pending actor.Clock) (said config trail by moment message)
-    ∙ other_pending (actor.Firm by) actor.Clock trail
-    (message_effect config trail.facts by moment message) refl
-step_of_firm config (step.Turn (actor.Firm by)) firm trail is =
-    ap (pending actor.Clock) (turned config trail (actor.Firm by))
-    ∙ turn_of_firm config by trail (pending (actor.Firm by) trail)
-step_of_firm config (step.Turn actor.Clock) firm trail is = cc
-step_of_firm config (step.Expire room moment) firm trail is = cc
-
-turns_of_firm : (config : Configuration) (firm count : ℕ) (trail : AuditTrail)
-    → pending actor.Clock (after_turns config (actor.Firm firm) count trail)
-    ≡ pending actor.Clock trail
-turns_of_firm config firm zero trail = ap (pending actor.Clock)
-    (no_turn config (actor.Firm firm) trail)
-turns_of_firm config firm (suc count) trail =
-    ap (pending actor.Clock) (turn_first config (actor.Firm firm) count trail)
-    ∙ turns_of_firm config firm count (after_step config trail (step.Turn (actor.Firm firm)))
-    ∙ step_of_firm config (step.Turn (actor.Firm firm)) firm trail refl
+others_wait : (config : Configuration) (s : Step) (trail : AuditTrail) (other : Actor)
+    → is_same_actor (actor_of s) other ≡ false
+    → pending other (after_step config trail s) ≡ pending other trail
+unfolding after_step
+others_wait config (step.In firm moment message) trail other differs =
+    other_pending (actor.Firm firm) other trail (message_effect config trail.facts firm moment message)
+    differs
+others_wait config (step.Expire room moment) trail other differs =
+    other_pending actor.Clock other trail (sweep_effect config trail.facts room moment) differs
+others_wait config (step.Turn by) trail other differs = by_duties (pending by trail)
+  where
+    by_duties : (duties : List Duty)
+        → pending other (after_turn config by trail duties) ≡ pending other trail
+    by_duties [] = refl
+    by_duties (duty ∷ later) = other_turned by other trail (duty_effect config trail.facts by duty)
+        differs (same_either by other differs)
 
 clock_rests : (config : Configuration) (next : Step) (trail : AuditTrail) (by : Actor)
     → actor_of next ≡ by → pending actor.Clock trail ≡ []
@@ -235,8 +176,10 @@ clock_rests : (config : Configuration) (next : Step) (trail : AuditTrail) (by : 
     → pending actor.Clock (after_turns config by MOST_TURNS_BEHIND (after_step config trail next))
     ≡ []
 clock_rests config next trail (actor.Firm firm) is idle left =
-    turns_of_firm config firm MOST_TURNS_BEHIND (after_step config trail next)
-    ∙ step_of_firm config next firm trail is ∙ idle
+    turns_keep config (actor.Firm firm) (λ t. pending actor.Clock t ≡ [])
+    (λ t had. others_wait config (step.Turn (actor.Firm firm)) t actor.Clock refl ∙ had)
+    MOST_TURNS_BEHIND (after_step config trail next) (others_wait config next trail actor.Clock
+    (ap (λ (a : Actor). is_same_actor a actor.Clock) is) ∙ idle)
 clock_rests config next trail actor.Clock is idle left = left
 
 -- Where a venue is.

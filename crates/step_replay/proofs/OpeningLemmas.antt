@@ -1,11 +1,12 @@
 -- The places of a venue at the start of a day stand where no fact stands.
 use Rattle.std.proofs.Common.{◌≡◌, ◌<◌, ◌≤◌, ℕ, zero, suc, ◌+◌, ◌-◌, nat_lt, Bool, true, false}
-use Rattle.std.proofs.Common.{if◌then◌else◌, List, [], ◌∷◌, ◌++◌, length, take, get_or, replicate}
+use Rattle.std.proofs.Common.{if◌then◌else◌, List, [], ◌∷◌, ◌++◌, length, take, drop, get_or, replicate}
 use Rattle.std.proofs.Common.{Option, Some, None, option_map, refl, sym, ap, ◌∙◌, subst, arith}
 use Rattle.std.specs.Prelude.{slice_get}
-use Rattle.std.proofs.lemmas.Bool.Decides.{nat_tests}
+use Rattle.std.proofs.lemmas.Grind.{common_steps}
+use Rattle.std.proofs.lemmas.Option.{gets}
 use Rattle.std.proofs.lemmas.List.{append-nil, append_assoc, length-replicate, length-append}
-use Rattle.std.proofs.lemmas.List.{length-take-le, take_all, take_more}
+use Rattle.std.proofs.lemmas.List.{drop_all, take_all}
 use Rattle.std.proofs.lemmas.List.Sums.{sum_by-cons, sum_by_more}
 use Rattle.quote_word.specs.PlainWords.{entry_in}
 use Rattle.quote_word.specs.declared.settled.Settled.{Settled}
@@ -19,20 +20,27 @@ use Rattle.step_replay.specs.Actions.{QuoteRef, quote_among, quotes_of, word_for
 use Rattle.step_replay.specs.Liftings.{AreWithin, dues_behind}
 use Rattle.step_replay.specs.Matching.{Match}
 use Rattle.step_replay.specs.Openings.{DealerOpens, DealersOpen, InvestorOpens, Opens, owners_from}
-use Rattle.step_replay.specs.PlaceLemmas.{get_first}
 use Rattle.step_replay.specs.Standing.{DealerIs, InvestorStands, Stands}
 use Rattle.step_replay.specs.VenueFacts.{of_dealer}
 use Rattle.step_replay.specs.declared.floor.DealerPlace.{DealerPlace}
 use Rattle.step_replay.specs.declared.floor.Floor.{Floor}
 use Rattle.step_replay.specs.declared.floor.Lifting.{Lifting}
 use Rattle.step_replay.proofs.InvestorOpeningLemmas.{investor_begins}
-use Rattle.step_replay.proofs.ListEnds.{get_same, get_second}
 use Rattle.step_replay.proofs.MatchLemmas.{grown, kept}
 
 -- The owners of words.
 
 abbrev dealer_in : QuoteRef → ℕ
 dealer_in quote = quote.dealer
+
+-- the first owner's words, and those behind
+own_word : {X : Type 0} (many : ℕ) (x : X) (xs : List X) (i : ℕ) → nat_lt i many ≡ true
+    → slice_get (replicate many x ++ xs) i ≡ Some x
+own_word many x xs i low = grind (arith, common_steps, gets)
+
+later_word : {X : Type 0} (many : ℕ) (x : X) (xs : List X) (i : ℕ) → nat_lt i many ≡ false
+    → slice_get (replicate many x ++ xs) i ≡ slice_get xs (i - many)
+later_word many x xs i high = grind (arith, common_steps, gets)
 
 owner_found : (number : ℕ) (rows : List DealerRow) (word : ℕ)
     → slice_get (owners_from number rows) word ≡ option_map dealer_in (quote_among number rows word)
@@ -46,61 +54,28 @@ owner_found number (row ∷ rows) word =
         → slice_get (replicate row.quotes number ++ owners_from (number + 1) rows) word
         ≡ option_map dealer_in (if b then Some (record { dealer = number; quote = word + 1 })
         else quote_among (number + 1) rows (word - row.quotes))
-    by_test true is later =
-        let within : word < row.quotes = grind (arith, nat_tests) in
-        let first : word < length (replicate row.quotes number) =
-        subst (λ (n : ℕ). word < n) (sym (length-replicate row.quotes number)) within in
-        get_first (replicate row.quotes number) (owners_from (number + 1) rows) word first
-        ∙ get_same row.quotes number word within
-    by_test false is later =
-        let count : length (replicate row.quotes number) ≡ row.quotes =
-        length-replicate row.quotes number in
-        let beyond : row.quotes ≤ word = grind (arith, nat_tests) in
-        get_second (replicate row.quotes number) (owners_from (number + 1) rows) word
-        (subst (λ (n : ℕ). n ≤ word) (sym count) beyond)
-        ∙ ap (λ (n : ℕ). slice_get (owners_from (number + 1) rows) (word - n)) count
-        ∙ later
+    by_test true is later = own_word row.quotes number _ word is
+    by_test false is later = later_word row.quotes number _ word is ∙ later
 
 pub owners_count : (number : ℕ) (rows : List DealerRow)
     → length (owners_from number rows) ≡ quotes_of rows
 owners_count number [] = refl
 owners_count number (row ∷ rows) =
-    length-append (replicate row.quotes number) (owners_from (number + 1) rows)
-    ∙ ap (λ n. n + length (owners_from (number + 1) rows)) (length-replicate row.quotes number)
-    ∙ ap (λ n. row.quotes + n) (owners_count (number + 1) rows)
-    ∙ sym (sum_by-cons (λ (r : DealerRow). r.quotes) row rows)
+    rw (length-append, length-replicate, owners_count (number + 1) rows)
+    (sym (sum_by-cons (λ (r : DealerRow). r.quotes) row rows))
 
-plus_none : (number : ℕ) → number ≡ number + 0
-plus_none number = omega arith
+-- the owners of the next row's words are put behind those so far, and the rest is left
+pub owners_next : (rows : List DealerRow) (at : ℕ) (row : DealerRow) (before now all : List ℕ)
+    → at < length rows → row ≡ get_or rows at row → before ++ owners_from at (drop at rows) ≡ all
+    → now ≡ before ++ replicate row.quotes at → now ++ owners_from (at + 1) (drop (at + 1) rows) ≡ all
+owners_next rows at row before now all within is was put =
+    let next : drop at rows ≡ row ∷ drop (at + 1) rows = grind (arith, common_steps) in
+    rw (put, append_assoc) (rw next at was)
 
--- one row more
-pub owners_more : (number : ℕ) (rows : List DealerRow) (row : DealerRow)
-    → owners_from number (rows ++ row ∷ [])
-    ≡ owners_from number rows ++ replicate row.quotes (number + length rows)
-owners_more number [] row =
-    append-nil (replicate row.quotes number)
-    ∙ ap (λ n. replicate row.quotes n) (plus_none number)
-owners_more number (first ∷ rows) row =
-    let is : number + 1 + length rows ≡ number + length (first ∷ rows) = omega arith in
-    ap (λ l. replicate first.quotes number ++ l) (owners_more (number + 1) rows row)
-    ∙ sym (append_assoc (replicate first.quotes number) (owners_from (number + 1) rows)
-    (replicate row.quotes (number + 1 + length rows)))
-    ∙ ap (λ n. (replicate first.quotes number ++ owners_from (number + 1) rows)
-    ++ replicate row.quotes n) is
-
--- one row more of a list
-pub owners_grow : (rows : List DealerRow) (at : ℕ) (row : DealerRow)
-    → at < length rows → row ≡ get_or rows at row
-    → owners_from 0 (take (at + 1) rows) ≡ owners_from 0 (take at rows) ++ replicate row.quotes at
-owners_grow rows at row within is =
-    let more : take (at + 1) rows ≡ take at rows ++ row ∷ [] =
-    take_more rows at row within
-    ∙ ap (λ (found : DealerRow). take at rows ++ found ∷ []) (sym is) in
-    let all : at ≤ length rows = omega arith in
-    let taken : length (take at rows) ≡ at = length-take-le at rows all in
-    let count : 0 + length (take at rows) ≡ at = omega arith in
-    ap (owners_from 0) more ∙ owners_more 0 (take at rows) row
-    ∙ ap (λ n. owners_from 0 (take at rows) ++ replicate row.quotes n) count
+-- none is left
+pub owners_whole : (rows : List DealerRow) (at : ℕ) (owners all : List ℕ) → length rows ≤ at
+    → owners ++ owners_from at (drop at rows) ≡ all → owners ≡ all
+owners_whole rows at owners all done was = rw (drop_all at rows done, append-nil owners) at was
 
 -- the words of one dealer more
 pub words_grow : (rows : List DealerRow) (at : ℕ) (row : DealerRow)

@@ -25,14 +25,10 @@ use Rattle.step_replay.specs.RowOfWords.{word_if, word_of}
 -- Tests.
 
 pub or_true : (b here : Bool) → here ≡ true → (b || (here || false)) ≡ true
-or_true true here is = refl
-or_true false true is = refl
-or_true false false is = is
+or_true b here is = grind (arith, nat_tests)
 
 pub or_none : (b c here : Bool) → here ≡ false → (b || ((c && here) || false)) ≡ b
-or_none b true true is = cc
-or_none b true false is = or-false b
-or_none b false here is = or-false b
+or_none b c here is = grind (arith, nat_tests)
 
 -- a quote of the row by its test
 pub in_row : (quote count : ℕ) → (nat_le 1 quote && nat_le quote count) ≡ true → IsOfRow count quote
@@ -94,16 +90,7 @@ answers_agree : (view : DealerView) (words : Row) (quote : ℕ)
     → AreWordsOf view words → IsOfRow view.desk.row.quotes quote
     → settlement_in words quote ≡ answer_to view quote
 answers_agree view words quote are within =
-    ap (λ (entry : Option Settled). settlement_of entry Withdrawn) (are quote within)
-    ∙ answer_of_word (is_lifted view quote) (is_withdrawn_at view.desk quote)
-
--- the words of a view after one event more
-word_grows : GrowsByEvents → (view : DealerView) (more : DealerEvent) (quote : ℕ)
-    → word_of (with_event_at_desk view more) quote
-    ≡ word_if (is_lifted view quote)
-    (is_withdrawn_at view.desk quote || withdraws_by view.desk more quote)
-word_grows grows view more quote =
-    ap (word_if (is_lifted view quote)) (grows view.desk more quote)
+    rw (are quote within) (answer_of_word (is_lifted view quote) (is_withdrawn_at view.desk quote))
 
 -- the words that an event asks, by a desk as it stands
 abbrev pub asks_at : DeskEvents → DealerEvent → List (ℕ × Settled)
@@ -114,12 +101,7 @@ pub unasked : GrowsByEvents → (view : DealerView) (words : Row) (more : Dealer
     → asks_at view.desk more ≡ [] → AreWordsOf view words
     → AreWordsOf (with_event_at_desk view more) words
 unasked grows view words more asks are quote within =
-    let before = is_withdrawn_at view.desk quote in
-    let none =
-    ap (λ (asked : List (ℕ × Settled)). before || list_any (says_withdrawn quote) asked) asks
-    ∙ or-false before in
-    are quote within
-    ∙ sym (word_grows grows view more quote ∙ ap (word_if (is_lifted view quote)) none)
+    rw (grows view.desk more quote, asks, or-false) (are quote within)
 
 -- whether words that are asked withdraw a quote that was withdrawn or not
 abbrev then_withdrawn : Bool → ℕ → List (ℕ × Settled) → Bool
@@ -142,26 +124,17 @@ word_left lifted before Lifted quote asked other =
     ap (word_if lifted) (or_none before false (asked == quote) other)
 
 -- an event that asks the word of a quote
-module _ (grows : GrowsByEvents) (view : DealerView) (words : Row) (asked : ℕ)
-    (more : DealerEvent) (asks : asks_at view.desk more ≡ (asked, answer_to view asked) ∷ [])
-    (count : length words ≡ view.desk.row.quotes) (within : IsOfRow view.desk.row.quotes asked)
-    (are : AreWordsOf view words) where
-  -- the word of a quote behind the event, by the word that is asked
-  word_now : (quote : ℕ) → word_of (with_event_at_desk view more) quote
-      ≡ word_if (is_lifted view quote) (then_withdrawn (is_withdrawn_at view.desk quote) quote
-      ((asked, answer_to view asked) ∷ []))
-  word_now quote =
-      word_grows grows view more quote
-      ∙ ap (λ (words_asked : List (ℕ × Settled)). word_if (is_lifted view quote)
-      (then_withdrawn (is_withdrawn_at view.desk quote) quote words_asked)) asks
-
-  asked_words : AreWordsOf (with_event_at_desk view more) (with_wish words asked Withdrawn)
-  asked_words =
-      exchanged view words asked Withdrawn (word_of (with_event_at_desk view more)) count within are
-      (word_now asked ∙ word_taken (is_lifted view asked) (is_withdrawn_at view.desk asked) asked
-      (eq-eqb asked asked refl))
-      (λ quote differs. word_now quote ∙ word_left (is_lifted view quote)
-      (is_withdrawn_at view.desk quote) (answer_to view asked) quote asked differs)
+asked_words : GrowsByEvents → (view : DealerView) (words : Row) (asked : ℕ) (more : DealerEvent)
+    → asks_at view.desk more ≡ (asked, answer_to view asked) ∷ []
+    → length words ≡ view.desk.row.quotes → IsOfRow view.desk.row.quotes asked
+    → AreWordsOf view words
+    → AreWordsOf (with_event_at_desk view more) (with_wish words asked Withdrawn)
+asked_words grows view words asked more asks count within are =
+    exchanged view words asked Withdrawn (word_of (with_event_at_desk view more)) count within are
+    (rw (grows view.desk more asked, asks) (word_taken (is_lifted view asked)
+    (is_withdrawn_at view.desk asked) asked (eq-eqb asked asked refl)))
+    (λ quote differs. rw (grows view.desk more quote, asks) (word_left (is_lifted view quote)
+    (is_withdrawn_at view.desk quote) (answer_to view asked) quote asked differs))
 
 -- an event that asks this word, or none, with the settlement of the row
 pub asked_stands : GrowsByEvents → (view : DealerView) (words : Row) (asked : Option ℕ)

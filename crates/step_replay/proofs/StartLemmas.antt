@@ -8,6 +8,7 @@ use Rattle.std.proofs.lemmas.Bool.Decides.{nat_tests}
 use Rattle.std.proofs.lemmas.List.{length-replicate, take_more, take-append-drop}
 use Rattle.std.proofs.lemmas.List.{replicate-append-replicate}
 use Rattle.std.proofs.lemmas.List.Elements.{All-cons, All-nil, All-drop, All-same, All-take}
+use Rattle.std.proofs.lemmas.Grind.{common_steps}
 use Rattle.std.proofs.lemmas.List.Sums.{fold-append}
 use Rattle.market_terms.specs.declared.duties.Duty.{Duty}
 use Rattle.venue_rows.specs.Rows.{Configuration, has_room}
@@ -145,9 +146,8 @@ pub day_more : (config : Configuration) (steps : List Step) (at : ℕ) (s : Step
     ≡ after_step config (audit_trail config (take at steps)) s
 unfolding audit_trail
 day_more config steps at s within is =
-    ap (fold (after_step config) no_steps) (take_more steps at s within
-    ∙ ap (λ (found : Step). take at steps ++ found ∷ []) (sym is))
-    ∙ fold-append (after_step config) no_steps (take at steps) (s ∷ [])
+    let more : take (at + 1) steps ≡ take at steps ++ s ∷ [] = grind (arith, common_steps) in
+    rw (more, fold-append) refl
 
 -- one step more
 steps_longer : (config : Configuration) (trail : AuditTrail) (done : List Step) (step : Step)
@@ -167,21 +167,16 @@ step_done config trail steps done step before after known within is follows stan
     rw (steps_longer config trail done step) (follows config (after_steps done config trail)
     (subst (λ s. fault_of config 0 s ≡ None) (sym is) (known (length done) step within)) stands)
 
--- a part more
-day_longer : (config : Configuration) (done more : List Step)
-    → audit_trail config (done ++ more) ≡ after_steps more config (audit_trail config done)
-unfolding audit_trail
-day_longer config done more = fold-append (after_step config) no_steps done more
-
 -- nothing is done
 pub all_left : (config : Configuration) (day : List Step) (replay : Replay)
     → first_fault config day ≡ None → ReplayStands config no_steps replay
     → IsLeft config day day replay
+unfolding audit_trail
 all_left config day replay none stands = record {
-  done = [];
-  is = refl;
+  trail = no_steps;
+  whole = refl;
   known = all_known config 1 day none;
-  stands = rw (day_begins config day) stands;
+  stands = stands;
 }
 
 -- the first so many of the steps that are left are done
@@ -192,17 +187,15 @@ pub part_done : (config : Configuration) (day left front later : List Step) (n :
 part_done config day left front later n before after had first second follows =
     let whole : front ++ later ≡ left =
     ap (λ l. l ++ later) first ∙ ap (λ l. take n left ++ l) second ∙ take-append-drop n left in
-    let known : AreKnown front config =
-    All-same (λ step. fault_of config 0 step ≡ None) front (take n left) first
-    (All-take (λ step. fault_of config 0 step ≡ None) n left had.known) in
     record {
-      done = had.done ++ front;
-      is = had.is ∙ ap (λ l. had.done ++ l) (sym whole)
-          ∙ sym (append_assoc had.done front later);
+      trail = after_steps front config had.trail;
+      whole = sym (fold-append (after_step config) had.trail front later)
+          ∙ ap (λ l. after_steps l config had.trail) whole ∙ had.whole;
       known = All-same (λ step. fault_of config 0 step ≡ None) later (drop n left) second
           (All-drop (λ step. fault_of config 0 step ≡ None) n left had.known);
-      stands = rw (day_longer config had.done front)
-          (follows config (audit_trail config had.done) known had.stands);
+      stands = follows config had.trail (All-same (λ step. fault_of config 0 step ≡ None) front
+          (take n left) first (All-take (λ step. fault_of config 0 step ≡ None) n left had.known))
+          had.stands;
     }
 
 -- none is left
@@ -210,7 +203,8 @@ pub all_done : (config : Configuration) (day left : List Step) (replay : Replay)
     → IsLeft config day left replay → left ≡ []
     → ReplayStands config (audit_trail config day) replay
 all_done config day left replay had none =
-    rw (had.is ∙ ap (λ l. had.done ++ l) none ∙ append-nil had.done) had.stands
+    subst (λ (trail : AuditTrail). ReplayStands config trail replay)
+    (ap (λ l. after_steps l config had.trail) (sym none) ∙ had.whole) had.stands
 
 -- Turns.
 
@@ -226,32 +220,28 @@ turns_both config by n m trail =
     ap (fold (after_step config) trail) (sym (replicate-append-replicate n m (step.Turn by)))
     ∙ fold-append (after_step config) trail (replicate n (step.Turn by)) (replicate m (step.Turn by))
 
-pub turn_first : (config : Configuration) (by : Actor) (count : ℕ) (trail : AuditTrail)
-    → after_turns config by (suc count) trail
-    ≡ after_turns config by count (after_step config trail (step.Turn by))
-unfolding after_turns
-turn_first config by count trail = refl
-
-one_turn : (config : Configuration) (by : Actor) (trail : AuditTrail)
-    → after_turns config by 1 trail ≡ after_step config trail (step.Turn by)
-unfolding after_turns
-one_turn config by trail = refl
-
 pub turns_more : (config : Configuration) (by : Actor) (n : ℕ) (trail : AuditTrail)
     → after_turns config by (n + 1) trail
     ≡ after_step config (after_turns config by n trail) (step.Turn by)
-turns_more config by n trail =
-    turns_both config by n 1 trail ∙ one_turn config by (after_turns config by n trail)
+unfolding after_turns
+turns_more config by n trail = turns_both config by n 1 trail
 
-idle_step : (config : Configuration) (by : Actor) (trail : AuditTrail) → pending by trail ≡ []
+-- what each turn keeps
+pub turns_keep : (config : Configuration) (by : Actor) (P : AuditTrail → Type 0)
+    → ((trail : AuditTrail) → P trail → P (after_step config trail (step.Turn by)))
+    → (n : ℕ) (trail : AuditTrail) → P trail → P (after_turns config by n trail)
+unfolding after_turns
+turns_keep config by P each zero trail had = had
+turns_keep config by P each (suc n) trail had =
+    turns_keep config by P each n (after_step config trail (step.Turn by)) (each trail had)
+
+pub idle_step : (config : Configuration) (by : Actor) (trail : AuditTrail) → pending by trail ≡ []
     → after_step config trail (step.Turn by) ≡ trail
 unfolding after_step
 idle_step config by trail none = ap (after_turn config by trail) none
 
 pub idle_turns : (config : Configuration) (by : Actor) (n : ℕ) (trail : AuditTrail)
     → pending by trail ≡ [] → after_turns config by n trail ≡ trail
-idle_turns config by zero trail none = no_turn config by trail
-idle_turns config by (suc n) trail none =
-    turn_first config by n trail
-    ∙ ap (after_turns config by n) (idle_step config by trail none)
-    ∙ idle_turns config by n trail none
+idle_turns config by n trail none =
+    turns_keep config by (λ t. t ≡ trail) (λ t same. rw same (idle_step config by trail none)) n trail
+    refl

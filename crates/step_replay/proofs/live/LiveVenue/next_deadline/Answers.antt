@@ -4,5 +4,5 @@ use Rattle.step_replay.proofs.live.LiveVenue.next_deadline.Goals as goal
 
 pub returns : goal.returns
 returns c config steps at =
-    earliest_is config (live_trail config steps).facts c.args.self.now.open_rooms c.earliest.result
-    at.stands.rooms_stand c.earliest.ensures
+    earliest_is config (live_trail config steps).facts c.args.self.now.open_rooms at.stands.rooms_stand
+    c.earliest.result c.earliest.ensures
