@@ -1,7 +1,7 @@
 -- What an action does is what comes by the market's table.
 use Rattle.std.proofs.Common.{◌≡◌, ℕ, Bool, true, false, ◌&&◌, List, is_some, Option, Some, None}
 use Rattle.std.proofs.Common.{option_map, option_and_then, if◌then◌else◌, refl, sym, ap, subst, ◌<◌}
-use Rattle.std.proofs.Common.{[], length, ◌∙◌}
+use Rattle.std.proofs.Common.{[], length, ◌∙◌, arith}
 use Rattle.std.proofs.lemmas.Option.{same_Some}
 use Rattle.market_terms.specs.declared.duties.Duty.{Duty}
 use Rattle.market_terms.specs.declared.duties.Duty.TheVariants as duty
@@ -43,8 +43,7 @@ none_there None is = refl
 none_there (Some x) is = cc
 
 left_out : (b : Bool) (effect : Effect) → (if b && false then effect else nothing) ≡ nothing
-left_out true effect = refl
-left_out false effect = refl
+left_out b effect = grind arith
 
 module _ (config : Configuration) (facts : List Fact) where
   -- what comes to a place, where the venue has it
