@@ -39,8 +39,7 @@ use Rattle.step_replay.proofs.FoundDealers.{idle_does}
 use Rattle.step_replay.proofs.RoomActionLemmas.{none_gets}
 
 none_there : {A : Type 0} (x : Option A) → is_some x ≡ false → x ≡ None
-none_there None is = refl
-none_there (Some x) is = cc
+none_there x is = grind arith
 
 left_out : (b : Bool) (effect : Effect) → (if b && false then effect else nothing) ≡ nothing
 left_out b effect = grind arith

@@ -2,7 +2,7 @@
 -- sends, it sends to one firm.
 use Rattle.std.proofs.Common.{◌≡◌, ℕ, Bool, false, List, [], ◌∷◌, ◌++◌, map, Option, Some, None}
 use Rattle.std.proofs.Common.{refl, sym, ap, ◌∙◌, ◌<◌, true, nat_lt, length, filter_map, arith, ap₂}
-use Rattle.std.specs.Prelude.{Result, Ok, Err, is_some}
+use Rattle.std.specs.Prelude.{Result, is_some}
 use Rattle.std.proofs.lemmas.Bool.Decides.{nat_tests}
 use Rattle.std.proofs.lemmas.List.{append-nil}
 use Rattle.std.proofs.lemmas.List.Elements.{filter_map-append}
@@ -54,10 +54,7 @@ nothing_there at = record { elsewhere = λ room other. refl }
 none_lifted : (room : RoomRef) (found : Option QuoteRef) (outcome : Result End HitRefusal)
     → of_room room (lifting found outcome) ≡ []
 unfolding of_room
-none_lifted room None (Ok award) = refl
-none_lifted room None (Err refused) = refl
-none_lifted room (Some hit) (Ok award) = refl
-none_lifted room (Some hit) (Err refused) = refl
+none_lifted room found outcome = grind arith
 
 -- all actions, by their kinds
 pub action_there : (config : Configuration) (facts : List Fact) (desk : Option ℕ)
@@ -154,15 +151,7 @@ module _ (config : Configuration) where
   lifting_quiet : (found : Option QuoteRef) (outcome : Result End HitRefusal)
       → messages_in config (lifting found outcome) ≡ []
   unfolding messages_in
-  lifting_quiet None (Ok award) = refl
-  lifting_quiet None (Err refused) = refl
-  lifting_quiet (Some hit) (Err refused) = refl
-  lifting_quiet (Some hit) (Ok award) = by_dealer (is_dealer config hit.dealer) refl
-    where
-      by_dealer : (b : Bool) → is_dealer config hit.dealer ≡ b
-          → filter_map (sent_in config) (AtDealer hit.dealer (dealer_trail.Lifted hit.quote) ∷ []) ≡ []
-      by_dealer true is = rw is refl
-      by_dealer false is = rw is refl
+  lifting_quiet found outcome = grind arith
 
   pub messages_both : (facts more : List Fact)
       → messages_in config (facts ++ more) ≡ messages_in config facts ++ messages_in config more
