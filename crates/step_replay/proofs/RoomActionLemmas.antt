@@ -120,10 +120,4 @@ pub none_gets : (config : Configuration) (facts : List Fact) (at : RoomRef)
     → has_room config at.investor at.n ≡ false → (what : ForRoom)
     → room_gets config facts at what ≡ nothing
 unfolding room_gets
-none_gets config facts at missing (to_room.Open ask dealers moment) = rw missing refl
-none_gets config facts at missing (to_room.Ready moment) = rw missing refl
-none_gets config facts at missing (to_room.Post dealer offer moment) = rw missing refl
-none_gets config facts at missing (to_room.Unpost dealer word moment) = rw missing refl
-none_gets config facts at missing (to_room.Decline dealer moment) = rw missing refl
-none_gets config facts at missing (to_room.Pass response moment) = rw missing refl
-none_gets config facts at missing (to_room.Expire moment) = rw missing refl
+none_gets config facts at missing what = grind arith

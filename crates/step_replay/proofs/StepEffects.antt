@@ -101,23 +101,15 @@ dealer_sends : (config : Configuration) (firm : ℕ) → is_dealer config firm �
     → (entries : List DealerEntry) → filter_map (sent_in config) (map (AtDealer firm) entries)
     ≡ map (to firm) (filter_map dealer_trail.message_in entries)
 dealer_sends config firm is [] = refl
-dealer_sends config firm is (dealer_trail.AtDesk fact ∷ entries) =
-    rw is (dealer_sends config firm is entries)
-dealer_sends config firm is (dealer_trail.ShownIn room ∷ entries) =
-    rw is (dealer_sends config firm is entries)
-dealer_sends config firm is (dealer_trail.Lifted quote ∷ entries) =
-    rw is (dealer_sends config firm is entries)
-dealer_sends config firm is (dealer_trail.Sent message ∷ entries) =
-    rw is (ap (λ (l : List Sent). (firm, message) ∷ l) (dealer_sends config firm is entries))
+dealer_sends config firm is (entry ∷ entries) =
+    grind (arith, is, dealer_sends config firm is entries)
 
 investor_sends : (config : Configuration) (firm : ℕ) → is_dealer config firm ≡ false
     → (entries : List InvestorEntry) → filter_map (sent_in config) (map (AtInvestor firm) entries)
     ≡ map (to firm) (filter_map investor_trail.message_in entries)
 investor_sends config firm is [] = refl
-investor_sends config firm is (investor_trail.AtDesk fact ∷ entries) =
-    rw is (investor_sends config firm is entries)
-investor_sends config firm is (investor_trail.Sent message ∷ entries) =
-    rw is (ap (λ (l : List Sent). (firm, message) ∷ l) (investor_sends config firm is entries))
+investor_sends config firm is (entry ∷ entries) =
+    grind (arith, is, investor_sends config firm is entries)
 
 -- Facts that send to one firm at most.
 module _ (config : Configuration) where
