@@ -64,10 +64,6 @@ module _ (config : Configuration) (facts : List Fact) (floor : Floor) (number : 
     words = words;
   }
 
-  -- whether it is in the row
-  has_said : (word : ℕ) → has_word (length floor.words) (Some word) ≡ has_word (words_of config) (Some word)
-  has_said word = ap (λ n. nat_lt word n) before.word_count
-
   -- what the code has done: by the word that is asked
   pub asks_does : (asked : Option ℕ) (desk : DeskEvents) (words : List (Option Settled))
       → ((settlement : Option Settled) (quote : ℕ) → list_any (withdraws quote)
@@ -103,7 +99,7 @@ module _ (config : Configuration) (facts : List Fact) (floor : Floor) (number : 
           → Does config facts (effect_of (Some asked)) (floor_with desk words)
           (if nat_lt word (length floor.words) then left (entry_in words word) else [])
       by_test false test exchanged now_is =
-          let none : nat_lt word (words_of config) ≡ false = sym (has_said word) ∙ test in
+          let none : nat_lt word (words_of config) ≡ false = ap (nat_lt word) (sym before.word_count) ∙ test in
           rw (none, test) (record {
             stands = subst (λ (w : List (Option Settled)). Stands config (facts ++ []) (floor_with desk w))
                 (sym exchanged)
@@ -111,7 +107,7 @@ module _ (config : Configuration) (facts : List Fact) (floor : Floor) (number : 
             leaves = refl;
           })
       by_test true test exchanged now_is =
-          let there : nat_lt word (words_of config) ≡ true = sym (has_said word) ∙ test in
+          let there : nat_lt word (words_of config) ≡ true = ap (nat_lt word) (sym before.word_count) ∙ test in
           rw (there, test) (by_entry (entry_in words word) exchanged now_is)
         where
           by_entry : (entry : Option Settled)

@@ -139,21 +139,15 @@ word_taken : (lifted withdrawn : Bool)
     → word_if lifted (withdrawn || (is_withdrawn (Some (if lifted then settled.Lifted
     else settled.Withdrawn)) && true))
     ≡ Some (if lifted then settled.Lifted else settled.Withdrawn)
-word_taken true withdrawn = refl
-word_taken false true = refl
-word_taken false false = refl
+word_taken lifted withdrawn = grind arith
 
 taken_is : (lifted withdrawn : Bool)
     → settlement_of (word_if lifted withdrawn) settled.Withdrawn
     ≡ (if lifted then settled.Lifted else settled.Withdrawn)
-taken_is true withdrawn = refl
-taken_is false true = refl
-taken_is false false = refl
+taken_is lifted withdrawn = grind arith
 
 or_and_false : (b c : Bool) → (b || (c && false)) ≡ b
-or_and_false true c = refl
-or_and_false false true = refl
-or_and_false false false = refl
+or_and_false b c = grind arith
 
 -- The words after an event that asks the word of a quote.
 module _ {config : Configuration} {word number asked : ℕ} {row : DealerRow}

@@ -15,7 +15,6 @@ use Rattle.venue_rows.specs.declared.dealer_rows.DealerRow.{DealerRow}
 use Rattle.venue_rows.specs.declared.investor_rows.InvestorRow.{InvestorRow}
 use Rattle.dealer_desk.specs.DealerDesk.{DeskEvents, with_event}
 use Rattle.dealer_desk.specs.declared.events.DealerEvent.{DealerEvent}
-use Rattle.dealer_desk.specs.declared.events.DealerEvent.TheVariants as event
 use Rattle.step_replay.specs.DealerTrail.{DealerEntry, book_by, rooms_by, sent_by, entries_of}
 use Rattle.step_replay.specs.VenueFacts.{Fact, AtDealer, of_dealer, of_room, of_investor}
 use Rattle.step_replay.specs.PlaceLemmas.{dealer_grown, dealer_stays, room_stays, investor_stays}
@@ -71,10 +70,7 @@ dealer_count config facts floor stands =
 
 one_shown : (more : DealerEvent)
     → filter_map shown_room (more ∷ []) ≡ option_to_list (shown_room more)
-one_shown (event.Received moment bytes settlement) = refl
-one_shown (event.Shown room ask moment) = refl
-one_shown (event.Told request close moment) = refl
-one_shown (event.Drop last moment settlement) = refl
+one_shown more = grind arith
 
 pub event_stands : (config : Configuration) (number : ℕ) (row : DealerRow)
     (trail : List DealerEntry) (place : DealerPlace) (desk : DeskEvents) (more : DealerEvent)

@@ -45,8 +45,7 @@ use Rattle.step_replay.proofs.RoomPlaceLemmas.{room_found}
 
 -- nothing is lifted where a hit does not award
 no_lifting : (found : Option QuoteRef) (why : HitRefusal) → lifting found (Err why) ≡ []
-no_lifting None why = refl
-no_lifting (Some hit) why = refl
+no_lifting found why = grind arith
 
 module _ {config : Configuration} {facts : List Fact} {floor : Floor} {at : RoomRef}
     {investor index : ℕ} {old : InvestorPlace} {events : List RoomEvent}

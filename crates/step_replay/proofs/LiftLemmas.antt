@@ -1,7 +1,7 @@
 -- A lift of a quote in a replay: the words, the dealer's place and its trail.
 use Rattle.std.proofs.Common.{◌≡◌, ◌<◌, ℕ, zero, suc, ◌==◌, Bool, true, false, ◌&&◌, ◌||◌}
 use Rattle.std.proofs.Common.{if◌then◌else◌, List, [], ◌∷◌, ◌++◌, length, slice_set, Option, Some}
-use Rattle.std.proofs.Common.{refl, sym, ap, ◌∙◌, subst, eq-eqb, ap₂}
+use Rattle.std.proofs.Common.{refl, sym, ap, ◌∙◌, subst, eq-eqb, ap₂, arith}
 use Rattle.std.specs.Prelude.{slice_get}
 use Rattle.std.specs.List.{list_any}
 use Rattle.std.proofs.lemmas.List.{append-nil}
@@ -66,16 +66,11 @@ lifted_place config number row trail quote place now before noted = record {
 pub lift_answer : (lifted withdrawn : Bool) → (lifted && withdrawn) ≡ false
     → settlement_of (word_if lifted withdrawn) settled.Lifted
     ≡ (if withdrawn then settled.Withdrawn else settled.Lifted)
-lift_answer true true one = cc
-lift_answer true false one = refl
-lift_answer false true one = refl
-lift_answer false false one = refl
+lift_answer lifted withdrawn one = grind arith
 
 if_withdrawn : (lifted withdrawn : Bool) → withdrawn ≡ true → (lifted && withdrawn) ≡ false
     → Some settled.Withdrawn ≡ word_if lifted withdrawn
-if_withdrawn true true is one = cc
-if_withdrawn false true is one = refl
-if_withdrawn lifted false is one = cc
+if_withdrawn lifted withdrawn is one = grind arith
 
 -- what a word of the dealer is then
 word_lifted : (trail : List DealerEntry) (quote other : ℕ)

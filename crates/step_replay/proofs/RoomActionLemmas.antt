@@ -1,6 +1,6 @@
 -- What comes to a room of a replay does what it should.
 use Rattle.std.proofs.Common.{◌≡◌, ℕ, Bool, true, false, ◌&&◌, List, [], ◌++◌, if◌then◌else◌, refl}
-use Rattle.std.proofs.Common.{sym, ap, ◌∙◌}
+use Rattle.std.proofs.Common.{sym, ap, ◌∙◌, arith}
 use Rattle.std.proofs.lemmas.List.{append-nil}
 use Rattle.venue_rows.specs.Rows.{Configuration, has_room}
 use Rattle.market_terms.specs.declared.duties.Duty.{Duty}
@@ -36,8 +36,7 @@ pushed events new event false is = ap room_after is ∙ sym (append-nil (room_af
 
 -- a fact that an event adds where it is so
 once : (b : Bool) (fact : RoomFact) → (if b then where_so b fact else []) ≡ where_so b fact
-once true fact = refl
-once false fact = refl
+once b fact = grind arith
 
 never : {A : Type 0} → true ≡ false → A
 never clash = cc
@@ -121,10 +120,4 @@ pub none_gets : (config : Configuration) (facts : List Fact) (at : RoomRef)
     → has_room config at.investor at.n ≡ false → (what : ForRoom)
     → room_gets config facts at what ≡ nothing
 unfolding room_gets
-none_gets config facts at missing (to_room.Open ask dealers moment) = rw missing refl
-none_gets config facts at missing (to_room.Ready moment) = rw missing refl
-none_gets config facts at missing (to_room.Post dealer offer moment) = rw missing refl
-none_gets config facts at missing (to_room.Unpost dealer word moment) = rw missing refl
-none_gets config facts at missing (to_room.Decline dealer moment) = rw missing refl
-none_gets config facts at missing (to_room.Pass response moment) = rw missing refl
-none_gets config facts at missing (to_room.Expire moment) = rw missing refl
+none_gets config facts at missing what = grind arith

@@ -2,7 +2,7 @@
 -- sends, it sends to one firm.
 use Rattle.std.proofs.Common.{◌≡◌, ℕ, Bool, false, List, [], ◌∷◌, ◌++◌, map, Option, Some, None}
 use Rattle.std.proofs.Common.{refl, sym, ap, ◌∙◌, ◌<◌, true, nat_lt, length, filter_map, arith, ap₂}
-use Rattle.std.specs.Prelude.{Result, Ok, Err, is_some}
+use Rattle.std.specs.Prelude.{Result, is_some}
 use Rattle.std.proofs.lemmas.Bool.Decides.{nat_tests}
 use Rattle.std.proofs.lemmas.List.{append-nil}
 use Rattle.std.proofs.lemmas.List.Elements.{filter_map-append}
@@ -54,10 +54,7 @@ nothing_there at = record { elsewhere = λ room other. refl }
 none_lifted : (room : RoomRef) (found : Option QuoteRef) (outcome : Result End HitRefusal)
     → of_room room (lifting found outcome) ≡ []
 unfolding of_room
-none_lifted room None (Ok award) = refl
-none_lifted room None (Err refused) = refl
-none_lifted room (Some hit) (Ok award) = refl
-none_lifted room (Some hit) (Err refused) = refl
+none_lifted room found outcome = grind arith
 
 -- all actions, by their kinds
 pub action_there : (config : Configuration) (facts : List Fact) (desk : Option ℕ)
@@ -104,23 +101,15 @@ dealer_sends : (config : Configuration) (firm : ℕ) → is_dealer config firm �
     → (entries : List DealerEntry) → filter_map (sent_in config) (map (AtDealer firm) entries)
     ≡ map (to firm) (filter_map dealer_trail.message_in entries)
 dealer_sends config firm is [] = refl
-dealer_sends config firm is (dealer_trail.AtDesk fact ∷ entries) =
-    rw is (dealer_sends config firm is entries)
-dealer_sends config firm is (dealer_trail.ShownIn room ∷ entries) =
-    rw is (dealer_sends config firm is entries)
-dealer_sends config firm is (dealer_trail.Lifted quote ∷ entries) =
-    rw is (dealer_sends config firm is entries)
-dealer_sends config firm is (dealer_trail.Sent message ∷ entries) =
-    rw is (ap (λ (l : List Sent). (firm, message) ∷ l) (dealer_sends config firm is entries))
+dealer_sends config firm is (entry ∷ entries) =
+    grind (arith, is, dealer_sends config firm is entries)
 
 investor_sends : (config : Configuration) (firm : ℕ) → is_dealer config firm ≡ false
     → (entries : List InvestorEntry) → filter_map (sent_in config) (map (AtInvestor firm) entries)
     ≡ map (to firm) (filter_map investor_trail.message_in entries)
 investor_sends config firm is [] = refl
-investor_sends config firm is (investor_trail.AtDesk fact ∷ entries) =
-    rw is (investor_sends config firm is entries)
-investor_sends config firm is (investor_trail.Sent message ∷ entries) =
-    rw is (ap (λ (l : List Sent). (firm, message) ∷ l) (investor_sends config firm is entries))
+investor_sends config firm is (entry ∷ entries) =
+    grind (arith, is, investor_sends config firm is entries)
 
 -- Facts that send to one firm at most.
 module _ (config : Configuration) where
@@ -154,15 +143,7 @@ module _ (config : Configuration) where
   lifting_quiet : (found : Option QuoteRef) (outcome : Result End HitRefusal)
       → messages_in config (lifting found outcome) ≡ []
   unfolding messages_in
-  lifting_quiet None (Ok award) = refl
-  lifting_quiet None (Err refused) = refl
-  lifting_quiet (Some hit) (Err refused) = refl
-  lifting_quiet (Some hit) (Ok award) = by_dealer (is_dealer config hit.dealer) refl
-    where
-      by_dealer : (b : Bool) → is_dealer config hit.dealer ≡ b
-          → filter_map (sent_in config) (AtDealer hit.dealer (dealer_trail.Lifted hit.quote) ∷ []) ≡ []
-      by_dealer true is = rw is refl
-      by_dealer false is = rw is refl
+  lifting_quiet found outcome = grind arith
 
   pub messages_both : (facts more : List Fact)
       → messages_in config (facts ++ more) ≡ messages_in config facts ++ messages_in config more
