@@ -1,28 +1,15 @@
 -- An event at a dealer's desk that asks the word of a quote: the word, the desk and the facts.
-use Rattle.std.proofs.Common.{◌≡◌, ◌<◌, ◌≤◌, ℕ, nat_le, nat_lt, Bool, true, false, ◌&&◌}
-use Rattle.std.proofs.Common.{if◌then◌else◌, List, [], ◌++◌, length, Option, Some, None, IfSome}
-use Rattle.std.proofs.Common.{option_map, refl, sym, ap, ◌∙◌, subst, arith}
-use Rattle.std.specs.List.{list_any}
-use Rattle.std.specs.Vec.{with_item}
-use Rattle.std.proofs.lemmas.Bool.Decides.{nat_tests}
-use Rattle.quote_word.specs.PlainWords.{entry_in, Exchanges}
-use Rattle.quote_word.specs.PlainWordsLaws.{exchange_keeps_count}
-use Rattle.quote_word.specs.declared.settled.Settled.{Settled}
+use Rattle.step_replay.proofs.Common.{◌≡◌, ◌<◌, ◌≤◌, ℕ, nat_le, nat_lt, Bool, true, false, ◌&&◌}
+use Rattle.step_replay.proofs.Common.{if◌then◌else◌, List, [], ◌++◌, length, Option, Some, None}
+use Rattle.step_replay.proofs.Common.{IfSome, option_map, refl, sym, ap, ◌∙◌, subst, arith}
+use Rattle.step_replay.proofs.Common.{list_any, with_item, nat_tests, entry_in, Exchanges}
+use Rattle.step_replay.proofs.Common.{exchange_keeps_count, Settled, Configuration, Duty}
+use Rattle.step_replay.proofs.Common.{DeskEvents, with_event, event_facts, withdraws, DealerEvent}
+use Rattle.step_replay.proofs.Common.{AsksAtMost, SettlesSo, settlement_in, has_word, word_to_ask}
+use Rattle.step_replay.proofs.Common.{DealerEntry, book_by, answer_to_dealer, entries_of, Fact}
+use Rattle.step_replay.proofs.Common.{of_dealer, Effect, Dealer, dealer_of, at_dealer, nothing}
+use Rattle.step_replay.proofs.Common.{word_for, words_of, Stands, Does, DealerPlace, Floor}
 use Rattle.quote_word.specs.declared.settled.Settled.TheVariants as settled
-use Rattle.venue_rows.specs.Rows.{Configuration}
-use Rattle.market_terms.specs.declared.duties.Duty.{Duty}
-use Rattle.dealer_desk.specs.DealerDesk.{DeskEvents, with_event}
-use Rattle.dealer_desk.specs.DealerOutput.{event_facts}
-use Rattle.dealer_desk.specs.DeskLaws.{withdraws}
-use Rattle.dealer_desk.specs.declared.events.DealerEvent.{DealerEvent}
-use Rattle.venue_steps.specs.Words.{AsksAtMost, SettlesSo, settlement_in, has_word, word_to_ask}
-use Rattle.step_replay.specs.DealerTrail.{DealerEntry, book_by, answer_to_dealer, entries_of}
-use Rattle.step_replay.specs.VenueFacts.{Fact, of_dealer}
-use Rattle.step_replay.specs.Actions.{Effect, Dealer, dealer_of, at_dealer, nothing, word_for}
-use Rattle.step_replay.specs.Actions.{words_of}
-use Rattle.step_replay.specs.Standing.{Stands, Does}
-use Rattle.step_replay.specs.declared.floor.DealerPlace.{DealerPlace}
-use Rattle.step_replay.specs.declared.floor.Floor.{Floor}
 use Rattle.step_replay.proofs.FloorLemmas.{event_stands, at_dealer_stands}
 use Rattle.step_replay.proofs.FoundDealers.{Found}
 use Rattle.step_replay.proofs.DealerActionLemmas.{idle_stands, unasked_stands}

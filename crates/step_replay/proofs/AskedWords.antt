@@ -1,31 +1,22 @@
 -- The words of quotes after an event that asks one of them.
-use Rattle.std.proofs.Common.{◌≡◌, ◌≢◌, ◌<◌, ℕ, ◌+◌, ◌==◌, nat_lt, nat_le, Bool, true, false, ◌&&◌}
-use Rattle.std.proofs.Common.{◌||◌, if◌then◌else◌, List, ◌++◌, length, Option, Some, None, refl}
-use Rattle.std.proofs.Common.{sym, ap, ◌∙◌, subst, arith, eq-eqb, ap₂}
-use Rattle.std.specs.List.{list_any}
+use Rattle.step_replay.proofs.Common.{◌≡◌, ◌≢◌, ◌<◌, ℕ, ◌+◌, ◌==◌, nat_lt, nat_le, Bool, true}
+use Rattle.step_replay.proofs.Common.{false, ◌&&◌, ◌||◌, if◌then◌else◌, List, ◌++◌, length, Option}
+use Rattle.step_replay.proofs.Common.{Some, None, refl, sym, ap, ◌∙◌, subst, arith, eq-eqb, ap₂}
+use Rattle.step_replay.proofs.Common.{list_any, nat_tests, list_any-append, same_Some, entry_in}
+use Rattle.step_replay.proofs.Common.{settlement_of, Exchanges, exchange_answers_entry}
+use Rattle.step_replay.proofs.Common.{exchange_keeps_others, Settled, Configuration}
+use Rattle.step_replay.proofs.Common.{dealer_numbered, DealerRow, event_facts, withdraws}
+use Rattle.step_replay.proofs.Common.{DealerEvent, DealerEntry, facts_of, book_by, was_lifted}
+use Rattle.step_replay.proofs.Common.{was_withdrawn, answer_to_dealer, entries_of, Fact, of_dealer}
+use Rattle.step_replay.proofs.Common.{dealer_of, word_for, words_of, quote_among, QuoteRef}
+use Rattle.step_replay.proofs.Common.{quote_with_word, word_if, WordsStand, word_is, quote_at}
+use Rattle.step_replay.proofs.Common.{facts_grown}
 use Rattle.std.proofs.lemmas.Bool.{ne_eqb}
-use Rattle.std.proofs.lemmas.Bool.Decides.{nat_tests}
-use Rattle.std.proofs.lemmas.List.Folds.{list_any-append}
-use Rattle.std.proofs.lemmas.Option.{same_Some}
-use Rattle.quote_word.specs.PlainWords.{entry_in, settlement_of, Exchanges}
-use Rattle.quote_word.specs.PlainWordsLaws.{exchange_answers_entry, exchange_keeps_others}
-use Rattle.quote_word.specs.declared.settled.Settled.{Settled}
 use Rattle.quote_word.specs.declared.settled.Settled.TheVariants as settled
-use Rattle.venue_rows.specs.Rows.{Configuration, dealer_numbered}
-use Rattle.venue_rows.specs.declared.dealer_rows.DealerRow.{DealerRow}
 use Rattle.dealer_desk.specs.DealerFacts.{DealerFact}
-use Rattle.dealer_desk.specs.DealerOutput.{event_facts, is_withdrawn}
-use Rattle.dealer_desk.specs.DeskLaws.{withdraws}
-use Rattle.dealer_desk.specs.declared.events.DealerEvent.{DealerEvent}
-use Rattle.step_replay.specs.DealerTrail.{DealerEntry, facts_of, book_by, was_lifted, was_withdrawn}
-use Rattle.step_replay.specs.DealerTrail.{answer_to_dealer, entries_of}
-use Rattle.step_replay.specs.VenueFacts.{Fact, of_dealer}
-use Rattle.step_replay.specs.Actions.{dealer_of, word_for, words_of, quote_among, QuoteRef}
-use Rattle.step_replay.specs.Actions.{quote_with_word}
-use Rattle.step_replay.specs.RowOfWords.{word_if}
-use Rattle.step_replay.specs.Standing.{WordsStand, word_is}
-use Rattle.step_replay.specs.OwnerLemmas.{has_owner, owned_by, owner_among, quote_at}
-use Rattle.step_replay.specs.DealerGrowth.{facts_grown, lifted_grown}
+use Rattle.dealer_desk.specs.DealerOutput.{is_withdrawn}
+use Rattle.step_replay.specs.OwnerLemmas.{has_owner, owned_by, owner_among}
+use Rattle.step_replay.specs.DealerGrowth.{lifted_grown}
 use Rattle.step_replay.proofs.FloorLemmas.{with_dealers, own_dealers, other_dealers}
 
 -- a word of the venue is that of this quote of the dealer with this number and row

@@ -1,21 +1,12 @@
 -- What an action does is what comes by the market's table.
-use Rattle.std.proofs.Common.{◌≡◌, ℕ, true, List, is_some, Option, Some, None, sym, ap, subst, ◌<◌}
-use Rattle.std.proofs.Common.{[], length, ◌∙◌, arith}
-use Rattle.market_terms.specs.declared.duties.Duty.{Duty}
+use Rattle.step_replay.proofs.Common.{◌≡◌, ℕ, true, List, is_some, Option, Some, None, sym, ap}
+use Rattle.step_replay.proofs.Common.{subst, ◌<◌, [], length, ◌∙◌, arith, Duty, RoomRef}
+use Rattle.step_replay.proofs.Common.{Configuration, dealer_numbered, placed, swept, Actor, Effect}
+use Rattle.step_replay.proofs.Common.{duty_effect, sweep_effect, dealer_gets, investor_gets}
+use Rattle.step_replay.proofs.Common.{room_gets, Fact, ActsOnce, Does, Stands, Floor, has_item}
 use Rattle.market_terms.specs.declared.duties.Duty.TheVariants as duty
-use Rattle.market_terms.specs.declared.rooms.RoomRef.{RoomRef}
-use Rattle.venue_rows.specs.Rows.{Configuration, dealer_numbered}
-use Rattle.venue_places.specs.Placed.{placed, swept}
-use Rattle.venue_places.specs.declared.actors.Actor.{Actor}
 use Rattle.venue_places.specs.declared.arrivals.Placement.{Placement}
-use Rattle.step_replay.specs.Actions.{Effect}
-use Rattle.step_replay.specs.DutyEffects.{duty_effect, sweep_effect}
-use Rattle.step_replay.specs.Coming.{dealer_gets, investor_gets, room_gets, arrival_effect}
-use Rattle.step_replay.specs.Coming.{effect_where}
-use Rattle.step_replay.specs.VenueFacts.{Fact}
-use Rattle.step_replay.specs.Standing.{ActsOnce, Does, Stands}
-use Rattle.step_replay.specs.declared.floor.Floor.{Floor}
-use Rattle.step_replay.specs.PlaceLemmas.{has_item}
+use Rattle.step_replay.specs.Coming.{arrival_effect, effect_where}
 use Rattle.step_replay.proofs.FloorLemmas.{dealer_count}
 use Rattle.step_replay.proofs.FoundDealers.{idle_does}
 

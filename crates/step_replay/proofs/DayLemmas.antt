@@ -1,40 +1,28 @@
 -- The day of each firm: what a venue has of it by the facts, and at its places.
-use Rattle.std.proofs.Common.{◌≡◌, ◌<◌, ◌≤◌, ℕ, suc, ◌+◌, ◌-◌, Bool, true, false, nat_lt, ◌⊎◌, inl, inr}
-use Rattle.std.proofs.Common.{if◌then◌else◌, List, [], ◌∷◌, ◌++◌, length, map, Some, None}
-use Rattle.std.proofs.Common.{option_map, is_some, refl, sym, ap, ◌∙◌, subst, arith, append_assoc}
-use Rattle.std.specs.Prelude.{slice_get}
+use Rattle.step_replay.proofs.Common.{◌≡◌, ◌<◌, ◌≤◌, ℕ, suc, ◌+◌, ◌-◌, Bool, true, false, nat_lt}
+use Rattle.step_replay.proofs.Common.{◌⊎◌, inl, inr, if◌then◌else◌, List, [], ◌∷◌, ◌++◌, length}
+use Rattle.step_replay.proofs.Common.{map, Some, None, option_map, is_some, refl, sym, ap, ◌∙◌}
+use Rattle.step_replay.proofs.Common.{subst, arith, slice_get, cases_lt, elements, length-append}
+use Rattle.step_replay.proofs.Common.{map-append, gets, slice_get_past, Configuration, DealerRow}
+use Rattle.step_replay.proofs.Common.{InvestorRow, book_of, DeskState, desk_after, InvestorMarket}
+use Rattle.step_replay.proofs.Common.{FirmDay, firm_days, dealer_day_at, investor_day_at, is_dealer}
+use Rattle.step_replay.proofs.Common.{sent_by_facts, Match, has_item, DealerIs, InvestorStands}
+use Rattle.step_replay.proofs.Common.{Stands, firms_of, Fact, of_dealer, of_investor, DealerPlace}
+use Rattle.step_replay.proofs.Common.{Floor, InvestorPlace}
+use Rattle.std.proofs.Common.{append_assoc}
 use Rattle.std.specs.List.{range_with_len}
-use Rattle.std.proofs.lemmas.Bool.{cases_lt, ltb-false, ltb-true}
-use Rattle.std.proofs.lemmas.Grind.{elements}
+use Rattle.std.proofs.lemmas.Bool.{ltb-false, ltb-true}
 use Rattle.std.proofs.lemmas.List.FromFn.{get_or-map-range_with_len, length-map-range_with_len}
-use Rattle.std.proofs.lemmas.List.{length-append, map-append}
-use Rattle.std.proofs.lemmas.Option.{gets, slice_get_past}
 use Rattle.std.proofs.lemmas.Simd.{map-map}
-use Rattle.venue_rows.specs.Rows.{Configuration}
-use Rattle.venue_rows.specs.declared.dealer_rows.DealerRow.{DealerRow}
-use Rattle.venue_rows.specs.declared.investor_rows.InvestorRow.{InvestorRow}
-use Rattle.dealer_desk.specs.DealerFacts.{book_of}
-use Rattle.dealer_desk.specs.DealerOutput.{DeskState, desk_after}
 use Rattle.dealer_desk.specs.QuoteLines as quotes
 use Rattle.investor_desk.specs.InvestorFacts as investor_facts
 use Rattle.investor_desk.specs.InvestorOutput as investor
-use Rattle.investor_desk.specs.InvestorRules.{InvestorMarket}
 use Rattle.investor_desk.specs.RequestLines as requests
 use Rattle.market_terms.specs.DayLines.{OfDealer, OfInvestor}
 use Rattle.step_replay.specs.DealerTrail as dealer_trail
-use Rattle.step_replay.specs.FirmDays.{FirmDay, dealer_day, dealer_days, firm_days, investor_day}
-use Rattle.step_replay.specs.FirmDays.{investor_days}
-use Rattle.step_replay.specs.FloorDays.{dealer_day_at, investor_day_at, days_of_floor}
+use Rattle.step_replay.specs.FirmDays.{dealer_day, dealer_days, investor_day, investor_days}
+use Rattle.step_replay.specs.FloorDays.{days_of_floor}
 use Rattle.step_replay.specs.InvestorTrail as investor_trail
-use Rattle.step_replay.specs.LiveDays.{is_dealer, sent_by_facts}
-use Rattle.step_replay.specs.Matching.{Match}
-use Rattle.step_replay.specs.PlaceLemmas.{has_item}
-use Rattle.step_replay.specs.Standing.{DealerIs, InvestorStands, Stands}
-use Rattle.step_replay.specs.StepFaults.{firms_of}
-use Rattle.step_replay.specs.VenueFacts.{Fact, of_dealer, of_investor}
-use Rattle.step_replay.specs.declared.floor.DealerPlace.{DealerPlace}
-use Rattle.step_replay.specs.declared.floor.Floor.{Floor}
-use Rattle.step_replay.specs.declared.floor.InvestorPlace.{InvestorPlace}
 
 -- What is so of each number from one on, as many as a list has items.
 

@@ -1,34 +1,21 @@
 -- What comes to a dealer's desk of a replay does what it should: a request that is shown, and a
 -- closing notice. Such an event asks no word.
-use Rattle.std.proofs.Common.{◌≡◌, ℕ, Bool, true, false, ◌||◌, if◌then◌else◌, List, [], ◌++◌, refl}
-use Rattle.std.proofs.Common.{sym, ap, ◌∙◌, subst, ◌∷◌, filter_map, Option, Some, None, is_some}
-use Rattle.std.specs.List.{list_any}
-use Rattle.std.specs.Vec.{with_item}
-use Rattle.std.proofs.lemmas.List.{append-nil}
-use Rattle.std.proofs.Math.Bool.{or-false}
-use Rattle.venue_rows.specs.Rows.{Configuration}
-use Rattle.dealer_desk.specs.DealerDesk.{DeskEvents, with_event, with_notice_in}
-use Rattle.dealer_desk.specs.DealerOutput.{event_facts, number_in, closable}
-use Rattle.dealer_desk.specs.DeskLaws.{withdraws}
-use Rattle.dealer_desk.specs.declared.events.DealerEvent.{DealerEvent}
-use Rattle.market_terms.specs.declared.asks.Ask.{Ask}
-use Rattle.market_terms.specs.declared.closes.Close.{Close}
-use Rattle.market_terms.specs.declared.rooms.RoomRef.{RoomRef}
-use Rattle.dealer_desk.specs.DealerFacts.{DealerBook, Told}
+use Rattle.step_replay.proofs.Common.{◌≡◌, ℕ, Bool, true, false, ◌||◌, if◌then◌else◌, List, []}
+use Rattle.step_replay.proofs.Common.{◌++◌, refl, sym, ap, ◌∙◌, subst, ◌∷◌, filter_map, Option}
+use Rattle.step_replay.proofs.Common.{Some, None, is_some, list_any, with_item, append-nil}
+use Rattle.step_replay.proofs.Common.{or-false, Configuration, DeskEvents, with_event, event_facts}
+use Rattle.step_replay.proofs.Common.{withdraws, DealerEvent, Ask, Close, RoomRef, DealerBook}
+use Rattle.step_replay.proofs.Common.{DealerEntry, book_by, was_lifted, was_withdrawn, entries_of}
+use Rattle.step_replay.proofs.Common.{rooms_by, Fact, of_dealer, dealer_of, at_dealer, nothing}
+use Rattle.step_replay.proofs.Common.{told_of, word_if, DealerStands, Does, Stands, WordsStand}
+use Rattle.step_replay.proofs.Common.{word_is, DealerPlace, Floor, due_by_fact, dealer_gets}
+use Rattle.dealer_desk.specs.DealerDesk.{with_notice_in}
+use Rattle.dealer_desk.specs.DealerOutput.{number_in, closable}
+use Rattle.dealer_desk.specs.DealerFacts.{Told}
 use Rattle.dealer_desk.specs.declared.events.DealerEvent.TheVariants as event
 use Rattle.venue_places.specs.Brought.{dealer_with}
 use Rattle.venue_places.specs.declared.arrivals.ForDealer.{ForDealer}
 use Rattle.venue_places.specs.declared.arrivals.ForDealer.TheVariants as to_dealer
-use Rattle.step_replay.specs.DealerTrail.{DealerEntry, book_by, was_lifted, was_withdrawn}
-use Rattle.step_replay.specs.DealerTrail.{entries_of, rooms_by}
-use Rattle.step_replay.specs.VenueFacts.{Fact, of_dealer}
-use Rattle.step_replay.specs.Actions.{dealer_of, at_dealer, nothing, told_of}
-use Rattle.step_replay.specs.RowOfWords.{word_if}
-use Rattle.step_replay.specs.Standing.{DealerStands, Does, Stands, WordsStand, word_is}
-use Rattle.step_replay.specs.declared.floor.DealerPlace.{DealerPlace}
-use Rattle.step_replay.specs.declared.floor.Floor.{Floor}
-use Rattle.step_replay.specs.DueList.{due_by_fact}
-use Rattle.step_replay.specs.Coming.{dealer_gets}
 use Rattle.step_replay.proofs.AskedWords.{word_grown}
 use Rattle.step_replay.proofs.FloorLemmas.{event_stands, at_dealer_stands, with_dealers}
 use Rattle.step_replay.proofs.FloorLemmas.{all_dealers}

@@ -1,41 +1,30 @@
 -- A message of a dealer of a replay, and the drop of its quote, do what they should.
-use Rattle.std.proofs.Common.{◌≡◌, ◌≤◌, ℕ, ◌==◌, if◌then◌else◌, List, [], ◌∷◌, ◌++◌, length, Option}
-use Rattle.std.proofs.Common.{Some, None, IfSome, option_map, refl, ap, ◌∙◌, subst}
-use Rattle.std.specs.Prelude.{slice_get}
-use Rattle.std.specs.Option.{option_to_list}
-use Rattle.std.specs.List.{list_any}
-use Rattle.std.specs.Vec.{with_item}
-use Rattle.std.proofs.Math.Bool.{or-false}
-use Rattle.quote_word.specs.PlainWords.{entry_in, Exchanges}
-use Rattle.quote_word.specs.declared.settled.Settled.{Settled}
+use Rattle.step_replay.proofs.Common.{◌≡◌, ◌≤◌, ℕ, ◌==◌, if◌then◌else◌, List, [], ◌∷◌, ◌++◌, length}
+use Rattle.step_replay.proofs.Common.{Option, Some, None, IfSome, option_map, refl, ap, ◌∙◌, subst}
+use Rattle.step_replay.proofs.Common.{slice_get, option_to_list, list_any, with_item, or-false}
+use Rattle.step_replay.proofs.Common.{entry_in, Exchanges, Settled, Configuration, DealerRow, Duty}
+use Rattle.step_replay.proofs.Common.{RoomRef, DealerBook, number_to_drop, DeskEvents, book_at}
+use Rattle.step_replay.proofs.Common.{verdict_at, with_event, word_asked, event_facts, withdraws}
+use Rattle.step_replay.proofs.Common.{DealerEvent, AsksAtMost, settlement_in, has_word, word_to_ask}
+use Rattle.step_replay.proofs.Common.{DealerEntry, book_by, rooms_by, entries_of, Fact, of_dealer}
+use Rattle.step_replay.proofs.Common.{dealer_of, dealer_at, done_by, first_word, dropped_by}
+use Rattle.step_replay.proofs.Common.{received_by_dealer, DealerStands, Stands, Does, DealerPlace}
+use Rattle.step_replay.proofs.Common.{Floor}
 use Rattle.quote_word.specs.declared.settled.Settled.TheVariants as settled
-use Rattle.venue_rows.specs.Rows.{Configuration}
-use Rattle.venue_rows.specs.declared.dealer_rows.DealerRow.{DealerRow}
-use Rattle.market_terms.specs.declared.duties.Duty.{Duty}
-use Rattle.market_terms.specs.declared.rooms.RoomRef.{RoomRef}
-use Rattle.dealer_desk.specs.DealerFacts.{DealerBook, number_to_drop, quote_to_drop}
+use Rattle.dealer_desk.specs.DealerFacts.{quote_to_drop}
 use Rattle.dealer_desk.specs.DealerRules.{dealer_verdict}
-use Rattle.dealer_desk.specs.DealerDesk.{DeskEvents, book_at, rooms_at, verdict_at, with_event}
-use Rattle.dealer_desk.specs.DealerOutput.{word_asked, verdict_duty, event_facts, verdict_facts}
-use Rattle.dealer_desk.specs.DealerOutput.{settled_facts, unpost_dropped, further_drop}
-use Rattle.dealer_desk.specs.DeskLaws.{withdraws}
+use Rattle.dealer_desk.specs.DealerDesk.{rooms_at}
+use Rattle.dealer_desk.specs.DealerOutput.{verdict_duty, verdict_facts, settled_facts}
+use Rattle.dealer_desk.specs.DealerOutput.{unpost_dropped, further_drop}
 use Rattle.dealer_desk.specs.declared.standing.Withdrawal.TheVariants as by
 use Rattle.dealer_desk.specs.declared.verdicts.DealerVerdict.{DealerVerdict}
 use Rattle.dealer_desk.specs.declared.verdicts.DealerVerdict.TheVariants as verdict
-use Rattle.dealer_desk.specs.declared.events.DealerEvent.{DealerEvent}
 use Rattle.dealer_desk.specs.declared.events.DealerEvent.TheVariants as event
-use Rattle.venue_steps.specs.Words.{AsksAtMost, settlement_in, has_word, word_of, word_to_ask}
+use Rattle.venue_steps.specs.Words.{word_of}
 use Rattle.venue_steps.specs.DealerSteps.{own_word, desk_after_own, duties_of_own, drop_word}
 use Rattle.venue_steps.specs.DealerSteps.{desk_after_drop, duties_of_drop}
 use Rattle.step_replay.specs.DealerGrowth.{settled_undue, verdict_undue}
-use Rattle.step_replay.specs.DealerTrail.{DealerEntry, book_by, rooms_by, entries_of}
-use Rattle.step_replay.specs.VenueFacts.{Fact, of_dealer}
-use Rattle.step_replay.specs.Actions.{dealer_of, dealer_at, done_by, first_word, dropped_by}
-use Rattle.step_replay.specs.Actions.{received_by_dealer}
-use Rattle.step_replay.specs.Standing.{DealerStands, Stands, Does}
 use Rattle.step_replay.specs.declared.dues.Due.TheVariants as due
-use Rattle.step_replay.specs.declared.floor.DealerPlace.{DealerPlace}
-use Rattle.step_replay.specs.declared.floor.Floor.{Floor}
 use Rattle.step_replay.proofs.AskLemmas.{asks_does, effect_of, floor_with}
 use Rattle.step_replay.proofs.AskedWords.{withdraws_by}
 use Rattle.step_replay.proofs.FloorLemmas.{event_stands}

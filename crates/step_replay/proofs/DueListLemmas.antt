@@ -1,11 +1,8 @@
 -- The due list of a dealer, run by run.
-use Rattle.std.proofs.Common.{◌≡◌, ◌<◌, ◌≤◌, ℕ, ◌+◌, ◌-◌, List, [], ◌∷◌, ◌++◌, map, length}
-use Rattle.std.proofs.Common.{take, drop, get_or, refl, sym, ap, ◌∙◌, arith}
-use Rattle.std.proofs.lemmas.Grind.{common_steps}
-use Rattle.std.proofs.lemmas.List.{append_assoc, map-append, length-drop, take_more}
-use Rattle.dealer_desk.specs.declared.events.DealerEvent.{DealerEvent}
-use Rattle.step_replay.specs.Liftings.{due_by_event}
-use Rattle.step_replay.specs.declared.dues.Due.{Due}
+use Rattle.step_replay.proofs.Common.{◌≡◌, ◌<◌, ◌≤◌, ℕ, ◌+◌, ◌-◌, List, [], ◌∷◌, ◌++◌, map, length}
+use Rattle.step_replay.proofs.Common.{take, drop, get_or, refl, sym, ap, ◌∙◌, arith, common_steps}
+use Rattle.step_replay.proofs.Common.{append_assoc, map-append, length-drop, take_more, DealerEvent}
+use Rattle.step_replay.proofs.Common.{due_by_event, Due}
 
 -- A run of events.
 

@@ -1,26 +1,20 @@
 -- The messages of a firm among those of all, and what a place sends to its firm as facts come.
-use Rattle.std.proofs.Common.{◌≡◌, ℕ, ◌==◌, Bool, true, false, cond, List, [], ◌∷◌, ◌++◌}
-use Rattle.std.proofs.Common.{filter_map, Option, Some, None, option_map, option_and_then, refl}
-use Rattle.std.proofs.Common.{sym, ap, ◌∙◌, arith, zero, suc, nat_lt, if◌then◌else◌, length, map}
-use Rattle.std.proofs.Common.{drop}
+use Rattle.step_replay.proofs.Common.{◌≡◌, ℕ, ◌==◌, Bool, true, false, cond, List, [], ◌∷◌, ◌++◌}
+use Rattle.step_replay.proofs.Common.{filter_map, Option, Some, None, option_map, refl, sym, ap}
+use Rattle.step_replay.proofs.Common.{◌∙◌, arith, zero, suc, nat_lt, if◌then◌else◌, length, map}
+use Rattle.step_replay.proofs.Common.{drop, nat_tests, filter_map-append, slice_get, same_Some}
+use Rattle.step_replay.proofs.Common.{Configuration, is_dealer, messages_in, sent_by_facts, sent_in}
+use Rattle.step_replay.proofs.Common.{Fact, AtDealer, InRoom, AtInvestor, of_dealer, of_investor}
+use Rattle.step_replay.proofs.Common.{FirmDay, firm_days, count_at, sent_behind, Stands, firms_of}
+use Rattle.step_replay.proofs.Common.{Floor}
+use Rattle.std.proofs.Common.{option_and_then}
 use Rattle.std.specs.List.{cons_option}
-use Rattle.std.proofs.lemmas.Bool.Decides.{nat_tests}
-use Rattle.std.proofs.lemmas.List.Elements.{filter_map-append}
-use Rattle.std.specs.Prelude.{slice_get}
 use Rattle.std.proofs.Math.Seq.{drop-append_seam}
-use Rattle.std.proofs.lemmas.Option.{same_Some}
-use Rattle.venue_rows.specs.Rows.{Configuration}
 use Rattle.step_replay.specs.DealerTrail as dealer_trail
 use Rattle.step_replay.specs.InvestorTrail as investor_trail
-use Rattle.step_replay.specs.LiveDays.{is_dealer, message_for, messages_for, messages_in}
-use Rattle.step_replay.specs.LiveDays.{sent_by_facts, sent_in}
-use Rattle.step_replay.specs.VenueFacts.{Fact, AtDealer, InRoom, AtInvestor, of_dealer, of_investor}
+use Rattle.step_replay.specs.LiveDays.{message_for, messages_for}
 use Rattle.step_replay.specs.VenueFacts.{entry_at_dealer, entry_at_investor}
-use Rattle.step_replay.specs.FirmDays.{FirmDay, firm_days}
-use Rattle.step_replay.specs.LiveStanding.{count_at, sent_behind, sent_on_day, sent_on_floor}
-use Rattle.step_replay.specs.Standing.{Stands}
-use Rattle.step_replay.specs.StepFaults.{firms_of}
-use Rattle.step_replay.specs.declared.floor.Floor.{Floor}
+use Rattle.step_replay.specs.LiveStanding.{sent_on_day, sent_on_floor}
 use Rattle.step_replay.proofs.StepEffects.{messages_both, to, SendAt, own, quiet}
 use Rattle.step_replay.proofs.DayLemmas.{days_stand, no_day, sent_on_its_day}
 

@@ -1,33 +1,19 @@
 -- The facts of each place after some more at one, and the places of a replay that stand there.
-use Rattle.std.proofs.Common.{◌≡◌, ℕ, ◌==◌, Bool, true, false, List, ◌++◌, map, refl, ap, ◌∙◌}
-use Rattle.std.proofs.Common.{subst, arith, ◌+◌, [], ◌∷◌, filter_map, length, Option, Some, sym}
-use Rattle.std.proofs.Common.{ap₂}
-use Rattle.std.proofs.lemmas.Bool.Decides.{nat_tests}
-use Rattle.std.specs.Prelude.{slice_get}
-use Rattle.std.specs.Option.{option_to_list}
-use Rattle.std.specs.Vec.{with_item}
-use Rattle.std.proofs.lemmas.List.Elements.{filter_map-append}
-use Rattle.dealer_desk.specs.DealerOutput.{DeskState, after_event, event_message, moment_of}
-use Rattle.dealer_desk.specs.DealerOutput.{shown_room}
-use Rattle.quote_word.specs.declared.settled.Settled.{Settled}
-use Rattle.venue_rows.specs.Rows.{Configuration, dealer_numbered}
-use Rattle.venue_rows.specs.declared.dealer_rows.DealerRow.{DealerRow}
-use Rattle.venue_rows.specs.declared.investor_rows.InvestorRow.{InvestorRow}
-use Rattle.dealer_desk.specs.DealerDesk.{DeskEvents, with_event}
-use Rattle.dealer_desk.specs.declared.events.DealerEvent.{DealerEvent}
-use Rattle.step_replay.specs.DealerTrail.{DealerEntry, book_by, rooms_by, sent_by, entries_of}
-use Rattle.step_replay.specs.VenueFacts.{Fact, AtDealer, of_dealer, of_room, of_investor}
-use Rattle.step_replay.specs.PlaceLemmas.{dealer_grown, dealer_stays, room_stays, investor_stays}
-use Rattle.step_replay.specs.PlaceLemmas.{own_trail, other_trail, room_at_dealer}
+use Rattle.step_replay.proofs.Common.{◌≡◌, ℕ, ◌==◌, Bool, true, false, List, ◌++◌, map, refl, ap}
+use Rattle.step_replay.proofs.Common.{◌∙◌, subst, arith, ◌+◌, [], ◌∷◌, filter_map, length, Option}
+use Rattle.step_replay.proofs.Common.{Some, sym, ap₂, nat_tests, slice_get, option_to_list}
+use Rattle.step_replay.proofs.Common.{with_item, filter_map-append, DeskState, Settled}
+use Rattle.step_replay.proofs.Common.{Configuration, dealer_numbered, DealerRow, InvestorRow}
+use Rattle.step_replay.proofs.Common.{DeskEvents, with_event, DealerEvent, DealerEntry, book_by}
+use Rattle.step_replay.proofs.Common.{rooms_by, sent_by, entries_of, Fact, AtDealer, of_dealer}
+use Rattle.step_replay.proofs.Common.{of_room, of_investor, room_stays, investor_stays, own_trail}
+use Rattle.step_replay.proofs.Common.{room_at_dealer, desk_with, facts_grown, desk_of, DealerIs}
+use Rattle.step_replay.proofs.Common.{DealerStands, InvestorStands, RoomIs, Stands, WordsStand}
+use Rattle.step_replay.proofs.Common.{slots, word_is, DealerPlace, InvestorPlace, Floor}
+use Rattle.dealer_desk.specs.DealerOutput.{after_event, event_message, moment_of, shown_room}
+use Rattle.step_replay.specs.PlaceLemmas.{dealer_grown, dealer_stays, other_trail}
 use Rattle.step_replay.specs.PlaceLemmas.{investor_at_dealer}
-use Rattle.step_replay.specs.DealerGrowth.{desk_with, desk_push, sent_is, facts_grown, sent_grown}
-use Rattle.step_replay.specs.DealerGrowth.{rooms_grown}
-use Rattle.step_replay.specs.InvestorGrowth.{desk_of}
-use Rattle.step_replay.specs.Standing.{DealerIs, DealerStands, InvestorStands, RoomIs, Stands}
-use Rattle.step_replay.specs.Standing.{WordsStand, slots, word_is}
-use Rattle.step_replay.specs.declared.floor.DealerPlace.{DealerPlace}
-use Rattle.step_replay.specs.declared.floor.InvestorPlace.{InvestorPlace}
-use Rattle.step_replay.specs.declared.floor.Floor.{Floor}
+use Rattle.step_replay.specs.DealerGrowth.{desk_push, sent_is, sent_grown, rooms_grown}
 use Rattle.step_replay.proofs.LiftingLemmas.{IsDueSo, dues_after_event, within_after_event}
 use Rattle.step_replay.proofs.MatchLemmas.{as_many, kept, changed}
 

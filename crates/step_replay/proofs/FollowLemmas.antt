@@ -1,36 +1,27 @@
 -- A replay follows a day, turn by turn.
-use Rattle.std.proofs.Common.{◌≡◌, ℕ, true, List, [], ◌∷◌, ◌++◌, length, slice_set, Option, Some}
-use Rattle.std.proofs.Common.{drop, refl, sym, ap, ◌∙◌, arith, ◌≡◌, ◌≢◌, ◌≤◌, ◌<◌, ℕ, ◌+◌, ◌-◌}
-use Rattle.std.proofs.Common.{Bool, true, false, option_map, List, ◌∷◌, ◌++◌, map, filter_map}
-use Rattle.std.proofs.Common.{length, count_by, slice_set, Some, get_or, nat_lt, nat_le, refl, sym}
-use Rattle.std.proofs.Common.{ap, ◌∙◌, subst, arith}
-use Rattle.std.specs.Prelude.{slice_get, slice_get}
-use Rattle.std.proofs.lemmas.List.{length-map, length-set}
-use Rattle.std.proofs.lemmas.Option.{same_Some, slice_get-map, slice_get_within}
-use Rattle.market_terms.specs.declared.duties.Duty.{Duty, Duty}
-use Rattle.market_terms.specs.declared.rooms.RoomRef.{RoomRef}
-use Rattle.venue_rows.specs.Rows.{Configuration, Configuration}
-use Rattle.venue_places.specs.declared.actors.Actor.{Actor, Actor}
-use Rattle.step_replay.specs.ActionKinds.{IsAction, duty_action}
-use Rattle.step_replay.specs.VenueFacts.{Fact}
-use Rattle.step_replay.specs.Actions.{Effect, Effect}
-use Rattle.step_replay.specs.DutyEffects.{duty_effect}
-use Rattle.step_replay.specs.AuditTrail.{AuditTrail, after_turn, pending, with_effect, AuditTrail}
-use Rattle.step_replay.specs.AuditTrail.{is_same_actor, duty_of, pending, with_effect}
-use Rattle.step_replay.specs.Standing.{AreOneOf, ActsOnce, Does}
-use Rattle.step_replay.specs.Queues.{is_known, queue_of, QueuesStand, QueueHas, is_known, queue_of}
-use Rattle.step_replay.specs.Following.{ReplayStands, duties_in, index_in, index_in}
-use Rattle.step_replay.specs.declared.replay.Replay.{Replay}
+use Rattle.step_replay.proofs.Common.{◌≡◌, ℕ, true, List, [], ◌∷◌, ◌++◌, length, slice_set, Option}
+use Rattle.step_replay.proofs.Common.{Some, drop, refl, sym, ap, ◌∙◌, arith, ◌≡◌, ◌≢◌, ◌≤◌, ◌<◌, ℕ}
+use Rattle.step_replay.proofs.Common.{◌+◌, ◌-◌, Bool, true, false, option_map, List, ◌∷◌, ◌++◌, map}
+use Rattle.step_replay.proofs.Common.{filter_map, length, count_by, slice_set, Some, get_or, nat_lt}
+use Rattle.step_replay.proofs.Common.{nat_le, refl, sym, ap, ◌∙◌, subst, arith, slice_get}
+use Rattle.step_replay.proofs.Common.{slice_get, length-map, same_Some, slice_get_within, Duty}
+use Rattle.step_replay.proofs.Common.{Duty, RoomRef, Configuration, Configuration, Actor, Actor}
+use Rattle.step_replay.proofs.Common.{IsAction, duty_action, Fact, Effect, Effect, duty_effect}
+use Rattle.step_replay.proofs.Common.{AuditTrail, after_turn, pending, with_effect, AuditTrail}
+use Rattle.step_replay.proofs.Common.{is_same_actor, duty_of, pending, with_effect, AreOneOf}
+use Rattle.step_replay.proofs.Common.{ActsOnce, Does, is_known, queue_of, QueuesStand, QueueHas}
+use Rattle.step_replay.proofs.Common.{is_known, queue_of, ReplayStands, duties_in, Replay}
+use Rattle.step_replay.proofs.Common.{nat_tests, firms_of, get_set_same, lent, own_turned}
+use Rattle.step_replay.proofs.Common.{other_turned, own_pending, other_pending, same_either}
+use Rattle.std.proofs.lemmas.List.{length-set}
+use Rattle.std.proofs.lemmas.Option.{slice_get-map}
+use Rattle.step_replay.specs.Following.{index_in, index_in}
 use Rattle.step_replay.specs.StepLemmas.{action_keeps}
 use Rattle.step_replay.specs.WordLemmas.{IsOneOf, one_is_kept}
 use Rattle.step_replay.proofs.LiftLemmas.{set_same}
-use Rattle.std.proofs.lemmas.Bool.Decides.{nat_tests}
 use Rattle.venue_places.specs.declared.actors.Actor.TheVariants as actor
-use Rattle.step_replay.specs.StepFaults.{firms_of}
-use Rattle.step_replay.specs.PlaceLemmas.{get_set_same, get_set_other, lent}
-use Rattle.step_replay.specs.QueueLemmas.{turned, own_turned, other_turned, own_within}
-use Rattle.step_replay.specs.QueueLemmas.{other_within, own_pending, other_pending, grown_within}
-use Rattle.step_replay.specs.QueueLemmas.{same_either, one_actor}
+use Rattle.step_replay.specs.PlaceLemmas.{get_set_other}
+use Rattle.step_replay.specs.QueueLemmas.{turned, own_within, other_within, grown_within, one_actor}
 
 -- Actors and their queues.
 

@@ -1,23 +1,12 @@
 -- Looking a dealer of a replay up: one that stands has a place, a row and the book of its trail, and
 -- what it does is done by it.
-use Rattle.std.proofs.Common.{◌≡◌, ◌<◌, ◌≤◌, ℕ, ◌+◌, List, [], length, get_or, Some, None}
-use Rattle.std.proofs.Common.{option_map, sym, ap, ◌∙◌, subst, arith}
-use Rattle.std.specs.Prelude.{slice_get}
-use Rattle.std.proofs.lemmas.List.{append-nil}
-use Rattle.std.proofs.lemmas.Option.{slice_get_past}
-use Rattle.venue_rows.specs.Rows.{Configuration, dealer_numbered}
-use Rattle.venue_rows.specs.declared.dealer_rows.DealerRow.{DealerRow}
-use Rattle.market_terms.specs.declared.duties.Duty.{Duty}
-use Rattle.dealer_desk.specs.DealerFacts.{book_of}
-use Rattle.dealer_desk.specs.DealerOutput.{DeskState, desk_after}
-use Rattle.dealer_desk.specs.DealerDesk.{book_at}
-use Rattle.step_replay.specs.VenueFacts.{Fact, of_dealer}
-use Rattle.step_replay.specs.Actions.{Effect, Dealer, dealer_of, dealer_at, done_by, nothing}
-use Rattle.step_replay.specs.PlaceLemmas.{lent}
-use Rattle.step_replay.specs.Standing.{DealerIs, DealerStands, Stands, Does}
-use Rattle.step_replay.specs.declared.floor.DealerPlace.{DealerPlace}
-use Rattle.step_replay.specs.declared.floor.Floor.{Floor}
-use Rattle.step_replay.specs.DealerTrail.{DealerEntry, book_by}
+use Rattle.step_replay.proofs.Common.{◌≡◌, ◌<◌, ◌≤◌, ℕ, ◌+◌, List, [], length, get_or, Some, None}
+use Rattle.step_replay.proofs.Common.{option_map, sym, ap, ◌∙◌, subst, arith, slice_get, append-nil}
+use Rattle.step_replay.proofs.Common.{slice_get_past, Configuration, dealer_numbered, DealerRow}
+use Rattle.step_replay.proofs.Common.{Duty, book_of, DeskState, desk_after, book_at, Fact}
+use Rattle.step_replay.proofs.Common.{of_dealer, Effect, Dealer, dealer_of, dealer_at, done_by}
+use Rattle.step_replay.proofs.Common.{nothing, lent, DealerIs, DealerStands, Stands, Does}
+use Rattle.step_replay.proofs.Common.{DealerPlace, Floor, DealerEntry, book_by}
 use Rattle.step_replay.proofs.MatchLemmas.{found, flipped, missing}
 
 -- the book of a desk that stands is that of its trail

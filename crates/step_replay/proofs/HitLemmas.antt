@@ -1,40 +1,28 @@
 -- A hit in a room of a replay does what it should: the word, the dealer's trail and the room.
-use Rattle.std.proofs.Common.{◌≡◌, ◌<◌, ◌≤◌, ℕ, ◌+◌, ◌-◌, nat_le, nat_lt, Bool, true, false, ◌&&◌}
-use Rattle.std.proofs.Common.{if◌then◌else◌, List, [], ◌∷◌, ◌++◌, map, length, Option, Some, None}
-use Rattle.std.proofs.Common.{option_map, Result, Err, refl, sym, ap, ◌∙◌, subst, arith}
-use Rattle.std.specs.Vec.{with_item}
-use Rattle.std.proofs.lemmas.Bool.Decides.{nat_tests}
-use Rattle.std.proofs.lemmas.List.{append_assoc}
-use Rattle.quote_word.specs.PlainWords.{entry_in, settlement_of, Exchanges}
-use Rattle.quote_word.specs.PlainWordsLaws.{exchange_keeps_count}
-use Rattle.quote_word.specs.declared.settled.Settled.{Settled}
+use Rattle.step_replay.proofs.Common.{◌≡◌, ◌<◌, ◌≤◌, ℕ, ◌+◌, ◌-◌, nat_le, nat_lt, Bool, true, false}
+use Rattle.step_replay.proofs.Common.{◌&&◌, if◌then◌else◌, List, [], ◌∷◌, ◌++◌, map, length, Option}
+use Rattle.step_replay.proofs.Common.{Some, None, option_map, refl, sym, ap, ◌∙◌, subst, arith}
+use Rattle.step_replay.proofs.Common.{with_item, nat_tests, append_assoc, entry_in, settlement_of}
+use Rattle.step_replay.proofs.Common.{Exchanges, exchange_keeps_count, Settled, Configuration}
+use Rattle.step_replay.proofs.Common.{has_room, HitRefusal, Duty, RoomRef, RoomFact, room_after}
+use Rattle.step_replay.proofs.Common.{End, RoomEvent, where_done, AsksAtMost, SettlesSo}
+use Rattle.step_replay.proofs.Common.{settlement_in, has_word, word_to_ask, DealerEntry, Lifted}
+use Rattle.step_replay.proofs.Common.{was_lifted, was_withdrawn, room_at_dealer, room_stays, Fact}
+use Rattle.step_replay.proofs.Common.{AtDealer, InRoom, of_dealer, of_room, Effect, QuoteRef}
+use Rattle.step_replay.proofs.Common.{nothing, dealer_of, first_word, words_of, quote_with_word}
+use Rattle.step_replay.proofs.Common.{lifting, hit_in, quote_at, Noted, NotedAt, WordsStand, Stands}
+use Rattle.step_replay.proofs.Common.{Does, AreOneOf, InvestorPlace, Floor}
+use Rattle.std.proofs.Common.{Result, Err}
 use Rattle.quote_word.specs.declared.settled.Settled.TheVariants as settled
-use Rattle.venue_rows.specs.Rows.{Configuration, has_room}
-use Rattle.market_terms.specs.declared.closes.HitRefusal.{HitRefusal}
 use Rattle.market_terms.specs.declared.closes.HitRefusal.TheVariants as refusal
-use Rattle.market_terms.specs.declared.duties.Duty.{Duty}
 use Rattle.market_terms.specs.declared.rooms.ResponseRef.{ResponseRef}
-use Rattle.market_terms.specs.declared.rooms.RoomRef.{RoomRef}
-use Rattle.request_room.specs.RoomFacts.{RoomFact}
-use Rattle.request_room.specs.Book.{room_after, event_facts, hit_refusal, hit_settled, award_of}
-use Rattle.request_room.specs.Book.{word_or, end_by}
-use Rattle.request_room.specs.declared.ends.End.{End}
-use Rattle.request_room.specs.declared.events.RoomEvent.{RoomEvent}
+use Rattle.request_room.specs.Book.{event_facts, hit_refusal, hit_settled, award_of, word_or}
+use Rattle.request_room.specs.Book.{end_by}
 use Rattle.request_room.specs.declared.events.RoomEvent.TheVariants as at_room
-use Rattle.venue_steps.specs.RoomSteps.{hit_word, word_asked_by, where_done, duties_of_hit}
-use Rattle.venue_steps.specs.RoomSteps.{hit_duties}
-use Rattle.venue_steps.specs.Words.{AsksAtMost, SettlesSo, settlement_in, has_word, word_to_ask}
-use Rattle.step_replay.specs.DealerTrail.{DealerEntry, Lifted, answer_to_investor, was_lifted}
-use Rattle.step_replay.specs.DealerTrail.{was_withdrawn}
-use Rattle.step_replay.specs.PlaceLemmas.{room_at_dealer, room_stays}
-use Rattle.step_replay.specs.VenueFacts.{Fact, AtDealer, InRoom, of_dealer, of_room}
-use Rattle.step_replay.specs.Actions.{Effect, QuoteRef, nothing, dealer_of, first_word, words_of}
-use Rattle.step_replay.specs.Actions.{quote_with_word, quote_asked, answer_to_hit, lifting, hit_in}
-use Rattle.step_replay.specs.OwnerLemmas.{quote_at}
-use Rattle.step_replay.specs.Liftings.{Noted, NotedAt, NotesWhere, awards}
-use Rattle.step_replay.specs.Standing.{WordsStand, Stands, Does, AreOneOf}
-use Rattle.step_replay.specs.declared.floor.InvestorPlace.{InvestorPlace}
-use Rattle.step_replay.specs.declared.floor.Floor.{Floor}
+use Rattle.venue_steps.specs.RoomSteps.{hit_word, word_asked_by, duties_of_hit, hit_duties}
+use Rattle.step_replay.specs.DealerTrail.{answer_to_investor}
+use Rattle.step_replay.specs.Actions.{quote_asked, answer_to_hit}
+use Rattle.step_replay.specs.Liftings.{NotesWhere, awards}
 use Rattle.step_replay.proofs.AskedWords.{WordOwner, word_owner}
 use Rattle.step_replay.proofs.FloorLemmas.{at_dealer_stands, with_dealers}
 use Rattle.step_replay.proofs.FoundDealers.{PlaceOf, place_of}

@@ -1,19 +1,13 @@
 -- The investors' places at the start of a day stand where no fact stands.
-use Rattle.std.proofs.Common.{◌≡◌, ◌<◌, ℕ, zero, suc, ◌+◌, ◌++◌, get_or, option_map, List, [], ◌∷◌}
-use Rattle.std.proofs.Common.{length, replicate, Some, refl, sym, ap, ◌∙◌, subst}
-use Rattle.std.proofs.lemmas.Option.{slice_get_read, same_Some}
-use Rattle.venue_rows.specs.Rows.{Configuration, investor_numbered}
-use Rattle.venue_rows.specs.declared.investor_rows.InvestorRow.{InvestorRow}
-use Rattle.investor_desk.specs.InvestorDesk.{DeskEvents, market_of, market_for, no_events}
+use Rattle.step_replay.proofs.Common.{◌≡◌, ◌<◌, ℕ, zero, suc, ◌+◌, ◌++◌, get_or, option_map, List}
+use Rattle.step_replay.proofs.Common.{[], ◌∷◌, length, replicate, Some, refl, sym, ap, ◌∙◌, subst}
+use Rattle.step_replay.proofs.Common.{same_Some, Configuration, investor_numbered, InvestorRow}
+use Rattle.step_replay.proofs.Common.{market_of, market_for, InvestorEvent, room_after, RoomEvent}
+use Rattle.step_replay.proofs.Common.{Match, InvestorOpens, InvestorsOpen, InvestorStands, RoomIs}
+use Rattle.step_replay.proofs.Common.{slots, of_investor, of_room, InvestorPlace}
+use Rattle.std.proofs.lemmas.Option.{slice_get_read}
+use Rattle.investor_desk.specs.InvestorDesk.{DeskEvents, no_events}
 use Rattle.investor_desk.specs.InvestorOutput.{desk_after}
-use Rattle.investor_desk.specs.declared.events.InvestorEvent.{InvestorEvent}
-use Rattle.request_room.specs.Book.{room_after}
-use Rattle.request_room.specs.declared.events.RoomEvent.{RoomEvent}
-use Rattle.step_replay.specs.Matching.{Match}
-use Rattle.step_replay.specs.Openings.{InvestorOpens, InvestorsOpen}
-use Rattle.step_replay.specs.Standing.{InvestorStands, RoomIs, slots}
-use Rattle.step_replay.specs.VenueFacts.{of_investor, of_room}
-use Rattle.step_replay.specs.declared.floor.InvestorPlace.{InvestorPlace}
 use Rattle.step_replay.proofs.InvestorPlaceLemmas.{numbered_as}
 use Rattle.step_replay.proofs.MatchLemmas.{grown}
 

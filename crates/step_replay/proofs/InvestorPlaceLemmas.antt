@@ -1,42 +1,33 @@
 -- Looking an investor of a replay up, and what happens at its desk: it does what it should, wherever
 -- the places stood, and the rooms and all other places stay.
-use Rattle.std.proofs.Common.{◌≡◌, ◌≤◌, ◌<◌, ℕ, ◌+◌, ◌-◌, Bool, List, length, nat_le, Some, None}
-use Rattle.std.proofs.Common.{sym, ap, ◌∙◌, subst, arith, if◌then◌else◌, false, ◌≡◌, ℕ, ◌+◌, Bool}
-use Rattle.std.proofs.Common.{true, false, ◌&&◌, List, [], ◌++◌, length, map, Some, None}
-use Rattle.std.proofs.Common.{option_map, if◌then◌else◌, refl, sym, ap, ◌∙◌, subst}
-use Rattle.std.specs.Prelude.{slice_get, slice_get}
-use Rattle.std.proofs.lemmas.Bool.Decides.{nat_tests}
-use Rattle.std.proofs.lemmas.Option.{slice_get_past}
-use Rattle.venue_rows.specs.Rows.{Configuration, investor_numbered, Configuration}
-use Rattle.venue_rows.specs.Rows.{investor_numbered}
-use Rattle.venue_rows.specs.declared.investor_rows.InvestorRow.{InvestorRow}
-use Rattle.step_replay.specs.VenueFacts.{Fact, Fact, AtInvestor, of_investor}
-use Rattle.step_replay.specs.Standing.{InvestorStands, Stands, RoomIs, Stands, Does, slots}
-use Rattle.step_replay.specs.declared.floor.InvestorPlace.{InvestorPlace, InvestorPlace}
-use Rattle.step_replay.specs.declared.floor.Floor.{Floor, Floor}
-use Rattle.step_replay.specs.PlaceLemmas.{numbered_at, investor_grown, other_investor, own_investor}
-use Rattle.step_replay.specs.PlaceLemmas.{room_stays, room_at_investor, trail_at_investor}
+use Rattle.step_replay.proofs.Common.{◌≡◌, ◌≤◌, ◌<◌, ℕ, ◌+◌, ◌-◌, Bool, List, length, nat_le, Some}
+use Rattle.step_replay.proofs.Common.{None, sym, ap, ◌∙◌, subst, arith, if◌then◌else◌, false, ◌≡◌}
+use Rattle.step_replay.proofs.Common.{ℕ, ◌+◌, Bool, true, false, ◌&&◌, List, [], ◌++◌, length, map}
+use Rattle.step_replay.proofs.Common.{Some, None, option_map, if◌then◌else◌, refl, sym, ap, ◌∙◌}
+use Rattle.step_replay.proofs.Common.{subst, slice_get, slice_get, nat_tests, slice_get_past}
+use Rattle.step_replay.proofs.Common.{Configuration, investor_numbered, Configuration}
+use Rattle.step_replay.proofs.Common.{investor_numbered, InvestorRow, Fact, Fact, AtInvestor}
+use Rattle.step_replay.proofs.Common.{of_investor, InvestorStands, Stands, RoomIs, Stands, Does}
+use Rattle.step_replay.proofs.Common.{slots, InvestorPlace, InvestorPlace, Floor, Floor}
+use Rattle.step_replay.proofs.Common.{numbered_at, own_investor, room_stays, room_at_investor}
+use Rattle.step_replay.proofs.Common.{option_to_list, with_item, append-nil, Duty, InvestorMarket}
+use Rattle.step_replay.proofs.Common.{market_of, market_for, InvestorEvent, InvestorEntry, Effect}
+use Rattle.step_replay.proofs.Common.{nothing, done_for, at_market, received_by_investor}
+use Rattle.step_replay.proofs.Common.{where_known, investor_gets, desk_of}
+use Rattle.step_replay.specs.PlaceLemmas.{investor_grown, other_investor, trail_at_investor}
 use Rattle.step_replay.proofs.FloorLemmas.{dealer_count, at_investor_stands}
 use Rattle.step_replay.proofs.MatchLemmas.{found, missing, kept}
-use Rattle.std.specs.Option.{option_to_list}
-use Rattle.std.specs.Vec.{with_item}
-use Rattle.std.proofs.lemmas.List.{append-nil}
-use Rattle.market_terms.specs.declared.duties.Duty.{Duty}
 use Rattle.investor_desk.specs.InvestorFacts.{InvestorBook, book_of, knows}
-use Rattle.investor_desk.specs.InvestorRules.{InvestorMarket, investor_verdict}
-use Rattle.investor_desk.specs.InvestorDesk.{DeskEvents, with_event, book_at, market_of, market_for}
+use Rattle.investor_desk.specs.InvestorRules.{investor_verdict}
+use Rattle.investor_desk.specs.InvestorDesk.{DeskEvents, with_event, book_at}
 use Rattle.investor_desk.specs.InvestorOutput.{DeskState, after_event, desk_after, verdict_duty}
-use Rattle.investor_desk.specs.declared.events.InvestorEvent.{InvestorEvent}
 use Rattle.investor_desk.specs.declared.events.InvestorEvent.TheVariants as event
 use Rattle.venue_steps.specs.InvestorSteps.{desk_after_own, duties_of_own, where_so, replies_to}
 use Rattle.venue_places.specs.Brought.{investor_with}
 use Rattle.venue_places.specs.declared.arrivals.ForInvestor.{ForInvestor}
 use Rattle.venue_places.specs.declared.arrivals.ForInvestor.TheVariants as to_investor
-use Rattle.step_replay.specs.InvestorTrail.{InvestorEntry, book_by, entries_of}
-use Rattle.step_replay.specs.Actions.{Effect, nothing, done_for, at_market, received_by_investor}
-use Rattle.step_replay.specs.Actions.{where_known}
-use Rattle.step_replay.specs.Coming.{investor_gets}
-use Rattle.step_replay.specs.InvestorGrowth.{desk_of, desk_push, trail_push}
+use Rattle.step_replay.specs.InvestorTrail.{book_by, entries_of}
+use Rattle.step_replay.specs.InvestorGrowth.{desk_push, trail_push}
 use Rattle.step_replay.proofs.FoundDealers.{idle_does}
 
 -- the row of an investor, by its place behind the dealers

@@ -1,30 +1,21 @@
 -- A desk and a row of words go on standing for a view, item by item.
-use Rattle.std.proofs.Common.{◌≡◌, ◌≤◌, ◌<◌, ℕ, ◌+◌, ◌-◌, nat_le, Bool, true, false, ◌&&◌, not}
-use Rattle.std.proofs.Common.{if◌then◌else◌, List, [], ◌∷◌, ◌++◌, length, get_or, replicate, take}
-use Rattle.std.proofs.Common.{Option, None, IfSome, option_map, refl, sym, ap, ◌∙◌, subst, arith}
-use Rattle.std.proofs.lemmas.List.{get_or-replicate, take_all, take_more}
-use Rattle.std.proofs.lemmas.Grind.{common_steps}
-use Rattle.std.proofs.lemmas.List.Sums.{fold-append}
-use Rattle.quote_word.specs.PlainWords.{entry_in}
-use Rattle.quote_word.specs.declared.settled.Settled.{Settled}
+use Rattle.step_replay.proofs.Common.{◌≡◌, ◌≤◌, ◌<◌, ℕ, ◌+◌, ◌-◌, nat_le, Bool, true, false, ◌&&◌}
+use Rattle.step_replay.proofs.Common.{not, if◌then◌else◌, List, [], ◌∷◌, ◌++◌, length, get_or}
+use Rattle.step_replay.proofs.Common.{replicate, take, Option, None, IfSome, option_map, refl, sym}
+use Rattle.step_replay.proofs.Common.{ap, ◌∙◌, subst, arith, take_all, take_more, common_steps}
+use Rattle.step_replay.proofs.Common.{fold-append, entry_in, Settled, DealerRow, Ask, Close}
+use Rattle.step_replay.proofs.Common.{DeskEvents, with_event, desk_after, asked_word, DealerEvent}
+use Rattle.step_replay.proofs.Common.{Due, DealerView, after_due, answer_to, dealer_view}
+use Rattle.step_replay.proofs.Common.{is_withdrawn_at, no_room, view_after, with_event_at_desk}
+use Rattle.step_replay.proofs.Common.{AreWordsOf, GrowsByEvents, IsOfRow, Row, StandsFor}
+use Rattle.step_replay.proofs.Common.{with_asked, with_wish}
+use Rattle.std.proofs.lemmas.List.{get_or-replicate}
 use Rattle.quote_word.specs.declared.settled.Settled.TheVariants.{Lifted}
-use Rattle.venue_rows.specs.declared.dealer_rows.DealerRow.{DealerRow}
-use Rattle.market_terms.specs.declared.asks.Ask.{Ask}
-use Rattle.market_terms.specs.declared.closes.Close.{Close}
-use Rattle.dealer_desk.specs.DealerDesk.{DeskEvents, may_close, with_event}
-use Rattle.dealer_desk.specs.DealerDesk.{with_notice}
-use Rattle.dealer_desk.specs.DealerOutput.{desk_after}
-use Rattle.dealer_desk.specs.SettledWords.{asked_word}
-use Rattle.dealer_desk.specs.declared.events.DealerEvent.{DealerEvent}
+use Rattle.dealer_desk.specs.DealerDesk.{may_close, with_notice}
 use Rattle.dealer_desk.specs.declared.events.DealerEvent.TheVariants as event
-use Rattle.step_replay.specs.declared.dues.Due.{Due}
 use Rattle.step_replay.specs.declared.dues.Due.TheVariants as due
-use Rattle.step_replay.specs.DealerView.{DealerView, after_due, answer_to, dealer_view}
-use Rattle.step_replay.specs.DealerView.{is_withdrawn_at, no_room, sent_at, view_after}
-use Rattle.step_replay.specs.DealerView.{view_at_start, with_event_at_desk}
-use Rattle.step_replay.specs.RowOfWords.{AreWordsOf, GrowsByEvents, Happens, IsOfRow, Row}
-use Rattle.step_replay.specs.RowOfWords.{StandsFor, settlement_in, with_asked, with_lifting}
-use Rattle.step_replay.specs.RowOfWords.{with_wish}
+use Rattle.step_replay.specs.DealerView.{sent_at, view_at_start}
+use Rattle.step_replay.specs.RowOfWords.{Happens, settlement_in, with_lifting}
 use Rattle.step_replay.proofs.RowLemmas.{asked_stands, asks_at, unasked, lifting_desk}
 use Rattle.step_replay.proofs.RowLemmas.{lifting_words}
 

@@ -1,6 +1,7 @@
 mod AskLemmas
 mod AskedWords
 mod ComingLemmas
+mod Common
 mod DayLemmas
 mod DealerActionLemmas
 mod DealerAsks

@@ -1,31 +1,18 @@
 -- A lift of a quote in a replay: the words, the dealer's place and its trail.
-use Rattle.std.proofs.Common.{◌≡◌, ◌<◌, ℕ, zero, suc, ◌==◌, Bool, true, false, ◌&&◌, ◌||◌}
-use Rattle.std.proofs.Common.{if◌then◌else◌, List, [], ◌∷◌, ◌++◌, length, slice_set, Option, Some}
-use Rattle.std.proofs.Common.{refl, sym, ap, ◌∙◌, subst, eq-eqb, ap₂, arith}
-use Rattle.std.specs.Prelude.{slice_get}
-use Rattle.std.specs.List.{list_any}
-use Rattle.std.proofs.lemmas.List.{append-nil}
-use Rattle.std.proofs.lemmas.List.Elements.{filter_map-append}
-use Rattle.std.proofs.lemmas.List.Folds.{list_any-append}
-use Rattle.std.proofs.Math.Bool.{or-false, or-true}
-use Rattle.std.proofs.lemmas.Option.{same_Some}
-use Rattle.quote_word.specs.PlainWords.{settlement_of, Exchanges}
-use Rattle.quote_word.specs.declared.settled.Settled.{Settled}
+use Rattle.step_replay.proofs.Common.{◌≡◌, ◌<◌, ℕ, zero, suc, ◌==◌, Bool, true, false, ◌&&◌, ◌||◌}
+use Rattle.step_replay.proofs.Common.{if◌then◌else◌, List, [], ◌∷◌, ◌++◌, length, slice_set, Option}
+use Rattle.step_replay.proofs.Common.{Some, refl, sym, ap, ◌∙◌, subst, eq-eqb, ap₂, arith}
+use Rattle.step_replay.proofs.Common.{slice_get, list_any, append-nil, filter_map-append}
+use Rattle.step_replay.proofs.Common.{list_any-append, or-false, same_Some, settlement_of}
+use Rattle.step_replay.proofs.Common.{Exchanges, Settled, Configuration, DealerRow, DeskEvents}
+use Rattle.step_replay.proofs.Common.{desk_after, withdraws, DealerEntry, Lifted, facts_of}
+use Rattle.step_replay.proofs.Common.{rooms_by, sent_by, was_lifted, was_withdrawn, Fact, of_dealer}
+use Rattle.step_replay.proofs.Common.{Noted, word_if, DealerStands, WordsStand, word_is}
+use Rattle.step_replay.proofs.Common.{DealerPlace, desk_with}
+use Rattle.std.proofs.Math.Bool.{or-true}
 use Rattle.quote_word.specs.declared.settled.Settled.TheVariants as settled
-use Rattle.venue_rows.specs.Rows.{Configuration}
-use Rattle.venue_rows.specs.declared.dealer_rows.DealerRow.{DealerRow}
-use Rattle.dealer_desk.specs.DealerDesk.{DeskEvents}
-use Rattle.dealer_desk.specs.DealerOutput.{desk_after, rooms_of}
-use Rattle.dealer_desk.specs.DeskLaws.{withdraws}
-use Rattle.step_replay.specs.DealerTrail.{DealerEntry, Lifted, fact_in, room_in, message_in}
-use Rattle.step_replay.specs.DealerTrail.{facts_of, rooms_by, sent_by, lifts, was_lifted}
-use Rattle.step_replay.specs.DealerTrail.{was_withdrawn}
-use Rattle.step_replay.specs.VenueFacts.{Fact, of_dealer}
-use Rattle.step_replay.specs.Liftings.{Noted}
-use Rattle.step_replay.specs.RowOfWords.{word_if}
-use Rattle.step_replay.specs.Standing.{DealerStands, WordsStand, word_is}
-use Rattle.step_replay.specs.declared.floor.DealerPlace.{DealerPlace}
-use Rattle.step_replay.specs.DealerGrowth.{desk_with}
+use Rattle.dealer_desk.specs.DealerOutput.{rooms_of}
+use Rattle.step_replay.specs.DealerTrail.{fact_in, room_in, message_in, lifts}
 use Rattle.step_replay.proofs.AskedWords.{IsWord, exchanged_stand}
 use Rattle.step_replay.proofs.FloorLemmas.{with_dealers}
 use Rattle.step_replay.proofs.LiftingLemmas.{dues_after_lifting, within_after_lifting}

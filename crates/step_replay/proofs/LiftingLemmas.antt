@@ -1,27 +1,18 @@
 -- The due list that the code keeps, from the events of a desk and the liftings, grows as that of the
 -- dealer's trail does.
-use Rattle.std.proofs.Common.{◌≡◌, ◌≤◌, ℕ, ◌+◌, ◌-◌, List, [], ◌∷◌, ◌++◌, map, filter_map, length}
-use Rattle.std.proofs.Common.{take, drop, get_or, Some, refl, subst, sym, ap, ◌∙◌, arith}
-use Rattle.std.specs.Prelude.{slice_get}
-use Rattle.std.specs.Vec.{with_item}
-use Rattle.std.proofs.lemmas.Option.{get_or_from_slice_get}
+use Rattle.step_replay.proofs.Common.{◌≡◌, ◌≤◌, ℕ, ◌+◌, ◌-◌, List, [], ◌∷◌, ◌++◌, map, filter_map}
+use Rattle.step_replay.proofs.Common.{length, take, drop, get_or, Some, refl, subst, sym, ap, ◌∙◌}
+use Rattle.step_replay.proofs.Common.{arith, slice_get, with_item, get_or_from_slice_get}
+use Rattle.step_replay.proofs.Common.{append_assoc, map-append, length-drop, length-append}
+use Rattle.step_replay.proofs.Common.{filter_map-append, DealerRow, DeskEvents, event_facts}
+use Rattle.step_replay.proofs.Common.{DealerEvent, DealerEntry, Lifted, book_by, entries_of}
+use Rattle.step_replay.proofs.Common.{due_by_fact, due_by_event, dues_behind, AreWithin, Noted}
+use Rattle.step_replay.proofs.Common.{NotedAt, Due, DealerPlace, Floor, Lifting}
 use Rattle.std.proofs.Math.Seq.{take-length, drop-length}
-use Rattle.std.proofs.lemmas.List.{append_assoc, map-append, drop-append-le, take-append-le}
-use Rattle.std.proofs.lemmas.List.{length-drop, length-append}
-use Rattle.std.proofs.lemmas.List.Elements.{filter_map-append}
-use Rattle.venue_rows.specs.declared.dealer_rows.DealerRow.{DealerRow}
-use Rattle.dealer_desk.specs.DealerDesk.{DeskEvents}
-use Rattle.dealer_desk.specs.DealerOutput.{event_facts}
-use Rattle.dealer_desk.specs.declared.events.DealerEvent.{DealerEvent}
-use Rattle.step_replay.specs.DealerTrail.{DealerEntry, Lifted, book_by, entries_of}
-use Rattle.step_replay.specs.DueList.{due_by, due_by_fact, due_list}
-use Rattle.step_replay.specs.Liftings.{due_by_event, dues_behind, AreWithin, Noted, NotedAt}
+use Rattle.std.proofs.lemmas.List.{drop-append-le, take-append-le}
+use Rattle.step_replay.specs.DueList.{due_by, due_list}
 use Rattle.step_replay.specs.Liftings.{lifting_at}
-use Rattle.step_replay.specs.declared.dues.Due.{Due}
 use Rattle.step_replay.specs.declared.dues.Due.TheVariants as due
-use Rattle.step_replay.specs.declared.floor.DealerPlace.{DealerPlace}
-use Rattle.step_replay.specs.declared.floor.Floor.{Floor}
-use Rattle.step_replay.specs.declared.floor.Lifting.{Lifting}
 use Rattle.step_replay.specs.DealerGrowth.{due_grown}
 use Rattle.step_replay.specs.EachLemmas.{every_both, every_weaker}
 

@@ -1,38 +1,25 @@
 -- A venue that answers as steps come: what is told, each step with the duties behind it, and where it
 -- stands.
-use Rattle.std.proofs.Common.{◌≡◌, ◌≤◌, ℕ, ◌+◌, ◌-◌, true, false, List, [], ◌∷◌, ◌++◌, length, fold}
-use Rattle.std.proofs.Common.{Option, Some, None, refl, sym, ap, ◌∙◌, arith}
-use Rattle.std.specs.Prelude.{nat_lt, slice_get}
+use Rattle.step_replay.proofs.Common.{◌≡◌, ◌≤◌, ℕ, ◌+◌, ◌-◌, true, false, List, [], ◌∷◌, ◌++◌}
+use Rattle.step_replay.proofs.Common.{length, fold, Option, Some, None, refl, sym, ap, ◌∙◌, arith}
+use Rattle.step_replay.proofs.Common.{slice_get, nat_tests, append-nil, append_assoc, length-map}
+use Rattle.step_replay.proofs.Common.{fold-append, Duty, Configuration, Actor, RoomRef, AuditTrail}
+use Rattle.step_replay.proofs.Common.{after_step, after_turn, audit_trail, no_steps, is_same_actor}
+use Rattle.step_replay.proofs.Common.{pending, ReplayStands, duties_in, Sent, actor_of, live_steps}
+use Rattle.step_replay.proofs.Common.{live_trail, messages_in, SendsAllOf, VenueSends, after_turns}
+use Rattle.step_replay.proofs.Common.{count_at, desk_of_step, first_in, sent_behind, IsAt}
+use Rattle.step_replay.proofs.Common.{VenueStands, room_of_step, QueueHas, is_known, queue_of}
+use Rattle.step_replay.proofs.Common.{Stands, fault_of, firms_of, Fact, LiveVenue, Replay, Step}
+use Rattle.step_replay.proofs.Common.{MOST_TURNS_BEHIND, duty_effect, message_effect, sweep_effect}
+use Rattle.step_replay.proofs.Common.{IsEmpty, Notes, deadline_in, other_pending, other_turned}
+use Rattle.step_replay.proofs.Common.{same_either}
+use Rattle.std.specs.Prelude.{nat_lt}
 use Rattle.std.specs.Option.{option_and_then}
-use Rattle.std.proofs.lemmas.Bool.Decides.{nat_tests}
-use Rattle.std.proofs.lemmas.List.{append-nil, append_assoc, length-map}
 use Rattle.std.proofs.lemmas.List.Concat.{flat_map-append}
-use Rattle.std.proofs.lemmas.List.Sums.{fold-append}
-use Rattle.market_terms.specs.declared.duties.Duty.{Duty}
-use Rattle.venue_rows.specs.Rows.{Configuration}
-use Rattle.venue_places.specs.declared.actors.Actor.{Actor}
 use Rattle.venue_places.specs.declared.actors.Actor.TheVariants as actor
-use Rattle.market_terms.specs.declared.rooms.RoomRef.{RoomRef}
-use Rattle.step_replay.specs.AuditTrail.{AuditTrail, after_step, after_turn, audit_trail, no_steps}
-use Rattle.step_replay.specs.AuditTrail.{is_same_actor, pending}
-use Rattle.step_replay.specs.Following.{ReplayStands, duties_in}
-use Rattle.step_replay.specs.LiveDays.{Sent, actor_of, live_steps, live_trail, messages_in}
 use Rattle.step_replay.specs.LiveDays.{with_turns}
-use Rattle.step_replay.specs.LiveStanding.{SendsAllOf, VenueSends, after_turns, count_at}
-use Rattle.step_replay.specs.LiveStanding.{desk_of_step, first_in, next_duty, sent_behind, Answers}
-use Rattle.step_replay.specs.LiveStanding.{IsAt, VenueStands, room_of_step}
-use Rattle.step_replay.specs.Queues.{QueueHas, is_known, queue_of}
-use Rattle.step_replay.specs.Standing.{Stands}
-use Rattle.step_replay.specs.StepFaults.{fault_of, firms_of}
-use Rattle.step_replay.specs.VenueFacts.{Fact}
-use Rattle.step_replay.specs.declared.live.LiveVenue.{LiveVenue}
-use Rattle.step_replay.specs.declared.replay.Replay.{Replay}
-use Rattle.step_replay.specs.declared.steps.Step.{Step}
+use Rattle.step_replay.specs.LiveStanding.{next_duty, Answers}
 use Rattle.step_replay.specs.declared.steps.Step.TheVariants as step
-use Rattle.step_replay.specs.declared.steps.TheConstants.{MOST_TURNS_BEHIND}
-use Rattle.step_replay.specs.DutyEffects.{duty_effect, message_effect, sweep_effect}
-use Rattle.step_replay.specs.OpenRooms.{IsEmpty, Notes, deadline_in}
-use Rattle.step_replay.specs.QueueLemmas.{other_pending, other_turned, same_either}
 use Rattle.step_replay.proofs.FollowLemmas.{has_queue}
 use Rattle.step_replay.proofs.StepEffects.{messages_both, step_adds}
 use Rattle.step_replay.proofs.StartLemmas.{known_actor, idle_turns, turns_both, turns_keep}

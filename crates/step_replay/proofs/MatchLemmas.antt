@@ -1,12 +1,9 @@
 -- Two lists that agree place by place: one place is looked up, changes, or comes behind the others.
-use Rattle.std.proofs.Common.{◌≡◌, ◌<◌, ◌≤◌, ℕ, zero, suc, ◌+◌, ◌==◌, false, List, [], ◌∷◌, ◌++◌}
-use Rattle.std.proofs.Common.{length, take, get_or, slice_set, Some, None, refl, sym, ap, ◌∙◌}
-use Rattle.std.proofs.Common.{subst, arith}
-use Rattle.std.specs.Prelude.{slice_get}
-use Rattle.std.proofs.lemmas.Bool.Decides.{nat_tests}
-use Rattle.std.proofs.lemmas.List.{length-take-le, take_more}
-use Rattle.std.proofs.lemmas.Option.{same_Some, slice_get_past}
-use Rattle.step_replay.specs.Matching.{Match}
+use Rattle.step_replay.proofs.Common.{◌≡◌, ◌<◌, ◌≤◌, ℕ, zero, suc, ◌+◌, ◌==◌, false, List, [], ◌∷◌}
+use Rattle.step_replay.proofs.Common.{◌++◌, length, take, get_or, slice_set, Some, None, refl, sym}
+use Rattle.step_replay.proofs.Common.{ap, ◌∙◌, subst, arith, slice_get, nat_tests, take_more}
+use Rattle.step_replay.proofs.Common.{same_Some, slice_get_past, Match}
+use Rattle.std.proofs.lemmas.List.{length-take-le}
 use Rattle.step_replay.specs.PlaceLemmas.{get_beyond}
 
 module _ {X Y : Type 0} (P : ℕ → X → Y → Type 0) where

@@ -1,18 +1,13 @@
 -- The earliest deadline of the rooms that are opening or open, told by the moments at which it has come.
-use Rattle.std.proofs.Common.{◌≡◌, ◌≤◌, ℕ, Bool, true, false, ◌||◌, nat_le, nat_lt, List, [], ◌∷◌}
-use Rattle.std.proofs.Common.{map, fold, Option, Some, None, if◌then◌else◌, refl, sym, ap, ◌∙◌}
-use Rattle.std.proofs.Common.{subst, arith}
-use Rattle.std.specs.List.{list_any}
-use Rattle.std.specs.Ordering.{is_eq}
-use Rattle.std.proofs.Math.Bool.{or-false, or_assoc}
-use Rattle.std.proofs.lemmas.Bool.Decides.{nat_tests, same_from_decides}
-use Rattle.market_terms.specs.declared.rooms.RoomRef.{RoomRef}
-use Rattle.venue_rows.specs.Rows.{Configuration, has_room}
-use Rattle.step_replay.specs.Deadlines.{deadline_of, earlier, next_deadline}
-use Rattle.step_replay.specs.OpenRooms.{IsEarliest, RoomsStand, has_come, room_cmp}
-use Rattle.step_replay.specs.VenueFacts.{Fact, of_room}
-use Rattle.step_replay.specs.VenueRooms.{rooms_of}
-use Rattle.step_replay.specs.declared.open_rooms.OpenRooms.{OpenRooms}
+use Rattle.step_replay.proofs.Common.{◌≡◌, ◌≤◌, ℕ, Bool, true, false, ◌||◌, nat_le, nat_lt, List}
+use Rattle.step_replay.proofs.Common.{[], ◌∷◌, map, fold, Option, Some, None, if◌then◌else◌, refl}
+use Rattle.step_replay.proofs.Common.{sym, ap, ◌∙◌, subst, arith, list_any, is_eq, or-false}
+use Rattle.step_replay.proofs.Common.{nat_tests, same_from_decides, RoomRef, Configuration}
+use Rattle.step_replay.proofs.Common.{has_room, deadline_of, RoomsStand, has_come, room_cmp, Fact}
+use Rattle.step_replay.proofs.Common.{of_room, rooms_of, OpenRooms}
+use Rattle.std.proofs.Math.Bool.{or_assoc}
+use Rattle.step_replay.specs.Deadlines.{earlier, next_deadline}
+use Rattle.step_replay.specs.OpenRooms.{IsEarliest}
 use Rattle.step_replay.proofs.OpenRoomLemmas.{held, held_is, one_room, own_room, passing, with_room}
 use Rattle.step_replay.proofs.RoomOrder.{is_among, rooms_are}
 

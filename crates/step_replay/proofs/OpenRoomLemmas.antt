@@ -1,37 +1,25 @@
 -- The rooms that are opening or open, by their deadlines, as the code keeps them and by the facts.
-use Rattle.std.proofs.Common.{◌≡◌, ◌<◌, ◌≤◌, ℕ, Bool, true, false, ◌&&◌, ◌||◌, cond, nat_le, List}
-use Rattle.std.proofs.Common.{[], ◌∷◌, ◌++◌, ◌==◌, Option, Some, None, if◌then◌else◌, refl, sym, ap, ◌∙◌, subst}
-use Rattle.std.proofs.Common.{arith, eq-eqb}
+use Rattle.step_replay.proofs.Common.{◌≡◌, ◌<◌, ◌≤◌, ℕ, Bool, true, false, ◌&&◌, ◌||◌, cond, nat_le}
+use Rattle.step_replay.proofs.Common.{List, [], ◌∷◌, ◌++◌, ◌==◌, Option, Some, None, if◌then◌else◌}
+use Rattle.step_replay.proofs.Common.{refl, sym, ap, ◌∙◌, subst, arith, eq-eqb, AllByRecursion}
+use Rattle.step_replay.proofs.Common.{list_any, IsStrictlySortedBy, deref, is_eq, Less, or-false}
+use Rattle.step_replay.proofs.Common.{nat_tests, same_from_decides, rest_more, RoomRef}
+use Rattle.step_replay.proofs.Common.{is_same_room, RoomFact, room_after, RoomEvent, Configuration}
+use Rattle.step_replay.proofs.Common.{has_room, any_due, entry_cmp, is_due, room_cmp, has_come}
+use Rattle.step_replay.proofs.Common.{IsEmpty, Notes, RoomsStand, deadline_by, deadline_in}
+use Rattle.step_replay.proofs.Common.{OpenRooms, same_room, deadline_of, Fact, of_room, room_stays}
 use denote.Ref.{Bor}
-use Rattle.std.specs.List.{AllByRecursion, list_any}
-use Rattle.std.specs.List.Sorted.{IsStrictlySortedBy}
-use Rattle.std.specs.Map.Iter.{TakesFirst, deref}
+use Rattle.std.specs.Map.Iter.{TakesFirst}
 use Rattle.std.specs.Cmp.{IsTotalOrder}
-use Rattle.std.specs.Ordering.{is_eq, is_gt, nat_cmp, ordering_then}
+use Rattle.std.specs.Ordering.{is_gt, nat_cmp, ordering_then}
 use Rattle.std.specs.declared.cmp.Ordering.{Ordering}
-use Rattle.std.specs.declared.cmp.Ordering.TheVariants.{Less, Equal, Greater}
-use Rattle.std.proofs.Math.Bool.{or-false}
+use Rattle.std.specs.declared.cmp.Ordering.TheVariants.{Equal, Greater}
 use Rattle.std.proofs.lemmas.Bool.{and_from, and_parts}
-use Rattle.std.proofs.lemmas.Bool.Decides.{nat_tests, same_from_decides}
 use Rattle.std.proofs.lemmas.Cmp.{nat_cmp_total, on_total, then_total, tied_itself}
 use Rattle.std.proofs.lemmas.List.Folds.{Any-from_list_any, list_any_at}
-use Rattle.std.proofs.lemmas.Map.Iter.{rest_more}
 use Rattle.std.proofs.lemmas.Map.Keys.{le_from_not_gt, sorted_head, sorted_tail}
 use Rattle.std.proofs.lemmas.Map.Lookups.{CmpEqualImpliesEq, exact_pairs, exact_unsigned}
-use Rattle.market_terms.specs.declared.rooms.RoomRef.{RoomRef}
-use Rattle.dealer_desk.specs.DealerOutput.{is_same_room}
-use Rattle.request_room.specs.RoomFacts.{RoomFact}
-use Rattle.request_room.specs.Book.{room_after}
-use Rattle.request_room.specs.declared.events.RoomEvent.{RoomEvent}
-use Rattle.venue_rows.specs.Rows.{Configuration, has_room}
-use Rattle.step_replay.specs.OpenRooms.{Entry, any_due, entry_cmp, holds, is_due, is_due_in}
-use Rattle.step_replay.specs.OpenRooms.{room_cmp, has_come, IsEmpty, Notes, RoomsStand}
-use Rattle.step_replay.specs.OpenRooms.{deadline_by, deadline_in, is_deadline}
-use Rattle.step_replay.specs.declared.open_rooms.OpenRooms.{OpenRooms}
-use Rattle.step_replay.specs.GrowthLemmas.{same_room}
-use Rattle.step_replay.specs.Deadlines.{deadline_of}
-use Rattle.step_replay.specs.VenueFacts.{Fact, of_room}
-use Rattle.step_replay.specs.PlaceLemmas.{room_stays}
+use Rattle.step_replay.specs.OpenRooms.{Entry, holds, is_due_in, is_deadline}
 use Rattle.step_replay.proofs.StepEffects.{AreOf, is_there}
 
 -- An item of a list that passes a test, so that what it passes some item passes.

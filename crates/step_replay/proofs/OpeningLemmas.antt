@@ -1,30 +1,20 @@
 -- The places of a venue at the start of a day stand where no fact stands.
-use Rattle.std.proofs.Common.{◌≡◌, ◌<◌, ◌≤◌, ℕ, zero, suc, ◌+◌, ◌-◌, nat_lt, Bool, true, false}
-use Rattle.std.proofs.Common.{if◌then◌else◌, List, [], ◌∷◌, ◌++◌, length, take, drop, get_or, replicate}
-use Rattle.std.proofs.Common.{Option, Some, None, option_map, refl, sym, ap, ◌∙◌, subst, arith}
-use Rattle.std.specs.Prelude.{slice_get}
-use Rattle.std.proofs.lemmas.Grind.{common_steps}
-use Rattle.std.proofs.lemmas.Option.{gets}
-use Rattle.std.proofs.lemmas.List.{append-nil, append_assoc, length-replicate, length-append}
-use Rattle.std.proofs.lemmas.List.{drop_all, take_all}
+use Rattle.step_replay.proofs.Common.{◌≡◌, ◌<◌, ◌≤◌, ℕ, zero, suc, ◌+◌, ◌-◌, nat_lt, Bool, true}
+use Rattle.step_replay.proofs.Common.{false, if◌then◌else◌, List, [], ◌∷◌, ◌++◌, length, take, drop}
+use Rattle.step_replay.proofs.Common.{get_or, replicate, Option, Some, None, option_map, refl, sym}
+use Rattle.step_replay.proofs.Common.{ap, ◌∙◌, subst, arith, slice_get, common_steps, gets}
+use Rattle.step_replay.proofs.Common.{append-nil, append_assoc, length-replicate, length-append}
+use Rattle.step_replay.proofs.Common.{take_all, entry_in, Settled, Configuration, DealerRow}
+use Rattle.step_replay.proofs.Common.{desk_after, DealerEvent, QuoteRef, quote_among, quotes_of}
+use Rattle.step_replay.proofs.Common.{word_for, dealer_of, AreWithin, dues_behind, Match}
+use Rattle.step_replay.proofs.Common.{DealersOpen, InvestorOpens, Opens, owners_from, DealerIs}
+use Rattle.step_replay.proofs.Common.{InvestorStands, Stands, of_dealer, DealerPlace, Floor}
+use Rattle.step_replay.proofs.Common.{Lifting}
+use Rattle.std.proofs.lemmas.List.{drop_all}
 use Rattle.std.proofs.lemmas.List.Sums.{sum_by-cons, sum_by_more}
-use Rattle.quote_word.specs.PlainWords.{entry_in}
-use Rattle.quote_word.specs.declared.settled.Settled.{Settled}
-use Rattle.venue_rows.specs.Rows.{Configuration}
-use Rattle.venue_rows.specs.declared.dealer_rows.DealerRow.{DealerRow}
 use Rattle.dealer_desk.specs.DealerDesk as dealer_desk
 use Rattle.dealer_desk.specs.DealerOutput as dealer
-use Rattle.dealer_desk.specs.DealerOutput.{desk_after}
-use Rattle.dealer_desk.specs.declared.events.DealerEvent.{DealerEvent}
-use Rattle.step_replay.specs.Actions.{QuoteRef, quote_among, quotes_of, word_for, dealer_of}
-use Rattle.step_replay.specs.Liftings.{AreWithin, dues_behind}
-use Rattle.step_replay.specs.Matching.{Match}
-use Rattle.step_replay.specs.Openings.{DealerOpens, DealersOpen, InvestorOpens, Opens, owners_from}
-use Rattle.step_replay.specs.Standing.{DealerIs, InvestorStands, Stands}
-use Rattle.step_replay.specs.VenueFacts.{of_dealer}
-use Rattle.step_replay.specs.declared.floor.DealerPlace.{DealerPlace}
-use Rattle.step_replay.specs.declared.floor.Floor.{Floor}
-use Rattle.step_replay.specs.declared.floor.Lifting.{Lifting}
+use Rattle.step_replay.specs.Openings.{DealerOpens}
 use Rattle.step_replay.proofs.InvestorOpeningLemmas.{investor_begins}
 use Rattle.step_replay.proofs.MatchLemmas.{grown, kept}
 

@@ -1,29 +1,22 @@
 -- What comes to a room of a replay does what it should.
-use Rattle.std.proofs.Common.{◌≡◌, ℕ, Bool, true, false, ◌&&◌, List, [], ◌++◌, if◌then◌else◌, refl}
-use Rattle.std.proofs.Common.{sym, ap, ◌∙◌, arith}
-use Rattle.std.proofs.lemmas.List.{append-nil}
-use Rattle.venue_rows.specs.Rows.{Configuration, has_room}
-use Rattle.market_terms.specs.declared.duties.Duty.{Duty}
+use Rattle.step_replay.proofs.Common.{◌≡◌, ℕ, Bool, true, false, ◌&&◌, List, [], ◌++◌}
+use Rattle.step_replay.proofs.Common.{if◌then◌else◌, refl, sym, ap, ◌∙◌, arith, append-nil}
+use Rattle.step_replay.proofs.Common.{Configuration, has_room, Duty, RoomRef, RoomFact, room_after}
+use Rattle.step_replay.proofs.Common.{RoomEvent, where_done, Fact, of_room, nothing, room_gets}
+use Rattle.step_replay.proofs.Common.{Stands, Does, InvestorPlace, Floor}
 use Rattle.market_terms.specs.declared.duties.Duty.TheVariants as duty
-use Rattle.market_terms.specs.declared.rooms.RoomRef.{RoomRef}
-use Rattle.request_room.specs.RoomFacts.{RoomFact, Opened, Readied, is_vacant, is_opening, hears}
+use Rattle.request_room.specs.RoomFacts.{Opened, Readied, is_vacant, is_opening, hears}
 use Rattle.request_room.specs.RoomFacts.{takes_quotes}
-use Rattle.request_room.specs.Book.{room_after, event_facts, where_so, may_unpost}
-use Rattle.request_room.specs.declared.events.RoomEvent.{RoomEvent}
+use Rattle.request_room.specs.Book.{event_facts, where_so, may_unpost}
 use Rattle.request_room.specs.declared.events.RoomEvent.TheVariants as at_room
 use Rattle.venue_places.specs.Brought.{room_with, duties_in_room}
 use Rattle.venue_places.specs.declared.arrivals.ForRoom.{ForRoom}
 use Rattle.venue_places.specs.declared.arrivals.ForRoom.TheVariants as to_room
-use Rattle.venue_steps.specs.RoomSteps.{where_done, where_follows, duties_of_open, duties_of_pass}
+use Rattle.venue_steps.specs.RoomSteps.{where_follows, duties_of_open, duties_of_pass}
 use Rattle.venue_steps.specs.RoomSteps.{duties_of_expire, duties_of_decline, duties_of_unpost}
 use Rattle.venue_steps.specs.RoomSteps.{duties_of_post}
 use Rattle.venue_steps.proofs.EndLemmas.{after_more}
-use Rattle.step_replay.specs.VenueFacts.{Fact, of_room}
-use Rattle.step_replay.specs.Actions.{in_room, nothing}
-use Rattle.step_replay.specs.Coming.{room_gets}
-use Rattle.step_replay.specs.Standing.{Stands, Does}
-use Rattle.step_replay.specs.declared.floor.InvestorPlace.{InvestorPlace}
-use Rattle.step_replay.specs.declared.floor.Floor.{Floor}
+use Rattle.step_replay.specs.Actions.{in_room}
 use Rattle.step_replay.proofs.RoomPlaceLemmas.{FoundRoom, floor_with, in_room_stands}
 
 -- the room after an event, where it takes place

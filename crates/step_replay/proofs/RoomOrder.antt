@@ -1,21 +1,14 @@
 -- Every room of a venue: in order, and none is left out.
-use Rattle.std.proofs.Common.{◌≡◌, ◌<◌, ◌≤◌, ℕ, zero, suc, ◌+◌, ◌-◌, ◌==◌, Bool, true, false, ◌&&◌}
-use Rattle.std.proofs.Common.{◌||◌, List, [], ◌∷◌, ◌++◌, length, Option, Some, None, if◌then◌else◌}
-use Rattle.std.proofs.Common.{nat_le, nat_lt, refl, sym, ap, ◌∙◌, arith, eq-eqb, ◌⊎◌, inl, inr}
-use Rattle.std.specs.Prelude.{slice_get}
-use Rattle.std.specs.List.{AllByRecursion, list_any}
-use Rattle.std.specs.List.Sorted.{IsStrictlySortedBy}
-use Rattle.std.specs.Ordering.{is_eq}
-use Rattle.std.specs.declared.cmp.Ordering.TheVariants.{Less}
-use Rattle.std.proofs.lemmas.Bool.{and_left, both_ways, cases_lt, le-ltb, lt-ltb, or_cases, or_from}
-use Rattle.std.proofs.lemmas.Bool.{or_left, or_right}
-use Rattle.std.proofs.lemmas.Bool.Decides.{nat_tests}
-use Rattle.std.proofs.lemmas.List.Folds.{list_any-append}
-use Rattle.market_terms.specs.declared.rooms.RoomRef.{RoomRef}
-use Rattle.venue_rows.specs.Rows.{Configuration, has_room, may_request}
-use Rattle.venue_rows.specs.declared.investor_rows.InvestorRow.{InvestorRow}
-use Rattle.step_replay.specs.OpenRooms.{room_cmp}
-use Rattle.step_replay.specs.VenueRooms.{requests_of, rooms_behind, rooms_from, rooms_of}
+use Rattle.step_replay.proofs.Common.{◌≡◌, ◌<◌, ◌≤◌, ℕ, zero, suc, ◌+◌, ◌-◌, ◌==◌, Bool, true}
+use Rattle.step_replay.proofs.Common.{false, ◌&&◌, ◌||◌, List, [], ◌∷◌, ◌++◌, length, Option, Some}
+use Rattle.step_replay.proofs.Common.{None, if◌then◌else◌, nat_le, nat_lt, refl, sym, ap, ◌∙◌}
+use Rattle.step_replay.proofs.Common.{arith, eq-eqb, ◌⊎◌, inl, inr, slice_get, AllByRecursion}
+use Rattle.step_replay.proofs.Common.{list_any, IsStrictlySortedBy, is_eq, Less, and_left}
+use Rattle.step_replay.proofs.Common.{both_ways, cases_lt, nat_tests, list_any-append, RoomRef}
+use Rattle.step_replay.proofs.Common.{Configuration, has_room, may_request, InvestorRow, room_cmp}
+use Rattle.step_replay.proofs.Common.{rooms_of}
+use Rattle.std.proofs.lemmas.Bool.{le-ltb, lt-ltb, or_cases, or_from, or_left, or_right}
+use Rattle.step_replay.specs.VenueRooms.{requests_of, rooms_behind, rooms_from}
 use Rattle.step_replay.proofs.OpenRoomLemmas.{own_room, tied_rooms}
 
 abbrev is_room : RoomRef → RoomRef → Bool

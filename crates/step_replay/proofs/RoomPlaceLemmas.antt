@@ -1,31 +1,22 @@
 -- Where the rooms of a replay stand, and the places after more facts in one of them.
-use Rattle.std.proofs.Common.{◌≡◌, ◌<◌, ◌≤◌, ℕ, ◌+◌, ◌-◌, Bool, true, false, ◌&&◌, List, length}
-use Rattle.std.proofs.Common.{get_or, nat_le, nat_lt, Option, Some, None, if◌then◌else◌, refl, sym}
-use Rattle.std.proofs.Common.{ap, ◌∙◌, subst, arith, ◌++◌, map, ◌==◌}
-use Rattle.std.specs.Prelude.{slice_get}
-use Rattle.std.proofs.lemmas.Bool.Decides.{nat_tests}
-use Rattle.std.proofs.lemmas.List.{length-replicate}
-use Rattle.std.proofs.lemmas.Option.{cond_some, get_or_from_slice_get, slice_get_within}
-use Rattle.std.specs.Vec.{with_item}
-use Rattle.venue_rows.specs.Rows.{Configuration, investor_numbered, has_room, may_request}
-use Rattle.venue_rows.specs.declared.investor_rows.InvestorRow.{InvestorRow}
-use Rattle.market_terms.specs.declared.rooms.RoomRef.{RoomRef}
-use Rattle.request_room.specs.Book.{room_after}
-use Rattle.request_room.specs.declared.events.RoomEvent.{RoomEvent}
-use Rattle.request_room.specs.RoomFacts.{RoomFact}
-use Rattle.step_replay.specs.VenueFacts.{Fact, of_room, InRoom}
+use Rattle.step_replay.proofs.Common.{◌≡◌, ◌<◌, ◌≤◌, ℕ, ◌+◌, ◌-◌, Bool, true, false, ◌&&◌, List}
+use Rattle.step_replay.proofs.Common.{length, get_or, nat_le, nat_lt, Option, Some, None}
+use Rattle.step_replay.proofs.Common.{if◌then◌else◌, refl, sym, ap, ◌∙◌, subst, arith, ◌++◌, map}
+use Rattle.step_replay.proofs.Common.{◌==◌, slice_get, nat_tests, length-replicate}
+use Rattle.step_replay.proofs.Common.{get_or_from_slice_get, slice_get_within, with_item}
+use Rattle.step_replay.proofs.Common.{Configuration, investor_numbered, has_room, may_request}
+use Rattle.step_replay.proofs.Common.{InvestorRow, RoomRef, room_after, RoomEvent, RoomFact, Fact}
+use Rattle.step_replay.proofs.Common.{of_room, InRoom, InvestorStands, RoomIs, Stands, slots}
+use Rattle.step_replay.proofs.Common.{InvestorPlace, Floor, behind_dealers, lent, numbered_at}
+use Rattle.step_replay.proofs.Common.{investor_stays, other_room, room_grown, room_stays, desk_of}
+use Rattle.step_replay.proofs.Common.{and_left}
+use Rattle.std.proofs.lemmas.Option.{cond_some}
 use Rattle.step_replay.specs.RoomPlaces.{within, room_place}
-use Rattle.step_replay.specs.Standing.{InvestorStands, RoomIs, Stands, slots}
-use Rattle.step_replay.specs.declared.floor.InvestorPlace.{InvestorPlace}
-use Rattle.step_replay.specs.declared.floor.Floor.{Floor}
-use Rattle.step_replay.specs.PlaceLemmas.{own_room, behind_dealers, lent, numbered_at}
-use Rattle.step_replay.specs.PlaceLemmas.{investor_in_room, investor_stays, other_room, room_grown}
-use Rattle.step_replay.specs.PlaceLemmas.{room_stays, trail_in_room}
-use Rattle.step_replay.specs.InvestorGrowth.{desk_of}
+use Rattle.step_replay.specs.PlaceLemmas.{own_room, investor_in_room, trail_in_room}
 use Rattle.step_replay.proofs.FloorLemmas.{dealer_count, at_investor_stands}
 use Rattle.step_replay.proofs.InvestorPlaceLemmas.{investor_found}
 use Rattle.step_replay.proofs.MatchLemmas.{as_many, found, flipped, changed}
-use Rattle.std.proofs.lemmas.Bool.{and_left, and_right}
+use Rattle.std.proofs.lemmas.Bool.{and_right}
 
 -- the place that the code found for a room
 pub record PlaceOf (floor : Floor) (at : RoomRef) (investor index : ℕ) : Type 0 where

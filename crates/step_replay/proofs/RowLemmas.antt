@@ -1,26 +1,20 @@
 -- What becomes of the row of words that stands for a view, exchange by exchange and as a quote is
 -- lifted.
-use Rattle.std.proofs.Common.{◌≡◌, ◌≢◌, ◌≤◌, ◌<◌, ℕ, ◌-◌, ◌==◌, nat_le, Bool, true, false, ◌&&◌}
-use Rattle.std.proofs.Common.{◌||◌, if◌then◌else◌, List, [], ◌∷◌, length, Option, Some, None}
-use Rattle.std.proofs.Common.{IfSome, option_map, refl, sym, ap, ◌∙◌, arith, eq-eqb, not, ◌++◌}
-use Rattle.std.proofs.Common.{subst}
-use Rattle.std.proofs.lemmas.Bool.Decides.{nat_tests}
-use Rattle.std.specs.List.{list_any}
-use Rattle.std.proofs.Math.Bool.{or-false}
-use Rattle.std.proofs.lemmas.List.Folds.{list_any-append}
-use Rattle.quote_word.specs.PlainWords.{settlement_of, entry_in, Exchanges, after_exchange}
-use Rattle.quote_word.specs.PlainWordsLaws.{exchange_answers_entry, exchange_keeps_others}
-use Rattle.quote_word.specs.declared.settled.Settled.{Settled}
+use Rattle.step_replay.proofs.Common.{◌≡◌, ◌≢◌, ◌≤◌, ◌<◌, ℕ, ◌-◌, ◌==◌, nat_le, Bool, true, false}
+use Rattle.step_replay.proofs.Common.{◌&&◌, ◌||◌, if◌then◌else◌, List, [], ◌∷◌, length, Option}
+use Rattle.step_replay.proofs.Common.{Some, None, IfSome, option_map, refl, sym, ap, ◌∙◌, arith}
+use Rattle.step_replay.proofs.Common.{eq-eqb, not, ◌++◌, subst, nat_tests, list_any, or-false}
+use Rattle.step_replay.proofs.Common.{list_any-append, settlement_of, entry_in, Exchanges}
+use Rattle.step_replay.proofs.Common.{exchange_answers_entry, exchange_keeps_others, Settled}
+use Rattle.step_replay.proofs.Common.{DeskEvents, book_at, with_event, asked_by, asked_word}
+use Rattle.step_replay.proofs.Common.{says_withdrawn, DealerEvent, DealerView, answer_to}
+use Rattle.step_replay.proofs.Common.{is_withdrawn_at, with_event_at_desk, AreWordsOf}
+use Rattle.step_replay.proofs.Common.{GrowsByEvents, IsOfRow, Row, StandsFor, with_asked, with_wish}
+use Rattle.step_replay.proofs.Common.{withdraws_by, word_if}
+use Rattle.quote_word.specs.PlainWords.{after_exchange}
 use Rattle.quote_word.specs.declared.settled.Settled.TheVariants.{Withdrawn, Lifted}
-use Rattle.dealer_desk.specs.DealerDesk.{DeskEvents, book_at, with_event}
-use Rattle.dealer_desk.specs.SettledWords.{asked_by, asked_word}
-use Rattle.dealer_desk.specs.DeskLaws.{says_withdrawn}
-use Rattle.dealer_desk.specs.declared.events.DealerEvent.{DealerEvent}
-use Rattle.step_replay.specs.DealerView.{DealerView, answer_to, is_lifted, is_withdrawn_at}
-use Rattle.step_replay.specs.DealerView.{with_event_at_desk}
-use Rattle.step_replay.specs.RowOfWords.{AreWordsOf, GrowsByEvents, IsOfRow, Row, StandsFor}
-use Rattle.step_replay.specs.RowOfWords.{settlement_in, with_asked, with_wish, withdraws_by}
-use Rattle.step_replay.specs.RowOfWords.{word_if, word_of}
+use Rattle.step_replay.specs.DealerView.{is_lifted}
+use Rattle.step_replay.specs.RowOfWords.{settlement_in, word_of}
 
 -- Tests.
 

@@ -1,37 +1,24 @@
 -- A day before its first step, its steps one after the other, and a part at a time.
-use Rattle.std.proofs.Common.{◌≡◌, ◌<◌, ℕ, ◌+◌, nat_lt, true, false, Bool, if◌then◌else◌, List, []}
-use Rattle.std.proofs.Common.{◌∷◌, ◌++◌, length, take, replicate, get_or, Option, Some, None, refl}
-use Rattle.std.proofs.Common.{sym, ap, ◌∙◌, subst, arith, fold, drop, append-nil, append_assoc, suc}
-use Rattle.std.proofs.Common.{zero}
-use Rattle.std.specs.Prelude.{slice_get}
-use Rattle.std.proofs.lemmas.Bool.Decides.{nat_tests}
-use Rattle.std.proofs.lemmas.List.{length-replicate, take_more, take-append-drop}
-use Rattle.std.proofs.lemmas.List.{replicate-append-replicate}
+use Rattle.step_replay.proofs.Common.{◌≡◌, ◌<◌, ℕ, ◌+◌, nat_lt, true, false, Bool, if◌then◌else◌}
+use Rattle.step_replay.proofs.Common.{List, [], ◌∷◌, ◌++◌, length, take, replicate, get_or, Option}
+use Rattle.step_replay.proofs.Common.{Some, None, refl, sym, ap, ◌∙◌, subst, arith, fold, drop, suc}
+use Rattle.step_replay.proofs.Common.{zero, slice_get, nat_tests, length-replicate, take_more}
+use Rattle.step_replay.proofs.Common.{common_steps, fold-append, Duty, Configuration, has_room}
+use Rattle.step_replay.proofs.Common.{RoomRef, Actor, AuditTrail, audit_trail, after_step, no_steps}
+use Rattle.step_replay.proofs.Common.{pending, after_turn, with_effect, message_effect}
+use Rattle.step_replay.proofs.Common.{sweep_effect, AreKnown, IsLeft, after_steps, ReplayStands}
+use Rattle.step_replay.proofs.Common.{duties_in, Opens, QueueHas, QueuesStand, is_known, queue_of}
+use Rattle.step_replay.proofs.Common.{AreOneOf, fault_of, first_fault_from, firms_of, first_fault}
+use Rattle.step_replay.proofs.Common.{of_dealer, Replay, Step, after_turns}
+use Rattle.std.proofs.Common.{append-nil, append_assoc}
+use Rattle.std.proofs.lemmas.List.{take-append-drop, replicate-append-replicate}
 use Rattle.std.proofs.lemmas.List.Elements.{All-cons, All-nil, All-drop, All-same, All-take}
-use Rattle.std.proofs.lemmas.Grind.{common_steps}
-use Rattle.std.proofs.lemmas.List.Sums.{fold-append}
-use Rattle.market_terms.specs.declared.duties.Duty.{Duty}
-use Rattle.venue_rows.specs.Rows.{Configuration, has_room}
-use Rattle.market_terms.specs.declared.rooms.RoomRef.{RoomRef}
-use Rattle.venue_places.specs.declared.actors.Actor.{Actor}
 use Rattle.venue_places.specs.declared.actors.Actor.TheVariants as actor
-use Rattle.step_replay.specs.AuditTrail.{AuditTrail, audit_trail, after_step, no_steps, pending}
-use Rattle.step_replay.specs.AuditTrail.{after_turn, with_effect}
-use Rattle.step_replay.specs.DutyEffects.{message_effect, sweep_effect}
-use Rattle.step_replay.specs.DoneSteps.{AreKnown, IsLeft, after_steps}
-use Rattle.step_replay.specs.Following.{ReplayStands, duties_in, Follows}
-use Rattle.step_replay.specs.Openings.{Opens}
-use Rattle.step_replay.specs.Queues.{QueueHas, QueuesStand, is_known, queue_of}
-use Rattle.step_replay.specs.Standing.{AreOneOf}
-use Rattle.step_replay.specs.StepFaults.{fault_of, fault_of_firm, first_fault_from, firms_of}
-use Rattle.step_replay.specs.StepFaults.{or_else, first_fault}
-use Rattle.step_replay.specs.VenueFacts.{of_dealer}
+use Rattle.step_replay.specs.Following.{Follows}
+use Rattle.step_replay.specs.StepFaults.{fault_of_firm, or_else}
 use Rattle.step_replay.specs.declared.faults.ReplayFault.{ReplayFault}
 use Rattle.step_replay.specs.declared.faults.ReplayFault.TheVariants as fault
-use Rattle.step_replay.specs.declared.replay.Replay.{Replay}
-use Rattle.step_replay.specs.declared.steps.Step.{Step}
 use Rattle.step_replay.specs.declared.steps.Step.TheVariants as step
-use Rattle.step_replay.specs.LiveStanding.{after_turns}
 use Rattle.step_replay.proofs.ListEnds.{get_same}
 use Rattle.step_replay.proofs.OpeningLemmas.{all_begin}
 

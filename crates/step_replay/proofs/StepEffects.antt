@@ -1,40 +1,25 @@
 -- What a step adds to the facts of rooms, it adds in the one room in which it takes place, and what it
 -- sends, it sends to one firm.
-use Rattle.std.proofs.Common.{◌≡◌, ℕ, Bool, false, List, [], ◌∷◌, ◌++◌, map, Option, Some, None}
-use Rattle.std.proofs.Common.{refl, sym, ap, ◌∙◌, ◌<◌, true, nat_lt, length, filter_map, arith, ap₂}
+use Rattle.step_replay.proofs.Common.{◌≡◌, ℕ, Bool, false, List, [], ◌∷◌, ◌++◌, map, Option, Some}
+use Rattle.step_replay.proofs.Common.{None, refl, sym, ap, ◌∙◌, ◌<◌, true, nat_lt, length}
+use Rattle.step_replay.proofs.Common.{filter_map, arith, ap₂, nat_tests, append-nil}
+use Rattle.step_replay.proofs.Common.{filter_map-append, slice_get_past, slice_get_within, RoomRef}
+use Rattle.step_replay.proofs.Common.{HitRefusal, RoomFact, End, Configuration, dealer_numbered}
+use Rattle.step_replay.proofs.Common.{investor_numbered, is_same_room, Duty, DealerRow, InvestorRow}
+use Rattle.step_replay.proofs.Common.{Actor, IsAction, duty_action, message_action, sweep_action}
+use Rattle.step_replay.proofs.Common.{Effect, QuoteRef, lifting, quote_with_word, DealerEntry}
+use Rattle.step_replay.proofs.Common.{InvestorEntry, Fact, AtDealer, InRoom, AtInvestor, of_room}
+use Rattle.step_replay.proofs.Common.{other_room, room_at_dealer, room_at_investor, room_grown}
+use Rattle.step_replay.proofs.Common.{behind_dealers, own_trail, own_investor, AuditTrail}
+use Rattle.step_replay.proofs.Common.{after_step, after_turn, pending, duty_effect, message_effect}
+use Rattle.step_replay.proofs.Common.{sweep_effect, Sent, actor_of, is_dealer, messages_in}
+use Rattle.step_replay.proofs.Common.{sent_by_facts, sent_in, desk_of_step, first_in, room_of_step}
+use Rattle.step_replay.proofs.Common.{firms_of, Step}
 use Rattle.std.specs.Prelude.{Result, is_some}
-use Rattle.std.proofs.lemmas.Bool.Decides.{nat_tests}
-use Rattle.std.proofs.lemmas.List.{append-nil}
-use Rattle.std.proofs.lemmas.List.Elements.{filter_map-append}
-use Rattle.std.proofs.lemmas.Option.{slice_get_past, slice_get_within}
-use Rattle.market_terms.specs.declared.rooms.RoomRef.{RoomRef}
-use Rattle.market_terms.specs.declared.closes.HitRefusal.{HitRefusal}
-use Rattle.request_room.specs.RoomFacts.{RoomFact}
-use Rattle.request_room.specs.declared.ends.End.{End}
-use Rattle.venue_rows.specs.Rows.{Configuration, dealer_numbered, investor_numbered}
-use Rattle.dealer_desk.specs.DealerOutput.{is_same_room}
-use Rattle.market_terms.specs.declared.duties.Duty.{Duty}
-use Rattle.venue_rows.specs.declared.dealer_rows.DealerRow.{DealerRow}
-use Rattle.venue_rows.specs.declared.investor_rows.InvestorRow.{InvestorRow}
-use Rattle.venue_places.specs.declared.actors.Actor.{Actor}
-use Rattle.step_replay.specs.ActionKinds.{IsAction, by_dealer, by_hit, by_investor, by_room, idle}
-use Rattle.step_replay.specs.ActionKinds.{duty_action, message_action, sweep_action}
-use Rattle.step_replay.specs.Actions.{Effect, QuoteRef, lifting, quote_with_word}
-use Rattle.step_replay.specs.DealerTrail.{DealerEntry}
-use Rattle.step_replay.specs.InvestorTrail.{InvestorEntry}
-use Rattle.step_replay.specs.VenueFacts.{Fact, AtDealer, InRoom, AtInvestor, of_room}
-use Rattle.step_replay.specs.PlaceLemmas.{other_room, room_at_dealer, room_at_investor, room_grown}
-use Rattle.step_replay.specs.PlaceLemmas.{behind_dealers, nothing_of, own_trail, own_investor}
-use Rattle.step_replay.specs.PlaceLemmas.{investor_within}
-use Rattle.step_replay.specs.AuditTrail.{AuditTrail, after_step, after_turn, pending}
-use Rattle.step_replay.specs.DutyEffects.{duty_effect, message_effect, sweep_effect}
+use Rattle.step_replay.specs.ActionKinds.{by_dealer, by_hit, by_investor, by_room, idle}
+use Rattle.step_replay.specs.PlaceLemmas.{nothing_of, investor_within}
 use Rattle.step_replay.specs.DealerTrail as dealer_trail
 use Rattle.step_replay.specs.InvestorTrail as investor_trail
-use Rattle.step_replay.specs.LiveDays.{Sent, actor_of, is_dealer, messages_in, sent_by_facts}
-use Rattle.step_replay.specs.LiveDays.{sent_in}
-use Rattle.step_replay.specs.LiveStanding.{desk_of_step, first_in, room_of_step}
-use Rattle.step_replay.specs.StepFaults.{firms_of}
-use Rattle.step_replay.specs.declared.steps.Step.{Step}
 use Rattle.step_replay.specs.declared.steps.Step.TheVariants as step
 
 -- whether a room is the one in which something takes place

@@ -1,38 +1,28 @@
 -- A sweep of a room: where the room is not due nothing happens, and else nothing in another room.
-use Rattle.std.proofs.Common.{◌≡◌, ◌≤◌, ℕ, Bool, true, false, ◌&&◌, not, List, [], ◌∷◌, ◌++◌, map}
-use Rattle.std.proofs.Common.{length, filter_map, count_by, Option, Some, None, if◌then◌else◌, refl}
-use Rattle.std.proofs.Common.{sym, ap, ◌∙◌, subst, is_some, option_map}
-use Rattle.std.specs.List.{AllByRecursion}
-use Rattle.std.proofs.lemmas.List.{append-nil}
-use Rattle.market_terms.specs.declared.duties.Duty.{Duty}
+use Rattle.step_replay.proofs.Common.{◌≡◌, ◌≤◌, ℕ, Bool, true, false, ◌&&◌, not, List, [], ◌∷◌}
+use Rattle.step_replay.proofs.Common.{◌++◌, map, length, filter_map, count_by, Option, Some, None}
+use Rattle.step_replay.proofs.Common.{if◌then◌else◌, refl, sym, ap, ◌∙◌, subst, is_some, option_map}
+use Rattle.step_replay.proofs.Common.{AllByRecursion, append-nil, Duty, RoomRef, is_same_room}
+use Rattle.step_replay.proofs.Common.{InvestorMarket, may_expire, RoomFact, End, Configuration}
+use Rattle.step_replay.proofs.Common.{has_room, Actor, Dealer, Effect, at_dealer, at_market}
+use Rattle.step_replay.proofs.Common.{dealer_at, done_by, done_for, nothing, told_of, where_known}
+use Rattle.step_replay.proofs.Common.{duty_effect, sweep_effect, AuditTrail, after_step, after_turn}
+use Rattle.step_replay.proofs.Common.{duty_of, is_same_actor, pending, with_effect, after_turns}
+use Rattle.step_replay.proofs.Common.{deadline_by, has_come, is_due, Fact, of_room}
+use Rattle.step_replay.proofs.Common.{MOST_TURNS_BEHIND, own_pending, own_turned, duty_action}
+use Rattle.step_replay.proofs.Common.{sweep_action, room_stays}
 use Rattle.market_terms.specs.declared.duties.Duty.TheVariants as duty
-use Rattle.market_terms.specs.declared.rooms.RoomRef.{RoomRef}
-use Rattle.dealer_desk.specs.DealerOutput.{is_same_room}
 use Rattle.dealer_desk.specs.declared.events.DealerEvent.TheVariants as at_desk
 use Rattle.investor_desk.specs.InvestorDesk as investor_desk
-use Rattle.investor_desk.specs.InvestorRules.{InvestorMarket}
 use Rattle.investor_desk.specs.declared.events.InvestorEvent.TheVariants as at_investor
-use Rattle.request_room.specs.Book.{event_facts, expired, is_past_deadline, may_expire}
-use Rattle.request_room.specs.RoomFacts.{RoomFact, is_ended, is_ready, request_of}
-use Rattle.request_room.specs.declared.ends.End.{End}
+use Rattle.request_room.specs.Book.{event_facts, expired, is_past_deadline}
+use Rattle.request_room.specs.RoomFacts.{is_ended, is_ready, request_of}
 use Rattle.request_room.specs.declared.requests.RoomRequest.{RoomRequest}
-use Rattle.venue_rows.specs.Rows.{Configuration, has_room}
 use Rattle.venue_steps.specs.RoomSteps.{close_for, dealers_of, told_in}
-use Rattle.venue_places.specs.declared.actors.Actor.{Actor}
 use Rattle.venue_places.specs.declared.actors.Actor.TheVariants as actor
-use Rattle.step_replay.specs.Actions.{Dealer, Effect, at_dealer, at_market, dealer_at, done_by}
-use Rattle.step_replay.specs.Actions.{done_for, nothing, told_of, told_to, where_known}
-use Rattle.step_replay.specs.DutyEffects.{duty_effect, sweep_effect}
-use Rattle.step_replay.specs.AuditTrail.{AuditTrail, after_step, after_turn, duty_of}
-use Rattle.step_replay.specs.AuditTrail.{is_same_actor, pending, with_effect}
-use Rattle.step_replay.specs.LiveStanding.{after_turns, room_of_duty}
-use Rattle.step_replay.specs.OpenRooms.{deadline_by, has_come, is_due}
-use Rattle.step_replay.specs.VenueFacts.{Fact, of_room}
+use Rattle.step_replay.specs.Actions.{told_to}
+use Rattle.step_replay.specs.LiveStanding.{room_of_duty}
 use Rattle.step_replay.specs.declared.steps.Step.TheVariants as step
-use Rattle.step_replay.specs.declared.steps.TheConstants.{MOST_TURNS_BEHIND}
-use Rattle.step_replay.specs.QueueLemmas.{own_pending, own_turned}
-use Rattle.step_replay.specs.ActionKinds.{duty_action, sweep_action}
-use Rattle.step_replay.specs.PlaceLemmas.{room_stays}
 use Rattle.step_replay.proofs.StartLemmas.{idle_step, idle_turns, swept, turned, turns_keep}
 use Rattle.step_replay.proofs.StepEffects.{AreOf, action_there}
 

@@ -1,33 +1,23 @@
 -- A sweep of every room of the venue is one of the rooms that are due, in their order: those that are
 -- not due may be left out.
-use Rattle.std.proofs.Common.{◌≡◌, ℕ, Bool, true, false, ◌&&◌, cond, List, [], ◌∷◌, ◌++◌, fold}
-use Rattle.std.proofs.Common.{Option, Some, None, if◌then◌else◌, refl, sym, ap, ◌∙◌, subst}
-use Rattle.std.specs.BTreeSet.{BTreeSet, contains}
+use Rattle.step_replay.proofs.Common.{◌≡◌, ℕ, Bool, true, false, ◌&&◌, cond, List, [], ◌∷◌, ◌++◌}
+use Rattle.step_replay.proofs.Common.{fold, Option, Some, None, if◌then◌else◌, refl, sym, ap, ◌∙◌}
+use Rattle.step_replay.proofs.Common.{subst, contains, is_eq, both_ways, append-nil, append_assoc}
+use Rattle.step_replay.proofs.Common.{RoomRef, is_same_room, may_expire, RoomFact, Configuration}
+use Rattle.step_replay.proofs.Common.{has_room, AuditTrail, after_step, pending, deadline_of}
+use Rattle.step_replay.proofs.Common.{live_trail, Sent, live_messages, messages_in, IsAt}
+use Rattle.step_replay.proofs.Common.{SendsAllOf, VenueStands, has_come, is_due, room_cmp, fault_of}
+use Rattle.step_replay.proofs.Common.{of_room, rooms_of, sweeps_at, LiveVenue, Step, same_room}
+use Rattle.std.specs.BTreeSet.{BTreeSet}
 use Rattle.std.specs.List.{filter}
-use Rattle.std.specs.Ordering.{is_eq}
-use Rattle.std.proofs.lemmas.Bool.{both_ways, false_from_ne_true}
-use Rattle.std.proofs.lemmas.List.{append-nil, append_assoc}
+use Rattle.std.proofs.lemmas.Bool.{false_from_ne_true}
 use Rattle.std.proofs.lemmas.List.Kept.{IsStrictlySortedBy-filter}
 use Rattle.std.proofs.lemmas.Map.Lookups.{btree_set_from_contains}
 use Rattle.std.proofs.lemmas.Map.Views.{any-filter_same}
-use Rattle.market_terms.specs.declared.rooms.RoomRef.{RoomRef}
-use Rattle.dealer_desk.specs.DealerOutput.{is_same_room}
-use Rattle.request_room.specs.Book.{may_expire}
-use Rattle.request_room.specs.RoomFacts.{RoomFact}
-use Rattle.venue_rows.specs.Rows.{Configuration, has_room}
 use Rattle.venue_places.specs.declared.actors.Actor.TheVariants as actor
-use Rattle.step_replay.specs.AuditTrail.{AuditTrail, after_step, pending}
-use Rattle.step_replay.specs.Deadlines.{deadline_of}
-use Rattle.step_replay.specs.LiveDays.{live_trail, Sent, live_messages, messages_in}
-use Rattle.step_replay.specs.LiveStanding.{IsAt, AnswersSweeps, SendsAllOf, VenueStands}
-use Rattle.step_replay.specs.OpenRooms.{AreDue, has_come, is_due, room_cmp}
-use Rattle.step_replay.specs.StepFaults.{fault_of}
-use Rattle.step_replay.specs.VenueFacts.{of_room}
-use Rattle.step_replay.specs.VenueRooms.{rooms_of, sweeps_at}
-use Rattle.step_replay.specs.declared.live.LiveVenue.{LiveVenue}
-use Rattle.step_replay.specs.declared.steps.Step.{Step}
+use Rattle.step_replay.specs.LiveStanding.{AnswersSweeps}
+use Rattle.step_replay.specs.OpenRooms.{AreDue}
 use Rattle.step_replay.specs.declared.steps.Step.TheVariants as step
-use Rattle.step_replay.specs.GrowthLemmas.{same_room}
 use Rattle.step_replay.proofs.LiveLemmas.{live_more}
 use Rattle.step_replay.proofs.OpenRoomLemmas.{due_is, one_room, room_total, rooms_exact}
 use Rattle.step_replay.proofs.RoomOrder.{is_among, rooms_are, rooms_sorted}

@@ -1,6 +1,4 @@
-use Rattle.std.proofs.Common.{◌∙◌, ap, arith, sym, true, false}
-use Rattle.std.proofs.lemmas.Bool.Decides.{nat_tests}
-use Rattle.step_replay.specs.Deadlines.{deadline_of}
+use Rattle.step_replay.proofs.Common.{◌∙◌, ap, arith, sym, true, false, nat_tests, deadline_of}
 use Rattle.step_replay.proofs.OpenRoomLemmas.{with_room}
 use Rattle.step_replay.proofs.RoomPlaceLemmas.{found_by_code, investor_inside, no_room, room_inside}
 use Rattle.step_replay.proofs.deadlines.deadline_at.Goals as goal

@@ -1,10 +1,6 @@
-use Rattle.std.proofs.Common.{◌∙◌, ap, refl}
-use Rattle.market_terms.specs.declared.asks.Ask.{Ask}
-use Rattle.dealer_desk.specs.DealerDesk.{book_at, verdict_at, with_event}
-use Rattle.dealer_desk.specs.DealerFacts.{number_to_drop}
-use Rattle.dealer_desk.specs.DealerOutput.{word_asked}
+use Rattle.step_replay.proofs.Common.{◌∙◌, ap, refl, Ask, book_at, verdict_at, with_event}
+use Rattle.step_replay.proofs.Common.{number_to_drop, word_asked, after_due, no_room}
 use Rattle.dealer_desk.specs.declared.events.DealerEvent.TheVariants as event
-use Rattle.step_replay.specs.DealerView.{after_due, no_room}
 use Rattle.step_replay.proofs.ItemLemmas.{asking_stands, closed_happens, lifted_happens}
 use Rattle.step_replay.proofs.ItemLemmas.{shown_happens}
 use Rattle.step_replay.proofs.dealer_view.do_due.Goals as goal

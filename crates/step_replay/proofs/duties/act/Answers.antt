@@ -1,4 +1,4 @@
-use Rattle.venue_places.specs.Placed.{placed}
+use Rattle.step_replay.proofs.Common.{placed}
 use Rattle.step_replay.proofs.ComingLemmas.{duty_comes, nothing_comes, something_comes}
 use Rattle.step_replay.proofs.duties.act.Goals as goal
 

@@ -1,7 +1,5 @@
-use Rattle.std.proofs.Common.{◌≡◌, ◌<◌, ◌≤◌, length, arith, ap, false, is_some}
-use Rattle.std.proofs.lemmas.Bool.Decides.{nat_tests}
-use Rattle.venue_rows.specs.Rows.{dealer_numbered}
-use Rattle.step_replay.specs.DutyEffects.{message_effect}
+use Rattle.step_replay.proofs.Common.{◌≡◌, ◌<◌, ◌≤◌, length, arith, ap, false, is_some, nat_tests}
+use Rattle.step_replay.proofs.Common.{dealer_numbered, message_effect}
 use Rattle.step_replay.proofs.ComingLemmas.{dealer_here}
 use Rattle.step_replay.proofs.FoundDealers.{no_dealer}
 use Rattle.step_replay.proofs.duties.receive.Goals as goal

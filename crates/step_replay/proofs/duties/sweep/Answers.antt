@@ -1,4 +1,4 @@
-use Rattle.venue_places.specs.Placed.{swept}
+use Rattle.step_replay.proofs.Common.{swept}
 use Rattle.step_replay.proofs.ComingLemmas.{sweep_comes, nothing_comes, something_comes}
 use Rattle.step_replay.proofs.duties.sweep.Goals as goal
 

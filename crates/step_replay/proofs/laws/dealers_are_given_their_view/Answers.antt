@@ -1,7 +1,5 @@
-use Rattle.std.proofs.Common.{◌∙◌, ap, Some}
-use Rattle.step_replay.specs.AuditTrail.{audit_trail}
-use Rattle.step_replay.specs.LiveDays.{live_steps, live_trail}
-use Rattle.step_replay.specs.IsolationLemmas.{is_sent_its_view}
+use Rattle.step_replay.proofs.Common.{◌∙◌, ap, Some, audit_trail, live_steps, live_trail}
+use Rattle.step_replay.proofs.Common.{is_sent_its_view}
 use Rattle.step_replay.proofs.StepEffects.{dealer_within}
 use Rattle.step_replay.proofs.FirmSent.{own_part}
 use Rattle.step_replay.proofs.DayLemmas.{sent_on_its_day}

@@ -1,6 +1,4 @@
-use Rattle.std.proofs.Common.{true, ◌≡◌, ap, ◌∙◌}
-use Rattle.step_replay.specs.AuditTrail.{after_step}
-use Rattle.step_replay.specs.Queues.{is_known}
+use Rattle.step_replay.proofs.Common.{true, ◌≡◌, ap, ◌∙◌, after_step, is_known}
 use Rattle.step_replay.proofs.LiveLemmas.{actor_known}
 use Rattle.step_replay.proofs.live.send_all.Goals as goal
 

@@ -1,5 +1,4 @@
-use Rattle.std.proofs.Common.{◌++◌, arith, sym}
-use Rattle.step_replay.specs.LiveStanding.{after_turns}
+use Rattle.step_replay.proofs.Common.{◌++◌, arith, sym, after_turns}
 use Rattle.step_replay.proofs.LiveLemmas.{tells_all, turn_known}
 use Rattle.step_replay.proofs.StartLemmas.{no_turn, turns_more}
 use Rattle.step_replay.proofs.live.send_duties.Goals as goal

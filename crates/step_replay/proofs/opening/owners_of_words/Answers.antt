@@ -1,5 +1,5 @@
-use Rattle.std.proofs.Common.{◌≡◌, ◌<◌, ◌≤◌, ◌+◌, refl, ap, subst, ◌∙◌, ◌++◌, replicate, length, get_or}
-use Rattle.step_replay.specs.Openings.{owners_from}
+use Rattle.step_replay.proofs.Common.{◌≡◌, ◌<◌, ◌≤◌, ◌+◌, refl, ap, subst, ◌∙◌, ◌++◌, replicate}
+use Rattle.step_replay.proofs.Common.{length, get_or, owners_from}
 use Rattle.step_replay.proofs.OpeningLemmas.{owners_next, owners_whole}
 use Rattle.step_replay.proofs.opening.owners_of_words.Goals as goal
 

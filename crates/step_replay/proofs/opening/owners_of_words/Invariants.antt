@@ -1,6 +1,5 @@
 -- The owners so far, and behind them those of the rows that are left, are those of all words.
-use Rattle.std.proofs.Common.{◌≡◌, ◌++◌, drop}
-use Rattle.step_replay.specs.Openings.{owners_from}
+use Rattle.step_replay.proofs.Common.{◌≡◌, ◌++◌, drop, owners_from}
 use Rattle.step_replay.proofs.opening.owners_of_words.Given as goal
 
 abbrev pub invariant-loop-row : goal.invariant-loop-row

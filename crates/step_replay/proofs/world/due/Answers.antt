@@ -1,7 +1,6 @@
-use Rattle.std.proofs.Common.{◌≤◌, Option, length, refl, sym, ap, ◌∙◌, subst, arith}
-use Rattle.venue_rows.specs.declared.dealer_rows.DealerRow.{DealerRow}
-use Rattle.step_replay.specs.AuditTrail.{audit_trail}
-use Rattle.step_replay.specs.StepFaults.{IsFirstOrMemory, due_fault_where, first_fault}
+use Rattle.step_replay.proofs.Common.{◌≤◌, Option, length, refl, sym, ap, ◌∙◌, subst, arith}
+use Rattle.step_replay.proofs.Common.{DealerRow, audit_trail, first_fault}
+use Rattle.step_replay.specs.StepFaults.{IsFirstOrMemory, due_fault_where}
 use Rattle.step_replay.specs.declared.faults.ReplayFault.TheVariants as fault
 use Rattle.step_replay.proofs.FoundDealers.{found_read, no_dealer}
 use Rattle.step_replay.proofs.world.due.Goals as goal

@@ -1,5 +1,4 @@
-use Rattle.std.proofs.Common.{take}
-use Rattle.step_replay.specs.AuditTrail.{audit_trail}
+use Rattle.step_replay.proofs.Common.{take, audit_trail}
 use Rattle.step_replay.proofs.StartLemmas.{day_more, no_fault_at, day_begins}
 use Rattle.step_replay.proofs.world.replayed.Goals as goal
 

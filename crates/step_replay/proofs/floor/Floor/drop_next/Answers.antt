@@ -1,7 +1,4 @@
-use Rattle.std.proofs.Common.{arith}
-use Rattle.std.proofs.lemmas.Bool.Decides.{nat_tests}
-use Rattle.step_replay.specs.Actions.{dropped_by}
-use Rattle.step_replay.specs.PlaceLemmas.{lent}
+use Rattle.step_replay.proofs.Common.{arith, nat_tests, dropped_by, lent}
 use Rattle.step_replay.proofs.FoundDealers.{by_number, no_dealer_does}
 use Rattle.step_replay.proofs.DealerAsks.{drop_does}
 use Rattle.step_replay.proofs.floor.Floor.drop_next.Goals as goal

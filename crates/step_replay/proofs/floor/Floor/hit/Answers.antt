@@ -1,5 +1,4 @@
-use Rattle.std.proofs.Common.{refl, sym}
-use Rattle.step_replay.specs.Actions.{hit_in}
+use Rattle.step_replay.proofs.Common.{refl, sym, hit_in}
 use Rattle.step_replay.proofs.FoundDealers.{idle_does}
 use Rattle.step_replay.proofs.RoomPlaceLemmas.{no_room, room_at}
 use Rattle.step_replay.proofs.HitLemmas.{hit_does}

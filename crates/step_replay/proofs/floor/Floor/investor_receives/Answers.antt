@@ -1,7 +1,5 @@
-use Rattle.std.proofs.Common.{◌≡◌, ◌<◌, ◌+◌, arith, length, refl, rules}
-use Rattle.std.proofs.lemmas.Bool.Decides.{nat_tests}
-use Rattle.step_replay.specs.Actions.{received_by_investor}
-use Rattle.step_replay.specs.PlaceLemmas.{lent}
+use Rattle.step_replay.proofs.Common.{◌≡◌, ◌<◌, ◌+◌, arith, length, refl, rules, nat_tests}
+use Rattle.step_replay.proofs.Common.{received_by_investor, lent}
 use Rattle.step_replay.proofs.FoundDealers.{leaving}
 use Rattle.step_replay.proofs.InvestorPlaceLemmas.{behind_places, dealers_number, no_investor}
 use Rattle.step_replay.proofs.InvestorPlaceLemmas.{said_does, no_investor_does}

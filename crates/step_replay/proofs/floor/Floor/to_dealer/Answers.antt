@@ -1,7 +1,4 @@
-use Rattle.std.proofs.Common.{[], arith}
-use Rattle.std.proofs.lemmas.Bool.Decides.{nat_tests}
-use Rattle.step_replay.specs.Coming.{dealer_gets}
-use Rattle.step_replay.specs.PlaceLemmas.{lent}
+use Rattle.step_replay.proofs.Common.{[], arith, nat_tests, dealer_gets, lent}
 use Rattle.step_replay.proofs.FoundDealers.{by_found, by_number, dealer_found, leaving, no_dealer_does}
 use Rattle.step_replay.proofs.DealerActionLemmas.{gets}
 use Rattle.step_replay.proofs.floor.Floor.to_dealer.Goals as goal

@@ -1,7 +1,5 @@
-use Rattle.std.proofs.Common.{◌≡◌, ◌<◌, ◌+◌, arith, length, refl, rules}
-use Rattle.std.proofs.lemmas.Bool.Decides.{nat_tests}
-use Rattle.step_replay.specs.Coming.{investor_gets}
-use Rattle.step_replay.specs.PlaceLemmas.{lent}
+use Rattle.step_replay.proofs.Common.{◌≡◌, ◌<◌, ◌+◌, arith, length, refl, rules, nat_tests}
+use Rattle.step_replay.proofs.Common.{investor_gets, lent}
 use Rattle.step_replay.proofs.FoundDealers.{leaving}
 use Rattle.step_replay.proofs.InvestorPlaceLemmas.{behind_places, dealers_number, no_investor}
 use Rattle.step_replay.proofs.InvestorPlaceLemmas.{investor_does, no_investor_does}

@@ -1,4 +1,4 @@
-use Rattle.std.proofs.Common.{sym}
+use Rattle.step_replay.proofs.Common.{sym}
 use Rattle.step_replay.proofs.FoundDealers.{idle_does}
 use Rattle.step_replay.proofs.RoomPlaceLemmas.{found_by_code, no_room}
 use Rattle.step_replay.proofs.RoomActionLemmas.{none_gets, room_does}

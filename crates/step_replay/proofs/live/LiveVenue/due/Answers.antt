@@ -1,8 +1,5 @@
-use Rattle.std.proofs.Common.{◌≡◌, ◌≤◌, Option, Some, false, is_some, length}
-use Rattle.std.proofs.Common.{true, ap, ◌∙◌, subst, arith}
-use Rattle.venue_rows.specs.Rows.{dealer_numbered}
-use Rattle.venue_rows.specs.declared.dealer_rows.DealerRow.{DealerRow}
-use Rattle.step_replay.specs.LiveDays.{live_trail}
+use Rattle.step_replay.proofs.Common.{◌≡◌, ◌≤◌, Option, Some, false, is_some, length, true, ap, ◌∙◌}
+use Rattle.step_replay.proofs.Common.{subst, arith, dealer_numbered, DealerRow, live_trail}
 use Rattle.step_replay.proofs.FoundDealers.{found_read, no_dealer}
 use Rattle.step_replay.proofs.live.LiveVenue.due.Goals as goal
 

@@ -1,4 +1,4 @@
-use Rattle.step_replay.specs.LiveDays.{live_trail}
+use Rattle.step_replay.proofs.Common.{live_trail}
 use Rattle.step_replay.proofs.OpenDeadlines.{earliest_is}
 use Rattle.step_replay.proofs.live.LiveVenue.next_deadline.Goals as goal
 

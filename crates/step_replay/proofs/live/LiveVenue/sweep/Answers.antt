@@ -1,8 +1,6 @@
-use Rattle.std.proofs.Common.{◌≡◌, ◌∷◌, [], subst, sym}
-use Rattle.std.specs.Map.Iter.{deref}
-use Rattle.std.proofs.lemmas.Map.Iter.{rest_all, rest_more}
-use Rattle.market_terms.specs.declared.rooms.RoomRef.{RoomRef}
-use Rattle.step_replay.specs.LiveDays.{live_messages}
+use Rattle.step_replay.proofs.Common.{◌≡◌, ◌∷◌, [], subst, sym, deref, rest_more, RoomRef}
+use Rattle.step_replay.proofs.Common.{live_messages}
+use Rattle.std.proofs.lemmas.Map.Iter.{rest_all}
 use Rattle.step_replay.proofs.SweptLemmas.{room_known, sweeps_begin, sweeps_end, sweeps_next}
 use Rattle.step_replay.proofs.live.LiveVenue.sweep.Goals as goal
 

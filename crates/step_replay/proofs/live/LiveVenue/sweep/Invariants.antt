@@ -1,12 +1,6 @@
 -- The rooms so far are swept, one behind the other.
-use Rattle.std.proofs.Common.{List, ◌++◌}
-use Rattle.std.specs.BTreeSet.{contains}
-use Rattle.venue_rows.specs.Rows.{Configuration}
-use Rattle.step_replay.specs.LiveDays.{live_messages, live_trail}
-use Rattle.step_replay.specs.LiveStanding.{IsAt}
-use Rattle.step_replay.specs.OpenRooms.{room_cmp}
-use Rattle.step_replay.specs.VenueRooms.{rooms_of, sweeps_at}
-use Rattle.step_replay.specs.declared.steps.Step.{Step}
+use Rattle.step_replay.proofs.Common.{List, ◌++◌, contains, Configuration, live_messages}
+use Rattle.step_replay.proofs.Common.{live_trail, IsAt, room_cmp, rooms_of, sweeps_at, Step}
 use Rattle.step_replay.proofs.SweptLemmas.{SweepsLeft}
 use Rattle.step_replay.proofs.live.LiveVenue.sweep.Given as goal
 

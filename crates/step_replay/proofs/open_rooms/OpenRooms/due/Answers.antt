@@ -1,5 +1,4 @@
-use Rattle.std.proofs.Common.{◌≡◌, true, false, nat_le, arith}
-use Rattle.std.proofs.lemmas.Bool.Decides.{nat_tests}
+use Rattle.step_replay.proofs.Common.{◌≡◌, true, false, nat_le, arith, nat_tests}
 use Rattle.step_replay.proofs.OpenRoomLemmas.{due_next, due_stops, rest_sorted}
 use Rattle.step_replay.proofs.open_rooms.OpenRooms.due.Goals as goal
 

@@ -1,8 +1,6 @@
-use Rattle.std.proofs.Common.{map-id, rules, sym, subst, ◌∙◌}
-use Rattle.std.proofs.lemmas.Iterator.Adapters.{YieldsList-from_vec}
-use Rattle.std.proofs.lemmas.Iterator.Consumers.{YieldsList-end, YieldsList-turn}
-use Rattle.step_replay.specs.DoneSteps.{after_steps}
-use Rattle.step_replay.specs.Following.{ReplayStands}
+use Rattle.step_replay.proofs.Common.{map-id, rules, sym, subst, ◌∙◌, YieldsList-from_vec}
+use Rattle.step_replay.proofs.Common.{YieldsList-end, after_steps, ReplayStands}
+use Rattle.std.proofs.lemmas.Iterator.Consumers.{YieldsList-turn}
 use Rattle.step_replay.proofs.StartLemmas.{step_done}
 use Rattle.step_replay.proofs.replay.Replay.run.Goals as goal
 

@@ -1,4 +1,4 @@
-use Rattle.std.proofs.Common.{refl}
+use Rattle.step_replay.proofs.Common.{refl}
 use Rattle.step_replay.proofs.StartLemmas.{known_firm, known_actor, said, swept, turned}
 use Rattle.step_replay.proofs.replay.Replay.step.Goals as goal
 

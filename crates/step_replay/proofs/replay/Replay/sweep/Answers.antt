@@ -1,8 +1,6 @@
-use Rattle.std.proofs.Common.{map, slice_set, arith, ap, ◌∙◌}
-use Rattle.std.proofs.lemmas.Bool.Decides.{nat_tests}
-use Rattle.std.proofs.lemmas.List.{map-set}
+use Rattle.step_replay.proofs.Common.{map, slice_set, arith, ap, ◌∙◌, nat_tests, map-set}
+use Rattle.step_replay.proofs.Common.{sweep_action}
 use Rattle.venue_places.specs.declared.actors.Actor.TheVariants as actor
-use Rattle.step_replay.specs.ActionKinds.{sweep_action}
 use Rattle.step_replay.proofs.FollowLemmas.{queue_at, step_follows}
 use Rattle.step_replay.proofs.replay.Replay.sweep.Goals as goal
 

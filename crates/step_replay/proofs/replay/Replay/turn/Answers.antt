@@ -1,8 +1,6 @@
-use Rattle.std.proofs.Common.{◌<◌, ◌++◌, length, map, slice_set, arith, sym, ap, refl, ◌∙◌}
-use Rattle.std.proofs.lemmas.Bool.Decides.{nat_tests}
-use Rattle.std.proofs.lemmas.List.{map-set, set-set}
-use Rattle.std.proofs.lemmas.Option.{same_Some}
-use Rattle.step_replay.specs.PlaceLemmas.{lent, get_set_same}
+use Rattle.step_replay.proofs.Common.{◌<◌, ◌++◌, length, map, slice_set, arith, sym, ap, refl, ◌∙◌}
+use Rattle.step_replay.proofs.Common.{nat_tests, map-set, same_Some, lent, get_set_same}
+use Rattle.std.proofs.lemmas.List.{set-set}
 use Rattle.step_replay.proofs.FollowLemmas.{full_turn, idle_turn, none_left, queue_at}
 use Rattle.step_replay.proofs.replay.Replay.turn.Goals as goal
 

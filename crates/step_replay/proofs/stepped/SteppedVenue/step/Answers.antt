@@ -1,5 +1,4 @@
-use Rattle.std.proofs.Common.{sym}
-use Rattle.step_replay.specs.AuditTrail.{audit_trail}
+use Rattle.step_replay.proofs.Common.{sym, audit_trail}
 use Rattle.step_replay.proofs.StartLemmas.{any_place}
 use Rattle.step_replay.proofs.SteppedLemmas.{one_step_more}
 use Rattle.step_replay.proofs.stepped.SteppedVenue.step.Goals as goal
