@@ -1,9 +1,8 @@
 -- What a dealer says and drops brings what stands in a venue.
 use Rattle.std.proofs.Common.{Bool, IfSome, List, None, Option, Some, ℕ, [], ap, arith, false}
 use Rattle.std.proofs.Common.{if◌then◌else◌, inl, inr, map, nat_le, option_map, option_to_list}
-use Rattle.std.proofs.Common.{refl, subst, sym, true, ◌&&◌, ◌++◌, ◌+◌, ◌-◌, ◌∙◌, ◌∷◌, ◌≡◌, ◌≤◌}
+use Rattle.std.proofs.Common.{refl, subst, true, ◌&&◌, ◌++◌, ◌+◌, ◌-◌, ◌∙◌, ◌∷◌, ◌≡◌, ◌≤◌}
 use Rattle.std.proofs.lemmas.Bool.Decides.{nat_tests}
-use Rattle.std.proofs.lemmas.List.Elements.{filter_map-append}
 use Rattle.market_terms.specs.declared.duties.Duty.{Duty}
 use Rattle.market_terms.specs.declared.duties.Duty.TheVariants as duty
 use Rattle.market_terms.specs.declared.rooms.RoomRef.{RoomRef}
@@ -27,13 +26,13 @@ use Rattle.dealer_desk.specs.declared.verdicts.DealerVerdict.TheVariants as verd
 use Rattle.venue_places.specs.declared.actors.Actor.TheVariants as actor
 use Rattle.step_replay.specs.Actions.{Effect, answer_to_drop, dealer_of, drop_at, dropped_by}
 use Rattle.step_replay.specs.Actions.{left_by, left_by_drop, received_by_dealer, settlement_of}
-use Rattle.step_replay.specs.DealerTrail.{AtDesk, DealerEntry, Sent, book_by, entries_of, fact_in}
-use Rattle.step_replay.specs.DealerTrail.{facts_of, message_by, rooms_by}
+use Rattle.step_replay.specs.DealerGrowth.{facts_grown}
+use Rattle.step_replay.specs.DealerTrail.{AtDesk, DealerEntry, Sent, book_by, entries_of, facts_of}
+use Rattle.step_replay.specs.DealerTrail.{message_by, rooms_by}
 use Rattle.step_replay.specs.EachLemmas.{Every, every_both}
 use Rattle.step_replay.specs.GrowthLemmas.{In, in_right}
 use Rattle.step_replay.specs.PlaceLemmas.{dealer_grown, own_trail}
 use Rattle.step_replay.specs.SeenLemmas.{Seen}
-use Rattle.step_replay.specs.TrailLemmas.{facts_added}
 use Rattle.step_replay.specs.VenueFacts.{AtDealer, of_dealer}
 use Rattle.venue_laws.proofs.AcceptedQuotes.{AcceptOk, verdict_accepts}
 use Rattle.venue_laws.proofs.ListLemmas.{cases_some, slice_holds}
@@ -206,12 +205,11 @@ module _ (words : WordsOfDay) (h : Here) (dealer : ℕ) (row : DealerRow)
       (said_fine effect moment v settlement
       (verdict_accepts row (facts_of trail) moment h.config.date bytes)
       (asks_of_day words h.config.date row trail desk.seen moment bytes)
-      (λ quote quoted. subst (In (Quoted quote))
-      (sym (ap facts_of (dealer_grown dealer h.venue.facts (map (AtDealer dealer) entries)
-      ∙ ap (λ l. trail ++ l) (own_trail dealer entries))
-      ∙ filter_map-append fact_in trail entries
-      ∙ ap (λ l. facts_of trail ++ l) (facts_added facts [] messages)))
-      (in_right (Quoted quote) (facts_of trail) facts (inr quoted)))))
+      (λ quote quoted. rw (
+        dealer_grown dealer h.venue.facts (map (AtDealer dealer) entries),
+        own_trail dealer entries,
+        facts_grown h.config.date row trail more,
+      ) (in_right (Quoted quote) (facts_of trail) facts (inr quoted)))))
 
   pub dropped_brings : (last moment : ℕ)
       → Brings h (dropped_by h.config h.venue.facts last moment (dealer_of dealer row))

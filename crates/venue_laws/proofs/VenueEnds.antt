@@ -51,16 +51,6 @@ lifting_is P none one None outcome = none
 lifting_is P none one (Some hit) (Ok award) = one hit
 lifting_is P none one (Some hit) (Err why) = none
 
-lifting_elsewhere : (room : RoomRef) (found : Option QuoteRef) (outcome : Result End HitRefusal)
-    → of_room room (lifting found outcome) ≡ []
-unfolding of_room
-lifting_elsewhere room = lifting_is (λ l. of_room room l ≡ []) refl (λ hit. refl)
-
-lifting_away : (investor : ℕ) (found : Option QuoteRef) (outcome : Result End HitRefusal)
-    → of_investor investor (lifting found outcome) ≡ []
-unfolding of_investor
-lifting_away investor = lifting_is (λ l. of_investor investor l ≡ []) refl (λ hit. refl)
-
 pub none_lifted : (found : Option QuoteRef) (why : HitRefusal) → lifting found (Err why) ≡ []
 none_lifted None why = refl
 none_lifted (Some hit) why = refl
@@ -102,11 +92,12 @@ module _ (h : Here) (room : RoomRef) where
       tell dealer = duty.Tell dealer room (close_for end dealer) moment
 
       end_now : end_of (of_room room (day h ending).facts) ≡ Some end
+      unfolding of_room
       end_now =
           rw (
             room_grown room h.venue.facts ending.facts,
             room_grown room (lifting lifted (Ok end)) (map (InRoom room) (Ended end moment ∷ [])),
-            lifting_elsewhere room lifted (Ok end),
+            lifting_is (λ l. of_room room l ≡ []) refl (λ hit. refl) lifted (Ok end),
             own_room room (Ended end moment ∷ []),
           ) (said_after ended_as (known h room) (Ended end moment ∷ [])
           (none_some (end_of (known h room)) (not-true (is_ended (known h room)) (parts is).1)))
@@ -131,11 +122,12 @@ module _ (h : Here) (room : RoomRef) where
       }
 
       away : (investor : ℕ) → of_investor investor ending.facts ≡ []
+      unfolding of_investor
       away investor =
           rw (
             investor_grown investor (lifting lifted (Ok end))
                 (map (InRoom room) (Ended end moment ∷ [])),
-            lifting_away investor lifted (Ok end),
+            lifting_is (λ l. of_investor investor l ≡ []) refl (λ hit. refl) lifted (Ok end),
           ) (investor_in_room investor room (Ended end moment ∷ []))
 
       pub ended_brings : Brings h ending

@@ -1,9 +1,8 @@
 -- A hit brings what stands in a venue: where it awards, the winner's quote of the book is lifted.
 use Rattle.std.proofs.Common.{Bool, Err, List, None, Ok, Option, Result, Some, ℕ, [], ap, arith}
-use Rattle.std.proofs.Common.{eq-eqb, false, if◌then◌else◌, inl, inr, map, option_map, refl, subst}
-use Rattle.std.proofs.Common.{sym, true, ◌++◌, ◌+◌, ◌∙◌, ◌∷◌, ◌≡◌}
-use Rattle.std.proofs.lemmas.Bool.{cases_Bool, not-false, or_left}
-use Rattle.std.proofs.lemmas.Bool.Decides.{nat_tests}
+use Rattle.std.proofs.Common.{eq-eqb, false, if◌then◌else◌, inl, inr, map, refl, subst, sym, true}
+use Rattle.std.proofs.Common.{◌++◌, ◌+◌, ◌∙◌, ◌∷◌, ◌≡◌}
+use Rattle.std.proofs.lemmas.Bool.{cases_Bool, eqb-true, not-false, or_left}
 use Rattle.market_terms.specs.declared.closes.Close.TheVariants as closes
 use Rattle.market_terms.specs.declared.closes.HitRefusal.{HitRefusal}
 use Rattle.market_terms.specs.declared.duties.Duty.{Duty}
@@ -86,25 +85,23 @@ module _ (h : Here) (room : RoomRef) where
     winner_lifted : (dealer : ℕ) → close_for award dealer ≡ closes.Hit
         → Lifts (quote_with_word h.config word) dealer
     winner_lifted dealer hit =
-        by_quote (quote_meant (book_of (known h room)) word) refl
-        (winner_is (is_winner (award_of (known h room) word).winner dealer)
-        (is_cover (award_of (known h room) word).cover dealer) (rw (← award_is) at hit))
-      where
-        by_quote : (found : Option BookQuote) → quote_meant (book_of (known h room)) word ≡ found
-            → is_winner (option_map (λ (q : BookQuote). (q.dealer, q.word)) found) dealer ≡ true
-            → Lifts (quote_with_word h.config word) dealer
-        by_quote None found wins = cc
-        by_quote (Some quote) found wins =
-            let posted = posted_in h.stood room word quote found in
-            let dealer_is : quote.dealer ≡ dealer = grind (arith, nat_tests) in
-            let number : 0 + quote.dealer ≡ quote.dealer = omega arith in
-            subst (Lifts (quote_with_word h.config word)) dealer_is
-            (subst (λ (o : Option QuoteRef). Lifts o quote.dealer)
-            (sym (ap (quote_with_word h.config) (sym posted.0 ∙ posted.1.word_is)
-            ∙ owner_among 0 h.config.dealers quote.dealer posted.1.row posted.1.quote
-            posted.1.row_is posted.1.within
-            ∙ ap (λ (n : ℕ). Some (quote_at n posted.1.quote)) number))
-            (lift quote posted.1))
+        let wins = winner_is (is_winner (award_of (known h room) word).winner dealer)
+        (is_cover (award_of (known h room) word).cover dealer) (rw (← award_is) at hit) in
+        elim (cases_some (quote_meant (book_of (known h room)) word)) [
+          | inl none ↦ cc (rw none at wins)
+          | inr some ↦
+              let quote = some.0 in
+              let posted = posted_in h.stood room word quote some.1 in
+              let number : 0 + quote.dealer ≡ quote.dealer = omega arith in
+              subst (Lifts (quote_with_word h.config word))
+              (eqb-true quote.dealer dealer (rw (some.1) at wins))
+              (subst (λ (o : Option QuoteRef). Lifts o quote.dealer)
+              (sym (ap (quote_with_word h.config) (sym posted.0 ∙ posted.1.word_is)
+              ∙ owner_among 0 h.config.dealers quote.dealer posted.1.row posted.1.quote
+              posted.1.row_is posted.1.within
+              ∙ ap (λ (n : ℕ). Some (quote_at n posted.1.quote)) number))
+              (lift quote posted.1))
+        ]
 
   pub hit_brings : (response : ResponseRef) (word moment : ℕ) (settlement : Option Settled)
       → RespondsIn h.config h.by room response true h.venue

@@ -102,12 +102,6 @@ module _ (h : Here) (effect : Effect) where
   abbrev pub DoneThen : List Duty → Type 0
   DoneThen left = Every (λ mark. Still (MarkOk mark) day) (marks left)
 
-  -- what is kept at each desk
-  abbrev KeepsDesks : Type 1
-  KeepsDesks = (dealer : ℕ) (row : DealerRow) → dealer_numbered h.config dealer ≡ Some row
-      → (P : List DealerEntry → Type 0) → IsKept h.config.date row P → P (trail_of h dealer)
-      → P (of_dealer dealer day.facts)
-
   grown_by : (other : Actor) → Grown h.venue h.by effect h.doing other
   grown_by other = grown h.venue h.by effect h.doing other (λ a. (h.stood.queues a).within)
 
@@ -123,8 +117,10 @@ module _ (h : Here) (effect : Effect) where
   pub to_now : {now : AuditTrail} → Later day now → Later h.venue now
   to_now later = later_both since later
 
-  pub ok_then : KeepsDesks → Brings → DoneThen (doing_now h.venue h.by h.doing)
-      → VenueOk h.config day
+  pub ok_then : ((dealer : ℕ) (row : DealerRow) → dealer_numbered h.config dealer ≡ Some row
+      → (P : List DealerEntry → Type 0) → IsKept h.config.date row P → P (trail_of h dealer)
+      → P (of_dealer dealer day.facts))
+      → Brings → DoneThen (doing_now h.venue h.by h.doing) → VenueOk h.config day
   ok_then keeps brings done = record {
     facts = every_both FactThen h.venue.facts effect.facts
         (every_weaker (λ fact. Still (FactOk h.config fact) h.venue) FactThen
