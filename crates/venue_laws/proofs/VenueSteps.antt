@@ -1,6 +1,5 @@
 -- What an effect has to bring for what stands in a venue to stand after it.
 use Rattle.std.proofs.Common.{List, None, Option, Some, ℕ, [], inl, inr, refl, subst, ◌++◌, ◌≡◌}
-use Rattle.std.proofs.lemmas.List.Elements.{filter_map-append}
 use Rattle.market_terms.specs.declared.closes.Close.TheVariants as closes
 use Rattle.market_terms.specs.declared.duties.Duty.{Duty}
 use Rattle.venue_rows.specs.Rows.{Configuration, dealer_numbered}
@@ -66,7 +65,7 @@ module _ (h : Here) where
   -- what entries more keep at a desk: that the rooms that were shown are numbered, and what its
   -- notices name
   abbrev pub DeskAdds : ℕ → DealerRow → List DealerEntry → Type 0
-  DeskAdds dealer row entries = AreNumbered (rooms_by (trail_of dealer) ++ rooms_by entries)
+  DeskAdds dealer row entries = AreNumbered (rooms_by (trail_of dealer ++ entries))
       × Each (NamesLifted h.config.date row) (trail_of dealer) entries
 
 -- what is left goes on to stand in a queue
@@ -174,8 +173,7 @@ module _ (h : Here) (effect : Effect) where
             noticed = keeps dealer row is (λ trail. Noticed (facts_of trail))
                 (noticed_is_kept date row) stood.noticed;
             counted = keeps dealer row is AreCounted (counted_is_kept date row) stood.counted;
-            numbered = rw (dealer_grown dealer h.venue.facts effect.facts, filter_map-append)
-                adds.0;
+            numbered = rw (dealer_grown dealer h.venue.facts effect.facts) (adds.0);
             names = rw (dealer_grown dealer h.venue.facts effect.facts)
                 (each_append (NamesLifted date row) (names_after date row) []
                 (trail_of h dealer) (of_dealer dealer effect.facts) stood.names adds.1);
