@@ -6,6 +6,7 @@ use Rattle.std.proofs.lemmas.List.{append-nil}
 use Rattle.market_terms.specs.Dealers.{are_distinct}
 use Rattle.market_terms.specs.declared.closes.Close.TheVariants as closes
 use Rattle.market_terms.specs.declared.closes.HitRefusal.{HitRefusal}
+use Rattle.market_terms.specs.declared.closes.Reply.{Reply}
 use Rattle.market_terms.specs.declared.duties.Duty.{Duty}
 use Rattle.market_terms.specs.declared.duties.Duty.TheVariants as duty
 use Rattle.market_terms.specs.declared.rooms.ResponseRef.{ResponseRef}
@@ -164,6 +165,13 @@ module _ (h : Here) (room : RoomRef) where
       room_brings h room [] (left ∷ []) tt
       (fine_left h (in_it h room [] (left ∷ [])) (queue h) (left ∷ []) (fine, tt))
 
+  -- the reply to a response of the investor
+  pub answered : {some : Bool} (response : ResponseRef) (reply : Reply) (moment : ℕ)
+      → RespondsIn h.config h.by room response some h.venue → replies_to response.k reply ≡ true
+      → (effect : Effect) → Fine h effect (duty.Answer room response reply moment)
+  answered response reply moment fits replies effect =
+      (λ now later. (replies, known_later (to_now h effect later) room response.k fits.known), refl)
+
   -- A pass, and an expiry.
 
   pub passed_brings : (response : ResponseRef) (moment : ℕ)
@@ -172,24 +180,17 @@ module _ (h : Here) (room : RoomRef) where
       (duties_of_pass (known h room) room response moment))
   unfolding event_facts
   passed_brings response moment passes =
+      let none = none_some response.k passes.some_is in
       where_brings h room _ (is_open (known h room)) (Ended passed moment)
       (λ (b : Bool). reply b ∷ (if b then told_in (known h room) room passed moment else []))
       (λ is. ended_brings passed moment (reply true) None is passes.by_is
-      (answered true refl (ending passed moment (reply true) None)) (λ now later dealer hit. cc))
-      (left_brings (reply false) (answered false refl (in_it h room [] (reply false ∷ []))))
+      (answered response (reply_to_pass true) moment passes (rw none refl)
+      (ending passed moment (reply true) None)) (λ now later dealer hit. cc))
+      (left_brings (reply false) (answered response (reply_to_pass false) moment passes
+      (rw none refl) (in_it h room [] (reply false ∷ []))))
     where
       reply : Bool → Duty
       reply b = duty.Answer room response (reply_to_pass b) moment
-
-      answered : (b : Bool) → replies_to None (reply_to_pass b) ≡ true → (effect : Effect)
-          → Fine h effect (reply b)
-      answered b replies effect = (
-        λ now later. (
-          rw (none_some response.k passes.some_is) replies,
-          known_later (to_now h effect later) room response.k passes.known,
-        ),
-        refl,
-      )
 
   pub expired_brings : (moment : ℕ) → h.by ≡ actor.Clock
       → Brings h (sweep_effect h.config h.venue.facts room moment)

@@ -15,7 +15,6 @@ use Rattle.request_room.specs.Book.{hit_refusal, is_lift, quote_meant, reply_of}
 use Rattle.request_room.specs.RoomFacts.{Ended, RoomFact, is_open}
 use Rattle.request_room.specs.declared.ends.End.{End}
 use Rattle.request_room.specs.declared.quotes.PostedQuote.{PostedQuote as BookQuote}
-use Rattle.venue_steps.specs.InvestorSteps.{replies_to}
 use Rattle.venue_steps.specs.RoomSteps.{close_for, is_cover, is_winner, told_of_hit}
 use Rattle.step_replay.specs.Actions.{Effect, QuoteRef, hit_with, lifting, quote_with_word}
 use Rattle.step_replay.specs.DealerTrail.{Lifted, lifts}
@@ -25,13 +24,13 @@ use Rattle.step_replay.specs.PlaceLemmas.{dealer_grown, own_trail}
 use Rattle.step_replay.specs.VenueFacts.{Fact, InRoom, of_dealer}
 use Rattle.venue_laws.proofs.AcceptedQuotes.{none_holds}
 use Rattle.venue_laws.proofs.ListLemmas.{cases_some, some_of}
-use Rattle.venue_laws.proofs.VenueEnds.{ended_brings, ending, left_brings, none_lifted}
-use Rattle.venue_laws.proofs.VenueGrowth.{known_later, lifted_later, quoted_later}
+use Rattle.venue_laws.proofs.VenueEnds.{answered, ended_brings, ending, left_brings, none_lifted}
+use Rattle.venue_laws.proofs.VenueGrowth.{lifted_later, quoted_later}
 use Rattle.venue_laws.proofs.VenueInvariant.{PostedIn, RespondsIn}
-use Rattle.venue_laws.proofs.VenueKinds.{Fine, in_it, known}
+use Rattle.venue_laws.proofs.VenueKinds.{in_it, known}
 use Rattle.venue_laws.proofs.VenueKnown.{posted_in}
 use Rattle.venue_laws.proofs.VenueParts.{LiftedIn, closer}
-use Rattle.venue_laws.proofs.VenueSteps.{Brings, Here, day, since, to_now, trail_of}
+use Rattle.venue_laws.proofs.VenueSteps.{Brings, Here, day, since, trail_of}
 
 -- a hit that awards asked a word that no check refused, and ends as the book says
 awards : (facts : List RoomFact) (word moment : ℕ) (settlement : Option Settled) (award : End)
@@ -113,16 +112,8 @@ module _ (h : Here) (room : RoomRef) where
       replied : Result End HitRefusal → Duty
       replied outcome = duty.Answer room response (reply_of outcome) moment
 
-      answered : (outcome : Result End HitRefusal)
-          → ((quote : ℕ) → replies_to (Some quote) (reply_of outcome) ≡ true)
-          → (effect : Effect) → Fine h effect (replied outcome)
-      answered outcome replies effect = (
-        λ now later. (
-          let quote = some_of response.k hits.some_is in rw (quote.1) (replies quote.0),
-          known_later (to_now h effect later) room response.k hits.known,
-        ),
-        refl,
-      )
+      quote : (n : ℕ) × (response.k ≡ Some n)
+      quote = some_of response.k hits.some_is
 
       by_outcome : (outcome : Result End HitRefusal)
           → hit_outcome (known h room) word moment settlement ≡ outcome
@@ -138,11 +129,12 @@ module _ (h : Here) (room : RoomRef) where
           (not-false (is_open (known h room))
           (none_holds (hit_checks (known h room) word moment) so.0).0)
           (hits.by_is ∙ ap (λ (e : End). closer e.kind room) so.1)
-          (answered (Ok award) (λ quote. refl) (ending h room award moment (replied (Ok award))
-          lifted))
+          (answered h room response (reply_of (Ok award)) moment hits (rw (quote.1) refl)
+          (ending h room award moment (replied (Ok award)) lifted))
           (λ now later dealer hit. lifted_later later dealer room (winner_lifted word award so.1
           (map (InRoom room) (Ended award moment ∷ [])) dealer hit))
       by_outcome (Err why) is =
           rw (none_lifted (quote_with_word h.config word) why)
           (left_brings h room (replied (Err why))
-          (answered (Err why) (λ quote. refl) (in_it h room [] (replied (Err why) ∷ []))))
+          (answered h room response (reply_of (Err why)) moment hits (rw (quote.1) refl)
+          (in_it h room [] (replied (Err why) ∷ []))))
