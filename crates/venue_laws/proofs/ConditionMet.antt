@@ -151,8 +151,7 @@ module _ (config : Configuration) (venue : AuditTrail) (stood : VenueOk config v
       acts by fits (may_drop config venue.facts last)
       (has_asked config fits.dealer fits.row fits.row_is
       (number_to_drop (book_by (of_dealer fits.dealer venue.facts)) last)
-      (drops_of_day words config.date fits.row (of_dealer fits.dealer venue.facts)
-      (stood.desks fits.dealer fits.row fits.row_is).seen last))
+      (drops_of_day words (stood.desks fits.dealer fits.row fits.row_is) last))
 
   -- the word that a message asks
   pub message_met : (dealer : ℕ) (row : DealerRow) (moment : ℕ) (bytes : List ℕ)
@@ -161,5 +160,4 @@ module _ (config : Configuration) (venue : AuditTrail) (stood : VenueOk config v
   unfolding has_word_asked
   message_met dealer row moment bytes is =
       has_asked config dealer row is _
-      (asks_of_day words config.date row (of_dealer dealer venue.facts)
-      (stood.desks dealer row is).seen moment bytes)
+      (asks_of_day words (stood.desks dealer row is) moment bytes)

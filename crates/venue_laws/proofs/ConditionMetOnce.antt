@@ -26,14 +26,13 @@ use Rattle.step_replay.specs.VenueFacts.{AtDealer, of_dealer, of_room}
 use Rattle.venue_laws.proofs.ListLemmas.{cases_some, found_in, slice_holds, some_of}
 use Rattle.venue_laws.proofs.ShownRequests.{in_facts, number_place, numbered_shown, told_in}
 use Rattle.venue_laws.proofs.ShownRequests.{told_or_closable}
-use Rattle.venue_laws.proofs.VenueGrowth.{later_same}
 use Rattle.venue_laws.proofs.VenueInvariant.{ClosedIn, Did, FactOk, OpensIn, ReadiesBy, ShownTo}
 use Rattle.venue_laws.proofs.VenueInvariant.{ShowsIn, TellsIn, VenueOk}
 use Rattle.venue_laws.proofs.VenueKnown.{all_there, ended_ready, known_opened, known_room}
 use Rattle.venue_laws.proofs.VenueKnown.{named_dealer, one_number, opened_in, ready_in}
 use Rattle.venue_laws.proofs.VenueKnown.{ready_opened, rooms_shown, shown_ended}
 use Rattle.venue_laws.proofs.VenueParts.{Mark, Opening, Readying, Showing, Still, Telling, WasDone}
-use Rattle.venue_laws.proofs.VenueParts.{closer, did_in, mark_of, number_for}
+use Rattle.venue_laws.proofs.VenueParts.{closer, did_in, later_same, mark_of, number_for}
 use Rattle.venue_laws.specs.Conditions.{holds_for, is_room, is_unshown, is_untold}
 
 module _ {config : Configuration} {venue : AuditTrail} (stood : VenueOk config venue)

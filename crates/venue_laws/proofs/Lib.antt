@@ -22,7 +22,6 @@ mod ToldLemmas
 mod VenueDay
 mod VenueDesk
 mod VenueEnds
-mod VenueGrowth
 mod VenueHits
 mod VenueInvariant
 mod VenueKinds

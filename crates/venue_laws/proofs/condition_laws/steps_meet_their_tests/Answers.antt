@@ -2,8 +2,8 @@ use Rattle.step_replay.specs.AuditTrail.{audit_trail}
 use Rattle.venue_laws.proofs.ConditionMet.{message_met, met}
 use Rattle.venue_laws.proofs.VenueDay.{venue_ok}
 use Rattle.venue_laws.proofs.VenueDesk.{WordsOfDay}
-use Rattle.venue_laws.proofs.VenueGrowth.{later_same}
 use Rattle.venue_laws.proofs.VenueKnown.{pending_ok}
+use Rattle.venue_laws.proofs.VenueParts.{later_same}
 use Rattle.venue_laws.proofs.condition_laws.steps_meet_their_tests.Goals as goal
 
 pub returns-clause-duties : goal.returns-clause-duties
