@@ -2,7 +2,6 @@ mod AcceptedQuotes
 mod AnswerLemmas
 mod BlindDues
 mod ConditionMet
-mod ConditionMetOnce
 mod ErasedActions
 mod ErasedHits
 mod ErasedSteps

@@ -26,7 +26,7 @@ use Rattle.step_replay.specs.StepLemmas.{duty_keeps, message_keeps, sweep_keeps}
 use Rattle.step_replay.specs.VenueFacts.{of_dealer, of_investor}
 use Rattle.step_replay.specs.declared.steps.Step.{Step}
 use Rattle.step_replay.specs.declared.steps.Step.TheVariants as step
-use Rattle.venue_laws.proofs.ConditionMetOnce.{show_met, tell_met}
+use Rattle.venue_laws.proofs.ConditionMet.{show_met, tell_met}
 use Rattle.venue_laws.proofs.KnownDesks.{start_fit}
 use Rattle.venue_laws.proofs.ListLemmas.{cases_some}
 use Rattle.venue_laws.proofs.LiveQuotes.{LoneQuotes}
