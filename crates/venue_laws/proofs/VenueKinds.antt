@@ -4,6 +4,7 @@ use Rattle.std.proofs.Common.{Bool, List, None, Some, ℕ, [], false, if◌then�
 use Rattle.std.proofs.Common.{not, refl, subst, sym, true, ◌++◌, ◌==◌, ◌∙◌, ◌∷◌, ◌≡◌}
 use Rattle.std.proofs.lemmas.Bool.{and_parts, both_ways, cases_Bool, eqb-true, not-true}
 use Rattle.std.proofs.lemmas.List.{append-nil}
+use Rattle.std.proofs.lemmas.List.Elements.{filter_map-append}
 use Rattle.std.proofs.lemmas.Option.{same_Some}
 use Rattle.std.specs.List.{list_any}
 use Rattle.market_terms.specs.Dealers.{are_distinct}
@@ -63,7 +64,8 @@ module _ (h : Here) where
       → dealer_numbered h.config dealer ≡ Some row → ArePlain entries
       → DeskAdds h dealer row entries
   plain_adds dealer row entries is plain = (
-    rw (plain_rooms entries plain, append-nil) (h.stood.desks dealer row is).numbered,
+    rw (filter_map-append, plain_rooms entries plain, append-nil)
+        (h.stood.desks dealer row is).numbered,
     plain_names h.config.date row (trail_of h dealer) entries plain,
   )
 
@@ -189,13 +191,6 @@ module _ (h : Here) where
       (apart : (dealer other : ℕ) → mark dealer ≡ mark other → dealer ≡ other)
       (plain : (before : List Mark) (dealer : ℕ)
       → Still (InOrder before (mark dealer)) (day h effect)) where
-    absent : (dealer other : ℕ) (dealers : List ℕ)
-        → not (list_any (λ (named : ℕ). named == dealer) dealers) ≡ true → In other dealers
-        → dealer ≡ other → ⊥
-    absent dealer other dealers none among same =
-        both_ways (list_any (λ (named : ℕ). named == dealer) dealers) (not-true _ none)
-        (named_in dealer dealers (subst (λ (d : ℕ). In d dealers) (sym same) among))
-
     once_behind : (front : List Duty) (dealers : List ℕ) → are_distinct dealers ≡ true
         → ((dealer : ℕ) → In dealer dealers → DutyThen h effect (make dealer))
         → ((dealer : ℕ) → In dealer dealers → In (mark dealer) (marks front) → ⊥)
@@ -210,8 +205,9 @@ module _ (h : Here) where
               (λ other among stands. elim (in_both (mark other) (marks front) (mark dealer ∷ [])
               (rw (marks_both front (make dealer ∷ []), is dealer) at stands)) [
                 | inl before ↦ clear other (inr among) before
-                | inr here ↦ absent dealer other dealers parts.0 among
-                    (apart dealer other (in_one (mark other) (mark dealer) here))
+                | inr here ↦ both_ways _ (not-true _ parts.0) (named_in dealer dealers
+                    (subst (λ (d : ℕ). In d dealers)
+                    (sym (apart dealer other (in_one (mark other) (mark dealer) here))) among))
               ]),
         )
 

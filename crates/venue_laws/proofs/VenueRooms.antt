@@ -8,15 +8,13 @@ use Rattle.market_terms.specs.declared.asks.Ask.{Ask}
 use Rattle.market_terms.specs.declared.duties.Duty.{Duty}
 use Rattle.market_terms.specs.declared.duties.Duty.TheVariants as duty
 use Rattle.market_terms.specs.declared.rooms.RoomRef.{RoomRef}
-use Rattle.request_room.specs.Book.{event_facts, may_unpost, quote_posted, where_so}
-use Rattle.request_room.specs.RoomFacts.{Noted, Opened, Posted, Readied, RoomFact, Unposted}
-use Rattle.request_room.specs.RoomFacts.{is_ended, is_named, is_opening, is_vacant, names}
-use Rattle.request_room.specs.RoomFacts.{opened_for, request_of, takes_quotes}
+use Rattle.request_room.specs.Book.{event_facts, where_so}
+use Rattle.request_room.specs.RoomFacts.{Opened, Readied, RoomFact, is_ended, is_named, is_opening}
+use Rattle.request_room.specs.RoomFacts.{is_vacant, names, opened_for, request_of}
 use Rattle.request_room.specs.declared.events.RoomEvent.TheVariants as at_room
 use Rattle.request_room.specs.declared.requests.RoomRequest.{RoomRequest}
 use Rattle.venue_steps.specs.RoomSteps.{where_follows}
-use Rattle.step_replay.specs.Actions.{Effect, dealer_of, declined_by, in_room, nothing, opened}
-use Rattle.step_replay.specs.Actions.{posted_by, unposted_by, word_for}
+use Rattle.step_replay.specs.Actions.{Effect, in_room, nothing, opened}
 use Rattle.step_replay.specs.AuditTrail.{AuditTrail}
 use Rattle.step_replay.specs.EachLemmas.{Every, each_append}
 use Rattle.step_replay.specs.GrowthLemmas.{In, all_in, in_right, said_after}
@@ -24,11 +22,10 @@ use Rattle.step_replay.specs.PlaceLemmas.{own_room, room_grown}
 use Rattle.step_replay.specs.VenueFacts.{InRoom, of_room}
 use Rattle.venue_laws.proofs.ListLemmas.{every_map, found_in, in_both, in_found, in_map, in_named}
 use Rattle.venue_laws.proofs.ListLemmas.{named_in, none_is}
-use Rattle.venue_laws.proofs.VenueGrowth.{marks_both, named_later, quoted_later, said_later}
-use Rattle.venue_laws.proofs.VenueInvariant.{ByNamed, LeftOk, OpensIn, PostsIn}
+use Rattle.venue_laws.proofs.VenueGrowth.{marks_both, said_later}
+use Rattle.venue_laws.proofs.VenueInvariant.{LeftOk, OpensIn}
 use Rattle.venue_laws.proofs.VenueKinds.{DoneNow, Fine, each_once, fine_left, in_it, known, queued}
 use Rattle.venue_laws.proofs.VenueKinds.{room_brings, when_brings, where_brings}
-use Rattle.venue_laws.proofs.VenueKnown.{opened_by}
 use Rattle.venue_laws.proofs.VenueParts.{InOrder, IsOpened, Later, MarkOk, Readying, Showing, Still}
 use Rattle.venue_laws.proofs.VenueParts.{did_in, mark_of, marks}
 use Rattle.venue_laws.proofs.VenueSteps.{Brings, DutyThen, FactThen, Here, day, queue, to_now}
@@ -148,7 +145,7 @@ module _ (h : Here) (room : RoomRef) where
   -- Quotes and declines.
 
   -- a fact that may be added, and a duty that may follow
-  may_bring : (may b c : Bool) (fact : RoomFact) (left : Duty) → mark_of left ≡ None
+  pub may_bring : (may b c : Bool) (fact : RoomFact) (left : Duty) → mark_of left ≡ None
       → ((effect : Effect) → FactThen h effect (InRoom room fact))
       → ((effect : Effect) → DutyThen h effect left)
       → Brings h (if may then in_it h room (where_so b fact) (where_follows c left) else nothing)
@@ -167,48 +164,3 @@ module _ (h : Here) (room : RoomRef) where
       follows : (d : Bool) → Every (Fine h effect) (where_follows d left)
       follows true = ((leaves effect, free), tt)
       follows false = tt
-
-  pub posted_brings : (quote price : ℕ) (valid_until : Option ℕ) (moment : ℕ)
-      (posts : PostsIn h.config h.by room quote h.venue)
-      → Brings h (posted_by h.config h.venue.facts room quote price valid_until moment
-      (dealer_of posts.named.who.dealer posts.named.who.row))
-  unfolding event_facts
-  posted_brings quote price valid_until moment posts =
-      let who = posts.named.who in
-      may_bring _ (takes_quotes (known h room)) _
-      (Posted (quote_posted who.dealer (word_for h.config (dealer_of who.dealer who.row) quote) price
-      valid_until)) _ refl
-      (λ effect now later. record {
-        row = who.row;
-        quote = quote;
-        row_is = who.row_is;
-        within = posts.within;
-        word_is = refl;
-        quoted = quoted_later (to_now h effect later) who.dealer room quote posts.quoted;
-      })
-      (λ effect now later. opened_by room now.facts who.dealer
-      (named_later (to_now h effect later) room who.dealer posts.named.named))
-
-  pub unposted_brings : (quote moment : ℕ) (named : ByNamed h.config h.by room h.venue.facts)
-      → Brings h (unposted_by h.config h.venue.facts room quote moment
-      (dealer_of named.who.dealer named.who.row))
-  unfolding event_facts
-  unposted_brings quote moment named =
-      let who = named.who in
-      let word = word_for h.config (dealer_of who.dealer who.row) quote in
-      may_bring _ (may_unpost (known h room) who.dealer word) _ (Unposted who.dealer word) _
-      refl (λ effect now later. tt)
-      (λ effect now later. opened_by room now.facts who.dealer
-      (named_later (to_now h effect later) room who.dealer named.named))
-
-  pub declined_brings : (moment : ℕ) (named : ByNamed h.config h.by room h.venue.facts)
-      → Brings h (declined_by h.config h.venue.facts room moment
-      (dealer_of named.who.dealer named.who.row))
-  unfolding event_facts
-  declined_brings moment named =
-      may_bring _ (takes_quotes (known h room)) _ (Noted named.who.dealer) _ refl
-      (λ effect now later. tt)
-      (λ effect now later. record {
-        who = named.who;
-        named = named_later (to_now h effect later) room named.who.dealer named.named;
-      })

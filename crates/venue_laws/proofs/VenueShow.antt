@@ -1,5 +1,5 @@
 -- A request that is shown, and a notice that is told, bring what stands in a venue.
-use Rattle.std.proofs.Common.{List, Option, Some, ℕ, [], ap, eq-eqb, false, is_some, map}
+use Rattle.std.proofs.Common.{List, Option, Some, ℕ, [], eq-eqb, false, is_some, map}
 use Rattle.std.proofs.Common.{option_to_list, refl, subst, sym, true, ◌++◌, ◌∷◌, ◌≡◌}
 use Rattle.std.proofs.lemmas.Bool.{or_left}
 use Rattle.std.proofs.lemmas.List.{append-nil}
@@ -11,12 +11,13 @@ use Rattle.market_terms.specs.declared.duties.Duty.TheVariants as duty
 use Rattle.market_terms.specs.declared.rooms.RoomRef.{RoomRef}
 use Rattle.venue_rows.specs.Rows.{dealer_numbered}
 use Rattle.venue_rows.specs.declared.dealer_rows.DealerRow.{DealerRow}
-use Rattle.dealer_desk.specs.DealerFacts.{Shown, Told, tells}
+use Rattle.dealer_desk.specs.DealerFacts.{Told, tells}
 use Rattle.dealer_desk.specs.DealerOutput.{closable, event_facts, number_in}
 use Rattle.dealer_desk.specs.declared.events.DealerEvent.TheVariants as event
 use Rattle.step_replay.specs.Actions.{Effect, dealer_of, shown_to, told_of, told_to}
-use Rattle.step_replay.specs.DealerTrail.{AtDesk, DealerEntry, Sent, ShownIn, book_by, entries_of}
-use Rattle.step_replay.specs.DealerTrail.{facts_of, message_by, rooms_by}
+use Rattle.step_replay.specs.DealerGrowth.{rooms_grown}
+use Rattle.step_replay.specs.DealerTrail.{AtDesk, DealerEntry, Sent, book_by, entries_of, facts_of}
+use Rattle.step_replay.specs.DealerTrail.{message_by, rooms_by}
 use Rattle.step_replay.specs.GrowthLemmas.{any_right, number_next, numbered_push}
 use Rattle.step_replay.specs.PlaceLemmas.{dealer_grown, own_trail}
 use Rattle.step_replay.specs.VenueFacts.{AtDealer, of_dealer}
@@ -56,38 +57,25 @@ module _ (h : Here) (dealer : ℕ) (row : DealerRow)
       → Does (shown_to h.config h.venue.facts room ask moment (dealer_of dealer row))
       (Showing dealer room)
   unfolding entries_of event_facts
-  shown_brings yet ask bears did = rw yet (
-    desk_brings h dealer row is entries [] (
-      rw rooms_are (numbered_push (rooms_by own) room desk.numbered (none_some _ yet)
-          (room_self room)),
-      (tt, (tt, plain_names h.config.date row _ (map Sent messages) (sent_plain messages))),
-    ) (
-      λ now later. bears,
-      (
-        λ now later. (ask, moment, did effect now later),
-        plain_ok h effect dealer (map Sent messages) (sent_plain messages),
-      ),
-    ) tt,
-    λ now later. shown_later later dealer room
-        (rw (
+  shown_brings yet ask bears did =
+      let more = event.Shown room ask moment in
+      let entries = entries_of h.config.date row own more in
+      let effect = at_desk h dealer entries [] in
+      rw yet (
+        desk_brings h dealer row is entries [] (
+          rw (rooms_grown h.config.date row own more) (numbered_push (rooms_by own) room
+              desk.numbered (none_some _ yet) (room_self room)),
+          (tt, (tt, plain_names h.config.date row _ (map Sent _) (sent_plain _))),
+        ) (
+          λ now later. bears,
+          (λ now later. (ask, moment, did effect now later), plain_ok h effect dealer _ (sent_plain _)),
+        ) tt,
+        λ now later. shown_later later dealer room (rw (
           trail_with entries,
-          filter_map-append,
-          rooms_are,
+          rooms_grown h.config.date row own more,
           number_next 1 (rooms_by own) room (none_some _ yet) (room_self room),
         ) refl),
-  )
-    where
-      messages : List (List ℕ)
-      messages = option_to_list (message_by h.config.date row own (event.Shown room ask moment))
-
-      entries : List DealerEntry
-      entries = AtDesk (Shown ask moment) ∷ ShownIn room ∷ map Sent messages
-
-      effect : Effect
-      effect = at_desk h dealer entries []
-
-      rooms_are : rooms_by entries ≡ room ∷ []
-      rooms_are = ap (λ l. room ∷ l) (plain_rooms (map Sent messages) (sent_plain messages))
+      )
 
   module _ (lone : LoneQuotes) (close : Close)
       (fits : TellsIn h.config h.by dealer room close h.venue) (request : ℕ)
@@ -117,7 +105,7 @@ module _ (h : Here) (dealer : ℕ) (row : DealerRow)
         subst (λ (o : Option ℕ). Does (told_of h.config h.venue.facts (dealer_of dealer row) close
         moment o) (Telling dealer room)) (sym found) (rw may (
           desk_brings h dealer row is entries [] (
-            rw (plain_rooms (sent_of close) plain, append-nil) desk.numbered,
+            rw (filter_map-append, plain_rooms (sent_of close) plain, append-nil) desk.numbered,
             (told_names close refl, plain_names h.config.date row _ (sent_of close) plain),
           ) (
             λ now later. record {
