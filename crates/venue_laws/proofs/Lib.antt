@@ -1,9 +1,9 @@
 mod AnswerLemmas
 mod BlindDues
+mod ComputedDays
 mod ConditionMet
 mod ConditionMetOnce
 mod ErasedActions
-mod ErasedHits
 mod ErasedSteps
 mod Erasing
 mod InvestorVerdicts
