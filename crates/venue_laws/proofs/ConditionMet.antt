@@ -16,6 +16,7 @@ use Rattle.market_terms.specs.declared.duties.Duty.{Duty}
 use Rattle.market_terms.specs.declared.duties.Duty.TheVariants as duty
 use Rattle.market_terms.specs.declared.duties.Duty.TheVariants as duty
 use Rattle.market_terms.specs.declared.rooms.RoomRef.{RoomRef}
+use Rattle.day_parts.specs.AcceptedQuotes.{none_holds}
 use Rattle.venue_rows.specs.Rows.{Configuration, dealer_numbered, investor_numbered}
 use Rattle.venue_rows.specs.declared.dealer_rows.DealerRow.{DealerRow}
 use Rattle.dealer_desk.specs.DealerFacts.{Told, number_to_drop}
@@ -35,10 +36,9 @@ use Rattle.step_replay.specs.AuditTrail.{AuditTrail}
 use Rattle.step_replay.specs.DealerTrail.{AtDesk, DealerEntry, book_by, facts_of, rooms_by}
 use Rattle.step_replay.specs.GrowthLemmas.{all_in}
 use Rattle.step_replay.specs.VenueFacts.{AtDealer, of_dealer, of_room}
-use Rattle.venue_laws.proofs.AcceptedQuotes.{none_holds}
 use Rattle.venue_laws.proofs.ListLemmas.{cases_some, found_in, slice_holds, some_of}
-use Rattle.venue_laws.proofs.ShownRequests.{in_facts, number_place, numbered_shown, told_in}
-use Rattle.venue_laws.proofs.ShownRequests.{told_or_closable}
+use Rattle.venue_laws.proofs.NoticeLemmas.{told_if_closed}
+use Rattle.venue_laws.proofs.ShownRequests.{in_facts, number_place, told_in}
 use Rattle.venue_laws.proofs.VenueDesk.{OfRow, WordsOfDay, asks_of_day, drops_of_day, within_row}
 use Rattle.venue_laws.proofs.VenueInvariant.{ByDealer, ByNamed, ClosedIn, Did, DutyOk, FactOk}
 use Rattle.venue_laws.proofs.VenueInvariant.{OpensIn, ReadiesBy, ShownTo, ShowsIn, TellsIn, VenueOk}
@@ -149,8 +149,8 @@ module _ {config : Configuration} {venue : AuditTrail} (stood : VenueOk config v
       dealer_met room dealer fits.named (is_untold venue.facts room)
       (λ row is. rw (number.1) (true_from_ne_false (is_some (closable (book_by trail) number.0))
       (λ closed.
-      let told = told_in number.0 (facts_of trail) (told_or_closable trail number.0
-      (numbered_shown trail room number.0 (stood.desks dealer row is).counted number.1) closed) in
+      let told = told_in number.0 (facts_of trail) (told_if_closed trail
+      (stood.desks dealer row is).noticed room number.0 number.1 closed) in
       told_never number.0 number.1
       (all_in (λ entry. Still (FactOk config (AtDealer dealer entry)) venue)
       (AtDesk (Told number.0 told.0 told.1)) trail (all_there stood dealer)

@@ -1,210 +1,271 @@
--- What an action adds and leaves in a day without prices: what it adds and leaves in the day, but
--- for prices.
-use Rattle.std.proofs.Common.{◌≡◌, ℕ, ◌==◌, Bool, true, false, ◌&&◌, List, [], map, filter_map}
-use Rattle.std.proofs.Common.{Option, Some, None, is_some, refl, ap, ◌∙◌, if◌then◌else◌}
+-- What an action adds and leaves in a day without prices is what it adds and leaves in the day, but
+-- for prices: effects, what comes to an investor, a closing notice, a drop and a hit.
+use Rattle.std.proofs.Common.{◌≡◌, ℕ, ◌==◌, Bool, true, false, List, ◌++◌, map, Option, Some}
+use Rattle.std.proofs.Common.{None, Ok, option_map, option_to_list, refl, if◌then◌else◌}
+use Rattle.std.proofs.lemmas.List.{map-append}
+use mathlib.Core.List.{map-map}
 use Rattle.market_terms.specs.Unpriced.{uncovered, unpriced_duty}
-use Rattle.market_terms.specs.declared.asks.Ask.{Ask}
 use Rattle.market_terms.specs.declared.closes.Close.{Close}
+use Rattle.market_terms.specs.declared.closes.Close.TheVariants as closes
+use Rattle.market_terms.specs.declared.closes.HitRefusal.{HitRefusal}
 use Rattle.market_terms.specs.declared.duties.Duty.{Duty}
+use Rattle.market_terms.specs.declared.duties.Duty.TheVariants as duty
+use Rattle.market_terms.specs.declared.rooms.ResponseRef.{ResponseRef}
 use Rattle.market_terms.specs.declared.rooms.RoomRef.{RoomRef}
-use Rattle.venue_rows.specs.Rows.{Configuration, has_room}
-use Rattle.dealer_desk.specs.DealerFacts.{DealerBook}
-use Rattle.dealer_desk.specs.DealerOutput.{closable, event_facts, number_in, shown_room}
+use Rattle.quote_word.specs.declared.settled.Settled.{Settled}
+use Rattle.quote_word.specs.declared.settled.Settled.TheVariants as settled
+use Rattle.venue_rows.specs.Rows.{Configuration}
+use Rattle.dealer_desk.specs.DealerFacts.{DealerFact, book_of, number_to_drop}
+use Rattle.dealer_desk.specs.DealerOutput.{closable, event_facts, settled_facts}
 use Rattle.dealer_desk.specs.Unpriced.{unpriced as unpriced_at_dealer}
-use Rattle.dealer_desk.specs.Unpriced.{unpriced_event as unpriced_to_dealer}
-use Rattle.dealer_desk.specs.declared.events.DealerEvent.{DealerEvent}
 use Rattle.dealer_desk.specs.declared.events.DealerEvent.TheVariants as at_desk
-use Rattle.dealer_desk.proofs.UnpricedVerdicts.{closable_same, kept_same as kept_at_dealer}
-use Rattle.investor_desk.specs.InvestorFacts.{InvestorBook, knows}
+use Rattle.dealer_desk.specs.declared.standing.Withdrawal.TheVariants as by
+use Rattle.dealer_desk.proofs.UnpricedBooks.{book_same}
+use Rattle.dealer_desk.proofs.UnpricedVerdicts.{closable_same, some_to_drop, unposted_same}
+use Rattle.investor_desk.specs.InvestorFacts.{knows}
 use Rattle.investor_desk.specs.InvestorRules.{InvestorMarket}
-use Rattle.investor_desk.specs.Unpriced.{unpriced as unpriced_at_investor}
-use Rattle.investor_desk.specs.Unpriced.{unpriced_event as unpriced_to_investor}
+use Rattle.investor_desk.specs.Unpriced.{unpriced_event}
 use Rattle.investor_desk.specs.declared.events.InvestorEvent.{InvestorEvent}
-use Rattle.investor_desk.proofs.UnpricedDesks.{kept_same as kept_at_investor, knows_same}
+use Rattle.investor_desk.proofs.UnpricedDesks.{knows_same}
+use Rattle.request_room.specs.Book.{award_of, event_facts as facts_in_room, hit_refusal, hit_settled}
 use Rattle.request_room.specs.RoomFacts.{RoomFact}
 use Rattle.request_room.specs.Unpriced.{unpriced as unpriced_in_room}
-use Rattle.request_room.specs.Unpriced.{unpriced_event as unpriced_to_room}
-use Rattle.request_room.specs.declared.events.RoomEvent.{RoomEvent}
-use Rattle.request_room.proofs.UnpricedRooms.{kept_same as kept_in_room}
-use Rattle.step_replay.specs.DealerTrail.{DealerEntry, AtDesk, Sent, book_by, entries_of, rooms_by}
+use Rattle.request_room.specs.declared.ends.End.{End}
+use Rattle.request_room.specs.declared.events.RoomEvent.TheVariants as at_room
+use Rattle.request_room.proofs.UnpricedRooms.{asked_of_book, kept_same}
+use Rattle.venue_steps.specs.RoomSteps.{hit_duties, hit_word, where_follows}
+use Rattle.step_replay.specs.DealerGrowth.{facts_grown}
+use Rattle.step_replay.specs.DealerTrail.{DealerEntry, answer_to_dealer, book_by, entries_of}
+use Rattle.step_replay.specs.DealerTrail.{facts_of, rooms_by}
 use Rattle.step_replay.specs.InvestorTrail as investor_trail
-use Rattle.step_replay.specs.InvestorTrail.{AtDesk as AtInvestorsDesk, Sent as SentToInvestor}
-use Rattle.step_replay.specs.VenueFacts.{Fact, AtDealer, InRoom, AtInvestor, of_dealer, of_investor}
-use Rattle.step_replay.specs.VenueFacts.{of_room}
-use Rattle.step_replay.specs.Actions.{Effect, Dealer, at_dealer, at_market, done_by, done_for}
-use Rattle.step_replay.specs.Actions.{in_room, nothing, shown_to, told_of, told_to, where_known}
-use Rattle.venue_laws.proofs.Erasing.{bare, book_left, erase, erase_entry, erase_investor_entry}
-use Rattle.venue_laws.proofs.Erasing.{investor_book_left, left, room_left, rooms_left, left_all}
-use Rattle.venue_laws.proofs.Erasing.{left_at, left_none}
-use Rattle.std.proofs.lemmas.List.Elements.{filter_map-append}
+use Rattle.step_replay.specs.VenueFacts.{Fact, InRoom, of_dealer, of_investor, of_room}
+use Rattle.step_replay.specs.Actions.{Effect, Dealer, QuoteRef, answer_to_drop, answer_to_hit}
+use Rattle.step_replay.specs.Actions.{done_by, done_for, drop_at, dropped_by, hit_in, left_by_drop}
+use Rattle.step_replay.specs.Actions.{lifting, quote_asked, quote_with_word, told_of, where_known}
+use Rattle.venue_laws.proofs.Erasing.{bare, bare_append, book_known, desk_added, desk_kept}
+use Rattle.venue_laws.proofs.Erasing.{facts_known, lifted_known, market_added, market_kept}
+use Rattle.venue_laws.proofs.Erasing.{market_known, number_known, room_added, room_left, rooms_known}
+use Rattle.venue_laws.proofs.Erasing.{withdrawn_known}
 
--- two actions add and leave the same, but for what is erased
-pub record AreAlike (own : ℕ) (one other : Effect) : Type 0 where
-  pub same : left own one ≡ left own other
+-- Effects.
 
--- Forms of actions.
+-- what is left of what an action adds, and of what it leaves
+unfoldable pub left : ℕ → Effect → Effect
+left own effect =
+    record { facts = bare own effect.facts; duties = map unpriced_duty effect.duties }
 
-pub same_alike : {own : ℕ} {effect : Effect} → AreAlike own effect effect
-same_alike = record { same = refl }
+pub left_of : (own : ℕ) (facts : List Fact) (duties : List Duty)
+    → left own (record { facts = facts; duties = duties })
+    ≡ record { facts = bare own facts; duties = map unpriced_duty duties }
+unfolding left
+left_of own facts duties = refl
 
-pub either_alike : {own : ℕ} {one other one' other' : Effect} (b c : Bool) → b ≡ c
-    → AreAlike own one one' → AreAlike own other other'
-    → AreAlike own (if b then one else other) (if c then one' else other')
-either_alike true true same first second = first
-either_alike true false same first second = cc
-either_alike false true same first second = cc
-either_alike false false same first second = second
+pub left_if : (own : ℕ) (b : Bool) (one other : Effect)
+    → left own (if b then one else other) ≡ (if b then left own one else left own other)
+left_if own true one other = refl
+left_if own false one other = refl
 
-pub if_alike : {own : ℕ} {one other : Effect} (b c : Bool) → b ≡ c → AreAlike own one other
-    → AreAlike own (if b then one else nothing) (if c then other else nothing)
-if_alike b c same alike = either_alike b c same alike same_alike
+pub left_done : (own : ℕ) (found : Option Dealer) (one other : Dealer → Effect)
+    → ((dealer : Dealer) → left own (one dealer) ≡ left own (other dealer))
+    → left own (done_by found one) ≡ left own (done_by found other)
+left_done own None one other same = refl
+left_done own (Some dealer) one other same = same dealer
 
-pub done_alike : {own : ℕ} (found : Option Dealer) {one other : Dealer → Effect}
-    → ((dealer : Dealer) → AreAlike own (one dealer) (other dealer))
-    → AreAlike own (done_by found one) (done_by found other)
-done_alike None alike = same_alike
-done_alike (Some dealer) alike = alike dealer
+pub left_for : (own : ℕ) (found : Option InvestorMarket) (one other : InvestorMarket → Effect)
+    → ((market : InvestorMarket) → left own (one market) ≡ left own (other market))
+    → left own (done_for found one) ≡ left own (done_for found other)
+left_for own None one other same = refl
+left_for own (Some market) one other same = same market
 
-pub market_alike : {own : ℕ} (found : Option InvestorMarket) {one other : InvestorMarket → Effect}
-    → ((market : InvestorMarket) → AreAlike own (one market) (other market))
-    → AreAlike own (done_for found one) (done_for found other)
-market_alike None alike = same_alike
-market_alike (Some market) alike = alike market
+pub follows : (b : Bool) (duty : Duty)
+    → map unpriced_duty (where_follows b duty) ≡ where_follows b (unpriced_duty duty)
+follows true duty = refl
+follows false duty = refl
 
--- what is left of the entries that an event adds at a dealer's desk
-pub entries_alike : (stay : Bool) (config : Configuration) (dealer : Dealer)
-    (one other : List DealerEntry) (more later : DealerEvent)
-    → map (unpriced_at_dealer stay) (event_facts config.date dealer.row (book_by one) more)
-    ≡ map (unpriced_at_dealer stay) (event_facts config.date dealer.row (book_by other) later)
-    → shown_room more ≡ shown_room later
-    → filter_map (erase_entry stay) (entries_of config.date dealer.row one more)
-    ≡ filter_map (erase_entry stay) (entries_of config.date dealer.row other later)
-unfolding entries_of
-entries_alike stay config dealer one other more later kept rooms =
-    simp (
-      filter_map-append,
-      left_all (erase_entry stay) AtDesk (unpriced_at_dealer stay) (λ fact. refl),
-      left_none (erase_entry stay) Sent (λ message. refl),
-      kept,
-      rooms,
-    )
+pub list_left : (duty : Option Duty)
+    → map unpriced_duty (option_to_list duty) ≡ option_to_list (option_map unpriced_duty duty)
+list_left None = refl
+list_left (Some duty) = refl
+
+told_each : (at : RoomRef) (close : ℕ → Close) (moment : ℕ) (dealers : List ℕ)
+    → map unpriced_duty (map (λ dealer. duty.Tell dealer at (close dealer) moment) dealers)
+    ≡ map (λ dealer. duty.Tell dealer at (uncovered (close dealer)) moment) dealers
+told_each at close moment dealers = simp map-map
+
+-- how an award ended for a dealer, whoever was the cover
+covered : (won cover : Bool)
+    → uncovered (if won then closes.Hit else if cover then closes.Cover else closes.DoneAway)
+    ≡ (if won then closes.Hit else closes.DoneAway)
+covered true cover = refl
+covered false true = refl
+covered false false = refl
+
+-- what is left of an action, and what it asks of its room
+pub ruleset effects = (left_if, left_of, desk_added, room_added, market_added)
+
+pub ruleset in_rooms = (effects, follows, room_left, asked_of_book)
 
 module _ (config : Configuration) (own : ℕ) (facts : List Fact) where
   -- the facts without prices
   abbrev known : List Fact
   known = bare own facts
 
-  -- At a dealer.
+  -- a dealer is told how a request ended
+  pub told_left : (dealer : Dealer) (close : Close) (moment : ℕ) (request : Option ℕ)
+      → left own (told_of config known dealer (uncovered close) moment request)
+      ≡ left own (told_of config facts dealer close moment request)
+  told_left dealer close moment None = refl
+  told_left dealer close moment (Some request) =
+      let is_told : closable (book_by (of_dealer dealer.number known)) request
+      ≡ closable (book_by (of_dealer dealer.number facts)) request =
+      rw (book_known own facts dealer.number)
+      (closable_same (book_by (of_dealer dealer.number facts)) request) in
+      simp (
+        effects,
+        is_told,
+        desk_kept own facts dealer.number config.date dealer.row
+            (at_desk.Told request close moment),
+      )
 
-  -- where what comes adds the same
-  pub desk_alike : (dealer : Dealer) (more later : DealerEvent) (duties duties_too : List Duty)
-      → map (unpriced_at_dealer (dealer.number == own))
-      (event_facts config.date dealer.row (book_by (of_dealer dealer.number known)) more)
-      ≡ map (unpriced_at_dealer (dealer.number == own))
-      (event_facts config.date dealer.row (book_by (of_dealer dealer.number facts)) later)
-      → shown_room more ≡ shown_room later
-      → map unpriced_duty duties ≡ map unpriced_duty duties_too
-      → AreAlike own (at_dealer config known dealer more duties)
-      (at_dealer config facts dealer later duties_too)
-  desk_alike dealer more later duties duties_too kept rooms same =
-      record {
-        same = simp (
-          left_at (erase own) (AtDealer dealer.number) (erase_entry (dealer.number == own))
-              (λ entry. refl),
-          entries_alike (dealer.number == own) config dealer (of_dealer dealer.number known)
-              (of_dealer dealer.number facts) more later kept rooms,
-          same,
-        );
-      }
-
-  pub kept_alike : (dealer : Dealer) (more : DealerEvent)
-      → map (unpriced_at_dealer (dealer.number == own)) (event_facts config.date dealer.row
-      (book_by (of_dealer dealer.number known)) (unpriced_to_dealer more))
-      ≡ map (unpriced_at_dealer (dealer.number == own))
-      (event_facts config.date dealer.row (book_by (of_dealer dealer.number facts)) more)
-  kept_alike dealer more =
-      rw (book_left own facts dealer.number)
-      (kept_at_dealer config.date dealer.row (dealer.number == own)
-      (book_by (of_dealer dealer.number facts)) more)
-
-  pub shown_alike : (room : RoomRef) (ask : Ask) (moment : ℕ) (dealer : Dealer)
-      → AreAlike own (shown_to config known room ask moment dealer)
-      (shown_to config facts room ask moment dealer)
-  shown_alike room ask moment dealer =
-      let shown = at_desk.Shown room ask moment in
-      either_alike _ _
-      (ap (λ (rooms : List RoomRef). is_some (number_in rooms room))
-      (rooms_left own facts dealer.number)) same_alike
-      (desk_alike dealer shown shown [] [] (kept_alike dealer shown) refl refl)
-
-  told_alike_of : (dealer : Dealer) (close : Close) (moment : ℕ) (request : Option ℕ)
-      → AreAlike own (told_of config known dealer (uncovered close) moment request)
-      (told_of config facts dealer close moment request)
-  told_alike_of dealer close moment None = same_alike
-  told_alike_of dealer close moment (Some request) =
-      if_alike _ _
-      (ap (λ (b : DealerBook). is_some (closable b request)) (book_left own facts dealer.number)
-      ∙ ap (λ o. is_some o) (closable_same (book_by (of_dealer dealer.number facts)) request))
-      (desk_alike dealer (at_desk.Told request (uncovered close) moment)
-      (at_desk.Told request close moment) [] []
-      (kept_alike dealer (at_desk.Told request close moment)) refl refl)
-
-  pub told_alike : (room : RoomRef) (close : Close) (moment : ℕ) (dealer : Dealer)
-      → AreAlike own (told_to config known room (uncovered close) moment dealer)
-      (told_to config facts room close moment dealer)
-  told_alike room close moment dealer =
-      rw (rooms_left own facts dealer.number) (told_alike_of dealer close moment
-      (number_in (rooms_by (of_dealer dealer.number facts)) room))
-
-  -- In a room: an event of which the test asks no price, and what it leaves only the price that it
-  -- bears.
-
-  pub event_alike : (room : RoomRef) (may : List RoomFact → Bool) (event : RoomEvent) (price : ℕ)
-      (duties : ℕ → List RoomFact → List Duty)
-      → ((l : List RoomFact) → may (map unpriced_in_room l) ≡ may l)
-      → ((l : List RoomFact)
-      → map unpriced_duty (duties 0 (map unpriced_in_room l)) ≡ map unpriced_duty (duties price l))
-      → AreAlike own (in_room config known room (may (of_room room known)) (unpriced_to_room event)
-      (duties 0 (of_room room known)))
-      (in_room config facts room (may (of_room room facts)) event
-      (duties price (of_room room facts)))
-  event_alike room may event price duties tests same =
-      rw (room_left own facts room, tests (of_room room facts))
-      (if_alike (has_room config room.investor room.n && may (of_room room facts)) _ refl (record {
-        same = simp (
-          left_all (erase own) (InRoom room) unpriced_in_room (λ fact. refl),
-          kept_in_room (of_room room facts) event,
-          same (of_room room facts),
-        );
-      }))
-
-  -- At an investor.
-
-  pub investor_alike : (market : InvestorMarket) (more : InvestorEvent)
-      (duties duties_too : List Duty) → map unpriced_duty duties ≡ map unpriced_duty duties_too
-      → AreAlike own (at_market known market (unpriced_to_investor more) duties)
-      (at_market facts market more duties_too)
-  unfolding investor_trail.entries_of
-  investor_alike market more duties duties_too same =
-      record {
-        same = simp (
-          left_at (erase own) (AtInvestor market.firm) erase_investor_entry (λ entry. refl),
-          filter_map-append,
-          left_all erase_investor_entry AtInvestorsDesk unpriced_at_investor (λ fact. refl),
-          left_none erase_investor_entry SentToInvestor (λ message. refl),
-          investor_book_left own facts market.firm,
-          kept_at_investor market (investor_trail.book_by (of_investor market.firm facts)) more,
-          same,
-        );
-      }
-
-  -- where an investor knows a request
-  pub known_alike : (request : ℕ) (quote : Option ℕ) (more : InvestorEvent)
+  -- an event at an investor's desk on a request that it knows
+  pub known_left : (request : ℕ) (quote : Option ℕ) (more : InvestorEvent)
       (market : InvestorMarket)
-      → AreAlike own (where_known known request quote (unpriced_to_investor more) market)
-      (where_known facts request quote more market)
-  known_alike request quote more market =
-      if_alike _ _
-      (ap (λ (b : InvestorBook). knows b request quote) (investor_book_left own facts market.firm)
-      ∙ knows_same (investor_trail.book_by (of_investor market.firm facts)) request quote)
-      (investor_alike market more [] [] refl)
+      → left own (where_known known request quote (unpriced_event more) market)
+      ≡ left own (where_known facts request quote more market)
+  known_left request quote more market =
+      let is_known : knows (investor_trail.book_by (of_investor market.firm known)) request quote
+      ≡ knows (investor_trail.book_by (of_investor market.firm facts)) request quote =
+      rw (market_known own facts market.firm)
+      (knows_same (investor_trail.book_by (of_investor market.firm facts)) request quote) in
+      simp (effects, is_known, market_kept own facts market more)
+
+-- A drop.
+
+-- what it adds bears no price
+settled_bare : (stay : Bool) (asked : Option ℕ) (settlement : Option Settled)
+    → map (unpriced_at_dealer stay) (settled_facts asked by.Cancel settlement)
+    ≡ settled_facts asked by.Cancel settlement
+settled_bare stay None settlement = refl
+settled_bare stay (Some quote) (Some settled.Lifted) = refl
+settled_bare stay (Some quote) settlement = refl
+
+-- the answer to the word that a dealer asks, where it asks one
+pub answer_known : (own : ℕ) (facts : List Fact) (number : ℕ) (asked : Option ℕ)
+    → option_map (answer_to_dealer (of_dealer number (bare own facts))) asked
+    ≡ option_map (answer_to_dealer (of_dealer number facts)) asked
+answer_known own facts number None = refl
+answer_known own facts number (Some quote) = rw (lifted_known own facts number quote)
+
+module _ (config : Configuration) (own : ℕ) (facts : List Fact) (dealer : Dealer)
+    (last moment : ℕ) where
+  -- the dealer's trail, and what is left of it
+  abbrev trail : List DealerEntry
+  trail = of_dealer dealer.number facts
+
+  abbrev bare_trail : List DealerEntry
+  bare_trail = of_dealer dealer.number (bare own facts)
+
+  settlement_known : answer_to_drop bare_trail last ≡ answer_to_drop trail last
+  settlement_known =
+      rw (number_known own facts dealer.number last)
+      (answer_known own facts dealer.number (number_to_drop (book_by trail) last))
+
+  -- the facts of the desk after the drop
+  abbrev after : List DealerEntry → List DealerFact
+  after entries =
+      facts_of (entries ++ entries_of config.date dealer.row entries (drop_at entries last moment))
+
+  after_known : after bare_trail ≡ map (unpriced_at_dealer (dealer.number == own)) (after trail)
+  unfolding event_facts
+  after_known =
+      rw (
+        facts_grown config.date dealer.row bare_trail (drop_at bare_trail last moment),
+        facts_grown config.date dealer.row trail (drop_at trail last moment),
+        settlement_known,
+        number_known own facts dealer.number last,
+        facts_known own facts dealer.number,
+        map-append,
+        settled_bare (dealer.number == own) (number_to_drop (book_by trail) last)
+            (answer_to_drop trail last),
+      )
+
+  duties_known : left_by_drop config (bare own facts) last moment dealer
+      ≡ left_by_drop config facts last moment dealer
+  duties_known =
+      rw (
+        after_known,
+        book_same (dealer.number == own) (after trail),
+        some_to_drop (book_of (after trail)) last,
+        settlement_known,
+        rooms_known own facts dealer.number,
+        book_known own facts dealer.number,
+        unposted_same (book_by trail) (rooms_by trail) last moment (answer_to_drop trail last),
+      )
+
+  pub dropped_left : left own (dropped_by config (bare own facts) last moment dealer)
+      ≡ left own (dropped_by config facts last moment dealer)
+  dropped_left =
+      rw (duties_known, settlement_known, number_known own facts dealer.number last) (simp (
+        effects,
+        desk_kept own facts dealer.number config.date dealer.row (drop_at trail last moment),
+      ))
+
+-- A hit.
+
+lifting_same : (found : Option QuoteRef) (one other : End)
+    → lifting found (Ok one) ≡ lifting found (Ok other)
+lifting_same None one other = refl
+lifting_same (Some hit) one other = refl
+
+module _ (config : Configuration) (own : ℕ) (facts : List Fact) (room : RoomRef)
+    (response : ResponseRef) (word moment : ℕ) where
+  -- what is known of the room
+  abbrev here : List RoomFact
+  here = of_room room facts
+
+  -- what a hit does in a room with these facts, where it is refused so or its word is settled so
+  abbrev hit_as : List RoomFact → Option HitRefusal → Option Settled → Effect
+  hit_as known refused settlement =
+      let outcome = hit_settled refused settlement (award_of known word) in
+      record {
+        facts = lifting (quote_with_word config word) outcome
+            ++ map (InRoom room) (facts_in_room known (at_room.Hit word moment settlement));
+        duties = hit_duties known room response moment outcome;
+      }
+
+  left_as : (refused : Option HitRefusal) (settlement : Option Settled)
+      → left own (hit_as (map unpriced_in_room here) refused settlement)
+      ≡ left own (hit_as here refused settlement)
+  left_as None (Some settled.Lifted) =
+      rw (lifting_same (quote_with_word config word) (award_of (map unpriced_in_room here) word)
+      (award_of here word)) (simp (
+        in_rooms,
+        bare_append,
+        told_each,
+        covered,
+        kept_same here (at_room.Hit word moment (Some settled.Lifted)),
+      ))
+  left_as None settlement =
+      simp (in_rooms, bare_append, kept_same here (at_room.Hit word moment settlement))
+  left_as (Some refused) settlement =
+      simp (in_rooms, bare_append, kept_same here (at_room.Hit word moment settlement))
+
+  refusal_same : hit_refusal (map unpriced_in_room here) word moment ≡ hit_refusal here word moment
+  unfolding hit_refusal
+  refusal_same = simp asked_of_book
+
+  settled_known : (found : Option QuoteRef)
+      → option_map (answer_to_hit (bare own facts)) found ≡ option_map (answer_to_hit facts) found
+  settled_known None = refl
+  settled_known (Some hit) = rw (withdrawn_known own facts hit.dealer hit.quote)
+
+  pub hit_left : left own (hit_in config (bare own facts) room response word moment)
+      ≡ left own (hit_in config facts room response word moment)
+  hit_left =
+      let asked = quote_asked config (hit_word here word moment) in
+      rw (room_left own room facts, refusal_same, settled_known asked)
+      (simp (
+        left_if,
+        left_as (hit_refusal here word moment)
+            (option_map (answer_to_hit facts) asked),
+      ))

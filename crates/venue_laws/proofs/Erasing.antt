@@ -1,300 +1,236 @@
 -- A day of which the prices are erased, who was the cover, what was sent, and the bytes of what
 -- dealers sent, but for one dealer: what is left is what that dealer's due list can tell of, but
--- for the cover. At each place of the day what is left stands as it does without prices.
-use Rattle.std.proofs.Common.{◌≡◌, Bool, false, ◌||◌, List, [], ◌∷◌, ◌++◌, map, filter_map, Option}
-use Rattle.std.proofs.Common.{Some, None, option_map, option_and_then, unwrap_or, refl, ℕ, ◌==◌}
-use Rattle.std.proofs.Common.{true, sym, ap, ◌∙◌, arith, if◌then◌else◌}
-use Rattle.std.specs.List.{list_any, cons_option}
+-- for the cover. Whoever asks for nothing that is erased reads the same of what is left.
+use Rattle.std.proofs.Common.{◌≡◌, Bool, List, [], ◌∷◌, ◌++◌, map, filter_map, append-nil}
+use Rattle.std.proofs.Common.{Option, Some, None, option_map, option_to_list, refl, ℕ, ◌==◌}
+use Rattle.std.proofs.Common.{inl, inr}
+use Rattle.std.proofs.lemmas.Bool.{cases_Bool, eqb-true}
+use Rattle.std.proofs.lemmas.List.{map-append}
 use Rattle.std.proofs.lemmas.List.Elements.{filter_map-append}
-use Rattle.std.proofs.lemmas.Bool.Decides.{nat_tests}
-use Rattle.market_terms.proofs.ErasedLists.{map_cond, twice}
-use Rattle.market_terms.specs.Unpriced.{uncovered, unpriced_duty}
-use Rattle.market_terms.specs.declared.closes.Close.{Close}
+use mathlib.Core.List.{map-map}
 use Rattle.market_terms.specs.declared.rooms.RoomRef.{RoomRef}
-use Rattle.dealer_desk.specs.DealerFacts.{DealerFact, Came, Told}
-use Rattle.dealer_desk.specs.DealerOutput.{is_same_room}
-use Rattle.dealer_desk.specs.Unpriced.{unpriced as unpriced_at_dealer, unpriced_book}
+use Rattle.venue_rows.specs.declared.dealer_rows.DealerRow.{DealerRow}
+use Rattle.dealer_desk.specs.DealerFacts.{number_to_drop}
+use Rattle.dealer_desk.specs.DealerOutput.{event_facts, is_same_room, shown_room}
+use Rattle.dealer_desk.specs.Unpriced as dealers
+use Rattle.dealer_desk.specs.declared.events.DealerEvent.{DealerEvent}
 use Rattle.dealer_desk.proofs.UnpricedBooks.{book_same, withdrawn_same}
-use Rattle.investor_desk.specs.Unpriced.{unpriced as unpriced_at_investor}
-use Rattle.investor_desk.specs.Unpriced.{unpriced_book as unpriced_investor_book}
-use Rattle.investor_desk.proofs.UnpricedDesks.{book_same as investor_book_same}
-use Rattle.request_room.specs.Unpriced.{unpriced as unpriced_in_room}
-use Rattle.step_replay.specs.AuditTrail.{Caused}
-use Rattle.step_replay.specs.DealerTrail.{DealerEntry, AtDesk, Sent, book_by, fact_in, facts_of}
-use Rattle.step_replay.specs.DealerTrail.{lifts, room_in, rooms_by, was_lifted, was_withdrawn}
+use Rattle.dealer_desk.proofs.UnpricedVerdicts.{kept_same, number_same}
+use Rattle.investor_desk.specs.InvestorOutput as investor_output
+use Rattle.investor_desk.specs.InvestorRules.{InvestorMarket}
+use Rattle.investor_desk.specs.Unpriced as investors
+use Rattle.investor_desk.specs.declared.events.InvestorEvent.{InvestorEvent}
+use Rattle.investor_desk.proofs.UnpricedDesks as investors_same
+use Rattle.request_room.specs.RoomFacts.{RoomFact}
+use Rattle.request_room.specs.Unpriced as rooms
+use Rattle.step_replay.specs.DealerTrail.{DealerEntry, AtDesk, ShownIn, Sent, book_by}
+use Rattle.step_replay.specs.DealerTrail.{entries_of, facts_of, rooms_by, was_lifted, was_withdrawn}
 use Rattle.step_replay.specs.InvestorTrail as investor_trail
 use Rattle.step_replay.specs.InvestorTrail.{InvestorEntry, AtDesk as AtInvestorsDesk}
 use Rattle.step_replay.specs.InvestorTrail.{Sent as SentToInvestor}
-use Rattle.step_replay.specs.VenueFacts.{Fact, AtDealer, InRoom, AtInvestor, entry_at_dealer}
-use Rattle.step_replay.specs.VenueFacts.{entry_at_investor, fact_in_room, of_dealer, of_investor}
+use Rattle.step_replay.specs.PlaceLemmas.{nothing_of}
+use Rattle.step_replay.specs.VenueFacts.{Fact, AtDealer, InRoom, AtInvestor, of_dealer, of_investor}
 use Rattle.step_replay.specs.VenueFacts.{of_room}
-use Rattle.step_replay.specs.Actions.{Effect}
-use Rattle.step_replay.specs.declared.dues.Due.{Due}
-use Rattle.step_replay.specs.declared.dues.Due.TheVariants as due
-
--- Lists of which some items are left out, and of the others something is erased.
-
--- What is found in what is left of a list: one walk.
-
-map_cons : {X Y : Type 0} (f : X → Y) (o : Option X) (rest : List X)
-    → map f (cons_option o rest) ≡ cons_option (option_map f o) (map f rest)
-map_cons f None rest = refl
-map_cons f (Some x) rest = refl
-
-filter_cons : {X Y : Type 0} (g : X → Option Y) (o : Option X) (rest : List X)
-    → filter_map g (cons_option o rest) ≡ cons_option (option_and_then g o) (filter_map g rest)
-filter_cons g None rest = refl
-filter_cons g (Some x) rest = refl
-
-any_cons : {X : Type 0} (p : X → Bool) (o : Option X) (rest : List X)
-    → list_any p (cons_option o rest) ≡ (unwrap_or (option_map p o) false || list_any p rest)
-any_cons p None rest = refl
-any_cons p (Some x) rest = refl
-
-pub fuse : {X Y Z : Type 0} (e : X → Option Y) (g : Y → Option Z) (xs : List X)
-    → filter_map g (filter_map e xs) ≡ filter_map (λ x. option_and_then g (e x)) xs
-fuse e g [] = refl
-fuse e g (x ∷ xs) = rw (filter_cons g (e x) (filter_map e xs), fuse e g xs)
-
-pub map_fuse : {X Y Z : Type 0} (h : X → Option Y) (f : Y → Z) (xs : List X)
-    → map f (filter_map h xs) ≡ filter_map (λ x. option_map f (h x)) xs
-map_fuse h f [] = refl
-map_fuse h f (x ∷ xs) = rw (map_cons f (h x) (filter_map h xs), map_fuse h f xs)
-
-pub any_fuse : {X Y : Type 0} (e : X → Option Y) (p : Y → Bool) (xs : List X)
-    → list_any p (filter_map e xs) ≡ list_any (λ x. unwrap_or (option_map p (e x)) false) xs
-any_fuse e p [] = refl
-any_fuse e p (x ∷ xs) = rw (any_cons p (e x) (filter_map e xs), any_fuse e p xs)
-
-pub filter_fuse : {X Y Z : Type 0} (k : X → Y) (g : Y → Option Z) (xs : List X)
-    → filter_map g (map k xs) ≡ filter_map (λ x. g (k x)) xs
-filter_fuse k g [] = refl
-filter_fuse k g (x ∷ xs) = rw (filter_fuse k g xs)
-
-filter_some : {X Y : Type 0} (f : X → Y) (xs : List X) → filter_map (λ x. Some (f x)) xs ≡ map f xs
-filter_some f [] = refl
-filter_some f (x ∷ xs) = rw (filter_some f xs)
-
--- What is left of what is added.
-
-pub filter_along : {X Y : Type 0} (e : X → Option Y) (xs ys xs' ys' : List X)
-    → filter_map e xs ≡ filter_map e xs' → filter_map e ys ≡ filter_map e ys'
-    → filter_map e (xs ++ ys) ≡ filter_map e (xs' ++ ys')
-filter_along e xs ys xs' ys' first second =
-    rw (filter_map-append e xs ys, filter_map-append e xs' ys', first, second)
-
--- items at a place
-pub left_at : {X Y : Type 0} (e : Y → Option Y) (k : X → Y) (u : X → Option X)
-    → ((x : X) → e (k x) ≡ option_map k (u x)) → (xs : List X)
-    → filter_map e (map k xs) ≡ map k (filter_map u xs)
-left_at e k u same xs = simp (filter_fuse, map_fuse, same)
-
--- each is left, without what is erased
-pub left_all : {X Y : Type 0} (e : Y → Option Y) (k : X → Y) (u : X → X)
-    → ((x : X) → e (k x) ≡ Some (k (u x))) → (xs : List X)
-    → filter_map e (map k xs) ≡ map k (map u xs)
-left_all e k u same [] = refl
-left_all e k u same (x ∷ xs) = rw (same x, left_all e k u same xs)
-
-pub left_none : {X Y : Type 0} (e : Y → Option Y) (k : X → Y) → ((x : X) → e (k x) ≡ None)
-    → (xs : List X) → filter_map e (map k xs) ≡ []
-left_none e k same [] = refl
-left_none e k same (x ∷ xs) = rw (same x) (left_none e k same xs)
 
 -- What is left of a fact, where anything is.
 
 -- at a dealer: the bytes that came stay or do not
 abbrev pub erase_entry : Bool → DealerEntry → Option DealerEntry
-erase_entry stay (AtDesk fact) = Some (AtDesk (unpriced_at_dealer stay fact))
+erase_entry stay (AtDesk fact) = Some (AtDesk (dealers.unpriced stay fact))
 erase_entry stay (Sent message) = None
 erase_entry stay entry = Some entry
 
 -- at an investor
-abbrev pub erase_investor_entry : InvestorEntry → Option InvestorEntry
-erase_investor_entry (AtInvestorsDesk fact) = Some (AtInvestorsDesk (unpriced_at_investor fact))
+abbrev erase_investor_entry : InvestorEntry → Option InvestorEntry
+erase_investor_entry (AtInvestorsDesk fact) = Some (AtInvestorsDesk (investors.unpriced fact))
 erase_investor_entry (SentToInvestor message) = None
 
 -- in the venue: the bytes stay that the dealer with this number sent
-abbrev pub erase : ℕ → Fact → Option Fact
+abbrev erase : ℕ → Fact → Option Fact
 erase own (AtDealer number entry) = option_map (AtDealer number) (erase_entry (number == own) entry)
-erase own (InRoom room fact) = Some (InRoom room (unpriced_in_room fact))
+erase own (InRoom room fact) = Some (InRoom room (rooms.unpriced fact))
 erase own (AtInvestor number entry) = option_map (AtInvestor number) (erase_investor_entry entry)
 
--- what is left of facts, of what an action adds and leaves, of a duty that was caused, and of an
--- item that is due
-
-abbrev pub bare : ℕ → List Fact → List Fact
+-- what is left of facts
+pub bare : ℕ → List Fact → List Fact
 bare own facts = filter_map (erase own) facts
 
-abbrev pub left : ℕ → Effect → Effect
-left own effect =
-    record { facts = bare own effect.facts; duties = map unpriced_duty effect.duties }
+-- What is left of what is added.
 
-abbrev pub erase_caused : Caused → Caused
-erase_caused caused = record { by = caused.by; duty = unpriced_duty caused.duty }
+pub bare_append : (own : ℕ) (facts more : List Fact)
+    → bare own (facts ++ more) ≡ bare own facts ++ bare own more
+unfolding bare
+bare_append own facts more = filter_map-append (erase own) facts more
 
-abbrev pub erase_due : Due → Due
-erase_due (due.Closed request close moment) = due.Closed request (uncovered close) moment
-erase_due other = other
+-- where of each fact something is left
+bare_all : {X : Type 0} (own : ℕ) (place : X → Fact) (u : X → X)
+    → ((x : X) → erase own (place x) ≡ Some (place (u x))) → (xs : List X)
+    → bare own (map place xs) ≡ map place (map u xs)
+unfolding bare
+bare_all own place u same [] = refl
+bare_all own place u same (x ∷ xs) = rw (same x, bare_all own place u same xs)
 
--- Places.
+pub desk_added : (own number : ℕ) (date : List ℕ) (row : DealerRow) (trail : List DealerEntry)
+    (event : DealerEvent)
+    → bare own (map (AtDealer number) (entries_of date row trail event))
+    ≡ map (λ fact. AtDealer number (AtDesk fact))
+    (map (dealers.unpriced (number == own)) (event_facts date row (book_by trail) event))
+    ++ map (λ room. AtDealer number (ShownIn room)) (option_to_list (shown_room event))
+unfolding bare entries_of
+desk_added own number date row trail event =
+    simp (
+      map-append,
+      map-map,
+      bare_append,
+      bare_all own (λ fact. AtDealer number (AtDesk fact)) (dealers.unpriced (number == own))
+          (λ fact. refl),
+      bare_all own (λ room. AtDealer number (ShownIn room)) (λ room. room) (λ room. refl),
+      nothing_of (erase own) (λ message. AtDealer number (Sent message)) (λ message. refl),
+      append-nil,
+    )
 
--- what is left of something at a place
-at_place : {E : Type 0} (read : Fact → Option E) (place : E → Fact) (b : Bool) (left : Option E)
-    → ((entry : E) → read (place entry) ≡ (if b then Some entry else None))
-    → option_and_then read (option_map place left) ≡ (if b then left else None)
-at_place read place true None is = refl
-at_place read place false None is = refl
-at_place read place b (Some entry) is = is entry
+pub room_added : (own : ℕ) (room : RoomRef) (facts : List RoomFact)
+    → bare own (map (InRoom room) facts) ≡ map (InRoom room) (map rooms.unpriced facts)
+room_added own room facts = bare_all own (InRoom room) rooms.unpriced (λ fact. refl) facts
 
-if_left : {E : Type 0} (left : E → Option E) (b : Bool) (entry : E)
-    → (if b then left entry else None) ≡ option_and_then left (if b then Some entry else None)
-if_left left true entry = refl
-if_left left false entry = refl
+pub market_added : (own number : ℕ) (market : InvestorMarket) (trail : List InvestorEntry)
+    (event : InvestorEvent)
+    → bare own (map (AtInvestor number) (investor_trail.entries_of market trail event))
+    ≡ map (λ fact. AtInvestor number (AtInvestorsDesk fact)) (map investors.unpriced
+    (investor_output.event_facts market (investor_trail.book_by trail) event))
+unfolding bare investor_trail.entries_of
+market_added own number market trail event =
+    simp (
+      map-append,
+      map-map,
+      bare_append,
+      bare_all own (λ fact. AtInvestor number (AtInvestorsDesk fact)) investors.unpriced
+          (λ fact. refl),
+      nothing_of (erase own) (λ message. AtInvestor number (SentToInvestor message))
+          (λ message. refl),
+      append-nil,
+    )
 
-pub trail_left : (own : ℕ) (facts : List Fact) (number : ℕ)
-    → of_dealer number (bare own facts)
+-- What is left at a place.
+
+pub trail_left : (own number : ℕ) (facts : List Fact) → of_dealer number (bare own facts)
     ≡ filter_map (erase_entry (number == own)) (of_dealer number facts)
-unfolding of_dealer
-trail_left own facts number = simp (fuse, each)
-  where
-    each : (fact : Fact)
-        → option_and_then (entry_at_dealer number) (erase own fact)
-        ≡ option_and_then (erase_entry (number == own)) (entry_at_dealer number fact)
-    each (AtDealer dealer entry) =
-        at_place (entry_at_dealer number) (AtDealer dealer) (dealer == number)
-        (erase_entry (dealer == own) entry) (λ kept. refl)
-        ∙ by_test (dealer == number) refl
-        ∙ if_left (erase_entry (number == own)) (dealer == number) entry
-      where
-        by_test : (b : Bool) → (dealer == number) ≡ b
-            → (if b then erase_entry (dealer == own) entry else None)
-            ≡ (if b then erase_entry (number == own) entry else None)
-        by_test false test = refl
-        by_test true test =
-            let equal : dealer ≡ number = grind (arith, nat_tests) in
-            ap (λ (n : ℕ). erase_entry (n == own) entry) equal
-    each (InRoom room fact) = refl
-    each (AtInvestor investor (SentToInvestor message)) = refl
-    each (AtInvestor investor entry) = refl
+unfolding bare of_dealer
+trail_left own number [] = refl
+trail_left own number (AtDealer dealer (Sent message) ∷ facts) =
+    elim (cases_Bool (dealer == number)) [
+      | inl is ↦ rw (is, trail_left own number facts)
+      | inr is ↦ rw (is, trail_left own number facts)
+    ]
+trail_left own number (AtDealer dealer entry ∷ facts) =
+    elim (cases_Bool (dealer == number)) [
+      | inl is ↦ let same : dealer ≡ number = eqb-true dealer number is in
+          rw (is, trail_left own number facts) (cc)
+      | inr is ↦ rw (is, trail_left own number facts)
+    ]
+trail_left own number (AtInvestor investor (SentToInvestor message) ∷ facts) =
+    trail_left own number facts
+trail_left own number (fact ∷ facts) = trail_left own number facts
 
-pub room_left : (own : ℕ) (facts : List Fact) (place : RoomRef)
-    → of_room place (bare own facts) ≡ map unpriced_in_room (of_room place facts)
-unfolding of_room
-room_left own facts place = simp (fuse, map_fuse, each)
-  where
-    each : (fact : Fact)
-        → option_and_then (fact_in_room place) (erase own fact)
-        ≡ option_map unpriced_in_room (fact_in_room place fact)
-    each (AtDealer dealer (Sent message)) = refl
-    each (AtDealer dealer entry) = refl
-    each (InRoom room fact) = map_cond unpriced_in_room (is_same_room room place) fact None
-    each (AtInvestor investor (SentToInvestor message)) = refl
-    each (AtInvestor investor entry) = refl
+pub room_left : (own : ℕ) (place : RoomRef) (facts : List Fact)
+    → of_room place (bare own facts) ≡ map rooms.unpriced (of_room place facts)
+unfolding bare of_room
+room_left own place [] = refl
+room_left own place (InRoom room fact ∷ facts) = elim (cases_Bool (is_same_room room place)) [
+  | inl is ↦ rw (is, room_left own place facts)
+  | inr is ↦ rw (is, room_left own place facts)
+]
+room_left own place (AtDealer dealer (Sent message) ∷ facts) = room_left own place facts
+room_left own place (AtInvestor investor (SentToInvestor message) ∷ facts) =
+    room_left own place facts
+room_left own place (fact ∷ facts) = room_left own place facts
 
-investor_left : (own : ℕ) (facts : List Fact) (number : ℕ)
-    → of_investor number (bare own facts)
-    ≡ filter_map erase_investor_entry (of_investor number facts)
-unfolding of_investor
-investor_left own facts number = simp (fuse, each)
-  where
-    each : (fact : Fact)
-        → option_and_then (entry_at_investor number) (erase own fact)
-        ≡ option_and_then erase_investor_entry (entry_at_investor number fact)
-    each (AtDealer dealer (Sent message)) = refl
-    each (AtDealer dealer entry) = refl
-    each (InRoom room fact) = refl
-    each (AtInvestor investor entry) =
-        at_place (entry_at_investor number) (AtInvestor investor) (investor == number)
-        (erase_investor_entry entry) (λ kept. refl)
-        ∙ if_left erase_investor_entry (investor == number) entry
+market_left : (own number : ℕ) (facts : List Fact)
+    → investor_trail.facts_of (of_investor number (bare own facts))
+    ≡ map investors.unpriced (investor_trail.facts_of (of_investor number facts))
+unfolding bare of_investor
+market_left own number [] = refl
+market_left own number (AtInvestor investor (AtInvestorsDesk fact) ∷ facts) =
+    elim (cases_Bool (investor == number)) [
+      | inl is ↦ rw (is, market_left own number facts)
+      | inr is ↦ rw (is, market_left own number facts)
+    ]
+market_left own number (AtInvestor investor (SentToInvestor message) ∷ facts) =
+    elim (cases_Bool (investor == number)) [
+      | inl is ↦ rw (is, market_left own number facts)
+      | inr is ↦ rw (is, market_left own number facts)
+    ]
+market_left own number (AtDealer dealer (Sent message) ∷ facts) = market_left own number facts
+market_left own number (fact ∷ facts) = market_left own number facts
 
-pub investor_book_left : (own : ℕ) (facts : List Fact) (number : ℕ)
-    → investor_trail.book_by (of_investor number (bare own facts))
-    ≡ unpriced_investor_book (investor_trail.book_by (of_investor number facts))
-investor_book_left own facts number =
-    rw (investor_left own facts number, facts_left (of_investor number facts))
-    (investor_book_same (investor_trail.facts_of (of_investor number facts)))
-  where
-    fact_left : (entry : InvestorEntry)
-        → option_and_then investor_trail.fact_in (erase_investor_entry entry)
-        ≡ option_map unpriced_at_investor (investor_trail.fact_in entry)
-    fact_left (AtInvestorsDesk fact) = refl
-    fact_left (SentToInvestor message) = refl
+-- What is read of a dealer's trail.
 
-    facts_left : (trail : List InvestorEntry)
-        → investor_trail.facts_of (filter_map erase_investor_entry trail)
-        ≡ map unpriced_at_investor (investor_trail.facts_of trail)
-    facts_left trail = simp (fuse, map_fuse, fact_left)
+module _ (stay : Bool) where
+  facts_left : (trail : List DealerEntry) → facts_of (filter_map (erase_entry stay) trail)
+      ≡ map (dealers.unpriced stay) (facts_of trail)
+  facts_left [] = refl
+  facts_left (Sent message ∷ trail) = facts_left trail
+  facts_left (entry ∷ trail) = rw (facts_left trail)
 
--- A dealer's trail.
+  rooms_same : (trail : List DealerEntry)
+      → rooms_by (filter_map (erase_entry stay) trail) ≡ rooms_by trail
+  rooms_same [] = refl
+  rooms_same (Sent message ∷ trail) = rooms_same trail
+  rooms_same (entry ∷ trail) = rw (rooms_same trail)
 
-module _ (stay : Bool) (trail : List DealerEntry) where
-  facts_left : facts_of (filter_map (erase_entry stay) trail)
-      ≡ map (unpriced_at_dealer stay) (facts_of trail)
-  facts_left = simp (fuse, map_fuse, each)
-    where
-      each : (entry : DealerEntry)
-          → option_and_then fact_in (erase_entry stay entry)
-          ≡ option_map (unpriced_at_dealer stay) (fact_in entry)
-      each (AtDesk fact) = refl
-      each (Sent message) = refl
-      each entry = refl
+  lifted_same : (quote : ℕ) (trail : List DealerEntry)
+      → was_lifted (filter_map (erase_entry stay) trail) quote ≡ was_lifted trail quote
+  lifted_same quote [] = refl
+  lifted_same quote (Sent message ∷ trail) = lifted_same quote trail
+  lifted_same quote (entry ∷ trail) = rw (lifted_same quote trail)
 
-  pub book_is : book_by (filter_map (erase_entry stay) trail) ≡ unpriced_book (book_by trail)
-  book_is = rw (facts_left) (book_same stay (facts_of trail))
+module _ (own : ℕ) (facts : List Fact) where
+  pub market_known : (number : ℕ) → investor_trail.book_by (of_investor number (bare own facts))
+      ≡ investors.unpriced_book (investor_trail.book_by (of_investor number facts))
+  market_known number =
+      rw (market_left own number facts)
+      (investors_same.book_same (investor_trail.facts_of (of_investor number facts)))
 
-  -- what is left once is left
-  pub once_left : filter_map (erase_entry stay) (filter_map (erase_entry stay) trail)
-      ≡ filter_map (erase_entry stay) trail
-  once_left = simp (fuse, each)
-    where
-      bytes_twice : (b : Bool) (bytes : List ℕ)
-          → (if b then (if b then bytes else []) else []) ≡ (if b then bytes else [])
-      bytes_twice true bytes = refl
-      bytes_twice false bytes = refl
-
-      fact_twice : (fact : DealerFact)
-          → unpriced_at_dealer stay (unpriced_at_dealer stay fact) ≡ unpriced_at_dealer stay fact
-      fact_twice (Came moment bytes used) =
-          ap (λ (l : List ℕ). Came moment l used) (bytes_twice stay bytes)
-      fact_twice (Told request close moment) =
-          ap (λ (c : Close). Told request c moment) (sym (twice close))
-      fact_twice fact = refl
-
-      each : (entry : DealerEntry)
-          → option_and_then (erase_entry stay) (erase_entry stay entry) ≡ erase_entry stay entry
-      each (AtDesk fact) = ap (λ (f : DealerFact). Some (AtDesk f)) (fact_twice fact)
-      each (Sent message) = refl
-      each entry = refl
+  pub market_kept : (market : InvestorMarket) (more : InvestorEvent)
+      → map investors.unpriced (investor_output.event_facts market
+      (investor_trail.book_by (of_investor market.firm (bare own facts)))
+      (investors.unpriced_event more))
+      ≡ map investors.unpriced (investor_output.event_facts market
+      (investor_trail.book_by (of_investor market.firm facts)) more)
+  market_kept market more =
+      rw (market_known market.firm) (investors_same.kept_same market
+      (investor_trail.book_by (of_investor market.firm facts)) more)
 
 module _ (own : ℕ) (facts : List Fact) (number : ℕ) where
-  pub book_left : book_by (of_dealer number (bare own facts))
-      ≡ unpriced_book (book_by (of_dealer number facts))
-  book_left = rw (trail_left own facts number) (book_is (number == own) (of_dealer number facts))
+  -- the dealer's trail
+  abbrev trail : List DealerEntry
+  trail = of_dealer number facts
 
-  pub rooms_left : rooms_by (of_dealer number (bare own facts)) ≡ rooms_by (of_dealer number facts)
-  rooms_left = rw (trail_left own facts number) (simp (fuse, each))
-    where
-      each : (entry : DealerEntry)
-          → option_and_then room_in (erase_entry (number == own) entry) ≡ room_in entry
-      each (AtDesk fact) = refl
-      each (Sent message) = refl
-      each entry = refl
+  -- what is left of it
+  abbrev known : List DealerEntry
+  known = of_dealer number (bare own facts)
 
-  pub lifted_left : (quote : ℕ) → was_lifted (of_dealer number (bare own facts)) quote
-      ≡ was_lifted (of_dealer number facts) quote
-  lifted_left quote = rw (trail_left own facts number) (simp (any_fuse, each))
-    where
-      each : (entry : DealerEntry)
-          → unwrap_or (option_map (lifts quote) (erase_entry (number == own) entry)) false
-          ≡ lifts quote entry
-      each (AtDesk fact) = refl
-      each (Sent message) = refl
-      each entry = refl
+  pub facts_known : facts_of known ≡ map (dealers.unpriced (number == own)) (facts_of trail)
+  facts_known = rw (trail_left own number facts) (facts_left (number == own) trail)
 
-  pub withdrawn_left : (quote : ℕ) → was_withdrawn (of_dealer number (bare own facts)) quote
-      ≡ was_withdrawn (of_dealer number facts) quote
-  withdrawn_left quote =
-      rw (trail_left own facts number, facts_left (number == own) (of_dealer number facts))
-      (withdrawn_same (number == own) quote (facts_of (of_dealer number facts)))
+  pub rooms_known : rooms_by known ≡ rooms_by trail
+  rooms_known = rw (trail_left own number facts) (rooms_same (number == own) trail)
+
+  pub lifted_known : (quote : ℕ) → was_lifted known quote ≡ was_lifted trail quote
+  lifted_known quote = rw (trail_left own number facts) (lifted_same (number == own) quote trail)
+
+  pub withdrawn_known : (quote : ℕ) → was_withdrawn known quote ≡ was_withdrawn trail quote
+  withdrawn_known quote = rw facts_known (withdrawn_same (number == own) quote (facts_of trail))
+
+  pub book_known : book_by known ≡ dealers.unpriced_book (book_by trail)
+  book_known = rw facts_known (book_same (number == own) (facts_of trail))
+
+  pub number_known : (last : ℕ)
+      → number_to_drop (book_by known) last ≡ number_to_drop (book_by trail) last
+  number_known last = rw book_known (number_same (book_by trail) last)
+
+  pub desk_kept : (date : List ℕ) (row : DealerRow) (more : DealerEvent)
+      → map (dealers.unpriced (number == own))
+      (event_facts date row (book_by known) (dealers.unpriced_event more))
+      ≡ map (dealers.unpriced (number == own)) (event_facts date row (book_by trail) more)
+  desk_kept date row more = rw book_known (kept_same date row (number == own) (book_by trail) more)

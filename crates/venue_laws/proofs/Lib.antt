@@ -1,9 +1,8 @@
-mod AcceptedQuotes
 mod AnswerLemmas
 mod BlindDues
+mod ComputedDays
 mod ConditionMet
 mod ErasedActions
-mod ErasedHits
 mod ErasedSteps
 mod Erasing
 mod InvestorVerdicts
@@ -15,7 +14,6 @@ mod PlainFacts
 mod PricedFields
 mod PricedMessages
 mod PricedQuotes
-mod QuietEntries
 mod ShownRequests
 mod ToldLemmas
 mod VenueDay

@@ -159,11 +159,6 @@ pub find_grown : {A : Type 0} (test : A → Bool) (xs ys : List A) (x : A)
     → find test xs ≡ Some x → find test (xs ++ ys) ≡ Some x
 find_grown test xs ys x is = rw (find-append test xs ys, is) refl
 
--- what is found is one of the list
-pub found_holds : {A : Type 0} (P : A → Type 0) (test : A → Bool) (xs : List A) (x : A)
-    → find test xs ≡ Some x → Every P xs → P x
-found_holds P test xs x is all = rw is at (first_of_every P test xs all)
-
 -- the first that some items say stays the first
 pub first_grown : {E A : Type 0} (first : List E → Option A) (says : E → Option A)
     → ((x : E) (xs : List E) → first (x ∷ xs) ≡ option_or (says x) (first xs)) → first [] ≡ None

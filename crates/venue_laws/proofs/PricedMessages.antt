@@ -1,59 +1,46 @@
 -- Two messages of a dealer that differ in lawful prices alone: the verdicts on them are one but for
 -- the price.
-use Rattle.std.proofs.Common.{◌≡◌, ℕ, ◌==◌, Bool, true, false, List, drop, Option, Some, None}
-use Rattle.std.proofs.Common.{codes, refl, if◌then◌else◌, Result, Ok, Err, nat_lt}
+use Rattle.std.proofs.Common.{◌≡◌, ℕ, ◌==◌, Bool, true, false, List, drop, Option, Some, None, inl}
+use Rattle.std.proofs.Common.{codes, inr, refl, if◌then◌else◌, Result, Ok, Err}
+use Rattle.std.proofs.lemmas.Bool.{cases_Bool}
 use Rattle.std.specs.List.{AllZip}
 use Rattle.std.specs.Str.Parse.{digits_value}
 use Rattle.fix_fields.specs.Frame.{Field, frame_of, value_of, times_of}
-use Rattle.quote_messages.specs.Arrivals.{sequence_number, reject_of, out_of_sequence, in_sequence}
-use Rattle.quote_messages.specs.Arrivals.{numbered, dealer_arrival}
+use Rattle.quote_messages.proofs.GroupLemmas.{or_next-none}
+use Rattle.quote_messages.specs.Arrivals.{dealer_arrival, numbered, sequence_number}
 use Rattle.quote_messages.specs.ValueForms.{AnId}
-use Rattle.quote_messages.specs.SessionLines.{text_at, required, first_fault, unless_fault, at_tag}
-use Rattle.quote_messages.specs.SessionLines.{occurrence_fault, tag_fault}
-use Rattle.quote_messages.specs.SessionChecks.{header_lines, types_of, verdict_by, quote_lines}
-use Rattle.quote_messages.specs.SessionChecks.{quote_of, dealer_tables, dealer_session_verdict}
+use Rattle.quote_messages.specs.SessionLines.{first_fault, required, tag_fault, text_at}
+use Rattle.quote_messages.specs.SessionLines.{unless_fault}
+use Rattle.quote_messages.specs.SessionChecks.{dealer_session_verdict, dealer_tables, header_lines}
+use Rattle.quote_messages.specs.SessionChecks.{quote_lines, quote_of, types_of, verdict_by}
 use Rattle.quote_messages.specs.declared.arrivals.Arrival.{Arrival}
-use Rattle.quote_messages.specs.declared.arrivals.Arrival.TheVariants.{OutOfSequence, Taken}
-use Rattle.quote_messages.specs.declared.quotes.Quote.{Quote}
+use Rattle.quote_messages.specs.declared.arrivals.Arrival.TheVariants.{Taken}
 use Rattle.quote_messages.specs.declared.quotes.DealerMessage.{DealerMessage}
 use Rattle.quote_messages.specs.declared.quotes.DealerMessage.TheVariants as message
 use Rattle.quote_messages.specs.declared.session_faults.SessionFault.{SessionFault}
 use Rattle.venue_rows.specs.Rows.{Configuration, bond_with_id}
 use Rattle.venue_rows.specs.Texts.{same_text}
-use Rattle.venue_rows.specs.declared.bond_rows.BondRow.{BondRow}
 use Rattle.venue_rows.specs.declared.dealer_rows.DealerRow.{DealerRow}
 use Rattle.dealer_desk.specs.DealerFacts.{DealerBook, expected_number}
 use Rattle.dealer_desk.specs.DealerRules.{arrival_verdict, dealer_verdict}
+use Rattle.dealer_desk.specs.Unpriced.{unpriced_verdict}
 use Rattle.dealer_desk.specs.declared.standing.StandingRequest.{StandingRequest}
 use Rattle.dealer_desk.specs.declared.verdicts.DealerVerdict.{DealerVerdict}
-use Rattle.venue_laws.specs.PriceAlike.{is_price_tag, IsOneOrPriced, bond_meant}
-use Rattle.dealer_desk.specs.Unpriced.{unpriced_verdict}
 use Rattle.step_replay.specs.EachLemmas.{Every}
-use Rattle.venue_laws.proofs.VenueParts.{BearsGrid}
-use Rattle.venue_laws.proofs.PricedFields.{AreValues, value_same, times_same, price_value}
-use Rattle.venue_laws.proofs.PricedFields.{quote_same}
+use Rattle.venue_laws.specs.PriceAlike.{is_price_tag, IsOneOrPriced, bond_meant}
+use Rattle.venue_laws.proofs.ListLemmas.{cases_some}
+use Rattle.venue_laws.proofs.PricedFields.{price_value, quote_same, times_same, value_same}
 use Rattle.venue_laws.proofs.PricedQuotes.{priced, verdict_alike}
-use Rattle.quote_messages.proofs.GroupLemmas.{or_next-none}
+use Rattle.venue_laws.proofs.VenueParts.{BearsGrid}
 
--- What a message without a fault of its session names: a bond.
-
+-- what a line that is kept asks for stands
 stands : (date : List ℕ) (tag : ℕ) (fields : List Field) → required tag AnId date fields ≡ None
     → (text : List ℕ) × (value_of tag fields ≡ Some text)
 unfolding tag_fault
-stands date tag fields fine = by_value (value_of tag fields) refl fine
-  where
-    by_value : (value : Option (List ℕ)) → value_of tag fields ≡ value
-        → at_tag tag (occurrence_fault date
-        (record { tag = tag; is_required = true; value = AnId }) value
-        (nat_lt 1 (times_of tag fields))) ≡ None
-        → (text : List ℕ) × (value_of tag fields ≡ Some text)
-    by_value None is none = cc
-    by_value (Some text) is none = (text, is)
-
-names_bond : (date : List ℕ) (fields : List Field) → first_fault quote_lines date fields ≡ None
-    → (text : List ℕ) × (value_of 48 fields ≡ Some text)
-names_bond date fields fine =
-    stands date 48 fields (or_next-none _ _ (or_next-none _ _ (or_next-none _ _ fine).1).1).0
+stands date tag fields fine = elim (cases_some (value_of tag fields)) [
+  | inl none ↦ let never = rw none at fine in cc
+  | inr some ↦ some
+]
 
 module _ (config : Configuration) (date : List ℕ) (row : DealerRow) (book : DealerBook)
     (moment : ℕ)
@@ -64,68 +51,53 @@ module _ (config : Configuration) (date : List ℕ) (row : DealerRow) (book : De
   abbrev judged : Arrival DealerMessage → DealerVerdict
   judged came = unpriced_verdict (arrival_verdict row book moment came)
 
-  same_value : (tag : ℕ) → is_price_tag tag ≡ false
-      → value_of tag one ≡ value_of tag other
+  same_value : (tag : ℕ) → is_price_tag tag ≡ false → value_of tag one ≡ value_of tag other
   same_value tag is_none = value_same (bond_meant config one) one other alike tag is_none
 
   same_times : (tag : ℕ) → times_of tag one ≡ times_of tag other
   same_times = times_same (bond_meant config one) one other alike
 
-  -- the other message's quote, at the prices of this one
-  abbrev at_prices : Quote
-  at_prices = priced (quote_of date other) (value_of 132 one) (value_of 133 one)
-
+  -- a quote without a fault names a bond: the quote of the other message, at the prices of either
   quote_one : first_fault quote_lines date other ≡ None
-      → judged (Taken (message.Quote at_prices))
+      → judged (Taken (message.Quote
+      (priced (quote_of date other) (value_of 132 one) (value_of 133 one))))
       ≡ judged (Taken (message.Quote (quote_of date other)))
   quote_one fine =
-      verdict_alike (quote_of date other) (value_of 132 one) (value_of 132 other)
-      (value_of 133 one) (value_of 133 other) row book moment config bear
-      (λ bond found. (values bond found 132, values bond found 133))
-    where
-      named : (text : List ℕ) × (value_of 48 other ≡ Some text)
-      named = names_bond date other fine
-
-      values : (bond : BondRow) → bond_with_id config (text_at 48 other) ≡ Some bond → (tag : ℕ)
-          → AreValues (Some bond) tag (value_of tag one) (value_of tag other)
-      values bond found tag =
-          let meant : bond_meant config one ≡ Some bond =
-          rw (same_value 48 refl, named.1) (rw (named.1) at found) in
-          rw meant at (price_value (bond_meant config one) one other alike tag)
+      let named = stands date 48 other (or_next-none _ _ (or_next-none _ _ (or_next-none _ _
+      fine).1).1).0 in
+      let meant : bond_with_id config (text_at 48 other) ≡ bond_meant config one =
+      rw (same_value 48 refl, named.1) refl in
+      verdict_alike row book moment config bear (quote_of date other) (bond_meant config one) meant
+      (value_of 132 one) (value_of 132 other) (value_of 133 one) (value_of 133 other)
+      (price_value (bond_meant config one) one other alike 132)
+      (price_value (bond_meant config one) one other alike 133)
 
   -- All messages.
+
+  numbered_same : (expected : ℕ) (number : Option (List ℕ)) (said : Result DealerMessage SessionFault)
+      → numbered expected one number said ≡ numbered expected other number said
+  numbered_same expected None said = refl
+  numbered_same expected (Some number) (Ok message) = rw (same_value 35 refl)
+  numbered_same expected (Some number) (Err fault) = rw (same_value 35 refl)
 
   -- two quotes under one number, with one fault of the header and one of their own
   quotes_one : (expected : ℕ) (number : Option (List ℕ)) (header : Option SessionFault)
       (is_quote : Bool) (fault : Option SessionFault) (v w : DealerMessage)
       (later : Result DealerMessage SessionFault)
       → (fault ≡ None → judged (Taken v) ≡ judged (Taken w))
-      → judged (numbered expected one number
+      → judged (numbered expected other number
       (unless_fault header (if is_quote then unless_fault fault (Ok v) else later)))
       ≡ judged (numbered expected other number
       (unless_fault header (if is_quote then unless_fault fault (Ok w) else later)))
   quotes_one expected None header is_quote fault v w later same = refl
-  quotes_one expected (Some number) header is_quote fault v w later same =
-      by_test (digits_value 10 number == expected) header is_quote fault same
-    where
-      taken : (said : Result DealerMessage SessionFault)
-          → judged (in_sequence one number said) ≡ judged (in_sequence other number said)
-      taken (Ok message) = refl
-      taken (Err fault) = rw (same_value 35 refl)
-
-      by_test : (b : Bool) (h : Option SessionFault) (q : Bool) (f : Option SessionFault)
-          → (f ≡ None → judged (Taken v) ≡ judged (Taken w))
-          → judged (if b then in_sequence one number
-          (unless_fault h (if q then unless_fault f (Ok v) else later))
-          else OutOfSequence (reject_of one number out_of_sequence))
-          ≡ judged (if b then in_sequence other number
-          (unless_fault h (if q then unless_fault f (Ok w) else later))
-          else OutOfSequence (reject_of other number out_of_sequence))
-      by_test false h q f same = rw (same_value 35 refl)
-      by_test true (Some fault) q f same = taken (Err fault)
-      by_test true None false f same = taken later
-      by_test true None true (Some fault) same = taken (Err fault)
-      by_test true None true None same = same refl
+  quotes_one expected number (Some reason) is_quote fault v w later same = refl
+  quotes_one expected number None false fault v w later same = refl
+  quotes_one expected number None true (Some reason) v w later same = refl
+  quotes_one expected (Some number) None true None v w later same =
+      elim (cases_Bool (digits_value 10 number == expected)) [
+        | inl is ↦ rw is (same refl)
+        | inr is ↦ rw is
+      ]
 
   arrivals_one : (expected : ℕ)
       → judged (numbered expected one (sequence_number one) (dealer_session_verdict date row one))
@@ -133,12 +105,12 @@ module _ (config : Configuration) (date : List ℕ) (row : DealerRow) (book : De
       (dealer_session_verdict date row other))
   unfolding dealer_session_verdict
   arrivals_one expected =
-      rw (quote_same (bond_meant config one) one other alike date)
+      rw (numbered_same expected, quote_same (bond_meant config one) date one other alike)
       (simp (same_times, same_value) (quotes_one expected (sequence_number other)
       (first_fault (header_lines row.name row.traders (types_of dealer_tables)) date other)
       (same_text (codes "S") (text_at 35 other)) (first_fault quote_lines date other)
-      (message.Quote at_prices) (message.Quote (quote_of date other))
-      (verdict_by (drop 1 dealer_tables) date other) quote_one))
+      (message.Quote (priced (quote_of date other) (value_of 132 one) (value_of 133 one)))
+      (message.Quote (quote_of date other)) (verdict_by (drop 1 dealer_tables) date other) quote_one))
 
   pub verdicts_alike : (bytes others : List ℕ) → frame_of bytes ≡ Some one
       → frame_of others ≡ Some other

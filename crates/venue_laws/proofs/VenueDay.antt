@@ -202,7 +202,6 @@ module _ (lone : LoneQuotes) (words : WordsOfDay) (config : Configuration) where
       seen = start_seen config.date row;
       one_of = λ quote. refl;
       noticed = start_noticed;
-      counted = refl;
       numbered = λ place room found. cc;
       names = tt;
     };

@@ -22,7 +22,7 @@ use Rattle.step_replay.specs.GrowthLemmas.{any_right}
 use Rattle.step_replay.specs.OwnerLemmas.{owner_among, quote_at}
 use Rattle.step_replay.specs.PlaceLemmas.{dealer_grown, own_trail}
 use Rattle.step_replay.specs.VenueFacts.{Fact, InRoom, of_dealer}
-use Rattle.venue_laws.proofs.AcceptedQuotes.{none_holds}
+use Rattle.day_parts.specs.AcceptedQuotes.{none_holds}
 use Rattle.venue_laws.proofs.ListLemmas.{cases_some, some_of}
 use Rattle.venue_laws.proofs.VenueEnds.{answered, ended_brings, ending, left_brings, none_lifted}
 use Rattle.venue_laws.proofs.VenueInvariant.{PostedIn, RespondsIn}

@@ -24,15 +24,14 @@ use Rattle.venue_places.specs.declared.actors.Actor.{Actor}
 use Rattle.venue_places.specs.declared.actors.Actor.TheVariants as actor
 use Rattle.step_replay.specs.Actions.{dealer_of, word_for}
 use Rattle.step_replay.specs.AuditTrail.{AuditTrail, is_same_actor}
-use Rattle.step_replay.specs.DealerTrail.{AtDesk, DealerEntry, ShownIn, facts_of, rooms_by}
+use Rattle.step_replay.specs.DealerTrail.{AtDesk, DealerEntry, ShownIn, rooms_by}
 use Rattle.step_replay.specs.EachLemmas.{Each, Every}
 use Rattle.step_replay.specs.GrowthLemmas.{AreNumbered, In}
 use Rattle.step_replay.specs.SeenLemmas.{Seen}
 use Rattle.step_replay.specs.VenueFacts.{AtDealer, AtInvestor, Fact, InRoom, of_dealer, of_room}
 use Rattle.step_replay.specs.WordLemmas.{IsOneOf}
 use Rattle.venue_laws.proofs.KnownDesks.{DeskFit}
-use Rattle.venue_laws.proofs.NoticeLemmas.{Noticed}
-use Rattle.venue_laws.proofs.ShownRequests.{AreCounted}
+use Rattle.venue_laws.proofs.NoticeLemmas.{IsNoticed}
 use Rattle.venue_laws.proofs.VenueParts.{BearsGrid, IsOpened, KnownIn, LiftedIn, MarkOk}
 use Rattle.venue_laws.proofs.VenueParts.{NamesLifted, OrderOk, QuotedIn, Still, Telling, WasLeft}
 use Rattle.venue_laws.proofs.VenueParts.{closer, did_in, duties_by, investor_facts, mark_of, marks}
@@ -202,8 +201,7 @@ module _ (config : Configuration) where
   pub record DeskOk (facts : List Fact) (dealer : ℕ) (row : DealerRow) : Type 0 where
     pub seen : Seen config.date row (of_dealer dealer facts)
     pub one_of : IsOneOf (of_dealer dealer facts)
-    pub noticed : Noticed (facts_of (of_dealer dealer facts))
-    pub counted : AreCounted (of_dealer dealer facts)
+    pub noticed : IsNoticed (of_dealer dealer facts)
     pub numbered : AreNumbered (rooms_by (of_dealer dealer facts))
     pub names : Each (NamesLifted config.date row) [] (of_dealer dealer facts)
 

@@ -8,7 +8,7 @@ use Rattle.dealer_desk.specs.DealerFacts.{Told}
 use Rattle.venue_places.specs.declared.actors.Actor.{Actor}
 use Rattle.step_replay.specs.Actions.{Effect}
 use Rattle.step_replay.specs.AuditTrail.{AuditTrail}
-use Rattle.step_replay.specs.DealerTrail.{AtDesk, DealerEntry, facts_of, message_in, rooms_by}
+use Rattle.step_replay.specs.DealerTrail.{AtDesk, DealerEntry, message_in, rooms_by}
 use Rattle.step_replay.specs.EachLemmas.{Each, Every, Stays, each_append, each_weaker, every_both}
 use Rattle.step_replay.specs.EachLemmas.{every_weaker}
 use Rattle.step_replay.specs.GrowthLemmas.{AreNumbered, in_left}
@@ -19,8 +19,7 @@ use Rattle.step_replay.specs.TrailKept.{IsKept}
 use Rattle.step_replay.specs.VenueFacts.{Fact, of_dealer}
 use Rattle.step_replay.specs.WordLemmas.{IsOneOf, one_is_kept}
 use Rattle.venue_laws.proofs.ListLemmas.{first_grown}
-use Rattle.venue_laws.proofs.NoticeLemmas.{Noticed, noticed_is_kept}
-use Rattle.venue_laws.proofs.ShownRequests.{AreCounted, counted_is_kept}
+use Rattle.venue_laws.proofs.NoticeLemmas.{IsNoticed, noticed_is_kept}
 use Rattle.venue_laws.proofs.VenueInvariant.{DeskOk, DutyOk, FactOk, LeftOk, MarketOk, QueueOk}
 use Rattle.venue_laws.proofs.VenueInvariant.{VenueOk}
 use Rattle.venue_laws.proofs.VenueParts.{InOrder, Later, Mark, MarkOk, NamesLifted, OrderOk, Still}
@@ -170,9 +169,7 @@ module _ (h : Here) (effect : Effect) where
           record {
             seen = keeps dealer row is (Seen date row) (seen_is_kept date row) stood.seen;
             one_of = keeps dealer row is IsOneOf (one_is_kept date row) stood.one_of;
-            noticed = keeps dealer row is (λ trail. Noticed (facts_of trail))
-                (noticed_is_kept date row) stood.noticed;
-            counted = keeps dealer row is AreCounted (counted_is_kept date row) stood.counted;
+            noticed = keeps dealer row is IsNoticed (noticed_is_kept date row) stood.noticed;
             numbered = rw (dealer_grown dealer h.venue.facts effect.facts) (adds.0);
             names = rw (dealer_grown dealer h.venue.facts effect.facts)
                 (each_append (NamesLifted date row) (names_after date row) []
