@@ -166,8 +166,8 @@ module _ (lone : LoneQuotes) (words : WordsOfDay) (config : Configuration) where
         (λ effect now later. record {
           by = by;
           ok = fits.0 now (to_now h effect later);
-          done = later.did by left (rw ((own_did venue by effect (stood.queues by).within
-              (turn left rest is)).0) (in_right left (did_in venue by) (left ∷ []) (inl refl)));
+          done = later.did by left (rw (own_did venue by effect (stood.queues by).within
+              (turn left rest is)) (in_right left (did_in venue by) (left ∷ []) (inl refl)));
         }) in
         ok_then h (duty_effect config venue.facts by left) (λ dealer row found P kept.
         duty_keeps config dealer row found P kept venue.facts by left) does.0 does.1

@@ -75,28 +75,25 @@ module _ (venue : AuditTrail) (by : Actor) where
         ∙ ap (λ l. duties_by by venue.caused ++ l)
         (everything_of (duty_of by) (caused_by by) (λ duty. rw (same_actor by) refl) effect.duties)
 
-    -- what the actor did then, which is no more than it was left
-    pub own_did : turns_of by venue.done ≤ length (duties_by by venue.caused)
-        → (doing : Doing venue by)
-        → (did_in (venue_with effect doing) by ≡ did_in venue by ++ doing_now doing)
-        × (turns_of by (turns_then doing) ≤ length (duties_by by (venue_with effect doing).caused))
-    own_did within beside = (
-      ap (take (turns_of by venue.done)) own_left
-          ∙ take-append-le (turns_of by venue.done) (duties_by by venue.caused) effect.duties
-          within ∙ sym (append-nil (did_in venue by)),
-      rw (own_left, length-append) (omega arith),
-    )
-    own_did within (turn one rest is) =
-        let next = next_of (turns_of by venue.done) (duties_by by venue.caused) one rest is in
+    -- its turns then are no more than it was left before, and so is what they do
+    turned : turns_of by venue.done ≤ length (duties_by by venue.caused) → (doing : Doing venue by)
+        → (turns_of by (turns_then doing) ≤ length (duties_by by venue.caused))
+        × (take (turns_of by (turns_then doing)) (duties_by by venue.caused)
+        ≡ did_in venue by ++ doing_now doing)
+    turned within beside = (within, sym (append-nil (did_in venue by)))
+    turned within (turn one rest is) =
         let more : turns_of by (venue.done ++ by ∷ []) ≡ turns_of by venue.done + 1 =
         turn_counted by by venue.done true (same_actor by) in
         let counted : turns_of by (venue.done ++ by ∷ []) ≡ suc (turns_of by venue.done) =
-        omega arith in (
-          rw (counted, own_left)
-              (take-append-le (suc (turns_of by venue.done)) (duties_by by venue.caused)
-              effect.duties next.0 ∙ next.1),
-          rw (counted, own_left, length-append) (omega (arith, next.0)),
-        )
+        omega arith in
+        rw counted (next_of (turns_of by venue.done) (duties_by by venue.caused) one rest is)
+
+    pub own_did : turns_of by venue.done ≤ length (duties_by by venue.caused)
+        → (doing : Doing venue by)
+        → did_in (venue_with effect doing) by ≡ did_in venue by ++ doing_now doing
+    own_did within doing =
+        let turned = turned within doing in
+        rw own_left (take-append-le _ (duties_by by venue.caused) effect.duties turned.0 ∙ turned.1)
 
     module _ (other : Actor) (differs : is_same_actor by other ≡ false) where
       other_left : duties_by other (venue.caused ++ left_by by effect.duties)
@@ -134,8 +131,8 @@ module _ (venue : AuditTrail) (by : Actor) where
             added = effect.duties;
             also = doing_now doing;
             left = own_left;
-            did = (own_did (within by) doing).0;
-            within = (own_did (within by) doing).1;
+            did = own_did (within by) doing;
+            within = rw (own_left, length-append) (omega (arith, (turned (within by) doing).0));
             own = inr (refl, refl, refl);
           })
       | inr differs ↦ other_then other differs (within other) doing
