@@ -40,8 +40,8 @@ use Rattle.venue_laws.proofs.VenueKnown.{named_dealer, opened_by, pending_ok, sh
 use Rattle.venue_laws.proofs.VenueMarkets.{asked_brings, investor_brings, known_brings}
 use Rattle.venue_laws.proofs.VenueParts.{OrderOk, did_in, later_same, mark_of, marks, named_later}
 use Rattle.venue_laws.proofs.VenueParts.{quoted_later}
-use Rattle.venue_laws.proofs.VenueRooms.{may_bring, opened_brings, readied_brings}
-use Rattle.venue_laws.proofs.VenueShow.{shown_brings, told_brings}
+use Rattle.venue_laws.proofs.VenueRooms.{may_bring, opened_brings, readied_brings, shown_brings}
+use Rattle.venue_laws.proofs.VenueRooms.{told_brings}
 use Rattle.venue_laws.proofs.VenueSteps.{Brings, DoneThen, Here, ok_then, to_now}
 use Rattle.venue_laws.proofs.VenueTurns.{Doing, beside, own_did, turn}
 
