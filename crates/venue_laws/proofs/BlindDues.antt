@@ -1,6 +1,6 @@
 -- Blindness to prices: two days that are one but for the prices of other dealers stay one without
 -- prices, step by step, and what is due to a dealer is one in both but for the cover.
-use Rattle.std.proofs.Common.{◌≡◌, ℕ, List, [], ◌∷◌, ◌++◌, map, filter_map, drop, count_by, fold}
+use Rattle.std.proofs.Common.{◌≡◌, ℕ, List, [], ◌∷◌, ◌++◌, map, filter_map, count_by, fold}
 use Rattle.std.proofs.Common.{Some, refl, sym, ap, ◌∙◌, ◌==◌, ◌⊎◌, inl, inr, true, eq-eqb}
 use Rattle.std.proofs.lemmas.Bool.{cases_Bool}
 use Rattle.std.proofs.lemmas.List.{drop-map, map-append}

@@ -1,7 +1,7 @@
 -- What an action adds and leaves in a day without prices is what it adds and leaves in the day, but
 -- for prices: effects, what comes to an investor, a closing notice, a drop and a hit.
-use Rattle.std.proofs.Common.{◌≡◌, ℕ, ◌==◌, Bool, true, false, List, ◌∷◌, ◌++◌, map, Option, Some}
-use Rattle.std.proofs.Common.{None, Ok, option_map, option_to_list, refl, sym, ap, ◌∙◌, if◌then◌else◌}
+use Rattle.std.proofs.Common.{◌≡◌, ℕ, ◌==◌, Bool, true, false, List, ◌++◌, map, Option, Some}
+use Rattle.std.proofs.Common.{None, Ok, option_map, option_to_list, refl, if◌then◌else◌}
 use Rattle.std.proofs.lemmas.List.{map-append}
 use mathlib.Core.List.{map-map}
 use Rattle.market_terms.specs.Unpriced.{uncovered, unpriced_duty}
@@ -15,7 +15,7 @@ use Rattle.market_terms.specs.declared.rooms.RoomRef.{RoomRef}
 use Rattle.quote_word.specs.declared.settled.Settled.{Settled}
 use Rattle.quote_word.specs.declared.settled.Settled.TheVariants as settled
 use Rattle.venue_rows.specs.Rows.{Configuration}
-use Rattle.dealer_desk.specs.DealerFacts.{DealerFact, Dropped, book_of, number_to_drop}
+use Rattle.dealer_desk.specs.DealerFacts.{DealerFact, book_of, number_to_drop}
 use Rattle.dealer_desk.specs.DealerOutput.{closable, event_facts, settled_facts}
 use Rattle.dealer_desk.specs.Unpriced.{unpriced as unpriced_at_dealer}
 use Rattle.dealer_desk.specs.declared.events.DealerEvent.TheVariants as at_desk

@@ -4,7 +4,7 @@ use Rattle.market_terms.specs.Unpriced.{unpriced_duty}
 use Rattle.market_terms.specs.declared.duties.Duty.{Duty}
 use Rattle.market_terms.specs.declared.duties.Duty.TheVariants as duty
 use Rattle.market_terms.specs.declared.rooms.RoomRef.{RoomRef}
-use Rattle.venue_rows.specs.Rows.{Configuration, dealer_numbered}
+use Rattle.venue_rows.specs.Rows.{Configuration}
 use Rattle.dealer_desk.specs.DealerOutput.{event_facts, number_in, word_asked}
 use Rattle.dealer_desk.specs.Unpriced.{unpriced, unpriced_verdict}
 use Rattle.dealer_desk.specs.declared.events.DealerEvent.TheVariants as at_desk

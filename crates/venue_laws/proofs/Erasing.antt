@@ -1,8 +1,8 @@
 -- A day of which the prices are erased, who was the cover, what was sent, and the bytes of what
 -- dealers sent, but for one dealer: what is left is what that dealer's due list can tell of, but
 -- for the cover. Whoever asks for nothing that is erased reads the same of what is left.
-use Rattle.std.proofs.Common.{◌≡◌, Bool, List, [], ◌∷◌, ◌++◌, map, filter_map, append-nil, map-id}
-use Rattle.std.proofs.Common.{Option, Some, None, option_map, option_to_list, refl, ap, ℕ, ◌==◌}
+use Rattle.std.proofs.Common.{◌≡◌, Bool, List, [], ◌∷◌, ◌++◌, map, filter_map, append-nil}
+use Rattle.std.proofs.Common.{Option, Some, None, option_map, option_to_list, refl, ℕ, ◌==◌}
 use Rattle.std.proofs.Common.{inl, inr}
 use Rattle.std.proofs.lemmas.Bool.{cases_Bool, eqb-true}
 use Rattle.std.proofs.lemmas.List.{map-append}

@@ -38,11 +38,6 @@ pub every_map : {A B : Type 0} (P : B → Type 0) (f : A → B) (xs : List A)
 every_map P f [] each = tt
 every_map P f (x ∷ xs) each = (each x (inl refl), every_map P f xs (λ y is. each y (inr is)))
 
-pub every_mapped : {A B : Type 0} (P : B → Type 0) (f : A → B) (xs : List A)
-    → Every (λ x. P (f x)) xs → Every P (map f xs)
-every_mapped P f [] all = tt
-every_mapped P f (x ∷ xs) all = (all.0, every_mapped P f xs all.1)
-
 pub slice_holds : {A : Type 0} (P : A → Type 0) (xs : List A) (place : ℕ) (x : A)
     → slice_get xs place ≡ Some x → Every P xs → P x
 slice_holds P [] place x is all = cc
@@ -158,11 +153,6 @@ first_of_every P test (x ∷ xs) all = elim (cases_Bool (test x)) [
 pub find_grown : {A : Type 0} (test : A → Bool) (xs ys : List A) (x : A)
     → find test xs ≡ Some x → find test (xs ++ ys) ≡ Some x
 find_grown test xs ys x is = rw (find-append test xs ys, is) refl
-
--- what is found is one of the list
-pub found_holds : {A : Type 0} (P : A → Type 0) (test : A → Bool) (xs : List A) (x : A)
-    → find test xs ≡ Some x → Every P xs → P x
-found_holds P test xs x is all = rw is at (first_of_every P test xs all)
 
 -- the first that some items say stays the first
 pub first_grown : {E A : Type 0} (first : List E → Option A) (says : E → Option A)

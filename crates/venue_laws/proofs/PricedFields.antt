@@ -1,6 +1,6 @@
 -- Two messages that differ in their prices alone: every tag but those of prices reads the same, and
 -- no line of the session checks tells them apart.
-use Rattle.std.proofs.Common.{◌≡◌, ℕ, ◌==◌, true, false, nat_lt, List, [], ◌∷◌, map, length, ◌∙◌}
+use Rattle.std.proofs.Common.{◌≡◌, ℕ, ◌==◌, true, false, List, [], ◌∷◌, map, length, ◌∙◌}
 use Rattle.std.proofs.Common.{Option, Some, None, count_by, refl, sym, ap, arith, if◌then◌else◌}
 use Rattle.std.proofs.Common.{Ok, ◌⊎◌, inl, inr, subst₂}
 use Rattle.std.specs.List.{AllZip}

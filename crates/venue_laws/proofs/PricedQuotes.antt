@@ -1,7 +1,7 @@
 -- Two quotes that differ in lawful prices alone: the market's verdicts on them are one but for the
 -- price.
 use Rattle.std.proofs.Common.{◌≡◌, ℕ, Option, Some, None, option_map, is_none, is_some, List, refl, ap, ◌∙◌}
-use Rattle.std.proofs.Common.{Bool, true, Result, Ok, Err, inl, inr, IfSome, sym}
+use Rattle.std.proofs.Common.{Bool, true, Result, Ok, inl, inr, IfSome, sym}
 use Rattle.std.proofs.lemmas.Bool.{cases_Bool}
 use Rattle.std.proofs.lemmas.Slice.Eq.{bytes_eq-Decides}
 use Rattle.bond_prices.specs.Grid.{on_grid}
