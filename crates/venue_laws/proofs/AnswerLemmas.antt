@@ -27,7 +27,7 @@ use Rattle.step_replay.specs.DealerTrail.{answer_to_dealer, book_by, entries_of,
 use Rattle.step_replay.specs.DealerTrail.{message_by}
 use Rattle.step_replay.specs.DealerView.{DealerView, after_due, view_after}
 use Rattle.step_replay.specs.DueList.{due_by, due_by_fact, due_list}
-use Rattle.step_replay.specs.EachLemmas.{Each, Every, Stays, each_append, each_of, every_both}
+use Rattle.step_replay.specs.EachLemmas.{Each, Every, Stays, each_append, every_both}
 use Rattle.step_replay.specs.IsolationLemmas.{seen_is_kept}
 use Rattle.step_replay.specs.SeenLemmas.{Seen, start_seen}
 use Rattle.step_replay.specs.StepLemmas.{kept_by_all}
@@ -229,13 +229,9 @@ module _ (date : List ℕ) (row : DealerRow) where
       views = seen_is_kept date row
 
 -- at each place of a dealer's trail
-pub is_answered : WordsAsked → (config : Configuration) (steps : List Step) (dealer : ℕ)
-    (row : DealerRow) (before after : List DealerEntry) (entry : DealerEntry)
-    → dealer_numbered config dealer ≡ Some row
-    → of_dealer dealer (audit_trail config steps).facts ≡ before ++ entry ∷ after
-    → IsAnswered config.date row before entry after
-is_answered law config steps dealer row before after entry is splits =
-    let all = kept_by_all config dealer row is (Kept config.date row)
-    (answers_are_kept config.date row law) (start_seen config.date row, tt) steps in
-    each_of (IsAnswered config.date row) (of_dealer dealer (audit_trail config steps).facts)
-    before entry after all.1 splits
+pub are_answered : WordsAsked → (config : Configuration) (steps : List Step) (dealer : ℕ)
+    (row : DealerRow) → dealer_numbered config dealer ≡ Some row
+    → Each (IsAnswered config.date row) [] (of_dealer dealer (audit_trail config steps).facts)
+are_answered law config steps dealer row is =
+    (kept_by_all config dealer row is (Kept config.date row)
+    (answers_are_kept config.date row law) (start_seen config.date row, tt) steps).1

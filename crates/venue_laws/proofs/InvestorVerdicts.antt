@@ -10,10 +10,8 @@ use Rattle.market_terms.specs.Dealers.{are_distinct}
 use Rattle.market_terms.specs.declared.rooms.Offer.{Offer}
 use Rattle.market_terms.specs.declared.rooms.ResponseRef.{ResponseRef}
 use Rattle.quote_messages.specs.Arrivals.{investor_arrival}
-use Rattle.quote_messages.specs.declared.arrivals.Arrival.{Arrival}
 use Rattle.quote_messages.specs.declared.arrivals.Arrival.TheVariants as arrival
 use Rattle.quote_messages.specs.declared.reject_reasons.RequestRejectReason.{RequestRejectReason}
-use Rattle.quote_messages.specs.declared.requests.InvestorMessage.{InvestorMessage}
 use Rattle.quote_messages.specs.declared.requests.InvestorMessage.TheVariants as message
 use Rattle.quote_messages.specs.declared.requests.QuoteHit.{QuoteHit}
 use Rattle.quote_messages.specs.declared.requests.QuoteRequest.{QuoteRequest}
@@ -45,9 +43,10 @@ use Rattle.investor_desk.specs.declared.standing.ShownOffer.{ShownOffer}
 use Rattle.investor_desk.specs.declared.verdicts.InvestorVerdict.{InvestorVerdict}
 use Rattle.investor_desk.specs.declared.verdicts.InvestorVerdict.TheVariants as verdict
 use Rattle.step_replay.specs.EachLemmas.{Each, Every, every_weaker}
+use Rattle.step_replay.specs.GrowthLemmas.{any_left}
 use Rattle.step_replay.specs.PlaceLemmas.{has_item}
 use Rattle.day_parts.specs.AcceptedQuotes.{next_of_day, none_holds}
-use Rattle.venue_laws.proofs.KnownDesks.{DeskFit, IsKnown, MayCome, asked, asked_grown, asked_is}
+use Rattle.venue_laws.proofs.KnownDesks.{DeskFit, IsKnown, MayCome, asked, asked_is, asks}
 use Rattle.venue_laws.proofs.KnownDesks.{asked_known, facts_fit, offers_both, requests_both}
 use Rattle.venue_laws.proofs.ListLemmas.{first_of_every, found_all, found_passes, position_within}
 use Rattle.venue_laws.proofs.VenueInvariant.{IsDealer}
@@ -146,24 +145,22 @@ module _ (config : Configuration) (firm : ℕ) (row : InvestorRow) (may : ℕ �
   pass_fits pass (Some own) known =
       record { some_is = refl; knows_is = asked_known facts own.request.number known }
 
-  arrival_fits : (moment : ℕ) (came : Arrival InvestorMessage)
-      → VerdictFit config row facts (arrival_verdict market book moment came)
-  unfolding request_verdict hit_verdict pass_verdict rules.bond_with_id offer_named request_with_id
-  arrival_fits moment (arrival.Taken (message.Request request)) =
-      request_fits moment request (bond_with_id config request.bond) _ refl refl
-  arrival_fits moment (arrival.Taken (message.Hit hit)) =
-      hit_fits hit (offer_named book hit.quote)
-      (first_of_every (IsKnown facts) _ (offers_of facts) fit.known)
-  arrival_fits moment (arrival.Taken (message.Pass pass)) =
-      pass_fits pass (request_with_id book pass.request)
-      (first_of_every (IsAsked facts) _ (requests_of facts) (requests_asked facts))
-  arrival_fits moment other = tt
-
   pub verdict_fits : (moment : ℕ) (bytes : List ℕ)
       → VerdictFit config row facts (investor_verdict market book moment bytes)
-  unfolding investor_verdict
+  unfolding investor_verdict request_verdict hit_verdict pass_verdict rules.bond_with_id offer_named request_with_id
   verdict_fits moment bytes =
-      arrival_fits moment (investor_arrival market.date market.row (expected_number book) bytes)
+      elim (investor_arrival market.date market.row (expected_number book) bytes)
+      as (λ came. VerdictFit config row facts (arrival_verdict market book moment came)) [
+        | arrival.Taken (message.Request request) ↦
+            request_fits moment request (bond_with_id config request.bond) _ refl refl
+        | arrival.Taken (message.Hit hit) ↦
+            hit_fits hit (offer_named book hit.quote)
+            (first_of_every (IsKnown facts) _ (offers_of facts) fit.known)
+        | arrival.Taken (message.Pass pass) ↦
+            pass_fits pass (request_with_id book pass.request)
+            (first_of_every (IsAsked facts) _ (requests_of facts) (requests_asked facts))
+        | other ↦ tt
+      ]
 
   -- Events.
 
@@ -197,7 +194,7 @@ module _ (config : Configuration) (firm : ℕ) (row : InvestorRow) (may : ℕ �
           let gone = Gone number old.number ∷ [] in
           let same : offers_of (facts ++ gone) ≡ offers_of facts =
           offers_both facts gone ∙ append-nil (offers_of facts) in
-          (tt, ((asked_grown facts gone number (known refl), rw same refl), tt))
+          (tt, ((any_left (asks number) facts gone (known refl), rw same refl), tt))
 
   module _ (day : (number : ℕ) → (nat_le 1 number && nat_le number row.requests) ≡ true
       → may number ≡ true) where

@@ -64,9 +64,6 @@ offers_both (Offered shown ∷ facts) more = ap (λ l. shown ∷ l) (offers_both
 offers_both (fact ∷ facts) more = offers_both facts more
 
 module _ (facts more : List InvestorFact) (number : ℕ) where
-  pub asked_grown : asked facts number ≡ true → asked (facts ++ more) number ≡ true
-  asked_grown is = any_left (asks number) facts more is
-
   quote_grown : (quote : Option ℕ) → knows_quote (book_of facts) number quote ≡ true
       → knows_quote (book_of (facts ++ more)) number quote ≡ true
   unfolding offer_numbered
@@ -82,7 +79,8 @@ module _ (facts more : List InvestorFact) (number : ℕ) where
       → knows (book_of (facts ++ more)) number quote ≡ true
   knows_grown quote is =
       let parts = and_parts _ _ (rw (asked_is number facts) at is) in
-      rw (asked_is number (facts ++ more), asked_grown parts.0) (quote_grown quote parts.1)
+      rw (asked_is number (facts ++ more), any_left (asks number) facts more parts.0)
+      (quote_grown quote parts.1)
 
 -- Desks.
 
@@ -159,7 +157,7 @@ module _ (may : ℕ → Bool) where
       fit_with facts fit (Offered shown) (
         rw (
           asked_is shown.request (facts ++ Offered shown ∷ []),
-          asked_grown facts (Offered shown ∷ []) shown.request next.0,
+          any_left (asks shown.request) facts (Offered shown ∷ []) next.0,
           offers_both facts (Offered shown ∷ []),
           found_last (length (offers_of facts)) (offers_of facts) shown fit.below beyond,
         ) (eq-eqb shown.request shown.request refl),

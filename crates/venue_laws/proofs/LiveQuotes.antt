@@ -92,30 +92,29 @@ module _ (lone : LoneQuotes) (config : Configuration) (facts : List Fact) (deale
   abbrev pub trail : List DealerEntry
   trail = of_dealer dealer facts
 
-  -- a lifted quote on a request that was not closed is the live one
-  record LiveLifted (request : ℕ) : Type 0 where
-    own : StandingQuote
-    live : live_quote_on (book_by trail) request ≡ Some own
-    lifted : was_lifted trail own.quote.number ≡ true
-
-  live_lifted : (room : RoomRef) (request : ℕ) → LiftedIn facts dealer room
+  -- the notice of a hit, of a request that was not closed, names the lifted quote: the live one
+  pub hit_names : (room : RoomRef) (request moment : ℕ) → LiftedIn facts dealer room
       → number_for facts dealer room ≡ Some request
-      → is_some (closable (book_by trail) request) ≡ true → LiveLifted request
-  unfolding live_quote_on closable request_numbered
-  live_lifted room request hit is may =
+      → is_some (closable (book_by trail) request) ≡ true
+      → NamesLiftedQuote config.date row trail request moment
+      (map Sent (option_to_list (message_by config.date row trail
+      (event.Told request closes.Hit moment))))
+  unfolding event_message live_quote_on closable request_numbered
+  hit_names room request moment hit is may =
       record {
         own = standing.0;
-        live = lone_found (is_live_on request) standing.0 (standings (facts_of trail)) standing.1
-            (and_from _ _ (ap is_none standing.3) (eq-eqb _ _ (ap requested standing.2
-            ∙ request_is))) few;
+        notice = notice_of (book_by trail) closes.Hit found.0;
+        live = live;
         lifted = ap (λ (q : AcceptedQuote). was_lifted trail q.number) standing.2 ∙ lifted;
+        written = ap (option_map (notice_of (book_by trail) closes.Hit)) found.1;
+        named = rw number_is (ap (option_map quoted_price) live);
+        sent = ap (λ (o : Option StandingRequest). next_sent (map Sent (option_to_list
+            (option_map (next_message config.date row (sent_by trail) moment)
+            (option_map (notice_of (book_by trail) closes.Hit) o))))) found.1;
       }
     where
       own : AcceptedQuote
       own = hit.quoted.own
-
-      requested : AcceptedQuote → ℕ
-      requested quote = quote.request
 
       request_is : own.request ≡ request
       request_is = same_Some own.request request (sym hit.quoted.request_is ∙ is)
@@ -130,39 +129,20 @@ module _ (lone : LoneQuotes) (config : Configuration) (facts : List Fact) (deale
           (rw lifted at (desk.one_of own.number))
           (rw request_is (desk.noticed.told_as request ∙ (untold_is _ may).2))
 
-      few : length (filter (is_live_on request) (standings (facts_of trail))) ≤ 1
-      few = rw desk.seen.state_is at (lone config.date row desk.seen.events request)
+      live : live_quote_on (book_by trail) request ≡ Some standing.0
+      live =
+          let few = rw desk.seen.state_is at (lone config.date row desk.seen.events request) in
+          let asked = ap (λ (q : AcceptedQuote). q.request) standing.2 ∙ request_is in
+          lone_found (is_live_on request) standing.0 (standings (facts_of trail)) standing.1
+          (and_from _ _ (ap is_none standing.3) (eq-eqb _ _ asked)) few
 
-  -- the request that may be closed
-  number_is : (request : ℕ) (found : StandingRequest)
-      → is_some (closable (book_by trail) request) ≡ true
-      → closable (book_by trail) request ≡ Some found → found.number ≡ request
-  unfolding closable request_numbered
-  number_is request found may is =
-      eqb-true found.number request
-      (found_passes (λ (other : StandingRequest). other.number == request)
-      (book_by trail).requests found (sym (untold_is _ may).0 ∙ is))
+      found : (request_too : StandingRequest)
+          × (closable (book_by trail) request ≡ Some request_too)
+      found = some_of (closable (book_by trail) request) may
 
-  -- the notice of a hit
-  pub hit_names : (room : RoomRef) (request moment : ℕ) → LiftedIn facts dealer room
-      → number_for facts dealer room ≡ Some request
-      → is_some (closable (book_by trail) request) ≡ true
-      → NamesLiftedQuote config.date row trail request moment
-      (map Sent (option_to_list (message_by config.date row trail
-      (event.Told request closes.Hit moment))))
-  unfolding event_message
-  hit_names room request moment hit is may =
-      let live = live_lifted room request hit is may in
-      let found = some_of (closable (book_by trail) request) may in
-      record {
-        own = live.own;
-        notice = notice_of (book_by trail) closes.Hit found.0;
-        live = live.live;
-        lifted = live.lifted;
-        written = ap (option_map (notice_of (book_by trail) closes.Hit)) found.1;
-        named = rw (number_is request found.0 may found.1)
-            (ap (option_map quoted_price) live.live);
-        sent = ap (λ (o : Option StandingRequest). next_sent (map Sent (option_to_list
-            (option_map (next_message config.date row (sent_by trail) moment)
-            (option_map (notice_of (book_by trail) closes.Hit) o))))) found.1;
-      }
+      -- the request that may be closed
+      number_is : found.0.number ≡ request
+      number_is =
+          eqb-true found.0.number request
+          (found_passes (λ (other : StandingRequest). other.number == request)
+          (book_by trail).requests found.0 (sym (untold_is _ may).0 ∙ found.1))
