@@ -2,9 +2,10 @@
 -- its requests and quotes.
 use Rattle.std.proofs.Common.{Bool, IfSome, List, None, Option, Some, ℕ, [], ap, arith, eq-eqb}
 use Rattle.std.proofs.Common.{false, is_some, length, nat_le, option_map, refl, sym, true, ◌&&◌}
-use Rattle.std.proofs.Common.{◌++◌, ◌+◌, ◌<◌, ◌==◌, ◌∙◌, ◌∷◌, ◌≡◌}
+use Rattle.std.proofs.Common.{◌++◌, ◌+◌, ◌==◌, ◌∙◌, ◌∷◌, ◌≡◌}
 use Rattle.std.proofs.lemmas.Bool.{not-false, or_left, or_right}
 use Rattle.std.proofs.lemmas.List.{append-nil, length-map}
+use Rattle.std.proofs.lemmas.List.Quantifiers.{position-Some}
 use Rattle.std.proofs.lemmas.Slice.Eq.{bytes_eq-Decides}
 use Rattle.market_terms.specs.Dealers.{are_distinct}
 use Rattle.market_terms.specs.declared.rooms.Offer.{Offer}
@@ -48,7 +49,7 @@ use Rattle.step_replay.specs.PlaceLemmas.{has_item}
 use Rattle.day_parts.specs.AcceptedQuotes.{next_of_day, none_holds}
 use Rattle.venue_laws.proofs.KnownDesks.{DeskFit, IsKnown, MayCome, asked, asked_is, asks}
 use Rattle.venue_laws.proofs.KnownDesks.{asked_known, facts_fit, offers_both, requests_both}
-use Rattle.venue_laws.proofs.ListLemmas.{first_of_every, found_all, found_passes, position_within}
+use Rattle.venue_laws.proofs.ListLemmas.{first_of_every, found_all, found_passes}
 use Rattle.venue_laws.proofs.VenueInvariant.{IsDealer}
 use Rattle.venue_laws.proofs.VenueParts.{BearsGrid}
 
@@ -105,9 +106,8 @@ module _ (config : Configuration) (firm : ℕ) (row : InvestorRow) (may : ℕ �
   unfolding dealer_named
   are_dealers names =
       found_all (IsDealer config) (dealer_named market) (λ name dealer found.
-      let within : dealer < length market.dealers =
-      position_within (λ own. same_text own name) market.dealers dealer found in
-      has_item config.dealers dealer (rw length-map at within)) names
+      let is = position-Some (λ own. same_text own name) market.dealers dealer [] found in
+      has_item config.dealers dealer (rw length-map at is.0)) names
 
   -- the bond that is found by its identifier is found by the identifier that it has
   found_again : (id : List ℕ) (bond : BondRow) → bond_with_id config id ≡ Some bond
