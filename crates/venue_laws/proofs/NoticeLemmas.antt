@@ -19,8 +19,8 @@ use Rattle.dealer_desk.specs.declared.standing.Withdrawal.TheVariants as by
 use Rattle.step_replay.specs.Actions.{settlement_of}
 use Rattle.step_replay.specs.AuditTrail.{audit_trail}
 use Rattle.step_replay.specs.DealerGrowth.{facts_grown, rooms_grown}
-use Rattle.step_replay.specs.DealerTrail.{DealerEntry, Lifted, book_by, fact_in}
-use Rattle.step_replay.specs.DealerTrail.{facts_of, room_in, rooms_by}
+use Rattle.step_replay.specs.DealerTrail.{DealerEntry, book_by}
+use Rattle.step_replay.specs.DealerTrail.{facts_of, rooms_by}
 use Rattle.step_replay.specs.EachLemmas.{Each, Every, each_append}
 use Rattle.step_replay.specs.StepLemmas.{kept_by_all}
 use Rattle.step_replay.specs.TrailKept.{IsKept}
@@ -127,12 +127,8 @@ noticed_is_kept date row = record {
       rw (facts_grown, rooms_grown, may)
       (noticed_then (facts_of trail) (rooms_by trail) (Told request close moment) before
       (λ other is. rw (eqb-true request other is) at may) [] refl);
-  lifted = λ trail quote within stays before. rw (
-    filter_map-append fact_in trail (Lifted quote ∷ []),
-    append-nil (facts_of trail),
-    filter_map-append room_in trail (Lifted quote ∷ []),
-    append-nil (rooms_by trail),
-  ) before;
+  lifted = λ trail quote within stays before.
+      rw (filter_map-append, append-nil, filter_map-append, append-nil) before;
 }
 
 -- a request that was shown in a room, and may not be closed, was told
