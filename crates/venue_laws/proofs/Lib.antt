@@ -2,7 +2,6 @@ mod AnswerLemmas
 mod BlindDues
 mod ComputedDays
 mod ConditionMet
-mod ConditionMetOnce
 mod ErasedActions
 mod ErasedSteps
 mod Erasing
@@ -20,7 +19,6 @@ mod ToldLemmas
 mod VenueDay
 mod VenueDesk
 mod VenueEnds
-mod VenueGrowth
 mod VenueHits
 mod VenueInvariant
 mod VenueKinds

@@ -17,11 +17,10 @@ use Rattle.step_replay.specs.GrowthLemmas.{In, all_in}
 use Rattle.step_replay.specs.VenueFacts.{AtDealer, of_dealer, of_room}
 use Rattle.venue_laws.proofs.ListLemmas.{in_filter, only_one}
 use Rattle.venue_laws.proofs.ShownRequests.{in_facts, told_in}
-use Rattle.venue_laws.proofs.VenueGrowth.{later_same}
 use Rattle.venue_laws.proofs.VenueInvariant.{ClosedIn, Did, FactOk, VenueOk}
 use Rattle.venue_laws.proofs.VenueKnown.{all_there, ended_in, named_dealer, one_number}
 use Rattle.venue_laws.proofs.VenueParts.{MarkOk, Still, Telling, WasTold, closer, did_in, duties_by}
-use Rattle.venue_laws.proofs.VenueParts.{marks}
+use Rattle.venue_laws.proofs.VenueParts.{later_same, marks}
 use Rattle.venue_laws.proofs.VenueTurns.{turns_of}
 use Rattle.venue_laws.specs.Notices.{IsToldOnce}
 

@@ -26,20 +26,20 @@ use Rattle.step_replay.specs.StepLemmas.{duty_keeps, message_keeps, sweep_keeps}
 use Rattle.step_replay.specs.VenueFacts.{of_dealer, of_investor}
 use Rattle.step_replay.specs.declared.steps.Step.{Step}
 use Rattle.step_replay.specs.declared.steps.Step.TheVariants as step
-use Rattle.venue_laws.proofs.ConditionMetOnce.{show_met, tell_met}
+use Rattle.venue_laws.proofs.ConditionMet.{show_met, tell_met}
 use Rattle.venue_laws.proofs.KnownDesks.{start_fit}
 use Rattle.venue_laws.proofs.ListLemmas.{cases_some}
 use Rattle.venue_laws.proofs.LiveQuotes.{LoneQuotes}
 use Rattle.venue_laws.proofs.NoticeLemmas.{start_noticed}
 use Rattle.venue_laws.proofs.VenueDesk.{WordsOfDay, dropped_brings, said_brings}
 use Rattle.venue_laws.proofs.VenueEnds.{expired_brings, passed_brings}
-use Rattle.venue_laws.proofs.VenueGrowth.{later_same, named_later, quoted_later}
 use Rattle.venue_laws.proofs.VenueHits.{hit_brings}
 use Rattle.venue_laws.proofs.VenueInvariant.{DutyOk, VenueOk}
 use Rattle.venue_laws.proofs.VenueKinds.{DoneNow, acting_brings, known, when_brings}
 use Rattle.venue_laws.proofs.VenueKnown.{named_dealer, opened_by, pending_ok, shown_ended}
 use Rattle.venue_laws.proofs.VenueMarkets.{asked_brings, investor_brings, known_brings}
-use Rattle.venue_laws.proofs.VenueParts.{OrderOk, did_in, mark_of, marks}
+use Rattle.venue_laws.proofs.VenueParts.{OrderOk, did_in, later_same, mark_of, marks, named_later}
+use Rattle.venue_laws.proofs.VenueParts.{quoted_later}
 use Rattle.venue_laws.proofs.VenueRooms.{may_bring, opened_brings, readied_brings}
 use Rattle.venue_laws.proofs.VenueShow.{shown_brings, told_brings}
 use Rattle.venue_laws.proofs.VenueSteps.{Brings, DoneThen, Here, ok_then, to_now}

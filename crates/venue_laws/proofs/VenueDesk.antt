@@ -6,8 +6,9 @@ use Rattle.std.proofs.lemmas.Bool.Decides.{nat_tests}
 use Rattle.market_terms.specs.declared.duties.Duty.{Duty}
 use Rattle.market_terms.specs.declared.duties.Duty.TheVariants as duty
 use Rattle.market_terms.specs.declared.rooms.RoomRef.{RoomRef}
+use Rattle.day_parts.specs.AcceptedQuotes.{AcceptOk, verdict_accepts}
 use Rattle.quote_word.specs.declared.settled.Settled.{Settled}
-use Rattle.venue_rows.specs.Rows.{dealer_numbered}
+use Rattle.venue_rows.specs.Rows.{Configuration, dealer_numbered}
 use Rattle.venue_rows.specs.declared.dealer_rows.DealerRow.{DealerRow}
 use Rattle.dealer_desk.specs.DealerDesk.{DeskEvents, book_at, verdict_at}
 use Rattle.dealer_desk.specs.DealerFacts.{Came, Dropped, Quoted, book_of, number_to_drop}
@@ -30,16 +31,13 @@ use Rattle.step_replay.specs.DealerTrail.{DealerEntry, book_by, entries_of, fact
 use Rattle.step_replay.specs.EachLemmas.{Every, every_both}
 use Rattle.step_replay.specs.GrowthLemmas.{In, in_right}
 use Rattle.step_replay.specs.PlaceLemmas.{dealer_grown, own_trail}
-use Rattle.step_replay.specs.SeenLemmas.{Seen}
-use Rattle.step_replay.specs.VenueFacts.{AtDealer, of_dealer}
-use Rattle.day_parts.specs.AcceptedQuotes.{AcceptOk, verdict_accepts}
+use Rattle.step_replay.specs.VenueFacts.{AtDealer, Fact, of_dealer}
 use Rattle.venue_laws.proofs.ListLemmas.{cases_some, slice_holds}
 use Rattle.venue_laws.proofs.PlainFacts.{event_plain, settled_plain, verdict_plain}
-use Rattle.venue_laws.proofs.VenueGrowth.{named_later, number_later, quoted_later}
 use Rattle.venue_laws.proofs.VenueInvariant.{ByDealer, ByNamed, DeskOk, ShownTo}
 use Rattle.venue_laws.proofs.VenueKinds.{Fine, desk_plain, when_brings}
 use Rattle.venue_laws.proofs.VenueKnown.{rooms_shown}
-use Rattle.venue_laws.proofs.VenueParts.{Still}
+use Rattle.venue_laws.proofs.VenueParts.{Still, named_later, number_later, quoted_later}
 use Rattle.venue_laws.proofs.VenueSteps.{Brings, Here, day, since, to_now, trail_of}
 
 -- The words of a dealer's day.
@@ -62,23 +60,25 @@ pub record WordsOfDay : Type 0 where
   pub drops : (desk : DeskEvents) (last : ℕ)
       → IfSome (number_to_drop (book_at desk) last) (OfRow desk.row)
 
-module _ (words : WordsOfDay) (date : List ℕ) (row : DealerRow) (trail : List DealerEntry)
-    (seen : Seen date row trail) where
-  -- the desk of the trail
-  abbrev desk_seen : DeskEvents
-  desk_seen = record { date = date; row = row; events = seen.events }
+module _ (words : WordsOfDay) {config : Configuration} {facts : List Fact} {dealer : ℕ}
+    {row : DealerRow} (desk : DeskOk config facts dealer row) where
+  -- the desk that has seen what its trail has
+  abbrev seen_desk : DeskEvents
+  seen_desk = record { date = config.date; row = row; events = desk.seen.events }
 
   pub asks_of_day : (moment : ℕ) (bytes : List ℕ)
-      → IfSome (word_asked (dealer_verdict date row (book_by trail) moment bytes)) (OfRow row)
+      → IfSome (word_asked (dealer_verdict config.date row (book_by (of_dealer dealer facts)) moment
+      bytes)) (OfRow row)
   asks_of_day moment bytes =
-      subst (λ (state : DeskState).
-      IfSome (word_asked (dealer_verdict date row (book_of state.facts) moment bytes)) (OfRow row))
-      seen.state_is (words.asks desk_seen moment bytes)
+      subst (λ (state : DeskState). IfSome (word_asked (dealer_verdict config.date row
+      (book_of state.facts) moment bytes)) (OfRow row)) desk.seen.state_is
+      (words.asks seen_desk moment bytes)
 
-  pub drops_of_day : (last : ℕ) → IfSome (number_to_drop (book_by trail) last) (OfRow row)
+  pub drops_of_day : (last : ℕ)
+      → IfSome (number_to_drop (book_by (of_dealer dealer facts)) last) (OfRow row)
   drops_of_day last =
       subst (λ (state : DeskState). IfSome (number_to_drop (book_of state.facts) last) (OfRow row))
-      seen.state_is (words.drops desk_seen last)
+      desk.seen.state_is (words.drops seen_desk last)
 
 -- What the dealer's desk leaves.
 
@@ -195,7 +195,7 @@ module _ (words : WordsOfDay) (h : Here) (dealer : ℕ) (row : DealerRow)
       (refl, verdict_plain v settlement))
       (said_fine _ moment v settlement
       (verdict_accepts row (facts_of trail) moment h.config.date bytes)
-      (asks_of_day words h.config.date row trail desk.seen moment bytes)
+      (asks_of_day words desk moment bytes)
       (λ quote quoted. rw (
         dealer_grown dealer h.venue.facts (map (AtDealer dealer) entries),
         own_trail dealer entries,
@@ -215,5 +215,5 @@ module _ (words : WordsOfDay) (h : Here) (dealer : ℕ) (row : DealerRow)
       (refl, settled_plain asked by_way.Cancel settlement))
       (every_both (Fine h _) _ _
       (dropped_fine _ moment settlement (quote_to_drop (book_by trail) last)
-      (drops_of_day words h.config.date row trail desk.seen last))
+      (drops_of_day words desk last))
       (further_fine _ _ last moment)))

@@ -32,14 +32,13 @@ use Rattle.step_replay.specs.PlaceLemmas.{investor_grown, investor_in_room, own_
 use Rattle.step_replay.specs.VenueFacts.{AtDealer, Fact, InRoom, of_investor, of_room}
 use Rattle.venue_laws.proofs.ListLemmas.{found_in, in_map, in_named, named_in, none_some, some_of}
 use Rattle.venue_laws.proofs.PlainFacts.{AreQuiet, is_quiet}
-use Rattle.venue_laws.proofs.VenueGrowth.{known_later, marks_both, named_already, named_later}
-use Rattle.venue_laws.proofs.VenueGrowth.{ready_later, said_later}
 use Rattle.venue_laws.proofs.VenueInvariant.{RespondsIn}
 use Rattle.venue_laws.proofs.VenueKinds.{Fine, each_once, fine_left, in_it, known, quiet_brings}
 use Rattle.venue_laws.proofs.VenueKinds.{room_brings, same_markets, where_brings}
 use Rattle.venue_laws.proofs.VenueKnown.{opened_in, ready_opened}
-use Rattle.venue_laws.proofs.VenueParts.{Later, LiftedIn, Telling, closer, duties_by, mark_of}
-use Rattle.venue_laws.proofs.VenueParts.{marks}
+use Rattle.venue_laws.proofs.VenueParts.{Later, LiftedIn, Telling, closer, duties_by, known_later}
+use Rattle.venue_laws.proofs.VenueParts.{mark_of, marks, marks_both, named_already, named_later}
+use Rattle.venue_laws.proofs.VenueParts.{ready_later, said_later}
 use Rattle.venue_laws.proofs.VenueSteps.{Brings, FactThen, Here, day, queue, to_now}
 use Rattle.venue_laws.proofs.VenueTurns.{own_left}
 

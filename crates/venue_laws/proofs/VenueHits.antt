@@ -25,11 +25,10 @@ use Rattle.step_replay.specs.VenueFacts.{Fact, InRoom, of_dealer}
 use Rattle.day_parts.specs.AcceptedQuotes.{none_holds}
 use Rattle.venue_laws.proofs.ListLemmas.{cases_some, some_of}
 use Rattle.venue_laws.proofs.VenueEnds.{answered, ended_brings, ending, left_brings, none_lifted}
-use Rattle.venue_laws.proofs.VenueGrowth.{lifted_later, quoted_later}
 use Rattle.venue_laws.proofs.VenueInvariant.{PostedIn, RespondsIn}
 use Rattle.venue_laws.proofs.VenueKinds.{in_it, known}
 use Rattle.venue_laws.proofs.VenueKnown.{posted_in}
-use Rattle.venue_laws.proofs.VenueParts.{LiftedIn, closer}
+use Rattle.venue_laws.proofs.VenueParts.{LiftedIn, closer, lifted_later, quoted_later}
 use Rattle.venue_laws.proofs.VenueSteps.{Brings, Here, day, since, trail_of}
 
 -- a hit that awards asked a word that no check refused, and ends as the book says

@@ -27,10 +27,10 @@ use Rattle.venue_laws.proofs.ListLemmas.{every_map, every_mapped, in_both, in_fo
 use Rattle.venue_laws.proofs.ListLemmas.{named_in}
 use Rattle.venue_laws.proofs.PlainFacts.{ArePlain, AreQuiet, is_plain_entry, is_quiet, plain_names}
 use Rattle.venue_laws.proofs.PlainFacts.{plain_rooms, quiet_trail}
-use Rattle.venue_laws.proofs.VenueGrowth.{investor_facts_grown, later_same, marks_both}
 use Rattle.venue_laws.proofs.VenueInvariant.{ByDealer, Did, LeftOk, MarketOk}
 use Rattle.venue_laws.proofs.VenueKnown.{each_holds, needs}
-use Rattle.venue_laws.proofs.VenueParts.{InOrder, Mark, Needs, Still, WasLeft, mark_of, marks}
+use Rattle.venue_laws.proofs.VenueParts.{InOrder, Mark, Needs, Still, WasLeft, investor_facts_grown}
+use Rattle.venue_laws.proofs.VenueParts.{later_same, mark_of, marks, marks_both}
 use Rattle.venue_laws.proofs.VenueSteps.{Brings, DeskAdds, DutyThen, FactThen, Here, LeftThen, day}
 use Rattle.venue_laws.proofs.VenueSteps.{queue, trail_of}
 

@@ -31,11 +31,10 @@ use Rattle.venue_laws.proofs.KnownDesks.{known_asked}
 use Rattle.venue_laws.proofs.ListLemmas.{in_named, some_of}
 use Rattle.venue_laws.proofs.PlainFacts.{at_dealer_all, in_room_all, rooms_all}
 use Rattle.venue_laws.proofs.ShownRequests.{number_place}
-use Rattle.venue_laws.proofs.VenueGrowth.{later_same}
 use Rattle.venue_laws.proofs.VenueInvariant.{DutyOk, EndedIn, FactOk, IsDealer, LeftOk, OpenedIn}
 use Rattle.venue_laws.proofs.VenueInvariant.{PostedIn, ReadyIn, ShownTo, VenueOk}
 use Rattle.venue_laws.proofs.VenueParts.{BearsGrid, IsOpened, KnownIn, Needs, Still, did_in}
-use Rattle.venue_laws.proofs.VenueParts.{duties_by, investor_facts, mark_of, number_for}
+use Rattle.venue_laws.proofs.VenueParts.{duties_by, investor_facts, later_same, mark_of, number_for}
 use Rattle.venue_laws.proofs.VenueTurns.{turns_of}
 
 -- Facts of a room.

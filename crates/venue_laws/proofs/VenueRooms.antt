@@ -22,12 +22,11 @@ use Rattle.step_replay.specs.PlaceLemmas.{own_room, room_grown}
 use Rattle.step_replay.specs.VenueFacts.{InRoom, of_room}
 use Rattle.venue_laws.proofs.ListLemmas.{every_map, found_in, in_both, in_found, in_map, in_named}
 use Rattle.venue_laws.proofs.ListLemmas.{named_in, none_is}
-use Rattle.venue_laws.proofs.VenueGrowth.{marks_both, said_later}
 use Rattle.venue_laws.proofs.VenueInvariant.{LeftOk, OpensIn}
 use Rattle.venue_laws.proofs.VenueKinds.{DoneNow, Fine, each_once, fine_left, in_it, known, queued}
 use Rattle.venue_laws.proofs.VenueKinds.{room_brings, when_brings, where_brings}
 use Rattle.venue_laws.proofs.VenueParts.{InOrder, IsOpened, Later, MarkOk, Readying, Showing, Still}
-use Rattle.venue_laws.proofs.VenueParts.{did_in, mark_of, marks}
+use Rattle.venue_laws.proofs.VenueParts.{did_in, mark_of, marks, marks_both, said_later}
 use Rattle.venue_laws.proofs.VenueSteps.{Brings, DutyThen, FactThen, Here, day, queue, to_now}
 
 module _ (h : Here) (room : RoomRef) where

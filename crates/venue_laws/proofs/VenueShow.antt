@@ -24,12 +24,11 @@ use Rattle.step_replay.specs.VenueFacts.{AtDealer, of_dealer}
 use Rattle.venue_laws.proofs.ListLemmas.{none_some}
 use Rattle.venue_laws.proofs.LiveQuotes.{LoneQuotes, hit_names}
 use Rattle.venue_laws.proofs.PlainFacts.{plain_names, plain_rooms, sent_plain}
-use Rattle.venue_laws.proofs.VenueGrowth.{number_later, shown_later, told_later}
 use Rattle.venue_laws.proofs.VenueInvariant.{DeskOk, TellsIn}
 use Rattle.venue_laws.proofs.VenueKinds.{DoneNow, at_desk, desk_brings, plain_ok}
 use Rattle.venue_laws.proofs.VenueKnown.{room_self}
 use Rattle.venue_laws.proofs.VenueParts.{BearsGrid, Mark, MarkOk, NamesLifted, Showing, Still}
-use Rattle.venue_laws.proofs.VenueParts.{Telling, number_for}
+use Rattle.venue_laws.proofs.VenueParts.{Telling, number_for, number_later, shown_later, told_later}
 use Rattle.venue_laws.proofs.VenueSteps.{Brings, Here, day, since, to_now, trail_of}
 
 module _ (h : Here) (dealer : ℕ) (row : DealerRow)

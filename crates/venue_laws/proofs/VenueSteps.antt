@@ -20,11 +20,11 @@ use Rattle.step_replay.specs.VenueFacts.{Fact, of_dealer}
 use Rattle.step_replay.specs.WordLemmas.{IsOneOf, one_is_kept}
 use Rattle.venue_laws.proofs.ListLemmas.{first_grown}
 use Rattle.venue_laws.proofs.NoticeLemmas.{IsNoticed, noticed_is_kept}
-use Rattle.venue_laws.proofs.VenueGrowth.{later_both, marks_both, still_later}
 use Rattle.venue_laws.proofs.VenueInvariant.{DeskOk, DutyOk, FactOk, LeftOk, MarketOk, QueueOk}
 use Rattle.venue_laws.proofs.VenueInvariant.{VenueOk}
 use Rattle.venue_laws.proofs.VenueParts.{InOrder, Later, Mark, MarkOk, NamesLifted, OrderOk, Still}
-use Rattle.venue_laws.proofs.VenueParts.{did_in, duties_by, mark_of, marks}
+use Rattle.venue_laws.proofs.VenueParts.{did_in, duties_by, later_both, mark_of, marks, marks_both}
+use Rattle.venue_laws.proofs.VenueParts.{still_later}
 use Rattle.venue_laws.proofs.VenueTurns.{Doing, Grown, doing_now, grown, venue_with}
 use Rattle.venue_laws.specs.Notices.{next_sent}
 
