@@ -1,7 +1,6 @@
 -- Every word that a dealer asks is answered as the dealer view says.
 use Rattle.std.proofs.Common.{List, None, Option, Some, ℕ, [], ap, filter_map, fold, if◌then◌else◌}
-use Rattle.std.proofs.Common.{map, option_map, option_to_list, refl, ◌++◌, ◌==◌, ◌∙◌, ◌∷◌}
-use Rattle.std.proofs.Common.{◌≡◌}
+use Rattle.std.proofs.Common.{map, option_map, option_to_list, refl, ◌++◌, ◌==◌, ◌∙◌, ◌∷◌, ◌≡◌}
 use Rattle.std.proofs.lemmas.List.{append-nil, append_cancel_left}
 use Rattle.std.proofs.lemmas.List.Elements.{filter_map-append}
 use Rattle.std.proofs.lemmas.List.Sums.{fold-append}
@@ -22,9 +21,8 @@ use Rattle.dealer_desk.specs.declared.standing.Withdrawal.TheVariants as by
 use Rattle.step_replay.specs.Actions.{answer_to_drop, drop_at, settlement_of}
 use Rattle.step_replay.specs.AuditTrail.{audit_trail}
 use Rattle.step_replay.specs.DealerGrowth.{desk_push, settled_undue, verdict_undue}
-use Rattle.step_replay.specs.DealerTrail.{AtDesk, DealerEntry, Sent, ShownIn}
-use Rattle.step_replay.specs.DealerTrail.{answer_to_dealer, book_by, entries_of, facts_of}
-use Rattle.step_replay.specs.DealerTrail.{message_by}
+use Rattle.step_replay.specs.DealerTrail.{AtDesk, DealerEntry, Sent, ShownIn, answer_to_dealer}
+use Rattle.step_replay.specs.DealerTrail.{book_by, entries_of, facts_of, message_by}
 use Rattle.step_replay.specs.DealerView.{DealerView, after_due, view_after}
 use Rattle.step_replay.specs.DueList.{due_by, due_by_fact, due_list}
 use Rattle.step_replay.specs.EachLemmas.{Each, Every, Stays, each_append, every_both}
@@ -35,8 +33,7 @@ use Rattle.step_replay.specs.TrailKept.{IsKept}
 use Rattle.step_replay.specs.VenueFacts.{of_dealer}
 use Rattle.step_replay.specs.declared.steps.Step.{Step}
 use Rattle.venue_laws.proofs.ListLemmas.{every_map, first_grown}
-use Rattle.venue_laws.specs.Answers.{asked_at, next_settlement, settlement_by_view}
-use Rattle.venue_laws.specs.Answers.{settlement_in}
+use Rattle.venue_laws.specs.Answers.{asked_at, next_settlement, settlement_by_view, settlement_in}
 
 -- what one event more asks at a desk
 abbrev pub WordsAsked : Type 0

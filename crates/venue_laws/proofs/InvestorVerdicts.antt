@@ -1,8 +1,8 @@
 -- What a verdict of an investor's desk says, and what comes to the desk brings of what stands of
 -- its requests and quotes.
 use Rattle.std.proofs.Common.{Bool, IfSome, List, None, Option, Some, ℕ, [], ap, arith, eq-eqb}
-use Rattle.std.proofs.Common.{false, is_some, length, nat_le, option_map, refl, sym, true, ◌&&◌}
-use Rattle.std.proofs.Common.{◌++◌, ◌+◌, ◌==◌, ◌∙◌, ◌∷◌, ◌≡◌}
+use Rattle.std.proofs.Common.{false, if◌then◌else◌, is_some, length, nat_le, option_map, refl, sym}
+use Rattle.std.proofs.Common.{true, ◌&&◌, ◌++◌, ◌+◌, ◌==◌, ◌∙◌, ◌∷◌, ◌≡◌}
 use Rattle.std.proofs.lemmas.Bool.{not-false, or_left, or_right}
 use Rattle.std.proofs.lemmas.List.{append-nil, length-map}
 use Rattle.std.proofs.lemmas.List.Quantifiers.{position-Some}
@@ -22,15 +22,16 @@ use Rattle.venue_rows.specs.Texts.{same_text}
 use Rattle.venue_rows.specs.declared.bond_rows.BondRow.{BondRow}
 use Rattle.venue_rows.specs.declared.investor_rows.InvestorRow.{InvestorRow}
 use Rattle.investor_desk.specs.InvestorDesk.{market_of}
-use Rattle.investor_desk.specs.InvestorFacts.{Asked, Came, Gone, InvestorBook, InvestorFact, Offered}
-use Rattle.investor_desk.specs.InvestorFacts.{StandingRequest, book_of, expected_number, knows}
-use Rattle.investor_desk.specs.InvestorFacts.{offer_named, offer_of_dealer, offer_with_word}
-use Rattle.investor_desk.specs.InvestorFacts.{offers_of, open_request, request_numbered}
-use Rattle.investor_desk.specs.InvestorFacts.{request_with_id, requests_of, while_open}
+use Rattle.investor_desk.specs.InvestorFacts.{Asked, Came, Gone, InvestorBook, InvestorFact}
+use Rattle.investor_desk.specs.InvestorFacts.{Offered, StandingRequest, book_of, expected_number}
+use Rattle.investor_desk.specs.InvestorFacts.{is_open, knows, offer_named, offer_of_dealer}
+use Rattle.investor_desk.specs.InvestorFacts.{offer_with_word, offers_of, open_request}
+use Rattle.investor_desk.specs.InvestorFacts.{request_numbered, request_with_id, requests_of}
+use Rattle.investor_desk.specs.InvestorFacts.{while_open}
 use Rattle.investor_desk.specs.InvestorOutput.{answer_facts, close_by_answer, closed_facts}
 use Rattle.investor_desk.specs.InvestorOutput.{event_facts, expiry_facts, gone_facts, next_offer}
-use Rattle.investor_desk.specs.InvestorOutput.{offer_facts, own_facts, refusal_of}
-use Rattle.investor_desk.specs.InvestorOutput.{uses_number, withdrawal_facts}
+use Rattle.investor_desk.specs.InvestorOutput.{offer_facts, own_facts, refusal_of, uses_number}
+use Rattle.investor_desk.specs.InvestorOutput.{withdrawal_facts}
 use Rattle.investor_desk.specs.InvestorRules as rules
 use Rattle.investor_desk.specs.InvestorRules.{InvestorMarket, arrival_verdict, dealer_named}
 use Rattle.investor_desk.specs.InvestorRules.{dealer_numbers, hit_of, hit_verdict, investor_verdict}
@@ -176,25 +177,24 @@ module _ (config : Configuration) (firm : ℕ) (row : InvestorRow) (may : ℕ �
   closed_comes number None = tt
   closed_comes number (Some close) = (tt, tt)
 
-  open_some : (own : Option StandingRequest) → is_some (while_open own) ≡ true
-      → is_some own ≡ true
-  open_some None is = is
-  open_some (Some own) is = refl
-
   offer_comes : (number : ℕ) (offer : Offer) (own : Option StandingRequest)
-      → (is_some own ≡ true → asked facts number ≡ true)
-      → Comes (offer_facts book number offer own)
+      → is_some own ≡ asked facts number → Comes (offer_facts book number offer (while_open own))
   offer_comes number offer None known = tt
-  offer_comes number offer (Some own) known = behind (offer_of_dealer own offer.dealer)
+  offer_comes number offer (Some own) known =
+      elim (is_open own)
+      as (λ b. Comes (offer_facts book number offer (if b then Some own else None))) [
+        | true ↦ behind (offer_of_dealer own offer.dealer)
+        | false ↦ tt
+      ]
     where
       behind : (old : Option ShownOffer)
           → Comes (gone_facts number old ++ Offered (next_offer book number offer) ∷ [])
-      behind None = ((known refl, refl), tt)
+      behind None = ((sym known, refl), tt)
       behind (Some old) =
           let gone = Gone number old.number ∷ [] in
           let same : offers_of (facts ++ gone) ≡ offers_of facts =
           offers_both facts gone ∙ append-nil (offers_of facts) in
-          (tt, ((any_left (asks number) facts gone (known refl), rw same refl), tt))
+          (tt, ((any_left (asks number) facts gone (sym known), rw same refl), tt))
 
   module _ (day : (number : ℕ) → (nat_le 1 number && nat_le number row.requests) ≡ true
       → may number ≡ true) where
@@ -213,8 +213,7 @@ module _ (config : Configuration) (firm : ℕ) (row : InvestorRow) (may : ℕ �
         said_comes moment bytes (investor_verdict market book moment bytes)
         (verdict_fits moment bytes)
     event_comes (event.QuoteCame request offer moment) =
-        offer_comes request offer (open_request book request)
-        (λ some. sym (asked_is request facts) ∙ open_some (request_numbered book request) some)
+        offer_comes request offer (request_numbered book request) (asked_is request facts)
     event_comes (event.QuoteGone request word moment) =
         elim (open_request book request) as (λ own. Comes (withdrawal_facts request word own)) [
           | None ↦ tt

@@ -3,6 +3,7 @@
 use Rattle.std.proofs.Common.{Bool, List, None, Option, Some, ℕ, [], ap, arith, eq-eqb, false, find}
 use Rattle.std.proofs.Common.{inl, inr, is_some, length, refl, subst, true, ◌++◌, ◌+◌, ◌<◌, ◌==◌}
 use Rattle.std.proofs.Common.{◌∷◌, ◌≡◌, ◌≤◌}
+use Rattle.std.proofs.Math.Bool.{or-false}
 use Rattle.std.proofs.lemmas.Bool.{and_parts, cases_Bool, eqb-true, ne_eqb, or_cases}
 use Rattle.std.proofs.lemmas.List.{append-nil, append_assoc, length-append}
 use Rattle.std.proofs.lemmas.List.Folds.{list_any-append}
@@ -134,14 +135,9 @@ module _ (may : ℕ → Bool) where
           (every_weaker (λ (s : ShownOffer). s.number ≤ length (offers_of facts)) _
           (λ s least. omega arith) _ fit.below) below);
       asked_ok = λ number asks_it. rw (requests_both facts (fact ∷ []))
-          (elim (or_cases _ _ (rw list_any-append at asks_it)) [
-            | inl before ↦
-                let stood = fit.asked_ok number before in
-                (omega arith, stood.1)
-            | inr now ↦ elim (or_cases (asks number fact) false now) [
-              | inl so ↦ added number so
-              | inr never ↦ cc
-            ]
+          (elim (or_cases _ _ (rw (list_any-append, or-false) at asks_it)) [
+            | inl before ↦ let stood = fit.asked_ok number before in (omega arith, stood.1)
+            | inr now ↦ added number now
           ]);
     }
 

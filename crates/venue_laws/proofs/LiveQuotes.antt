@@ -1,8 +1,7 @@
 -- The live quote of a dealer on a request, and what the notice of a hit names.
 use Rattle.std.proofs.Common.{Bool, List, None, Option, Some, ℕ, [], ap, eq-eqb, false, filter}
-use Rattle.std.proofs.Common.{find, inl, inr, is_none, is_some, length, map}
-use Rattle.std.proofs.Common.{option_map, option_to_list, refl, sym, true, ◌==◌, ◌∙◌}
-use Rattle.std.proofs.Common.{◌∷◌, ◌≡◌, ◌≤◌}
+use Rattle.std.proofs.Common.{find, inl, inr, is_none, is_some, length, map, option_map}
+use Rattle.std.proofs.Common.{option_to_list, refl, sym, true, ◌==◌, ◌∙◌, ◌∷◌, ◌≡◌, ◌≤◌}
 use Rattle.std.proofs.lemmas.Bool.{and_from, cases_Bool, eqb-true, or_parts}
 use Rattle.std.proofs.lemmas.Option.{same_Some}
 use Rattle.std.specs.List.{list_any}

@@ -1,6 +1,6 @@
 -- A closing notice comes after its request was shown, and at most once.
-use Rattle.std.proofs.Common.{List, Some, ℕ, [], arith, false, filter, filter_map}
-use Rattle.std.proofs.Common.{inl, inr, is_some, length, refl, subst, true, ◌++◌, ◌∙◌, ◌∷◌, ◌≡◌, ◌≤◌}
+use Rattle.std.proofs.Common.{List, Some, ℕ, [], arith, false, filter, filter_map, inl, inr}
+use Rattle.std.proofs.Common.{is_some, length, refl, subst, true, ◌++◌, ◌∙◌, ◌∷◌, ◌≡◌, ◌≤◌}
 use Rattle.std.proofs.Math.Bool.{and-false, or-false}
 use Rattle.std.proofs.lemmas.Bool.{cases_Bool, eqb-true, or_parts}
 use Rattle.std.proofs.lemmas.List.{append-nil, append_assoc, length-append}
@@ -19,8 +19,7 @@ use Rattle.dealer_desk.specs.declared.standing.Withdrawal.TheVariants as by
 use Rattle.step_replay.specs.Actions.{settlement_of}
 use Rattle.step_replay.specs.AuditTrail.{audit_trail}
 use Rattle.step_replay.specs.DealerGrowth.{facts_grown, rooms_grown}
-use Rattle.step_replay.specs.DealerTrail.{DealerEntry, book_by}
-use Rattle.step_replay.specs.DealerTrail.{facts_of, rooms_by}
+use Rattle.step_replay.specs.DealerTrail.{DealerEntry, book_by, facts_of, rooms_by}
 use Rattle.step_replay.specs.EachLemmas.{Each, Every, each_append}
 use Rattle.step_replay.specs.StepLemmas.{kept_by_all}
 use Rattle.step_replay.specs.TrailKept.{IsKept}
