@@ -40,7 +40,6 @@ use Rattle.investor_desk.specs.InvestorRules.{request_refusal, request_verdict}
 use Rattle.investor_desk.specs.declared.events.InvestorEvent.{InvestorEvent}
 use Rattle.investor_desk.specs.declared.events.InvestorEvent.TheVariants as event
 use Rattle.investor_desk.specs.declared.standing.AcceptedRequest.{AcceptedRequest}
-use Rattle.investor_desk.specs.declared.standing.RequestClose.{RequestClose}
 use Rattle.investor_desk.specs.declared.standing.ShownOffer.{ShownOffer}
 use Rattle.investor_desk.specs.declared.verdicts.InvestorVerdict.{InvestorVerdict}
 use Rattle.investor_desk.specs.declared.verdicts.InvestorVerdict.TheVariants as verdict
@@ -169,14 +168,6 @@ module _ (config : Configuration) (firm : ℕ) (row : InvestorRow) (may : ℕ �
   abbrev Comes : List InvestorFact → Type 0
   Comes more = Each (MayCome may) facts more
 
-  gone_comes : (number : ℕ) (shown : Option ShownOffer) → Comes (gone_facts number shown)
-  gone_comes number None = tt
-  gone_comes number (Some shown) = (tt, tt)
-
-  closed_comes : (number : ℕ) (close : Option RequestClose) → Comes (closed_facts number close)
-  closed_comes number None = tt
-  closed_comes number (Some close) = (tt, tt)
-
   offer_comes : (number : ℕ) (offer : Offer) (own : Option StandingRequest)
       → is_some own ≡ asked facts number → Comes (offer_facts book number offer (while_open own))
   offer_comes number offer None known = tt
@@ -217,14 +208,19 @@ module _ (config : Configuration) (firm : ℕ) (row : InvestorRow) (may : ℕ �
     event_comes (event.QuoteGone request word moment) =
         elim (open_request book request) as (λ own. Comes (withdrawal_facts request word own)) [
           | None ↦ tt
-          | Some own ↦ gone_comes request (offer_with_word own word)
+          | Some own ↦
+              elim (offer_with_word own word) as (λ shown. Comes (gone_facts request shown)) [
+                | None ↦ tt
+                | Some shown ↦ (tt, tt)
+              ]
         ]
     event_comes (event.DealerDeclined request dealer moment) = tt
     event_comes (event.Answered request response reply moment) =
         elim (request_numbered book request)
         as (λ own. Comes (answer_facts book request response reply own)) [
           | None ↦ tt
-          | Some own ↦ closed_comes request (close_by_answer book response (refusal_of reply))
+          | Some own ↦ elim (close_by_answer book response (refusal_of reply))
+              as (λ close. Comes (closed_facts request close)) [ None ↦ tt | Some close ↦ (tt, tt) ]
         ]
     event_comes (event.Closed request moment) =
         elim (request_numbered book request) as (λ own. Comes (expiry_facts request own)) [

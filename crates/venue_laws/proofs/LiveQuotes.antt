@@ -112,20 +112,17 @@ module _ (lone : LoneQuotes) (config : Configuration) (facts : List Fact) (deale
             (option_map (notice_of (book_by trail) closes.Hit) o))))) found.1;
       }
     where
-      own : AcceptedQuote
-      own = hit.quoted.own
+      request_is : hit.quoted.own.request ≡ request
+      request_is = same_Some hit.quoted.own.request request (sym hit.quoted.request_is ∙ is)
 
-      request_is : own.request ≡ request
-      request_is = same_Some own.request request (sym hit.quoted.request_is ∙ is)
-
-      lifted : was_lifted trail own.number ≡ true
+      lifted : was_lifted trail hit.quoted.own.number ≡ true
       lifted = ap (was_lifted trail) hit.quoted.number_is ∙ hit.lifted
 
       standing : (standing : StandingQuote) × In standing (standings (facts_of trail))
-          × (standing.quote ≡ own) × (standing.end ≡ None)
+          × (standing.quote ≡ hit.quoted.own) × (standing.end ≡ None)
       standing =
-          live_stands own (facts_of trail) hit.quoted.quoted
-          (rw lifted at (desk.one_of own.number))
+          live_stands hit.quoted.own (facts_of trail) hit.quoted.quoted
+          (rw lifted at (desk.one_of hit.quoted.own.number))
           (rw request_is (desk.noticed.told_as request ∙ (untold_is _ may).2))
 
       live : live_quote_on (book_by trail) request ≡ Some standing.0

@@ -59,30 +59,23 @@ module _ (facts : List DealerFact) (rooms : List RoomRef) (fact : DealerFact)
     (before : Noticed facts rooms)
     (may : (request : ℕ) → tells request fact ≡ true
     → is_some (untold (found request 1 facts)) ≡ true) where
-  told_then : (request : ℕ) → list_any (tells request) (facts ++ fact ∷ [])
-      ≡ has_notice (found request 1 (facts ++ fact ∷ []))
-  told_then request =
-      rw (list_any-append, or-false, noticed_push request 1 facts fact, before.told_as request)
-      (elim (cases_Bool (tells request fact)) [
-        | inl now ↦ rw (now, (untold_is _ (may request now)).1) refl
-        | inr none ↦ rw (none, and-false) refl
-      ])
-
-  once_then : (request : ℕ) → length (filter (tells request) (facts ++ fact ∷ [])) ≤ 1
-  once_then request = elim (cases_Bool (tells request fact)) [
-    | inl now ↦
-        let none = before.told_as request ∙ (untold_is _ (may request now)).2 in
-        rw (filter-append, none_filtered request facts none, now) (omega arith)
-    | inr none ↦ rw (filter-append, none, append-nil) (before.once request)
-  ]
-
   noticed_then : (more : List RoomRef) → length more ≡ length (filter_map shown_in (fact ∷ []))
       → Noticed (facts ++ fact ∷ []) (rooms ++ more)
   noticed_then more as_many = record {
     after_shown = each_append IsAfterShown (λ front one rest last holds. holds) [] facts (fact ∷ [])
         before.after_shown (λ request is. (untold_is _ (may request is)).1, tt);
-    told_as = told_then;
-    once = once_then;
+    told_as = λ request.
+        rw (list_any-append, or-false, noticed_push request 1 facts fact, before.told_as request)
+        (elim (cases_Bool (tells request fact)) [
+          | inl now ↦ rw (now, (untold_is _ (may request now)).1) refl
+          | inr none ↦ rw (none, and-false) refl
+        ]);
+    once = λ request. elim (cases_Bool (tells request fact)) [
+      | inl now ↦
+          let none = before.told_as request ∙ (untold_is _ (may request now)).2 in
+          rw (filter-append, none_filtered request facts none, now) (omega arith)
+      | inr none ↦ rw (filter-append, none, append-nil) (before.once request)
+    ];
     counted =
         rw (filter_map-append, length-append, length-append, before.counted, as_many) refl;
   }
