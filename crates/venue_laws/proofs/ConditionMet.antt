@@ -19,7 +19,7 @@ use Rattle.market_terms.specs.declared.rooms.RoomRef.{RoomRef}
 use Rattle.day_parts.specs.AcceptedQuotes.{none_holds}
 use Rattle.venue_rows.specs.Rows.{Configuration, dealer_numbered, investor_numbered}
 use Rattle.venue_rows.specs.declared.dealer_rows.DealerRow.{DealerRow}
-use Rattle.dealer_desk.specs.DealerFacts.{Told, number_to_drop}
+use Rattle.dealer_desk.specs.DealerFacts.{number_to_drop}
 use Rattle.dealer_desk.specs.DealerOutput.{closable}
 use Rattle.investor_desk.specs.InvestorFacts.{knows}
 use Rattle.request_room.specs.Book.{book_of, hit_checks, hit_refusal, quote_meant, word_or}
@@ -33,21 +33,20 @@ use Rattle.venue_places.specs.declared.actors.Actor.{Actor}
 use Rattle.step_replay.specs.Actions.{Dealer, acting_dealer, dealer_at, dealer_of, has_word_for}
 use Rattle.step_replay.specs.Actions.{quotes_of, word_for, words_of}
 use Rattle.step_replay.specs.AuditTrail.{AuditTrail}
-use Rattle.step_replay.specs.DealerTrail.{AtDesk, DealerEntry, book_by, facts_of, rooms_by}
-use Rattle.step_replay.specs.GrowthLemmas.{all_in}
-use Rattle.step_replay.specs.VenueFacts.{AtDealer, of_dealer, of_room}
+use Rattle.step_replay.specs.DealerTrail.{DealerEntry, book_by, facts_of, rooms_by}
+use Rattle.step_replay.specs.VenueFacts.{of_dealer, of_room}
 use Rattle.venue_laws.proofs.ListLemmas.{cases_some, found_in, slice_holds, some_of}
 use Rattle.venue_laws.proofs.NoticeLemmas.{told_if_closed}
-use Rattle.venue_laws.proofs.ShownRequests.{in_facts, number_place, told_in}
+use Rattle.venue_laws.proofs.ShownRequests.{number_place, told_in}
 use Rattle.venue_laws.proofs.VenueDesk.{OfRow, WordsOfDay, asks_of_day, drops_of_day, within_row}
-use Rattle.venue_laws.proofs.VenueInvariant.{ByDealer, ByNamed, ClosedIn, Did, DutyOk, FactOk}
-use Rattle.venue_laws.proofs.VenueInvariant.{OpensIn, ReadiesBy, ShownTo, ShowsIn, TellsIn, VenueOk}
-use Rattle.venue_laws.proofs.VenueKnown.{all_there, ended_ready, known_named, known_opened}
-use Rattle.venue_laws.proofs.VenueKnown.{known_room, named_dealer, one_number, opened_in, posted_in}
-use Rattle.venue_laws.proofs.VenueKnown.{ready_in, ready_opened, rooms_shown, shown_ended}
-use Rattle.venue_laws.proofs.VenueParts.{KnownIn, Mark, Opening, OrderOk, Readying, Showing, Still}
-use Rattle.venue_laws.proofs.VenueParts.{Telling, WasDone, closer, did_in, later_same, mark_of}
-use Rattle.venue_laws.proofs.VenueParts.{marks, number_for}
+use Rattle.venue_laws.proofs.VenueInvariant.{ByDealer, ByNamed, Did, DutyOk, OpensIn, ReadiesBy}
+use Rattle.venue_laws.proofs.VenueInvariant.{ShownTo, ShowsIn, TellsIn, VenueOk}
+use Rattle.venue_laws.proofs.VenueKnown.{ended_ready, known_named, known_opened, known_room}
+use Rattle.venue_laws.proofs.VenueKnown.{named_dealer, opened_in, posted_in, ready_in, ready_opened}
+use Rattle.venue_laws.proofs.VenueKnown.{rooms_shown, shown_ended, told_did}
+use Rattle.venue_laws.proofs.VenueParts.{KnownIn, Mark, Opening, OrderOk, Readying, Showing}
+use Rattle.venue_laws.proofs.VenueParts.{Telling, WasDone, closer, did_in, mark_of, marks}
+use Rattle.venue_laws.proofs.VenueParts.{number_for}
 use Rattle.venue_laws.specs.Conditions.{has_word_asked, holds_for, is_heard, is_heard_on, is_known}
 use Rattle.venue_laws.specs.Conditions.{is_met, is_room, is_unshown, is_untold, may_drop}
 
@@ -151,25 +150,13 @@ module _ {config : Configuration} {venue : AuditTrail} (stood : VenueOk config v
       (λ closed.
       let told = told_in number.0 (facts_of trail) (told_if_closed trail
       (stood.desks dealer row is).noticed room number.0 number.1 closed) in
-      told_never number.0 number.1
-      (all_in (λ entry. Still (FactOk config (AtDealer dealer entry)) venue)
-      (AtDesk (Told number.0 told.0 told.1)) trail (all_there stood dealer)
-      (in_facts (Told number.0 told.0 told.1) trail told.2) venue (later_same venue)))))
+      let did = (told_did stood room dealer number.0 told.0 told.1 number.1 told.2).1 in
+      never did (Telling dealer room) refl (fits.by_is ∙ ap (λ (e : End). closer e.kind room)
+      (same_Some fits.end did.ok.end (sym fits.end_is ∙ did.ok.end_is)) ∙ sym did.ok.by_is)
+      undone)))
     where
       trail : List DealerEntry
       trail = of_dealer dealer venue.facts
-
-      told_never : {how : Close} (request : ℕ) → number_for venue.facts dealer room ≡ Some request
-          → ClosedIn config dealer request how venue → ⊥
-      told_never {how} request found told =
-          let same : told.room ≡ room =
-          one_number (rooms_by trail) told.room room request told.request_is found in
-          let did : Did config (duty.Tell dealer room how told.moment) venue =
-          rw same at told.did in
-          let ends : fits.end ≡ did.ok.end =
-          same_Some fits.end did.ok.end (sym fits.end_is ∙ did.ok.end_is) in
-          never did (Telling dealer room) refl
-          (fits.by_is ∙ ap (λ (e : End). closer e.kind room) ends ∙ sym did.ok.by_is) undone
 
   -- All duties.
 

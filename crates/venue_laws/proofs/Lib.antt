@@ -26,6 +26,5 @@ mod VenueKnown
 mod VenueMarkets
 mod VenueParts
 mod VenueRooms
-mod VenueShow
 mod VenueSteps
 mod VenueTurns

@@ -37,11 +37,6 @@ pub every_map : {A B : Type 0} (P : B → Type 0) (f : A → B) (xs : List A)
 every_map P f [] each = tt
 every_map P f (x ∷ xs) each = (each x (inl refl), every_map P f xs (λ y is. each y (inr is)))
 
-pub every_mapped : {A B : Type 0} (P : B → Type 0) (f : A → B) (xs : List A)
-    → Every (λ x. P (f x)) xs → Every P (map f xs)
-every_mapped P f [] all = tt
-every_mapped P f (x ∷ xs) all = (all.0, every_mapped P f xs all.1)
-
 pub slice_holds : {A : Type 0} (P : A → Type 0) (xs : List A) (place : ℕ) (x : A)
     → slice_get xs place ≡ Some x → Every P xs → P x
 slice_holds P [] place x is all = cc

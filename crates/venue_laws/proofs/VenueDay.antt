@@ -40,8 +40,8 @@ use Rattle.venue_laws.proofs.VenueKnown.{named_dealer, opened_by, pending_ok, sh
 use Rattle.venue_laws.proofs.VenueMarkets.{asked_brings, investor_brings, known_brings}
 use Rattle.venue_laws.proofs.VenueParts.{OrderOk, did_in, later_same, mark_of, marks, named_later}
 use Rattle.venue_laws.proofs.VenueParts.{quoted_later}
-use Rattle.venue_laws.proofs.VenueRooms.{may_bring, opened_brings, readied_brings}
-use Rattle.venue_laws.proofs.VenueShow.{shown_brings, told_brings}
+use Rattle.venue_laws.proofs.VenueRooms.{may_bring, opened_brings, readied_brings, shown_brings}
+use Rattle.venue_laws.proofs.VenueRooms.{told_brings}
 use Rattle.venue_laws.proofs.VenueSteps.{Brings, DoneThen, Here, ok_then, to_now}
 use Rattle.venue_laws.proofs.VenueTurns.{Doing, beside, own_did, turn}
 
@@ -166,8 +166,8 @@ module _ (lone : LoneQuotes) (words : WordsOfDay) (config : Configuration) where
         (λ effect now later. record {
           by = by;
           ok = fits.0 now (to_now h effect later);
-          done = later.did by left (rw ((own_did venue by effect (stood.queues by).within
-              (turn left rest is)).0) (in_right left (did_in venue by) (left ∷ []) (inl refl)));
+          done = later.did by left (rw (own_did venue by effect (stood.queues by).within
+              (turn left rest is)) (in_right left (did_in venue by) (left ∷ []) (inl refl)));
         }) in
         ok_then h (duty_effect config venue.facts by left) (λ dealer row found P kept.
         duty_keeps config dealer row found P kept venue.facts by left) does.0 does.1

@@ -10,6 +10,7 @@ use Rattle.std.specs.List.{list_any}
 use Rattle.market_terms.specs.Dealers.{are_distinct}
 use Rattle.market_terms.specs.declared.duties.Duty.{Duty}
 use Rattle.market_terms.specs.declared.rooms.RoomRef.{RoomRef}
+use Rattle.day_parts.specs.KeptItems.{every_in}
 use Rattle.venue_rows.specs.Rows.{dealer_numbered}
 use Rattle.venue_rows.specs.declared.dealer_rows.DealerRow.{DealerRow}
 use Rattle.dealer_desk.specs.DealerFacts.{Shown, Told}
@@ -23,8 +24,7 @@ use Rattle.step_replay.specs.GrowthLemmas.{In}
 use Rattle.step_replay.specs.PlaceLemmas.{investor_at_dealer, investor_in_room, other_trail}
 use Rattle.step_replay.specs.PlaceLemmas.{own_trail}
 use Rattle.step_replay.specs.VenueFacts.{AtDealer, Fact, InRoom, of_investor, of_room}
-use Rattle.venue_laws.proofs.ListLemmas.{every_map, every_mapped, in_both, in_found, in_one}
-use Rattle.venue_laws.proofs.ListLemmas.{named_in}
+use Rattle.venue_laws.proofs.ListLemmas.{every_map, in_both, in_found, in_one, named_in}
 use Rattle.venue_laws.proofs.PlainFacts.{ArePlain, AreQuiet, is_plain_entry, is_quiet, plain_names}
 use Rattle.venue_laws.proofs.PlainFacts.{plain_rooms, quiet_trail}
 use Rattle.venue_laws.proofs.VenueInvariant.{ByDealer, Did, LeftOk, MarketOk}
@@ -126,8 +126,7 @@ module _ (h : Here) where
         → Every (Fine (at_desk dealer entries duties)) duties
         → Brings h (at_desk dealer entries duties)
     desk_brings adds entry_ok fine = record {
-      facts = every_mapped (FactThen h (at_desk dealer entries duties)) (AtDealer dealer) entries
-          entry_ok;
+      facts = every_in _ (FactThen h _) (AtDealer dealer) (λ entry ok. ok) entries entry_ok;
       left = fine_left (at_desk dealer entries duties) (queue h) duties fine;
       adds = λ other row_too is_too. elim (cases_Bool (dealer == other)) [
         | inr differs ↦ rw (other_trail other dealer differs entries)
@@ -162,7 +161,7 @@ module _ (h : Here) where
   room_brings room added duties facts_ok left =
       quiet_brings (in_it room added duties)
       (every_map (λ fact. is_quiet fact ≡ true) (InRoom room) added (λ fact is. refl))
-      (every_mapped (FactThen h (in_it room added duties)) (InRoom room) added facts_ok) left
+      (every_in _ (FactThen h _) (InRoom room) (λ fact ok. ok) added facts_ok) left
       (λ investor. same_markets (map (InRoom room) added) investor
       (investor_in_room investor room added))
 
