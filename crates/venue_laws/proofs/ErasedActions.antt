@@ -16,17 +16,13 @@ use Rattle.quote_word.specs.declared.settled.Settled.{Settled}
 use Rattle.quote_word.specs.declared.settled.Settled.TheVariants as settled
 use Rattle.venue_rows.specs.Rows.{Configuration}
 use Rattle.dealer_desk.specs.DealerFacts.{DealerFact, book_of, number_to_drop}
-use Rattle.dealer_desk.specs.DealerOutput.{closable, event_facts, settled_facts}
+use Rattle.dealer_desk.specs.DealerOutput.{event_facts, settled_facts}
 use Rattle.dealer_desk.specs.Unpriced.{unpriced as unpriced_at_dealer}
 use Rattle.dealer_desk.specs.declared.events.DealerEvent.TheVariants as at_desk
 use Rattle.dealer_desk.specs.declared.standing.Withdrawal.TheVariants as by
 use Rattle.dealer_desk.proofs.UnpricedBooks.{book_same}
-use Rattle.dealer_desk.proofs.UnpricedVerdicts.{closable_same, some_to_drop, unposted_same}
-use Rattle.investor_desk.specs.InvestorFacts.{knows}
+use Rattle.dealer_desk.proofs.UnpricedVerdicts.{some_to_drop, unposted_same}
 use Rattle.investor_desk.specs.InvestorRules.{InvestorMarket}
-use Rattle.investor_desk.specs.Unpriced.{unpriced_event}
-use Rattle.investor_desk.specs.declared.events.InvestorEvent.{InvestorEvent}
-use Rattle.investor_desk.proofs.UnpricedDesks.{knows_same}
 use Rattle.request_room.specs.Book.{award_of, event_facts as facts_in_room, hit_refusal, hit_settled}
 use Rattle.request_room.specs.RoomFacts.{RoomFact}
 use Rattle.request_room.specs.Unpriced.{unpriced as unpriced_in_room}
@@ -35,16 +31,15 @@ use Rattle.request_room.specs.declared.events.RoomEvent.TheVariants as at_room
 use Rattle.request_room.proofs.UnpricedRooms.{asked_of_book, kept_same}
 use Rattle.venue_steps.specs.RoomSteps.{hit_duties, hit_word, where_follows}
 use Rattle.step_replay.specs.DealerGrowth.{facts_grown}
-use Rattle.step_replay.specs.DealerTrail.{DealerEntry, answer_to_dealer, book_by, entries_of}
+use Rattle.step_replay.specs.DealerTrail.{DealerEntry, book_by, entries_of}
 use Rattle.step_replay.specs.DealerTrail.{facts_of, rooms_by}
-use Rattle.step_replay.specs.InvestorTrail as investor_trail
-use Rattle.step_replay.specs.VenueFacts.{Fact, InRoom, of_dealer, of_investor, of_room}
+use Rattle.step_replay.specs.VenueFacts.{Fact, InRoom, of_dealer, of_room}
 use Rattle.step_replay.specs.Actions.{Effect, Dealer, QuoteRef, answer_to_drop, answer_to_hit}
 use Rattle.step_replay.specs.Actions.{done_by, done_for, drop_at, dropped_by, hit_in, left_by_drop}
-use Rattle.step_replay.specs.Actions.{lifting, quote_asked, quote_with_word, told_of, where_known}
-use Rattle.venue_laws.proofs.Erasing.{bare, bare_append, book_known, desk_added, desk_kept}
-use Rattle.venue_laws.proofs.Erasing.{facts_known, lifted_known, market_added, market_kept}
-use Rattle.venue_laws.proofs.Erasing.{market_known, number_known, room_added, room_left, rooms_known}
+use Rattle.step_replay.specs.Actions.{lifting, quote_asked, quote_with_word, told_of, told_to}
+use Rattle.venue_laws.proofs.Erasing.{answer_known, bare, bare_append, book_known, closable_known}
+use Rattle.venue_laws.proofs.Erasing.{desk_added, desk_kept, facts_known, knows_known, market_added}
+use Rattle.venue_laws.proofs.Erasing.{number_known, room_added, room_left, rooms_known, said_known}
 use Rattle.venue_laws.proofs.Erasing.{withdrawn_known}
 
 -- Effects.
@@ -65,17 +60,17 @@ pub left_if : (own : ℕ) (b : Bool) (one other : Effect)
 left_if own true one other = refl
 left_if own false one other = refl
 
-pub left_done : (own : ℕ) (found : Option Dealer) (one other : Dealer → Effect)
-    → ((dealer : Dealer) → left own (one dealer) ≡ left own (other dealer))
-    → left own (done_by found one) ≡ left own (done_by found other)
-left_done own None one other same = refl
-left_done own (Some dealer) one other same = same dealer
+pub left_done : (own : ℕ) (found : Option Dealer) (action : Dealer → Effect)
+    → left own (done_by found action) ≡ done_by found (λ dealer. left own (action dealer))
+unfolding left bare
+left_done own None action = refl
+left_done own (Some dealer) action = refl
 
-pub left_for : (own : ℕ) (found : Option InvestorMarket) (one other : InvestorMarket → Effect)
-    → ((market : InvestorMarket) → left own (one market) ≡ left own (other market))
-    → left own (done_for found one) ≡ left own (done_for found other)
-left_for own None one other same = refl
-left_for own (Some market) one other same = same market
+pub left_for : (own : ℕ) (found : Option InvestorMarket) (action : InvestorMarket → Effect)
+    → left own (done_for found action) ≡ done_for found (λ market. left own (action market))
+unfolding left bare
+left_for own None action = refl
+left_for own (Some market) action = refl
 
 pub follows : (b : Bool) (duty : Duty)
     → map unpriced_duty (where_follows b duty) ≡ where_follows b (unpriced_duty duty)
@@ -87,23 +82,47 @@ pub list_left : (duty : Option Duty)
 list_left None = refl
 list_left (Some duty) = refl
 
-told_each : (at : RoomRef) (close : ℕ → Close) (moment : ℕ) (dealers : List ℕ)
+pub told_each : (at : RoomRef) (close : ℕ → Close) (moment : ℕ) (dealers : List ℕ)
     → map unpriced_duty (map (λ dealer. duty.Tell dealer at (close dealer) moment) dealers)
     ≡ map (λ dealer. duty.Tell dealer at (uncovered (close dealer)) moment) dealers
 told_each at close moment dealers = simp map-map
 
 -- how an award ended for a dealer, whoever was the cover
-covered : (won cover : Bool)
+pub covered : (won cover : Bool)
     → uncovered (if won then closes.Hit else if cover then closes.Cover else closes.DoneAway)
     ≡ (if won then closes.Hit else closes.DoneAway)
 covered true cover = refl
 covered false true = refl
 covered false false = refl
 
--- what is left of an action, and what it asks of its room
-pub ruleset effects = (left_if, left_of, desk_added, room_added, market_added)
+-- what is left of an action, and what it asks of its desk or its room
+pub ruleset at_desks = (
+  left_if,
+  left_done,
+  left_for,
+  left_of,
+  desk_added,
+  market_added,
+  rooms_known,
+  number_known,
+  closable_known,
+  answer_known,
+  knows_known,
+  said_known,
+)
 
-pub ruleset in_rooms = (effects, follows, room_left, asked_of_book)
+pub ruleset in_rooms = (
+  left_if,
+  left_done,
+  left_of,
+  room_added,
+  bare_append,
+  room_left,
+  follows,
+  told_each,
+  covered,
+  asked_of_book,
+)
 
 module _ (config : Configuration) (own : ℕ) (facts : List Fact) where
   -- the facts without prices
@@ -111,33 +130,18 @@ module _ (config : Configuration) (own : ℕ) (facts : List Fact) where
   known = bare own facts
 
   -- a dealer is told how a request ended
-  pub told_left : (dealer : Dealer) (close : Close) (moment : ℕ) (request : Option ℕ)
+  told_as : (dealer : Dealer) (close : Close) (moment : ℕ) (request : Option ℕ)
       → left own (told_of config known dealer (uncovered close) moment request)
       ≡ left own (told_of config facts dealer close moment request)
-  told_left dealer close moment None = refl
-  told_left dealer close moment (Some request) =
-      let is_told : closable (book_by (of_dealer dealer.number known)) request
-      ≡ closable (book_by (of_dealer dealer.number facts)) request =
-      rw (book_known own facts dealer.number)
-      (closable_same (book_by (of_dealer dealer.number facts)) request) in
-      simp (
-        effects,
-        is_told,
-        desk_kept own facts dealer.number config.date dealer.row
-            (at_desk.Told request close moment),
-      )
+  told_as dealer close moment None = refl
+  told_as dealer close moment (Some request) =
+      simp (at_desks, desk_kept (at_desk.Told request close moment))
 
-  -- an event at an investor's desk on a request that it knows
-  pub known_left : (request : ℕ) (quote : Option ℕ) (more : InvestorEvent)
-      (market : InvestorMarket)
-      → left own (where_known known request quote (unpriced_event more) market)
-      ≡ left own (where_known facts request quote more market)
-  known_left request quote more market =
-      let is_known : knows (investor_trail.book_by (of_investor market.firm known)) request quote
-      ≡ knows (investor_trail.book_by (of_investor market.firm facts)) request quote =
-      rw (market_known own facts market.firm)
-      (knows_same (investor_trail.book_by (of_investor market.firm facts)) request quote) in
-      simp (effects, is_known, market_kept own facts market more)
+  pub told_left : (room : RoomRef) (dealer : Dealer) (close : Close) (moment : ℕ)
+      → left own (told_to config known room (uncovered close) moment dealer)
+      ≡ left own (told_to config facts room close moment dealer)
+  told_left room dealer close moment =
+      rw rooms_known (told_as dealer close moment _)
 
 -- A drop.
 
@@ -149,13 +153,6 @@ settled_bare stay None settlement = refl
 settled_bare stay (Some quote) (Some settled.Lifted) = refl
 settled_bare stay (Some quote) settlement = refl
 
--- the answer to the word that a dealer asks, where it asks one
-pub answer_known : (own : ℕ) (facts : List Fact) (number : ℕ) (asked : Option ℕ)
-    → option_map (answer_to_dealer (of_dealer number (bare own facts))) asked
-    ≡ option_map (answer_to_dealer (of_dealer number facts)) asked
-answer_known own facts number None = refl
-answer_known own facts number (Some quote) = rw (lifted_known own facts number quote)
-
 module _ (config : Configuration) (own : ℕ) (facts : List Fact) (dealer : Dealer)
     (last moment : ℕ) where
   -- the dealer's trail, and what is left of it
@@ -165,11 +162,6 @@ module _ (config : Configuration) (own : ℕ) (facts : List Fact) (dealer : Deal
   abbrev bare_trail : List DealerEntry
   bare_trail = of_dealer dealer.number (bare own facts)
 
-  settlement_known : answer_to_drop bare_trail last ≡ answer_to_drop trail last
-  settlement_known =
-      rw (number_known own facts dealer.number last)
-      (answer_known own facts dealer.number (number_to_drop (book_by trail) last))
-
   -- the facts of the desk after the drop
   abbrev after : List DealerEntry → List DealerFact
   after entries =
@@ -178,16 +170,8 @@ module _ (config : Configuration) (own : ℕ) (facts : List Fact) (dealer : Deal
   after_known : after bare_trail ≡ map (unpriced_at_dealer (dealer.number == own)) (after trail)
   unfolding event_facts
   after_known =
-      rw (
-        facts_grown config.date dealer.row bare_trail (drop_at bare_trail last moment),
-        facts_grown config.date dealer.row trail (drop_at trail last moment),
-        settlement_known,
-        number_known own facts dealer.number last,
-        facts_known own facts dealer.number,
-        map-append,
-        settled_bare (dealer.number == own) (number_to_drop (book_by trail) last)
-            (answer_to_drop trail last),
-      )
+      rw (facts_grown, facts_grown, number_known own facts dealer.number last)
+      (simp (answer_known, facts_known, map-append, settled_bare))
 
   duties_known : left_by_drop config (bare own facts) last moment dealer
       ≡ left_by_drop config facts last moment dealer
@@ -196,7 +180,8 @@ module _ (config : Configuration) (own : ℕ) (facts : List Fact) (dealer : Deal
         after_known,
         book_same (dealer.number == own) (after trail),
         some_to_drop (book_of (after trail)) last,
-        settlement_known,
+        number_known own facts dealer.number last,
+        answer_known own facts dealer.number (number_to_drop (book_by trail) last),
         rooms_known own facts dealer.number,
         book_known own facts dealer.number,
         unposted_same (book_by trail) (rooms_by trail) last moment (answer_to_drop trail last),
@@ -204,11 +189,7 @@ module _ (config : Configuration) (own : ℕ) (facts : List Fact) (dealer : Deal
 
   pub dropped_left : left own (dropped_by config (bare own facts) last moment dealer)
       ≡ left own (dropped_by config facts last moment dealer)
-  dropped_left =
-      rw (duties_known, settlement_known, number_known own facts dealer.number last) (simp (
-        effects,
-        desk_kept own facts dealer.number config.date dealer.row (drop_at trail last moment),
-      ))
+  dropped_left = rw duties_known (simp (at_desks, desk_kept (drop_at trail last moment)))
 
 -- A hit.
 
@@ -238,17 +219,11 @@ module _ (config : Configuration) (own : ℕ) (facts : List Fact) (room : RoomRe
       ≡ left own (hit_as here refused settlement)
   left_as None (Some settled.Lifted) =
       rw (lifting_same (quote_with_word config word) (award_of (map unpriced_in_room here) word)
-      (award_of here word)) (simp (
-        in_rooms,
-        bare_append,
-        told_each,
-        covered,
-        kept_same here (at_room.Hit word moment (Some settled.Lifted)),
-      ))
-  left_as None settlement =
-      simp (in_rooms, bare_append, kept_same here (at_room.Hit word moment settlement))
+      (award_of here word))
+      (simp (in_rooms, kept_same here (at_room.Hit word moment (Some settled.Lifted))))
+  left_as None settlement = simp (in_rooms, kept_same here (at_room.Hit word moment settlement))
   left_as (Some refused) settlement =
-      simp (in_rooms, bare_append, kept_same here (at_room.Hit word moment settlement))
+      simp (in_rooms, kept_same here (at_room.Hit word moment settlement))
 
   refusal_same : hit_refusal (map unpriced_in_room here) word moment ≡ hit_refusal here word moment
   unfolding hit_refusal
@@ -263,9 +238,6 @@ module _ (config : Configuration) (own : ℕ) (facts : List Fact) (room : RoomRe
       ≡ left own (hit_in config facts room response word moment)
   hit_left =
       let asked = quote_asked config (hit_word here word moment) in
+      let settlement = option_map (answer_to_hit facts) asked in
       rw (room_left own room facts, refusal_same, settled_known asked)
-      (simp (
-        left_if,
-        left_as (hit_refusal here word moment)
-            (option_map (answer_to_hit facts) asked),
-      ))
+      (simp (left_if, left_as (hit_refusal here word moment) settlement))

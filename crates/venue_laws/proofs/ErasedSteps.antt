@@ -1,37 +1,30 @@
 -- Every duty, message and sweep in a day without prices: one line a duty.
-use Rattle.std.proofs.Common.{◌≡◌, ℕ, ◌==◌, List, [], map, None, refl, if◌then◌else◌}
+use Rattle.std.proofs.Common.{is_some, inl, inr, ◌≡◌, ℕ, ◌==◌, List, [], map, refl, if◌then◌else◌}
+use Rattle.std.proofs.lemmas.Bool.{cases_Bool}
 use Rattle.market_terms.specs.Unpriced.{unpriced_duty}
 use Rattle.market_terms.specs.declared.duties.Duty.{Duty}
 use Rattle.market_terms.specs.declared.duties.Duty.TheVariants as duty
 use Rattle.market_terms.specs.declared.rooms.RoomRef.{RoomRef}
-use Rattle.venue_rows.specs.Rows.{Configuration}
-use Rattle.dealer_desk.specs.DealerOutput.{event_facts, number_in, word_asked}
+use Rattle.venue_rows.specs.Rows.{Configuration, dealer_numbered}
+use Rattle.dealer_desk.specs.DealerOutput.{event_facts}
 use Rattle.dealer_desk.specs.Unpriced.{unpriced, unpriced_verdict}
 use Rattle.dealer_desk.specs.declared.events.DealerEvent.TheVariants as at_desk
 use Rattle.dealer_desk.specs.declared.verdicts.DealerVerdict.{DealerVerdict}
-use Rattle.dealer_desk.proofs.UnpricedVerdicts.{asked_alike, came_alike, duty_alike, verdict_same}
-use Rattle.investor_desk.specs.InvestorDesk.{market_for}
-use Rattle.investor_desk.specs.InvestorRules.{InvestorMarket, investor_verdict}
-use Rattle.investor_desk.specs.Unpriced.{unpriced_event}
-use Rattle.investor_desk.specs.declared.events.InvestorEvent.{InvestorEvent}
+use Rattle.dealer_desk.proofs.UnpricedVerdicts.{asked_alike, came_alike, duty_alike}
 use Rattle.investor_desk.specs.declared.events.InvestorEvent.TheVariants as at_investor
-use Rattle.investor_desk.proofs.UnpricedDesks as investors
 use Rattle.request_room.specs.RoomFacts.{RoomFact}
 use Rattle.request_room.specs.declared.events.RoomEvent.TheVariants as at_room
 use Rattle.request_room.proofs.UnpricedRooms.{kept_same}
 use Rattle.venue_places.specs.declared.actors.Actor.{Actor}
 use Rattle.step_replay.specs.DealerTrail.{DealerEntry, book_by, rooms_by}
-use Rattle.step_replay.specs.InvestorTrail.{book_by as investor_book_by}
-use Rattle.step_replay.specs.VenueFacts.{Fact, of_dealer, of_investor, of_room}
-use Rattle.step_replay.specs.Actions.{Dealer, acting_dealer, at_investor_of, dealer_at}
-use Rattle.step_replay.specs.Actions.{received_by_dealer, received_by_investor, settlement_of}
-use Rattle.step_replay.specs.Actions.{verdict_on, where_known, word_for}
+use Rattle.step_replay.specs.VenueFacts.{Fact, of_dealer, of_room}
+use Rattle.step_replay.specs.Actions.{done_by, Dealer, acting_dealer, dealer_at}
+use Rattle.step_replay.specs.Actions.{received_by_dealer, settlement_of}
+use Rattle.step_replay.specs.Actions.{verdict_on}
 use Rattle.step_replay.specs.DutyEffects.{duty_effect, message_effect, sweep_effect}
-use Rattle.venue_laws.proofs.Erasing.{bare, book_known, desk_kept, market_kept, market_known}
-use Rattle.venue_laws.proofs.Erasing.{rooms_known}
-use Rattle.venue_laws.proofs.ErasedActions.{in_rooms, answer_known, dropped_left, effects, hit_left, known_left, left}
-use Rattle.venue_laws.proofs.ErasedActions.{left_done, left_for, left_if, list_left}
-use Rattle.venue_laws.proofs.ErasedActions.{told_left}
+use Rattle.venue_laws.proofs.Erasing.{bare, desk_kept, market_kept, verdict_known}
+use Rattle.venue_laws.proofs.ErasedActions.{at_desks, dropped_left, hit_left, in_rooms, left}
+use Rattle.venue_laws.proofs.ErasedActions.{left_done, list_left, told_left}
 
 module _ (config : Configuration) (own : ℕ) (facts : List Fact) where
   -- the facts without prices
@@ -42,12 +35,6 @@ module _ (config : Configuration) (own : ℕ) (facts : List Fact) where
   abbrev here : RoomRef → List RoomFact
   here room = of_room room facts
 
-  to_investor : (room : RoomRef) (more : InvestorEvent)
-      → left own (at_investor_of config room (where_known known room.n None (unpriced_event more)))
-      ≡ left own (at_investor_of config room (where_known facts room.n None more))
-  to_investor room more =
-      left_for own (market_for config room.investor) _ _ (known_left config own facts room.n None more)
-
   pub duty_left : (by : Actor) (more : Duty)
       → left own (duty_effect config known by (unpriced_duty more))
       ≡ left own (duty_effect config facts by more)
@@ -55,46 +42,37 @@ module _ (config : Configuration) (own : ℕ) (facts : List Fact) where
   duty_left by (duty.Open room ask dealers moment) =
       simp (in_rooms, kept_same (here room) (at_room.Open (record { ask = ask; dealers = dealers })))
   duty_left by (duty.Show dealer room ask moment) =
-      left_done own (dealer_at config dealer) _ _ (λ desk.
-      let shown = desk_kept own facts desk.number config.date desk.row
-      (at_desk.Shown room ask moment) in
-      simp (effects, rooms_known, shown))
+      simp (at_desks, desk_kept (at_desk.Shown room ask moment))
   duty_left by (duty.Ready room moment) = simp (in_rooms, kept_same (here room) at_room.Ready)
   duty_left by (duty.Post room quote price valid_until moment) =
-      left_done own (acting_dealer config by) _ _ (λ desk.
-      let posted = at_room.Post desk.number (word_for config desk quote) price valid_until in
-      simp (in_rooms, kept_same (here room) posted))
+      simp (
+        in_rooms,
+        λ (n word : ℕ). kept_same (here room) (at_room.Post n word price valid_until),
+      )
   duty_left by (duty.Relay room offer moment) =
-      to_investor room (at_investor.QuoteCame room.n offer moment)
+      simp (at_desks, market_kept (at_investor.QuoteCame room.n offer moment))
   duty_left by (duty.Unpost room quote moment) =
-      left_done own (acting_dealer config by) _ _ (λ desk.
-      let unposted = at_room.Unpost desk.number (word_for config desk quote) in
-      simp (in_rooms, kept_same (here room) unposted))
+      simp (in_rooms, λ (n word : ℕ). kept_same (here room) (at_room.Unpost n word))
   duty_left by (duty.Gone room word moment) =
-      to_investor room (at_investor.QuoteGone room.n word moment)
+      simp (at_desks, market_kept (at_investor.QuoteGone room.n word moment))
   duty_left by (duty.Decline room moment) =
-      left_done own (acting_dealer config by) _ _
-      (λ desk. simp (in_rooms, kept_same (here room) (at_room.Decline desk.number)))
+      simp (in_rooms, λ (n : ℕ). kept_same (here room) (at_room.Decline n))
   duty_left by (duty.Declined room moment) =
-      left_done own (acting_dealer config by) _ _
-      (λ desk. to_investor room (at_investor.DealerDeclined room.n desk.row.name moment))
+      simp (at_desks, λ (name : List ℕ). market_kept (at_investor.DealerDeclined room.n name moment))
   duty_left by (duty.Hit room response word moment) =
       hit_left config own facts room response word moment
   duty_left by (duty.Pass room response moment) =
       simp (in_rooms, kept_same (here room) (at_room.Pass moment))
   duty_left by (duty.Answer room response reply moment) =
-      left_for own (market_for config room.investor) _ _ (λ market.
-      let answered = known_left config own facts room.n response.k
-      (at_investor.Answered room.n response reply moment) market in
-      simp (answered, left_if))
-  duty_left by (duty.Close room moment) = to_investor room (at_investor.Closed room.n moment)
+      simp (at_desks, market_kept (at_investor.Answered room.n response reply moment))
+  duty_left by (duty.Close room moment) =
+      simp (at_desks, market_kept (at_investor.Closed room.n moment))
   duty_left by (duty.Tell dealer room close moment) =
-      left_done own (dealer_at config dealer) _ _ (λ desk. rw (rooms_known own facts desk.number)
-      (told_left config own facts desk close moment
-      (number_in (rooms_by (of_dealer desk.number facts)) room)))
+      simp left_done (λ i. done_by (dealer_at config dealer)
+      (λ desk. told_left config own facts room desk close moment i))
   duty_left by (duty.Drop last moment) =
-      left_done own (acting_dealer config by) _ _
-      (λ desk. dropped_left config own facts desk last moment)
+      simp left_done (λ i. done_by (acting_dealer config by)
+      (λ desk. dropped_left config own facts desk last moment i))
 
   pub sweep_left : (room : RoomRef) (moment : ℕ)
       → left own (sweep_effect config known room moment)
@@ -120,11 +98,6 @@ module _ (config : Configuration) (own : ℕ) (facts : List Fact) where
     abbrev w : DealerVerdict
     w = verdict_on config facts moment others dealer
 
-    verdict_is : verdict_on config known moment bytes dealer ≡ v
-    verdict_is =
-        rw (book_known own facts dealer.number)
-        (verdict_same (book_by trail) config.date dealer.row moment bytes)
-
     kept_known : map (unpriced (dealer.number == own)) (event_facts config.date dealer.row
         (book_by (of_dealer dealer.number known))
         (at_desk.Received moment bytes (settlement_of trail w)))
@@ -132,44 +105,26 @@ module _ (config : Configuration) (own : ℕ) (facts : List Fact) where
         (at_desk.Received moment others (settlement_of trail w)))
     unfolding event_facts
     kept_known =
-        rw verdict_is (came_alike v w alike (dealer.number == own) moment bytes others
+        rw verdict_known (came_alike v w alike (dealer.number == own) moment bytes others
         (settlement_of trail w) kept)
 
     pub said_left : left own (received_by_dealer config known moment bytes dealer)
         ≡ left own (received_by_dealer config facts moment others dealer)
     said_left =
-        rw (
-          verdict_is,
-          asked_alike v w alike,
-          answer_known own facts dealer.number (word_asked w),
-          rooms_known own facts dealer.number,
-        ) (simp (
-          effects,
+        rw (verdict_known, asked_alike v w alike) (simp (
+          at_desks,
           kept_known,
           list_left,
           duty_alike v w alike (rooms_by trail) moment (settlement_of trail w),
         ))
-
-  said_to_investor : (moment : ℕ) (bytes : List ℕ) (market : InvestorMarket)
-      → left own (received_by_investor known moment bytes market)
-      ≡ left own (received_by_investor facts moment bytes market)
-  said_to_investor moment bytes market =
-      let verdict_is : investor_verdict market (investor_book_by (of_investor market.firm known))
-      moment bytes
-      ≡ investor_verdict market (investor_book_by (of_investor market.firm facts)) moment bytes =
-      rw (market_known own facts market.firm) (investors.verdict_same market
-      (investor_book_by (of_investor market.firm facts)) moment bytes) in
-      rw verdict_is (simp (effects, market_kept own facts market (at_investor.Received moment bytes)))
 
   -- the same message
   pub message_left : (firm moment : ℕ) (bytes : List ℕ)
       → left own (message_effect config known firm moment bytes)
       ≡ left own (message_effect config facts firm moment bytes)
   unfolding message_effect
-  message_left firm moment bytes =
-      simp (
-        left_if,
-        left_done own (dealer_at config firm) _ _
-            (λ dealer. said_left moment bytes bytes dealer refl refl),
-        left_for own (market_for config firm) _ _ (said_to_investor moment bytes),
-      )
+  message_left firm moment bytes = elim (cases_Bool (is_some (dealer_numbered config firm))) [
+    | inl is ↦ rw is (simp left_done (λ i. done_by (dealer_at config firm)
+        (λ dealer. said_left moment bytes bytes dealer refl refl i)))
+    | inr is ↦ rw is (simp (at_desks, market_kept (at_investor.Received moment bytes)))
+  ]
