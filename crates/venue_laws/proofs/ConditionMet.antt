@@ -1,11 +1,11 @@
 -- A duty that is left meets the test of its action, by what stands in a venue.
-use Rattle.std.proofs.Common.{Bool, IfSome, List, None, Option, Some, ℕ, [], ap, arith, false, inl}
-use Rattle.std.proofs.Common.{inr, is_none, is_some, nat_le, nat_lt, option_map, refl, subst, suc}
-use Rattle.std.proofs.Common.{sym, take, true, zero, ◌&&◌, ◌+◌, ◌-◌, ◌∙◌, ◌∷◌, ◌≡◌}
+use Rattle.std.proofs.Common.{Bool, IfSome, List, None, Option, Some, ℕ, arith, inl, inr, is_some}
+use Rattle.std.proofs.Common.{nat_le, nat_lt, option_map, refl, subst, sym, take, true, ◌&&◌, ◌+◌}
+use Rattle.std.proofs.Common.{◌-◌, ◌∙◌, ◌≡◌, ◌≤◌}
 use Rattle.std.proofs.lemmas.Bool.{and_from, or_right}
 use Rattle.std.proofs.lemmas.Bool.Decides.{nat_tests}
-use Rattle.std.proofs.lemmas.List.Sums.{sum_by-cons}
-use Rattle.std.proofs.lemmas.Option.{same_Some}
+use Rattle.std.proofs.lemmas.List.Sums.{sum_by_more_le}
+use Rattle.std.proofs.lemmas.Option.{get_or_from_slice_get, slice_get_within}
 use Rattle.std.specs.Prelude.{slice_get}
 use Rattle.market_terms.specs.declared.closes.HitRefusal.{HitRefusal}
 use Rattle.market_terms.specs.declared.duties.Duty.{Duty}
@@ -17,7 +17,6 @@ use Rattle.dealer_desk.specs.DealerFacts.{number_to_drop}
 use Rattle.investor_desk.specs.InvestorFacts.{knows}
 use Rattle.request_room.specs.Book.{book_of, hit_checks, hit_refusal, quote_meant, word_or}
 use Rattle.request_room.specs.RoomFacts.{RoomFact, is_named, is_vacant}
-use Rattle.request_room.specs.declared.quotes.PostedQuote.{PostedQuote as BookQuote}
 use Rattle.venue_steps.specs.InvestorSteps.{replies_to}
 use Rattle.venue_steps.specs.RoomSteps.{hit_word, word_asked_by}
 use Rattle.venue_steps.specs.Words.{has_word}
@@ -27,14 +26,13 @@ use Rattle.step_replay.specs.Actions.{word_for, words_of}
 use Rattle.step_replay.specs.AuditTrail.{AuditTrail}
 use Rattle.step_replay.specs.DealerTrail.{book_by}
 use Rattle.step_replay.specs.VenueFacts.{of_dealer, of_room}
-use Rattle.venue_laws.proofs.AcceptedQuotes.{none_holds}
+use Rattle.day_parts.specs.AcceptedQuotes.{none_holds}
 use Rattle.venue_laws.proofs.ConditionMetOnce.{open_met, ready_met, show_met, tell_met}
 use Rattle.venue_laws.proofs.ListLemmas.{cases_some}
 use Rattle.venue_laws.proofs.VenueDesk.{OfRow, WordsOfDay, asks_of_day, drops_of_day, within_row}
 use Rattle.venue_laws.proofs.VenueInvariant.{ByDealer, ByNamed, DutyOk, VenueOk}
 use Rattle.venue_laws.proofs.VenueKnown.{known_named, known_opened, known_room, posted_in}
-use Rattle.venue_laws.proofs.VenueParts.{KnownIn, Mark, Opening, Readying, Showing, Telling}
-use Rattle.venue_laws.proofs.VenueParts.{WasDone, mark_of}
+use Rattle.venue_laws.proofs.VenueParts.{KnownIn, OrderOk, did_in, mark_of, marks}
 use Rattle.venue_laws.specs.Conditions.{has_word_asked, holds_for, is_heard, is_heard_on, is_known}
 use Rattle.venue_laws.specs.Conditions.{is_met, is_room, may_drop}
 
@@ -43,22 +41,12 @@ use Rattle.venue_laws.specs.Conditions.{is_met, is_room, may_drop}
 word_in_rows : (rows : List DealerRow) (place : ℕ) (row : DealerRow) (quote : ℕ)
     → slice_get rows place ≡ Some row → (nat_le 1 quote && nat_le quote row.quotes) ≡ true
     → nat_lt (quotes_of (take place rows) + (quote - 1)) (quotes_of rows) ≡ true
-word_in_rows [] place row quote at within = cc
-word_in_rows (first ∷ rows) zero row quote at within =
-    let same : first.quotes ≡ row.quotes =
-    ap (λ (r : DealerRow). r.quotes) (same_Some first row at) in
-    let sum : quotes_of (first ∷ rows) ≡ first.quotes + quotes_of rows =
-    sum_by-cons (λ (r : DealerRow). r.quotes) first rows in
-    rw sum (grind (arith, nat_tests))
-word_in_rows (first ∷ rows) (suc place) row quote at within =
-    let front = quotes_of (take place rows) in
-    let sum : quotes_of (first ∷ rows) ≡ first.quotes + quotes_of rows =
-    sum_by-cons (λ (r : DealerRow). r.quotes) first rows in
-    let sum_front : quotes_of (first ∷ take place rows) ≡ first.quotes + front =
-    sum_by-cons (λ (r : DealerRow). r.quotes) first (take place rows) in
-    let later : nat_lt (front + (quote - 1)) (quotes_of rows) ≡ true =
-    word_in_rows rows place row quote at within in
-    rw (sum, sum_front) (grind (arith, nat_tests))
+word_in_rows rows place row quote at within =
+    let there : quotes_of (take place rows) + row.quotes ≤ quotes_of rows =
+    rw (get_or_from_slice_get rows place row row at) at
+    (sum_by_more_le (λ (r : DealerRow). r.quotes) rows place row
+    (slice_get_within rows place row at)) in
+    grind (arith, nat_tests)
 
 has_asked : (config : Configuration) (dealer : ℕ) (row : DealerRow)
     → dealer_numbered config dealer ≡ Some row → (asked : Option ℕ) → IfSome asked (OfRow row)
@@ -75,7 +63,7 @@ module _ (config : Configuration) (venue : AuditTrail) (stood : VenueOk config v
   pub is_known_in : (room : RoomRef) (quote : Option ℕ) → KnownIn room quote venue.facts
       → is_known config venue.facts room quote ≡ true
   is_known_in room quote knows = elim (cases_some (investor_numbered config room.investor)) [
-    | inl none ↦ cc (rw none at (known_room config venue stood room quote knows))
+    | inl none ↦ cc (rw none at (known_room stood room quote knows))
     | inr some ↦ rw (some.1) knows
   ]
 
@@ -91,8 +79,8 @@ module _ (config : Configuration) (venue : AuditTrail) (stood : VenueOk config v
       → is_heard config venue.facts room (dealer_of named.who.dealer named.who.row) ≡ true
   heard by room named =
       and_from (is_room config room) _
-      (known_room config venue stood room None
-      (known_named config venue stood room named.who.dealer named.named))
+      (known_room stood room None
+      (known_named stood room named.who.dealer named.named))
       (or_right (is_vacant (known room)) (is_named (known room) named.who.dealer) named.named)
 
   heard_on : (by : Actor) (room : RoomRef) (named : ByNamed config by room venue.facts)
@@ -111,58 +99,55 @@ module _ (config : Configuration) (venue : AuditTrail) (stood : VenueOk config v
   unfolding hit_refusal
   hit_asks room word moment = by_refusal (hit_refusal (known room) word moment) refl
     where
-      of_quote : (found : Option BookQuote) → quote_meant (book_of (known room)) word ≡ found
-          → is_none found ≡ false → nat_lt word (words_of config) ≡ true
-      of_quote None found none = cc
-      of_quote (Some quote) found none =
-          let posted = posted_in config venue stood room word quote found in
-          subst (λ (w : ℕ). nat_lt w (words_of config) ≡ true) (sym posted.1.word_is ∙ posted.0)
-          (word_in_rows config.dealers quote.dealer posted.1.row posted.1.quote posted.1.row_is
-          posted.1.within)
-
       by_refusal : (refused : Option HitRefusal) → hit_refusal (known room) word moment ≡ refused
           → has_word (words_of config) (word_asked_by (word_or word refused)) ≡ true
       by_refusal (Some why) refused = refl
-      by_refusal None refused =
-          of_quote (quote_meant (book_of (known room)) word) refl
-          (none_holds (hit_checks (known room) word moment) refused).1.1.0
+      by_refusal None refused = elim (cases_some (quote_meant (book_of (known room)) word)) [
+        | inl gone ↦
+            cc (rw gone at (none_holds (hit_checks (known room) word moment) refused).1.1.0)
+        | inr some ↦
+            let posted = posted_in stood room word some.0 some.1 in
+            subst (λ (w : ℕ). nat_lt w (words_of config) ≡ true) (sym posted.1.word_is ∙ posted.0)
+            (word_in_rows config.dealers some.0.dealer posted.1.row posted.1.quote
+            posted.1.row_is posted.1.within)
+      ]
 
   -- every duty, as its turn comes
   pub met : (by : Actor) (left : Duty) → DutyOk config by left venue
-      → ((mark : Mark) → mark_of left ≡ Some mark → WasDone venue by mark → ⊥)
+      → OrderOk venue (marks (did_in venue by)) (mark_of left)
       → is_met config venue.facts by left ≡ true
   unfolding is_met
-  met by (duty.Open room ask dealers moment) fits undone =
-      open_met config venue stood by room ask dealers fits (undone (Opening room) refl)
-  met by (duty.Show dealer room ask moment) fits undone =
-      show_met config venue stood by dealer room ask fits (undone (Showing dealer room) refl)
-  met by (duty.Ready room moment) fits undone =
-      ready_met config venue stood by room fits (undone (Readying room) refl)
-  met by (duty.Post room quote price valid_until moment) fits undone =
+  met by (duty.Open room ask dealers moment) fits order =
+      open_met stood by room ask dealers fits order.0
+  met by (duty.Show dealer room ask moment) fits order =
+      show_met stood by dealer room ask fits order.0
+  met by (duty.Ready room moment) fits order =
+      ready_met stood by room fits order.0
+  met by (duty.Post room quote price valid_until moment) fits order =
       heard_on by room fits.named quote fits.within
-  met by (duty.Relay room offer moment) fits undone =
-      is_known_in room None (known_opened config venue stood room fits)
-  met by (duty.Unpost room quote moment) fits undone =
+  met by (duty.Relay room offer moment) fits order =
+      is_known_in room None (known_opened stood room fits)
+  met by (duty.Unpost room quote moment) fits order =
       heard_on by room fits.named quote fits.within
-  met by (duty.Gone room word moment) fits undone =
-      is_known_in room None (known_opened config venue stood room fits)
-  met by (duty.Decline room moment) fits undone =
+  met by (duty.Gone room word moment) fits order =
+      is_known_in room None (known_opened stood room fits)
+  met by (duty.Decline room moment) fits order =
       acts by fits.who (is_heard config venue.facts room) (heard by room fits)
-  met by (duty.Declined room moment) fits undone =
+  met by (duty.Declined room moment) fits order =
       and_from (is_some (acting_dealer config by)) _ (is_acting by fits.who)
-      (is_known_in room None (known_named config venue stood room fits.who.dealer fits.named))
-  met by (duty.Hit room response word moment) fits undone =
-      and_from (is_room config room) _ (known_room config venue stood room response.k fits.known)
+      (is_known_in room None (known_named stood room fits.who.dealer fits.named))
+  met by (duty.Hit room response word moment) fits order =
+      and_from (is_room config room) _ (known_room stood room response.k fits.known)
       (hit_asks room word moment)
-  met by (duty.Pass room response moment) fits undone =
-      known_room config venue stood room response.k fits.known
-  met by (duty.Answer room response reply moment) fits undone =
+  met by (duty.Pass room response moment) fits order =
+      known_room stood room response.k fits.known
+  met by (duty.Answer room response reply moment) fits order =
       and_from (replies_to response.k reply) _ fits.0 (is_known_in room response.k fits.1)
-  met by (duty.Close room moment) fits undone =
-      is_known_in room None (known_opened config venue stood room fits)
-  met by (duty.Tell dealer room close moment) fits undone =
-      tell_met config venue stood by dealer room close fits (undone (Telling dealer room) refl)
-  met by (duty.Drop last moment) fits undone =
+  met by (duty.Close room moment) fits order =
+      is_known_in room None (known_opened stood room fits)
+  met by (duty.Tell dealer room close moment) fits order =
+      tell_met stood by dealer room close fits order.0
+  met by (duty.Drop last moment) fits order =
       acts by fits (may_drop config venue.facts last)
       (has_asked config fits.dealer fits.row fits.row_is
       (number_to_drop (book_by (of_dealer fits.dealer venue.facts)) last)

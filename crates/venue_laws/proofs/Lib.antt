@@ -1,4 +1,3 @@
-mod AcceptedQuotes
 mod AnswerLemmas
 mod BlindDues
 mod ComputedDays
@@ -16,7 +15,6 @@ mod PlainFacts
 mod PricedFields
 mod PricedMessages
 mod PricedQuotes
-mod QuietEntries
 mod ShownRequests
 mod ToldLemmas
 mod VenueDay

@@ -1,8 +1,8 @@
 -- Options and lists: what the lemmas on a venue take of them.
-use Rattle.std.proofs.Common.{Bool, IfSome, List, None, Option, Some, ℕ, [], ap, arith, cond}
-use Rattle.std.proofs.Common.{eq-eqb, false, filter, filter_map, find, inl, inr, is_none, is_some}
-use Rattle.std.proofs.Common.{length, map, nat_lt, position, refl, subst, suc, sym, true, zero}
-use Rattle.std.proofs.Common.{◌++◌, ◌<◌, ◌==◌, ◌∙◌, ◌∷◌, ◌≡◌, ◌≤◌, ◌⊎◌}
+use Rattle.std.proofs.Common.{Bool, IfSome, List, None, Option, Some, ℕ, [], ap, arith, eq-eqb}
+use Rattle.std.proofs.Common.{false, filter, filter_map, find, inl, inr, is_none, is_some, length}
+use Rattle.std.proofs.Common.{map, nat_lt, position, refl, subst, suc, true, zero, ◌++◌, ◌<◌, ◌==◌}
+use Rattle.std.proofs.Common.{◌∷◌, ◌≡◌, ◌≤◌, ◌⊎◌}
 use Rattle.std.proofs.lemmas.Bool.{cases_Bool, eqb-true, or_cases, or_left, or_right}
 use Rattle.std.proofs.lemmas.Bool.Decides.{nat_tests}
 use Rattle.std.proofs.lemmas.List.Folds.{find-append}
@@ -43,11 +43,6 @@ pub every_mapped : {A B : Type 0} (P : B → Type 0) (f : A → B) (xs : List A)
 every_mapped P f [] all = tt
 every_mapped P f (x ∷ xs) all = (all.0, every_mapped P f xs all.1)
 
-pub at_split : {A : Type 0} (P : A → Type 0) (front : List A) (x : A) (rest : List A)
-    → Every P (front ++ x ∷ rest) → P x
-at_split P [] x rest every = every.0
-at_split P (y ∷ front) x rest every = at_split P front x rest every.1
-
 pub slice_holds : {A : Type 0} (P : A → Type 0) (xs : List A) (place : ℕ) (x : A)
     → slice_get xs place ≡ Some x → Every P xs → P x
 slice_holds P [] place x is all = cc
@@ -68,12 +63,6 @@ pub in_map : {A B : Type 0} (f : A → B) (x : A) (xs : List A) → In x xs → 
 in_map f x [] is = absurd is
 in_map f x (y ∷ xs) (inl is) = inl (ap f is)
 in_map f x (y ∷ xs) (inr is) = inr (in_map f x xs is)
-
-pub in_mapped : {A B : Type 0} (f : A → B) (y : B) (xs : List A) → In y (map f xs)
-    → (x : A) × (f x ≡ y)
-in_mapped f y [] is = absurd is
-in_mapped f y (x ∷ xs) (inl is) = (x, is)
-in_mapped f y (x ∷ xs) (inr is) = in_mapped f y xs is
 
 pub in_both : {A : Type 0} (x : A) (xs ys : List A) → In x (xs ++ ys) → In x xs ⊎ In x ys
 in_both x [] ys is = inr is
@@ -96,6 +85,15 @@ in_found says y (x ∷ xs) is = elim (cases_some (says x)) [
     | inl here ↦ (x, rw here at some.1, inl refl)
     | inr behind ↦ let later = in_found says y xs behind in (later.0, later.1, inr later.2)
   ]
+]
+
+pub found_in : {A B : Type 0} (says : A → Option B) (x : A) (y : B) (xs : List A)
+    → says x ≡ Some y → In x xs → In y (filter_map says xs)
+found_in says x y [] so is = absurd is
+found_in says x y (z ∷ xs) so (inl is) = rw (is, so) (inl refl)
+found_in says x y (z ∷ xs) so (inr is) = elim (cases_some (says z)) [
+  | inl none ↦ rw none (found_in says x y xs so is)
+  | inr some ↦ rw (some.1) (inr (found_in says x y xs so is))
 ]
 
 -- one that passes a test is left
@@ -152,11 +150,10 @@ found_passes test (y ∷ ys) x is = elim (cases_Bool (test y)) [
 pub first_of_every : {X : Type 0} (P : X → Type 0) (test : X → Bool) (xs : List X) → Every P xs
     → IfSome (find test xs) P
 first_of_every P test [] all = tt
-first_of_every {X} P test (x ∷ xs) all = by_test (test x) (first_of_every P test xs all.1)
-  where
-    by_test : (b : Bool) → IfSome (find test xs) P → IfSome (cond b (Some x) (find test xs)) P
-    by_test true later = all.0
-    by_test false later = later
+first_of_every P test (x ∷ xs) all = elim (cases_Bool (test x)) [
+  | inl passes ↦ rw passes (all.0)
+  | inr fails ↦ rw fails (first_of_every P test xs all.1)
+]
 
 pub find_grown : {A : Type 0} (test : A → Bool) (xs ys : List A) (x : A)
     → find test xs ≡ Some x → find test (xs ++ ys) ≡ Some x
@@ -172,12 +169,8 @@ pub first_grown : {E A : Type 0} (first : List E → Option A) (says : E → Opt
     → ((x : E) (xs : List E) → first (x ∷ xs) ≡ option_or (says x) (first xs)) → first [] ≡ None
     → (y : A) (xs more : List E) → first xs ≡ Some y → first (xs ++ more) ≡ Some y
 first_grown first says step none y [] more is = cc
-first_grown {E} {A} first says step none y (x ∷ xs) more is =
-    step x (xs ++ more) ∙ by_said (says x) (sym (step x xs) ∙ is)
-    (λ found. first_grown first says step none y xs more found)
-  where
-    by_said : (said : Option A) → option_or said (first xs) ≡ Some y
-        → (first xs ≡ Some y → first (xs ++ more) ≡ Some y)
-        → option_or said (first (xs ++ more)) ≡ Some y
-    by_said (Some z) found later = found
-    by_said None found later = later found
+first_grown first says step none y (x ∷ xs) more is = elim (cases_some (says x)) [
+  | inl silent ↦ rw (step x (xs ++ more), silent)
+      (first_grown first says step none y xs more (rw (step x xs, silent) at is))
+  | inr some ↦ rw (step x (xs ++ more), some.1) (rw (step x xs, some.1) at is)
+]

@@ -3,6 +3,7 @@ use Rattle.std.proofs.Common.{Some, ℕ, [], ap, eq-eqb, filter, refl, sym, true
 use Rattle.std.proofs.lemmas.List.{append-nil, take-append-drop}
 use Rattle.std.proofs.lemmas.Option.{same_Some}
 use Rattle.market_terms.specs.declared.closes.Close.{Close}
+use Rattle.market_terms.specs.declared.duties.Duty.TheVariants as duty
 use Rattle.market_terms.specs.declared.rooms.RoomRef.{RoomRef}
 use Rattle.venue_rows.specs.Rows.{Configuration}
 use Rattle.dealer_desk.specs.DealerFacts.{Told, tells}
@@ -17,7 +18,7 @@ use Rattle.step_replay.specs.VenueFacts.{AtDealer, of_dealer, of_room}
 use Rattle.venue_laws.proofs.ListLemmas.{in_filter, only_one}
 use Rattle.venue_laws.proofs.ShownRequests.{in_facts, told_in}
 use Rattle.venue_laws.proofs.VenueGrowth.{later_same}
-use Rattle.venue_laws.proofs.VenueInvariant.{ClosedIn, FactOk, VenueOk}
+use Rattle.venue_laws.proofs.VenueInvariant.{ClosedIn, Did, FactOk, VenueOk}
 use Rattle.venue_laws.proofs.VenueKnown.{all_there, ended_in, named_dealer, one_number}
 use Rattle.venue_laws.proofs.VenueParts.{MarkOk, Still, Telling, WasTold, closer, did_in, duties_by}
 use Rattle.venue_laws.proofs.VenueParts.{marks}
@@ -39,7 +40,7 @@ module _ (config : Configuration) (venue : AuditTrail) (stood : VenueOk config v
       let by = closer end.kind room in
       all_in (λ mark. Still (MarkOk mark) venue) (Telling dealer room) (marks (did_in venue by))
       (stood.queues by).done
-      (rw (all_done by) ((ended_in config venue stood room end end_is).told dealer named)) venue
+      (rw (all_done by) ((ended_in stood room end end_is).told dealer named)) venue
       (later_same venue)
 
   close_is : (close : Close) (moment : ℕ)
@@ -49,19 +50,20 @@ module _ (config : Configuration) (venue : AuditTrail) (stood : VenueOk config v
       let closed : ClosedIn config dealer was_told.request close venue =
       all_in (λ entry. Still (FactOk config (AtDealer dealer entry)) venue)
       (AtDesk (Told was_told.request close moment)) (of_dealer dealer venue.facts)
-      (all_there config venue stood dealer)
+      (all_there stood dealer)
       (in_facts (Told was_told.request close moment) (of_dealer dealer venue.facts) stands) venue
       (later_same venue) in
       let rooms : closed.room ≡ room =
       one_number (rooms_by (of_dealer dealer venue.facts)) closed.room room
       was_told.request closed.request_is was_told.request_is in
-      let ends : closed.end ≡ end =
-      same_Some closed.end end (sym (rw rooms at closed.end_is) ∙ end_is) in
-      rw ends at closed.close_is
+      let did : Did config (duty.Tell dealer room close closed.moment) venue =
+      rw rooms at closed.did in
+      let ends : did.ok.end ≡ end = same_Some did.ok.end end (sym did.ok.end_is ∙ end_is) in
+      did.ok.close_is ∙ ap (λ (e : End). close_for e dealer) ends
 
   pub is_told_once : IsToldOnce (of_dealer dealer venue.facts) room (close_for end dealer)
   is_told_once =
-      let there = named_dealer config venue stood room dealer named in
+      let there = named_dealer stood room dealer named in
       let facts = facts_of (of_dealer dealer venue.facts) in
       let told = told_in was_told.request facts was_told.told in
       let notice = Told was_told.request told.0 told.1 in

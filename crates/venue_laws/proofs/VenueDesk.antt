@@ -35,15 +35,15 @@ use Rattle.step_replay.specs.PlaceLemmas.{dealer_grown, own_trail}
 use Rattle.step_replay.specs.SeenLemmas.{Seen}
 use Rattle.step_replay.specs.TrailLemmas.{facts_added}
 use Rattle.step_replay.specs.VenueFacts.{AtDealer, of_dealer}
-use Rattle.venue_laws.proofs.AcceptedQuotes.{AcceptOk, verdict_accepts}
-use Rattle.venue_laws.proofs.ListLemmas.{slice_holds}
+use Rattle.day_parts.specs.AcceptedQuotes.{AcceptOk, verdict_accepts}
+use Rattle.venue_laws.proofs.ListLemmas.{cases_some, slice_holds}
 use Rattle.venue_laws.proofs.PlainFacts.{event_plain, settled_plain, verdict_plain}
-use Rattle.venue_laws.proofs.VenueGrowth.{later_both, named_later, number_later, quoted_later}
+use Rattle.venue_laws.proofs.VenueGrowth.{named_later, number_later, quoted_later}
 use Rattle.venue_laws.proofs.VenueInvariant.{ByDealer, ByNamed, DeskOk, ShownTo}
 use Rattle.venue_laws.proofs.VenueKinds.{Fine, at_desk, desk_plain, when_brings}
 use Rattle.venue_laws.proofs.VenueKnown.{rooms_shown}
 use Rattle.venue_laws.proofs.VenueParts.{Still}
-use Rattle.venue_laws.proofs.VenueSteps.{Brings, Here, day, since, trail_of}
+use Rattle.venue_laws.proofs.VenueSteps.{Brings, Here, day, since, to_now, trail_of}
 
 -- The words of a dealer's day.
 
@@ -100,57 +100,35 @@ module _ (words : WordsOfDay) (h : Here) (dealer : ℕ) (row : DealerRow)
   who = record { dealer = dealer; row = row; by_is = by_is; row_is = is }
 
   module _ (effect : Effect) where
-    abbrev FineNow : Duty → Type 0
-    FineNow left = Fine h effect left
+    abbrev AreFine : Option Duty → Type 0
+    AreFine left = Every (Fine h effect) (option_to_list left)
 
     named_then : (number : ℕ) (room : RoomRef) → room_of rooms number ≡ Some room
         → Still (λ now. ByNamed h.config h.by room now.facts) (day h effect)
     named_then number room found now later = record {
       who = who;
-      named = named_later (later_both (since h effect) later) room dealer
-          (slice_holds (λ r. ShownTo h.config dealer r h.venue) rooms (number - 1) room found
-          (rooms_shown h.config h.venue h.stood dealer)).named;
+      named = named_later (to_now h effect later) room dealer
+          ((slice_holds (λ r. ShownTo h.config dealer r h.venue) rooms (number - 1) room found
+          (rooms_shown h.stood dealer)).2.ok.named);
     }
 
-    map_fine : (found : Option RoomRef) (left : RoomRef → Duty)
-        → ((room : RoomRef) → found ≡ Some room → FineNow (left room))
-        → Every FineNow (option_to_list (option_map left found))
-    map_fine None left fine = tt
-    map_fine (Some room) left fine = (fine room refl, tt)
+    -- a duty in the room with a number, where something holds
+    room_fine : (b : Bool) (number : ℕ) (left : RoomRef → Duty)
+        → ((room : RoomRef) → b ≡ true → room_of rooms number ≡ Some room
+        → Fine h effect (left room))
+        → AreFine (if b then option_map left (room_of rooms number) else None)
+    room_fine false number left fine = tt
+    room_fine true number left fine = elim (cases_some (room_of rooms number)) [
+      | inl none ↦ rw none tt
+      | inr some ↦ rw (some.1) (fine some.0 refl some.1, tt)
+    ]
 
-    if_fine : (b : Bool) (left : Option Duty) → (b ≡ true → Every FineNow (option_to_list left))
-        → Every FineNow (option_to_list (if b then left else None))
-    if_fine true left fine = fine refl
-    if_fine false left fine = tt
-
-    post_fine : (quote : AcceptedQuote) (room : RoomRef) → 1 ≤ quote.request
-        → (nat_le 1 quote.number && nat_le quote.number row.quotes) ≡ true
-        → In (Quoted quote) (facts_of (of_dealer dealer (day h effect).facts))
-        → room_of rooms quote.request ≡ Some room → FineNow (post_of quote room)
+    unpost_fine : (b : Bool) (number quote moment : ℕ) → OfRow row quote
+        → AreFine (if b
+        then option_map (λ room. duty.Unpost room quote moment) (room_of rooms number) else None)
     unfolding named_then
-    post_fine quote room least within quoted found =
-        let place : quote.request - 1 + 1 ≡ quote.request = omega arith in (
-          λ now later. record {
-            named = named_then quote.request room found now later;
-            within = within;
-            quoted = quoted_later later dealer room quote.number (record {
-              own = quote;
-              quoted = quoted;
-              number_is = refl;
-              request_is = number_later (since h effect) dealer room quote.request
-                  (desk.numbered (quote.request - 1) room found
-                  ∙ ap (λ (n : ℕ). Some n) place);
-            });
-          },
-          refl,
-        )
-
-    unpost_fine : (number quote moment : ℕ) → OfRow row quote
-        → Every FineNow (option_to_list (option_map (λ room. duty.Unpost room quote moment)
-        (room_of rooms number)))
-    unfolding named_then
-    unpost_fine number quote moment of_day =
-        map_fine (room_of rooms number) (λ room. duty.Unpost room quote moment) (λ room found. (
+    unpost_fine b number quote moment of_day =
+        room_fine b number (λ room. duty.Unpost room quote moment) (λ room is found. (
           λ now later. record {
             named = named_then number room found now later;
             within = within_row row quote of_day;
@@ -162,21 +140,32 @@ module _ (words : WordsOfDay) (h : Here) (dealer : ℕ) (row : DealerRow)
         → IfSome (word_asked v) (OfRow row)
         → ((quote : AcceptedQuote) → In (Quoted quote) (verdict_facts v settlement)
         → In (Quoted quote) (facts_of (of_dealer dealer (day h effect).facts)))
-        → Every FineNow (option_to_list (verdict_duty rooms moment v settlement))
+        → AreFine (verdict_duty rooms moment v settlement)
+    unfolding named_then
     said_fine moment (verdict.QuoteAccepted name id quote old) settlement accepts of_day quoted =
-        if_fine (goes_through old settlement)
-        (option_map (post_of quote) (room_of rooms quote.request))
-        (λ goes. map_fine (room_of rooms quote.request) (post_of quote)
-        (λ room found. post_fine quote room accepts.0 accepts.1
-        (quoted quote (in_right (Quoted quote) (settled_facts old by_way.Replacement settlement) _
-        (rw goes (inl refl)))) found))
+        let least : 1 ≤ quote.request = accepts.0 in
+        let place : quote.request - 1 + 1 ≡ quote.request = omega arith in
+        room_fine (goes_through old settlement) quote.request (post_of quote) (λ room goes found. (
+          λ now later. record {
+            named = named_then quote.request room found now later;
+            within = accepts.1;
+            quoted = quoted_later later dealer room quote.number (record {
+              own = quote;
+              quoted = quoted quote (in_right (Quoted quote)
+                  (settled_facts old by_way.Replacement settlement) _ (rw goes (inl refl)));
+              number_is = refl;
+              request_is = number_later (since h effect) dealer room quote.request
+                  (desk.numbered (quote.request - 1) room found
+                  ∙ ap (λ (n : ℕ). Some n) place);
+            });
+          },
+          refl,
+        ))
     said_fine moment (verdict.CancelAccepted id quote request) settlement accepts of_day quoted =
-        if_fine (is_withdrawn settlement)
-        (option_map (λ room. duty.Unpost room quote moment) (room_of rooms request))
-        (λ goes. unpost_fine request quote moment of_day)
+        unpost_fine (is_withdrawn settlement) request quote moment of_day
     said_fine moment (verdict.DeclineAccepted name number) settlement accepts of_day quoted =
-        map_fine (room_of rooms number) (λ room. duty.Decline room moment)
-        (λ room found. (named_then number room found, refl))
+        room_fine true number (λ room. duty.Decline room moment)
+        (λ room is found. (named_then number room found, refl))
     said_fine moment (verdict.DropsFollow last) settlement accepts of_day quoted =
         ((λ now later. who, refl), tt)
     said_fine moment other settlement accepts of_day quoted = tt
@@ -185,16 +174,13 @@ module _ (words : WordsOfDay) (h : Here) (dealer : ℕ) (row : DealerRow)
 
     dropped_fine : (moment : ℕ) (settlement : Option Settled) (own : Option StandingQuote)
         → IfSome (option_map (λ (o : StandingQuote). o.quote.number) own) (OfRow row)
-        → Every FineNow (option_to_list (unpost_dropped rooms moment settlement own))
+        → AreFine (unpost_dropped rooms moment settlement own)
     dropped_fine moment settlement None of_day = tt
     dropped_fine moment settlement (Some own) of_day =
-        if_fine (is_withdrawn settlement)
-        (option_map (λ room. duty.Unpost room own.quote.number moment)
-        (room_of rooms own.quote.request))
-        (λ goes. unpost_fine own.quote.request own.quote.number moment of_day)
+        unpost_fine (is_withdrawn settlement) own.quote.request own.quote.number moment of_day
 
     further_fine : (b : Bool) (last moment : ℕ)
-        → Every FineNow (option_to_list (if b then Some (duty.Drop last moment) else None))
+        → AreFine (if b then Some (duty.Drop last moment) else None)
     further_fine true last moment = ((λ now later. who, refl), tt)
     further_fine false last moment = tt
 
@@ -242,7 +228,7 @@ module _ (words : WordsOfDay) (h : Here) (dealer : ℕ) (row : DealerRow)
       desk_plain h dealer row is entries left
       (event_plain facts (option_to_list (message_by h.config.date row trail more))
       (refl, settled_plain asked by_way.Cancel settlement))
-      (every_both (FineNow effect) _ _
+      (every_both (Fine h effect) _ _
       (dropped_fine effect moment settlement (quote_to_drop (book_by trail) last)
       (drops_of_day words h.config.date row trail desk.seen last))
       (further_fine effect _ last moment)))

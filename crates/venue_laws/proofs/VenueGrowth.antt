@@ -1,30 +1,24 @@
 -- What stands in a venue stands in a later one.
-use Rattle.std.proofs.Common.{List, Option, Some, ℕ, [], ap, inl, inr, is_some, map, not, refl}
-use Rattle.std.proofs.Common.{subst, sym, true, ◌++◌, ◌==◌, ◌∙◌, ◌∷◌, ◌≡◌}
-use Rattle.std.proofs.lemmas.Bool.{and_parts, both_ways, not-true}
+use Rattle.std.proofs.Common.{List, Option, Some, ℕ, [], ap, is_some, refl, sym, true, ◌++◌, ◌∙◌}
+use Rattle.std.proofs.Common.{◌≡◌}
 use Rattle.std.proofs.lemmas.List.{append-nil, append_assoc}
 use Rattle.std.proofs.lemmas.List.Elements.{filter_map-append}
-use Rattle.std.specs.List.{list_any}
-use Rattle.market_terms.specs.Dealers.{are_distinct}
 use Rattle.market_terms.specs.declared.duties.Duty.{Duty}
 use Rattle.market_terms.specs.declared.rooms.RoomRef.{RoomRef}
 use Rattle.dealer_desk.specs.DealerFacts.{Quoted, tells}
-use Rattle.request_room.specs.RoomFacts.{end_of, ended_as, is_named, is_readied, is_ready}
-use Rattle.request_room.specs.RoomFacts.{opened_for, request_of}
-use Rattle.request_room.specs.declared.ends.End.{End}
+use Rattle.request_room.specs.RoomFacts.{RoomFact, first_said, is_named, is_readied, is_ready}
+use Rattle.request_room.specs.RoomFacts.{request_of}
 use Rattle.request_room.specs.declared.requests.RoomRequest.{RoomRequest}
 use Rattle.step_replay.specs.AuditTrail.{AuditTrail}
 use Rattle.step_replay.specs.DealerTrail.{facts_of, lifts}
-use Rattle.step_replay.specs.EachLemmas.{Each}
-use Rattle.step_replay.specs.GrowthLemmas.{In, any_left, in_left, named_before, named_grown}
+use Rattle.step_replay.specs.GrowthLemmas.{any_left, in_left, named_before, named_grown}
 use Rattle.step_replay.specs.GrowthLemmas.{number_grown, said_grown}
 use Rattle.step_replay.specs.PlaceLemmas.{dealer_grown, investor_grown, room_grown}
 use Rattle.step_replay.specs.VenueFacts.{Fact, of_dealer, of_room}
 use Rattle.venue_laws.proofs.KnownDesks.{knows_grown}
-use Rattle.venue_laws.proofs.ListLemmas.{in_both, in_one, named_in, some_of}
-use Rattle.venue_laws.proofs.VenueParts.{InOrder, IsOpened, KnownIn, Later, LiftedIn, Mark, OrderOk}
-use Rattle.venue_laws.proofs.VenueParts.{QuotedIn, Still, WasTold, investor_facts, mark_of, marks}
-use Rattle.venue_laws.proofs.VenueParts.{number_for}
+use Rattle.venue_laws.proofs.ListLemmas.{some_of}
+use Rattle.venue_laws.proofs.VenueParts.{KnownIn, Later, LiftedIn, QuotedIn, Still, WasTold}
+use Rattle.venue_laws.proofs.VenueParts.{investor_facts, mark_of, marks, number_for}
 
 pub investor_facts_grown : (facts more : List Fact) (investor : ℕ)
     → investor_facts (facts ++ more) investor
@@ -36,49 +30,14 @@ investor_facts_grown facts more investor =
 pub marks_both : (duties more : List Duty) → marks (duties ++ more) ≡ marks duties ++ marks more
 marks_both duties more = filter_map-append mark_of duties more
 
--- duties, one a dealer
-pub marks_each : (make : ℕ → Duty) (mark : ℕ → Mark)
-    → ((dealer : ℕ) → mark_of (make dealer) ≡ Some (mark dealer)) → (dealers : List ℕ)
-    → marks (map make dealers) ≡ map mark dealers
-marks_each make mark is [] = refl
-marks_each make mark is (dealer ∷ dealers) =
-    rw (is dealer) (ap (λ l. mark dealer ∷ l) (marks_each make mark is dealers))
-
--- one mark a dealer, none twice
-module _ (venue : AuditTrail) (mark : ℕ → Mark)
-    (apart : (dealer other : ℕ) → mark dealer ≡ mark other → dealer ≡ other)
-    (plain : (before : List Mark) (dealer : ℕ) → Still (InOrder before (mark dealer)) venue) where
-  absent : (dealer other : ℕ) (dealers : List ℕ)
-      → not (list_any (λ (named : ℕ). named == dealer) dealers) ≡ true → In other dealers
-      → dealer ≡ other → ⊥
-  absent dealer other dealers none is same =
-      both_ways (list_any (λ (named : ℕ). named == dealer) dealers) (not-true _ none)
-      (named_in dealer dealers (subst (λ (d : ℕ). In d dealers) (sym same) is))
-
-  pub each_once : (front : List Mark) (dealers : List ℕ) → are_distinct dealers ≡ true
-      → ((dealer : ℕ) → In dealer dealers → In (mark dealer) front → ⊥)
-      → Each (OrderOk venue) front (map mark dealers)
-  each_once front [] distinct clear = tt
-  each_once front (dealer ∷ dealers) distinct clear =
-      let parts = and_parts (not (list_any (λ (named : ℕ). named == dealer) dealers))
-      (are_distinct dealers) distinct in (
-        (clear dealer (inl refl), plain front dealer),
-        each_once (front ++ mark dealer ∷ []) dealers parts.1
-            (λ other is among. elim (in_both (mark other) front (mark dealer ∷ []) among) [
-              | inl before ↦ clear other (inr is) before
-              | inr here ↦ absent dealer other dealers parts.0 is
-                  (apart dealer other (in_one (mark other) (mark dealer) here))
-            ]),
-      )
-
 -- Later venues.
 
 pub later_same : (venue : AuditTrail) → Later venue venue
 later_same venue = record {
   more = [];
   facts_are = sym (append-nil venue.facts);
-  left = λ by mark is. is;
-  did = λ by mark is. is;
+  left = λ by one is. is;
+  did = λ by one is. is;
 }
 
 pub later_both : {one two three : AuditTrail} → Later one two → Later two three → Later one three
@@ -86,8 +45,8 @@ later_both {one} first second = record {
   more = first.more ++ second.more;
   facts_are = second.facts_are ∙ ap (λ (l : List Fact). l ++ second.more) first.facts_are
       ∙ append_assoc one.facts first.more second.more;
-  left = λ by mark is. second.left by mark (first.left by mark is);
-  did = λ by mark is. second.did by mark (first.did by mark is);
+  left = λ by one is. second.left by one (first.left by one is);
+  did = λ by one is. second.did by one (first.did by one is);
 }
 
 -- what stands from a venue on stands from each later one on
@@ -112,29 +71,18 @@ module _ {was now : AuditTrail} (later : Later was now) where
       let number = some_of (number_for was.facts dealer room) is in
       rw (number_later dealer room number.0 number.1) refl
 
-  pub request_later : (room : RoomRef) (request : RoomRequest)
-      → request_of (of_room room was.facts) ≡ Some request
-      → request_of (of_room room now.facts) ≡ Some request
-  request_later room request is =
+  pub said_later : {A : Type 0} (says : RoomFact → Option A) (room : RoomRef) (x : A)
+      → first_said says (of_room room was.facts) ≡ Some x
+      → first_said says (of_room room now.facts) ≡ Some x
+  said_later says room x is =
       rw (later.facts_are, room_grown room was.facts later.more)
-      (said_grown opened_for (of_room room was.facts) (of_room room later.more) request is)
-
-  pub end_later : (room : RoomRef) (end : End) → end_of (of_room room was.facts) ≡ Some end
-      → end_of (of_room room now.facts) ≡ Some end
-  end_later room end is =
-      rw (later.facts_are, room_grown room was.facts later.more)
-      (said_grown ended_as (of_room room was.facts) (of_room room later.more) end is)
+      (said_grown says (of_room room was.facts) (of_room room later.more) x is)
 
   pub ready_later : (room : RoomRef) → is_ready (of_room room was.facts) ≡ true
       → is_ready (of_room room now.facts) ≡ true
   ready_later room is =
       rw (later.facts_are, room_grown room was.facts later.more)
       (any_left is_readied (of_room room was.facts) (of_room room later.more) is)
-
-  pub opened_later : (room : RoomRef) → IsOpened room was.facts → IsOpened room now.facts
-  opened_later room is =
-      let request = some_of (request_of (of_room room was.facts)) is in
-      rw (request_later room request.0 request.1) refl
 
   pub named_later : (room : RoomRef) (dealer : ℕ)
       → is_named (of_room room was.facts) dealer ≡ true

@@ -15,10 +15,9 @@ use Rattle.dealer_desk.specs.DealerFacts.{Quoted, Told, tells}
 use Rattle.dealer_desk.specs.DealerOutput.{number_in}
 use Rattle.dealer_desk.specs.declared.accepted.AcceptedQuote.{AcceptedQuote}
 use Rattle.investor_desk.specs.InvestorFacts.{InvestorFact, book_of, knows}
-use Rattle.request_room.specs.RoomFacts.{is_named, request_of}
+use Rattle.request_room.specs.RoomFacts.{is_ended, is_named, request_of}
 use Rattle.request_room.specs.declared.ends.EndKind.{EndKind}
 use Rattle.request_room.specs.declared.ends.EndKind.TheVariants as ends
-use Rattle.request_room.specs.declared.requests.RoomRequest.{RoomRequest}
 use Rattle.venue_places.specs.declared.actors.Actor.{Actor}
 use Rattle.venue_places.specs.declared.actors.Actor.TheVariants as actor
 use Rattle.step_replay.specs.AuditTrail.{AuditTrail, Caused, duty_of, is_same_actor}
@@ -124,8 +123,9 @@ WasDone venue by mark = In mark (marks (did_in venue by))
 pub record Later (was now : AuditTrail) : Type 0 where
   pub more : List Fact
   pub facts_are : now.facts ≡ was.facts ++ more
-  pub left : (by : Actor) (mark : Mark) → WasLeft was by mark → WasLeft now by mark
-  pub did : (by : Actor) (mark : Mark) → WasDone was by mark → WasDone now by mark
+  pub left : (by : Actor) (one : Duty) → In one (duties_by by was.caused)
+      → In one (duties_by by now.caused)
+  pub did : (by : Actor) (one : Duty) → In one (did_in was by) → In one (did_in now by)
 
 -- it stands from this venue on
 abbrev pub Still : (AuditTrail → Type 0) → AuditTrail → Type 0
@@ -138,16 +138,21 @@ MarkOk (Telling dealer room) venue = WasTold venue.facts dealer room
 MarkOk other venue = Unit {0}
 
 -- behind each showing of its request a room is made ready
-pub record ReadiesIn (before : List Mark) (room : RoomRef) (venue : AuditTrail) : Type 0 where
-  pub request : RoomRequest
-  pub request_is : request_of (of_room room venue.facts) ≡ Some request
-  pub shown : (dealer : ℕ) → is_named (of_room room venue.facts) dealer ≡ true
-      → In (Showing dealer room) before
-
 abbrev pub InOrder : List Mark → Mark → AuditTrail → Type 0
-InOrder before (Readying room) venue = ReadiesIn before room venue
+InOrder before (Readying room) venue =
+    (dealer : ℕ) → is_named (of_room room venue.facts) dealer ≡ true
+    → In (Showing dealer room) before
 InOrder before other venue = Unit {0}
 
--- what stands at the place of a mark in a queue, where it does not stand before
-abbrev pub OrderOk : AuditTrail → List Mark → Mark → List Mark → Type 0
-OrderOk venue before mark after = (In mark before → ⊥) × Still (InOrder before mark) venue
+-- what stands at the place in a queue of a duty that does something once
+abbrev pub OrderOk : AuditTrail → List Mark → Option Mark → Type 0
+OrderOk venue before None = Unit {0}
+OrderOk venue before (Some mark) = (In mark before → ⊥) × Still (InOrder before mark) venue
+
+-- what stands where such a duty was left
+abbrev pub Needs : List Fact → Option Mark → Type 0
+Needs facts None = Unit {0}
+Needs facts (Some (Opening room)) = KnownIn room None facts
+Needs facts (Some (Showing dealer room)) = IsOpened room facts
+Needs facts (Some (Readying room)) = IsOpened room facts
+Needs facts (Some (Telling dealer room)) = is_ended (of_room room facts) ≡ true

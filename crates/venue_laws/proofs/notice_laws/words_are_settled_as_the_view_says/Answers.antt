@@ -3,8 +3,8 @@ use Rattle.venue_laws.proofs.notice_laws.words_are_settled_as_the_view_says.Goal
 
 pub returns-clause-asked : goal.returns-clause-asked
 returns-clause-asked c config steps dealer row before after entry quote is splits asks =
-    (is_answered config steps dealer row before after entry is splits).asked quote asks
+    (is_answered c.words_are_asked_event_by_event.ensures config steps dealer row before after entry is splits).asked quote asks
 
 pub returns-clause-answered : goal.returns-clause-answered
 returns-clause-answered c config steps dealer row before after entry quote settlement is splits says =
-    (is_answered config steps dealer row before after entry is splits).answered quote settlement says
+    (is_answered c.words_are_asked_event_by_event.ensures config steps dealer row before after entry is splits).answered quote settlement says
