@@ -1,7 +1,7 @@
 -- What an action adds and leaves in a day without prices is what it adds and leaves in the day, but
 -- for prices: effects, what comes to an investor, a closing notice, a drop and a hit.
 use Rattle.std.proofs.Common.{◌≡◌, ℕ, ◌==◌, Bool, true, false, List, ◌++◌, map, Option, Some}
-use Rattle.std.proofs.Common.{None, Ok, option_map, option_to_list, refl, if◌then◌else◌}
+use Rattle.std.proofs.Common.{inl, inr, None, Ok, option_map, option_to_list, refl, if◌then◌else◌}
 use Rattle.std.proofs.lemmas.List.{map-append}
 use mathlib.Core.List.{map-map}
 use Rattle.market_terms.specs.Unpriced.{uncovered, unpriced_duty}
@@ -16,7 +16,7 @@ use Rattle.quote_word.specs.declared.settled.Settled.{Settled}
 use Rattle.quote_word.specs.declared.settled.Settled.TheVariants as settled
 use Rattle.venue_rows.specs.Rows.{Configuration}
 use Rattle.dealer_desk.specs.DealerFacts.{DealerFact, book_of, number_to_drop}
-use Rattle.dealer_desk.specs.DealerOutput.{event_facts, settled_facts}
+use Rattle.dealer_desk.specs.DealerOutput.{event_facts, number_in, settled_facts}
 use Rattle.dealer_desk.specs.Unpriced.{unpriced as unpriced_at_dealer}
 use Rattle.dealer_desk.specs.declared.events.DealerEvent.TheVariants as at_desk
 use Rattle.dealer_desk.specs.declared.standing.Withdrawal.TheVariants as by
@@ -37,10 +37,10 @@ use Rattle.step_replay.specs.VenueFacts.{Fact, InRoom, of_dealer, of_room}
 use Rattle.step_replay.specs.Actions.{Effect, Dealer, QuoteRef, answer_to_drop, answer_to_hit}
 use Rattle.step_replay.specs.Actions.{done_by, done_for, drop_at, dropped_by, hit_in, left_by_drop}
 use Rattle.step_replay.specs.Actions.{lifting, quote_asked, quote_with_word, told_of, told_to}
-use Rattle.venue_laws.proofs.Erasing.{answer_known, bare, bare_append, book_known, closable_known}
-use Rattle.venue_laws.proofs.Erasing.{desk_added, desk_kept, facts_known, knows_known, market_added}
-use Rattle.venue_laws.proofs.Erasing.{number_known, room_added, room_left, rooms_known, said_known}
-use Rattle.venue_laws.proofs.Erasing.{withdrawn_known}
+use Rattle.venue_laws.proofs.Erasing.{added, answer_known, bare, bare_append, book_known, desk_kept}
+use Rattle.venue_laws.proofs.Erasing.{facts_known, known_at_desks, number_known, room_left}
+use Rattle.venue_laws.proofs.Erasing.{rooms_known, withdrawn_known}
+use Rattle.venue_laws.proofs.ListLemmas.{cases_some}
 
 -- Effects.
 
@@ -96,33 +96,11 @@ covered false true = refl
 covered false false = refl
 
 -- what is left of an action, and what it asks of its desk or its room
-pub ruleset at_desks = (
-  left_if,
-  left_done,
-  left_for,
-  left_of,
-  desk_added,
-  market_added,
-  rooms_known,
-  number_known,
-  closable_known,
-  answer_known,
-  knows_known,
-  said_known,
-)
+pub ruleset effects = (left_if, left_done, left_for, left_of, follows)
 
-pub ruleset in_rooms = (
-  left_if,
-  left_done,
-  left_of,
-  room_added,
-  bare_append,
-  room_left,
-  follows,
-  told_each,
-  covered,
-  asked_of_book,
-)
+pub ruleset at_desks = (effects, added, known_at_desks)
+
+pub ruleset in_rooms = (effects, added, bare_append, room_left, told_each, covered, asked_of_book)
 
 module _ (config : Configuration) (own : ℕ) (facts : List Fact) where
   -- the facts without prices
@@ -130,18 +108,15 @@ module _ (config : Configuration) (own : ℕ) (facts : List Fact) where
   known = bare own facts
 
   -- a dealer is told how a request ended
-  told_as : (dealer : Dealer) (close : Close) (moment : ℕ) (request : Option ℕ)
-      → left own (told_of config known dealer (uncovered close) moment request)
-      ≡ left own (told_of config facts dealer close moment request)
-  told_as dealer close moment None = refl
-  told_as dealer close moment (Some request) =
-      simp (at_desks, desk_kept (at_desk.Told request close moment))
-
   pub told_left : (room : RoomRef) (dealer : Dealer) (close : Close) (moment : ℕ)
       → left own (told_to config known room (uncovered close) moment dealer)
       ≡ left own (told_to config facts room close moment dealer)
   told_left room dealer close moment =
-      rw rooms_known (told_as dealer close moment _)
+      elim (cases_some (number_in (rooms_by (of_dealer dealer.number facts)) room)) [
+        | inl none ↦ rw (rooms_known, none)
+        | inr some ↦ rw (rooms_known, some.1)
+            (simp (at_desks, desk_kept (at_desk.Told some.0 close moment)))
+      ]
 
 -- A drop.
 
@@ -173,23 +148,12 @@ module _ (config : Configuration) (own : ℕ) (facts : List Fact) (dealer : Deal
       rw (facts_grown, facts_grown, number_known own facts dealer.number last)
       (simp (answer_known, facts_known, map-append, settled_bare))
 
-  duties_known : left_by_drop config (bare own facts) last moment dealer
-      ≡ left_by_drop config facts last moment dealer
-  duties_known =
-      rw (
-        after_known,
-        book_same (dealer.number == own) (after trail),
-        some_to_drop (book_of (after trail)) last,
-        number_known own facts dealer.number last,
-        answer_known own facts dealer.number (number_to_drop (book_by trail) last),
-        rooms_known own facts dealer.number,
-        book_known own facts dealer.number,
-        unposted_same (book_by trail) (rooms_by trail) last moment (answer_to_drop trail last),
-      )
-
   pub dropped_left : left own (dropped_by config (bare own facts) last moment dealer)
       ≡ left own (dropped_by config facts last moment dealer)
-  dropped_left = rw duties_known (simp (at_desks, desk_kept (drop_at trail last moment)))
+  dropped_left =
+      rw (after_known, book_same, some_to_drop (book_of (after trail)), number_known, answer_known)
+      (rw (rooms_known, book_known, unposted_same (book_by trail))
+      (simp (at_desks, desk_kept (drop_at trail last moment))))
 
 -- A hit.
 

@@ -44,11 +44,8 @@ module _ (config : Configuration) (own : ℕ) (facts : List Fact) where
   duty_left by (duty.Show dealer room ask moment) =
       simp (at_desks, desk_kept (at_desk.Shown room ask moment))
   duty_left by (duty.Ready room moment) = simp (in_rooms, kept_same (here room) at_room.Ready)
-  duty_left by (duty.Post room quote price valid_until moment) =
-      simp (
-        in_rooms,
-        λ (n word : ℕ). kept_same (here room) (at_room.Post n word price valid_until),
-      )
+  duty_left by (duty.Post room quote price until moment) =
+      simp (in_rooms, λ (n word : ℕ). kept_same (here room) (at_room.Post n word price until))
   duty_left by (duty.Relay room offer moment) =
       simp (at_desks, market_kept (at_investor.QuoteCame room.n offer moment))
   duty_left by (duty.Unpost room quote moment) =

@@ -114,6 +114,8 @@ market_added own number market trail event =
       append-nil,
     )
 
+pub ruleset added = (desk_added, room_added, market_added)
+
 -- What is left at a place.
 
 pub trail_left : (own number : ℕ) (facts : List Fact) → of_dealer number (bare own facts)
@@ -266,6 +268,15 @@ module _ (own : ℕ) (facts : List Fact) (number : ℕ) where
       ≡ investor_verdict market market_book moment bytes
   said_known market moment bytes =
       rw market_known (investors_same.verdict_same market market_book moment bytes)
+
+pub ruleset known_at_desks = (
+  rooms_known,
+  number_known,
+  closable_known,
+  answer_known,
+  knows_known,
+  said_known,
+)
 
 pub market_kept : (more : InvestorEvent) (own : ℕ) (facts : List Fact) (number : ℕ)
     (market : InvestorMarket)
