@@ -2,6 +2,7 @@
 -- for prices: effects, what comes to an investor, a closing notice, a drop and a hit.
 use Rattle.std.proofs.Common.{◌≡◌, ℕ, ◌==◌, Bool, true, false, List, ◌++◌, map, Option, Some}
 use Rattle.std.proofs.Common.{inl, inr, None, Ok, option_map, option_to_list, refl, if◌then◌else◌}
+use Rattle.std.proofs.lemmas.Bool.{cases_Bool}
 use Rattle.std.proofs.lemmas.List.{map-append}
 use mathlib.Core.List.{map-map}
 use Rattle.market_terms.specs.Unpriced.{uncovered, unpriced_duty}
@@ -32,7 +33,7 @@ use Rattle.request_room.proofs.UnpricedRooms.{asked_of_book, kept_same}
 use Rattle.venue_steps.specs.RoomSteps.{hit_duties, hit_word, where_follows}
 use Rattle.step_replay.specs.DealerGrowth.{facts_grown}
 use Rattle.step_replay.specs.DealerTrail.{DealerEntry, book_by, entries_of}
-use Rattle.step_replay.specs.DealerTrail.{facts_of, rooms_by}
+use Rattle.step_replay.specs.DealerTrail.{facts_of, rooms_by, was_withdrawn}
 use Rattle.step_replay.specs.VenueFacts.{Fact, InRoom, of_dealer, of_room}
 use Rattle.step_replay.specs.Actions.{Effect, Dealer, QuoteRef, answer_to_drop, answer_to_hit}
 use Rattle.step_replay.specs.Actions.{done_by, done_for, drop_at, dropped_by, hit_in, left_by_drop}
@@ -155,12 +156,7 @@ module _ (config : Configuration) (own : ℕ) (facts : List Fact) (dealer : Deal
       (rw (rooms_known, book_known, unposted_same (book_by trail))
       (simp (at_desks, desk_kept (drop_at trail last moment))))
 
--- A hit.
-
-lifting_same : (found : Option QuoteRef) (one other : End)
-    → lifting found (Ok one) ≡ lifting found (Ok other)
-lifting_same None one other = refl
-lifting_same (Some hit) one other = refl
+-- A hit: it is refused, the venue has no such quote, or the quote was withdrawn or is lifted.
 
 module _ (config : Configuration) (own : ℕ) (facts : List Fact) (room : RoomRef)
     (response : ResponseRef) (word moment : ℕ) where
@@ -168,40 +164,23 @@ module _ (config : Configuration) (own : ℕ) (facts : List Fact) (room : RoomRe
   abbrev here : List RoomFact
   here = of_room room facts
 
-  -- what a hit does in a room with these facts, where it is refused so or its word is settled so
-  abbrev hit_as : List RoomFact → Option HitRefusal → Option Settled → Effect
-  hit_as known refused settlement =
-      let outcome = hit_settled refused settlement (award_of known word) in
-      record {
-        facts = lifting (quote_with_word config word) outcome
-            ++ map (InRoom room) (facts_in_room known (at_room.Hit word moment settlement));
-        duties = hit_duties known room response moment outcome;
-      }
-
-  left_as : (refused : Option HitRefusal) (settlement : Option Settled)
-      → left own (hit_as (map unpriced_in_room here) refused settlement)
-      ≡ left own (hit_as here refused settlement)
-  left_as None (Some settled.Lifted) =
-      rw (lifting_same (quote_with_word config word) (award_of (map unpriced_in_room here) word)
-      (award_of here word))
-      (simp (in_rooms, kept_same here (at_room.Hit word moment (Some settled.Lifted))))
-  left_as None settlement = simp (in_rooms, kept_same here (at_room.Hit word moment settlement))
-  left_as (Some refused) settlement =
-      simp (in_rooms, kept_same here (at_room.Hit word moment settlement))
-
   refusal_same : hit_refusal (map unpriced_in_room here) word moment ≡ hit_refusal here word moment
   unfolding hit_refusal
   refusal_same = simp asked_of_book
 
-  settled_known : (found : Option QuoteRef)
-      → option_map (answer_to_hit (bare own facts)) found ≡ option_map (answer_to_hit facts) found
-  settled_known None = refl
-  settled_known (Some hit) = rw (withdrawn_known own facts hit.dealer hit.quote)
-
   pub hit_left : left own (hit_in config (bare own facts) room response word moment)
       ≡ left own (hit_in config facts room response word moment)
   hit_left =
-      let asked = quote_asked config (hit_word here word moment) in
-      let settlement = option_map (answer_to_hit facts) asked in
-      rw (room_left own room facts, refusal_same, settled_known asked)
-      (simp (left_if, left_as (hit_refusal here word moment) settlement))
+      let kept = λ (how : Option Settled). kept_same here (at_room.Hit word moment how) in
+      rw (room_left, refusal_same) (elim (cases_some (hit_refusal here word moment)) [
+        | inl none ↦ rw none (elim (cases_some (quote_with_word config word)) [
+          | inl lost ↦ rw lost (simp (in_rooms, kept))
+          | inr found ↦
+              let gone = was_withdrawn (of_dealer found.0.dealer facts) found.0.quote in
+              rw (found.1, withdrawn_known) (elim (cases_Bool gone) [
+                | inl is ↦ rw is (simp (in_rooms, kept))
+                | inr is ↦ rw is (simp (in_rooms, kept))
+              ])
+        ])
+        | inr some ↦ rw some.1 (simp (in_rooms, kept))
+      ])

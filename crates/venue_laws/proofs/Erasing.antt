@@ -123,10 +123,8 @@ pub trail_left : (own number : ℕ) (facts : List Fact) → of_dealer number (ba
 unfolding bare of_dealer
 trail_left own number [] = refl
 trail_left own number (AtDealer dealer (Sent message) ∷ facts) =
-    elim (cases_Bool (dealer == number)) [
-      | inl is ↦ rw (is, trail_left own number facts)
-      | inr is ↦ rw (is, trail_left own number facts)
-    ]
+    let later = trail_left own number facts in
+    elim (cases_Bool (dealer == number)) [ inl is ↦ rw (is, later) | inr is ↦ rw (is, later) ]
 trail_left own number (AtDealer dealer entry ∷ facts) =
     elim (cases_Bool (dealer == number)) [
       | inl is ↦ let same : dealer ≡ number = eqb-true dealer number is in
@@ -141,10 +139,9 @@ pub room_left : (own : ℕ) (place : RoomRef) (facts : List Fact)
     → of_room place (bare own facts) ≡ map rooms.unpriced (of_room place facts)
 unfolding bare of_room
 room_left own place [] = refl
-room_left own place (InRoom room fact ∷ facts) = elim (cases_Bool (is_same_room room place)) [
-  | inl is ↦ rw (is, room_left own place facts)
-  | inr is ↦ rw (is, room_left own place facts)
-]
+room_left own place (InRoom room fact ∷ facts) =
+    let later = room_left own place facts in
+    elim (cases_Bool (is_same_room room place)) [ inl is ↦ rw (is, later) | inr is ↦ rw (is, later) ]
 room_left own place (AtDealer dealer (Sent message) ∷ facts) = room_left own place facts
 room_left own place (AtInvestor investor (SentToInvestor message) ∷ facts) =
     room_left own place facts
@@ -156,15 +153,11 @@ market_left : (own number : ℕ) (facts : List Fact)
 unfolding bare of_investor
 market_left own number [] = refl
 market_left own number (AtInvestor investor (AtInvestorsDesk fact) ∷ facts) =
-    elim (cases_Bool (investor == number)) [
-      | inl is ↦ rw (is, market_left own number facts)
-      | inr is ↦ rw (is, market_left own number facts)
-    ]
+    let later = market_left own number facts in
+    elim (cases_Bool (investor == number)) [ inl is ↦ rw (is, later) | inr is ↦ rw (is, later) ]
 market_left own number (AtInvestor investor (SentToInvestor message) ∷ facts) =
-    elim (cases_Bool (investor == number)) [
-      | inl is ↦ rw (is, market_left own number facts)
-      | inr is ↦ rw (is, market_left own number facts)
-    ]
+    let later = market_left own number facts in
+    elim (cases_Bool (investor == number)) [ inl is ↦ rw (is, later) | inr is ↦ rw (is, later) ]
 market_left own number (AtDealer dealer (Sent message) ∷ facts) = market_left own number facts
 market_left own number (fact ∷ facts) = market_left own number facts
 

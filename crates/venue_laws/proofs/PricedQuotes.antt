@@ -10,7 +10,6 @@ use Rattle.bond_prices.specs.declared.fault.PriceFault.{PriceFault}
 use Rattle.market_terms.specs.declared.asks.Side.{Side}
 use Rattle.market_terms.specs.declared.asks.Side.TheVariants as side
 use Rattle.quote_messages.specs.declared.quotes.Quote.{Quote}
-use Rattle.quote_messages.specs.declared.reject_reasons.QuoteRejectReason.{QuoteRejectReason}
 use Rattle.quote_messages.specs.Written.{request_name}
 use Rattle.venue_rows.specs.Rows.{Configuration, bond_with_id}
 use Rattle.venue_rows.specs.Texts.{same_text}
@@ -18,13 +17,13 @@ use Rattle.venue_rows.specs.declared.bond_rows.BondRow.{BondRow}
 use Rattle.venue_rows.specs.declared.dealer_rows.DealerRow.{DealerRow}
 use Rattle.dealer_desk.specs.DealerFacts.{DealerBook, request_named}
 use Rattle.dealer_desk.specs.DealerRules.{asked_price, if_on_grid, lone_price, other_price}
-use Rattle.dealer_desk.specs.DealerRules.{price_for, quote_answer, quote_on, quote_refusal}
+use Rattle.dealer_desk.specs.DealerRules.{price_for, quote_on, quote_refusal}
 use Rattle.dealer_desk.specs.DealerRules.{quote_verdict}
 use Rattle.dealer_desk.specs.Unpriced.{unpriced_verdict}
 use Rattle.dealer_desk.specs.declared.standing.StandingRequest.{StandingRequest}
 use Rattle.step_replay.specs.EachLemmas.{Every}
 use Rattle.venue_laws.specs.PriceAlike.{IsPriceOf, is_on_grid_of}
-use Rattle.venue_laws.proofs.ListLemmas.{first_of_every}
+use Rattle.venue_laws.proofs.ListLemmas.{cases_some, first_of_every}
 use Rattle.venue_laws.proofs.PricedFields.{AreValues}
 use Rattle.venue_laws.proofs.VenueParts.{BearsGrid}
 
@@ -113,12 +112,6 @@ module _ (row : DealerRow) (book : DealerBook) (moment : ℕ) (config : Configur
     | inr is ↦ rw is
   ]
 
-  answer_same : (shown : StandingRequest) (refused : Option QuoteRejectReason)
-      → unpriced_verdict (quote_answer book moment one (Some shown) refused)
-      ≡ unpriced_verdict (quote_answer book moment other (Some shown) refused)
-  answer_same shown (Some reason) = refl
-  answer_same shown None = refl
-
   on_request : (request : Option StandingRequest)
       → IfSome request (λ (own : StandingRequest). BearsGrid config own.ask)
       → unpriced_verdict (quote_on row book moment one request)
@@ -126,8 +119,9 @@ module _ (row : DealerRow) (book : DealerBook) (moment : ℕ) (config : Configur
   unfolding quote_refusal
   on_request None bears = refl
   on_request (Some shown) bears =
+      let refused = quote_refusal row book moment other (Some shown) in
       rw (refusal_same shown bears)
-      (answer_same shown (quote_refusal row book moment other (Some shown)))
+      (elim (cases_some refused) [ inl none ↦ rw none | inr some ↦ rw some.1 ])
 
   pub verdict_alike : unpriced_verdict (quote_verdict row book moment one)
       ≡ unpriced_verdict (quote_verdict row book moment other)
