@@ -28,8 +28,7 @@ use Rattle.step_replay.specs.declared.steps.Step.TheVariants as step
 use Rattle.venue_laws.specs.PriceAlike.{IsCoverAgainstDoneAway, IsOneButForCover, IsPriceAlike}
 use Rattle.venue_laws.specs.PriceAlike.{IsPricedByAnother}
 use Rattle.venue_laws.proofs.Erasing.{bare, bare_append, erase_entry, trail_left}
-use Rattle.venue_laws.proofs.ErasedActions.{left}
-use Rattle.venue_laws.proofs.ErasedSteps.{duty_left, message_left, said_left, sweep_left}
+use Rattle.venue_laws.proofs.ErasedSteps.{duty_left, left, message_left, said_left, sweep_left}
 use Rattle.venue_laws.proofs.LiveQuotes.{LoneQuotes}
 use Rattle.venue_laws.proofs.PricedMessages.{verdicts_alike}
 use Rattle.venue_laws.proofs.VenueDay.{step_stands, venue_ok}

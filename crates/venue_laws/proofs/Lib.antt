@@ -3,7 +3,6 @@ mod BlindDues
 mod ComputedDays
 mod ConditionMet
 mod ConditionMetOnce
-mod ErasedActions
 mod ErasedSteps
 mod Erasing
 mod InvestorVerdicts
@@ -14,7 +13,6 @@ mod NoticeLemmas
 mod PlainFacts
 mod PricedFields
 mod PricedMessages
-mod PricedQuotes
 mod ShownRequests
 mod ToldLemmas
 mod VenueDay
