@@ -1,13 +1,12 @@
 -- Options and lists: what the lemmas on a venue take of them.
 use Rattle.std.proofs.Common.{Bool, IfSome, List, None, Option, Some, ℕ, [], ap, arith, eq-eqb}
 use Rattle.std.proofs.Common.{false, filter, filter_map, find, inl, inr, is_none, is_some, length}
-use Rattle.std.proofs.Common.{map, nat_lt, position, refl, subst, suc, true, zero, ◌++◌, ◌<◌, ◌==◌}
+use Rattle.std.proofs.Common.{map, refl, subst, suc, true, zero, ◌++◌, ◌==◌}
 use Rattle.std.proofs.Common.{◌∷◌, ◌≡◌, ◌≤◌, ◌⊎◌}
 use Rattle.std.proofs.lemmas.Bool.{cases_Bool, eqb-true, or_cases, or_left, or_right}
-use Rattle.std.proofs.lemmas.Bool.Decides.{nat_tests}
 use Rattle.std.proofs.lemmas.List.Folds.{find-append}
-use Rattle.std.proofs.lemmas.Option.{cond_some, same_Some}
-use Rattle.std.specs.List.{list_any, position_or_len}
+use Rattle.std.proofs.lemmas.Option.{same_Some}
+use Rattle.std.specs.List.{list_any}
 use Rattle.std.specs.Option.{option_or}
 use Rattle.std.specs.Prelude.{slice_get}
 use Rattle.step_replay.specs.EachLemmas.{Every}
@@ -123,14 +122,6 @@ in_named dealer (other ∷ dealers) is = elim (or_cases (other == dealer) _ is) 
 ]
 
 -- What is found first.
-
-pub position_within : {A : Type 0} (test : A → Bool) (xs : List A) (i : ℕ)
-    → position test xs ≡ Some i → i < length xs
-position_within test xs i is =
-    let parts = cond_some (nat_lt (position_or_len test xs) (length xs)) _ i is in
-    let within : nat_lt (position_or_len test xs) (length xs) ≡ true = parts.0 in
-    let same : position_or_len test xs ≡ i = parts.1 in
-    grind (arith, nat_tests)
 
 -- the first that is found passes the test
 pub found_passes : {X : Type 0} (test : X → Bool) (xs : List X) (x : X) → find test xs ≡ Some x
