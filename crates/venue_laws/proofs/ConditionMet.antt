@@ -30,6 +30,7 @@ use Rattle.venue_steps.specs.InvestorSteps.{replies_to}
 use Rattle.venue_steps.specs.RoomSteps.{hit_word, word_asked_by}
 use Rattle.venue_steps.specs.Words.{has_word}
 use Rattle.venue_places.specs.declared.actors.Actor.{Actor}
+use Rattle.venue_places.specs.declared.actors.Actor.TheVariants as actor
 use Rattle.step_replay.specs.Actions.{Dealer, acting_dealer, dealer_at, dealer_of, has_word_for}
 use Rattle.step_replay.specs.Actions.{quotes_of, word_for, words_of}
 use Rattle.step_replay.specs.AuditTrail.{AuditTrail}
@@ -39,13 +40,13 @@ use Rattle.venue_laws.proofs.ListLemmas.{cases_some, found_in, slice_holds, some
 use Rattle.venue_laws.proofs.NoticeLemmas.{told_if_closed}
 use Rattle.venue_laws.proofs.ShownRequests.{number_place, told_in}
 use Rattle.venue_laws.proofs.VenueDesk.{OfRow, WordsOfDay, asks_of_day, drops_of_day, within_row}
-use Rattle.venue_laws.proofs.VenueInvariant.{ByDealer, ByNamed, Did, DutyOk, OpensIn, ReadiesBy}
-use Rattle.venue_laws.proofs.VenueInvariant.{ShownTo, ShowsIn, TellsIn, VenueOk}
+use Rattle.venue_laws.proofs.VenueInvariant.{ByDealer, ByNamed, Did, DutyOk, OpensIn, ShownTo}
+use Rattle.venue_laws.proofs.VenueInvariant.{ShowsIn, TellsIn, VenueOk}
 use Rattle.venue_laws.proofs.VenueKnown.{ended_ready, known_named, known_opened, known_room}
 use Rattle.venue_laws.proofs.VenueKnown.{named_dealer, opened_in, posted_in, ready_in, ready_opened}
 use Rattle.venue_laws.proofs.VenueKnown.{rooms_shown, shown_ended, told_did}
-use Rattle.venue_laws.proofs.VenueParts.{KnownIn, Mark, Opening, OrderOk, Readying, Showing}
-use Rattle.venue_laws.proofs.VenueParts.{Telling, WasDone, closer, did_in, mark_of, marks}
+use Rattle.venue_laws.proofs.VenueParts.{IsOpened, KnownIn, Mark, Opening, OrderOk, Readying}
+use Rattle.venue_laws.proofs.VenueParts.{Showing, Telling, WasDone, closer, did_in, mark_of, marks}
 use Rattle.venue_laws.proofs.VenueParts.{number_for}
 use Rattle.venue_laws.specs.Conditions.{has_word_asked, holds_for, is_heard, is_heard_on, is_known}
 use Rattle.venue_laws.specs.Conditions.{is_met, is_room, is_unshown, is_untold, may_drop}
@@ -122,14 +123,14 @@ module _ {config : Configuration} {venue : AuditTrail} (stood : VenueOk config v
       (rooms_shown stood dealer)).2 in
       never did (Showing dealer room) refl (fits.by_is ∙ sym did.ok.by_is) undone)))
 
-  ready_met : (room : RoomRef) → ReadiesBy config by room venue
+  ready_met : (room : RoomRef) → (by ≡ actor.Firm room.investor) × IsOpened room venue.facts
       → (WasDone venue by (Readying room) → ⊥)
       → (is_room config room && is_opening (known room)) ≡ true
   ready_met room fits undone =
       and_from (is_room config room) (is_opening (known room))
-      (known_room stood room None (known_opened stood room fits.opened))
+      (known_room stood room None (known_opened stood room fits.1))
       (rw (
-        fits.opened,
+        fits.1,
         unready,
         false_from_ne_true (is_ended (known room)) (λ ended. both_ways (is_ready (known room))
             unready (ended_ready stood room ended)),
@@ -138,7 +139,7 @@ module _ {config : Configuration} {venue : AuditTrail} (stood : VenueOk config v
       unready : is_ready (known room) ≡ false
       unready = false_from_ne_true (is_ready (known room)) (λ is.
           let did = (ready_in stood room is).did in
-          never did (Readying room) refl (fits.by_is ∙ sym did.ok.by_is) undone)
+          never did (Readying room) refl (fits.0 ∙ sym did.ok.0) undone)
 
   pub tell_met : (dealer : ℕ) (room : RoomRef) (close : Close)
       → TellsIn config by dealer room close venue → (WasDone venue by (Telling dealer room) → ⊥)
@@ -220,7 +221,7 @@ module _ {config : Configuration} {venue : AuditTrail} (stood : VenueOk config v
   met words (duty.Show dealer room ask moment) fits order = show_met dealer room ask fits order.0
   met words (duty.Ready room moment) fits order = ready_met room fits order.0
   met words (duty.Post room quote price valid_until moment) fits order =
-      heard_on room fits.named quote fits.within
+      heard_on room fits.0.named quote fits.0.within
   met words (duty.Relay room offer moment) fits order =
       is_known_in room None (known_opened stood room fits)
   met words (duty.Unpost room quote moment) fits order = heard_on room fits.named quote fits.within

@@ -41,8 +41,8 @@ use Rattle.step_replay.specs.Actions.{quote_with_word, told_to}
 use Rattle.step_replay.specs.Actions.{acting_dealer, dealer_at, received_by_dealer, settlement_of}
 use Rattle.step_replay.specs.Actions.{verdict_on}
 use Rattle.venue_laws.proofs.Erasing.{added, answer_known, bare, bare_append, book_known, desk_kept}
-use Rattle.venue_laws.proofs.Erasing.{facts_known, known_at_desks, number_known, room_left}
-use Rattle.venue_laws.proofs.Erasing.{rooms_known, withdrawn_known, market_kept, verdict_known}
+use Rattle.venue_laws.proofs.Erasing.{facts_known, known_at_desks, known_at_markets, number_known}
+use Rattle.venue_laws.proofs.Erasing.{room_left, rooms_known, withdrawn_known, market_kept, verdict_known}
 use Rattle.venue_laws.proofs.ListLemmas.{cases_some}
 use Rattle.dealer_desk.specs.declared.verdicts.DealerVerdict.{DealerVerdict}
 use Rattle.investor_desk.specs.declared.events.InvestorEvent.TheVariants as at_investor
@@ -105,7 +105,7 @@ covered false false = refl
 -- what is left of an action, and what it asks of its desk or its room
 pub ruleset effects = (left_if, left_done, left_for, left_of, follows)
 
-pub ruleset at_desks = (effects, added, known_at_desks)
+pub ruleset at_desks = (effects, added, known_at_desks, known_at_markets)
 
 pub ruleset in_rooms = (effects, added, bare_append, room_left, told_each, covered, asked_of_book)
 
@@ -252,11 +252,13 @@ module _ (config : Configuration) (own : ℕ) (facts : List Fact) where
     abbrev w : DealerVerdict
     w = verdict_on config facts moment others dealer
 
-    kept_known : map (unpriced (dealer.number == own)) (event_facts config.date dealer.row
-        (book_by (known_trail dealer))
-        (at_desk.Received moment bytes (settlement_of (trail dealer) w)))
-        ≡ map (unpriced (dealer.number == own)) (event_facts config.date dealer.row (book_by (trail dealer))
-        (at_desk.Received moment others (settlement_of (trail dealer) w)))
+    -- the facts of a message at the dealer's desk, with this trail
+    abbrev came_at : List DealerEntry → List ℕ → List DealerFact
+    came_at entries said = event_facts config.date dealer.row (book_by entries)
+        (at_desk.Received moment said (settlement_of (trail dealer) w))
+
+    kept_known : map (unpriced (dealer.number == own)) (came_at (known_trail dealer) bytes)
+        ≡ map (unpriced (dealer.number == own)) (came_at (trail dealer) others)
     unfolding event_facts
     kept_known =
         rw verdict_known (came_alike v w alike (dealer.number == own) moment bytes others
@@ -265,12 +267,9 @@ module _ (config : Configuration) (own : ℕ) (facts : List Fact) where
     pub said_left : left own (received_by_dealer config known moment bytes dealer)
         ≡ left own (received_by_dealer config facts moment others dealer)
     said_left =
-        rw (verdict_known, asked_alike v w alike) (simp (
-          at_desks,
-          kept_known,
-          list_left,
-          duty_alike v w alike (rooms_by (trail dealer)) moment (settlement_of (trail dealer) w),
-        ))
+        let settlement = settlement_of (trail dealer) w in
+        let leaves = duty_alike v w alike (rooms_by (trail dealer)) moment settlement in
+        rw (verdict_known, asked_alike v w alike) (simp (at_desks, kept_known, list_left, leaves))
 
   -- the same message
   pub message_left : (firm moment : ℕ) (bytes : List ℕ)

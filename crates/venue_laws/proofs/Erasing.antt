@@ -43,16 +43,13 @@ erase_entry stay (AtDesk fact) = Some (AtDesk (dealers.unpriced stay fact))
 erase_entry stay (Sent message) = None
 erase_entry stay entry = Some entry
 
--- at an investor
-abbrev pub erase_investor_entry : InvestorEntry → Option InvestorEntry
-erase_investor_entry (AtInvestorsDesk fact) = Some (AtInvestorsDesk (investors.unpriced fact))
-erase_investor_entry (SentToInvestor message) = None
-
 -- in the venue: the bytes stay that the dealer with this number sent
 abbrev pub erase : ℕ → Fact → Option Fact
 erase own (AtDealer number entry) = option_map (AtDealer number) (erase_entry (number == own) entry)
 erase own (InRoom room fact) = Some (InRoom room (rooms.unpriced fact))
-erase own (AtInvestor number entry) = option_map (AtInvestor number) (erase_investor_entry entry)
+erase own (AtInvestor number (AtInvestorsDesk fact)) =
+    Some (AtInvestor number (AtInvestorsDesk (investors.unpriced fact)))
+erase own (AtInvestor number (SentToInvestor message)) = None
 
 -- what is left of facts
 unfoldable pub bare : ℕ → List Fact → List Fact
@@ -227,6 +224,8 @@ module _ (own : ℕ) (facts : List Fact) (number : ℕ) where
   answer_known None = refl
   answer_known (Some quote) = rw (lifted_known quote)
 
+pub ruleset known_at_desks = (rooms_known, number_known, closable_known, answer_known)
+
 pub desk_kept : (more : DealerEvent) (own : ℕ) (facts : List Fact) (number : ℕ) (date : List ℕ)
     (row : DealerRow)
     → map (dealers.unpriced (number == own)) (event_facts date row
@@ -262,14 +261,7 @@ module _ (own : ℕ) (facts : List Fact) (number : ℕ) where
   said_known market moment bytes =
       rw market_known (investors_same.verdict_same market market_book moment bytes)
 
-pub ruleset known_at_desks = (
-  rooms_known,
-  number_known,
-  closable_known,
-  answer_known,
-  knows_known,
-  said_known,
-)
+pub ruleset known_at_markets = (knows_known, said_known)
 
 pub market_kept : (more : InvestorEvent) (own : ℕ) (facts : List Fact) (number : ℕ)
     (market : InvestorMarket)

@@ -73,7 +73,7 @@ module _ (lone : LoneQuotes) (words : WordsOfDay) (h : Here) where
   turn_does (duty.Ready room moment) ok order did =
       (readied_brings h room moment order.1 did, (λ now later. tt, tt))
   turn_does (duty.Post room quote price valid_until moment) ok order did =
-      let who = ok.named.who in
+      let who = ok.0.named.who in
       let word = word_for h.config (dealer_of who.dealer who.row) quote in (
         acting_brings h who _ (may_bring h room _ (takes_quotes (known h room)) _
             (Posted (quote_posted who.dealer word price valid_until)) _ refl
@@ -81,12 +81,12 @@ module _ (lone : LoneQuotes) (words : WordsOfDay) (h : Here) where
               row = who.row;
               quote = quote;
               row_is = who.row_is;
-              within = ok.within;
+              within = ok.0.within;
               word_is = refl;
-              quoted = quoted_later (to_now h effect later) who.dealer room quote ok.quoted;
+              quoted = quoted_later (to_now h effect later) who.dealer room quote ok.1;
             })
             (λ effect now later. opened_by room now.facts who.dealer
-            (named_later (to_now h effect later) room who.dealer ok.named.named))),
+            (named_later (to_now h effect later) room who.dealer ok.0.named.named))),
         tt,
       )
   turn_does (duty.Relay room offer moment) ok order did = (to_investor room None _, tt)

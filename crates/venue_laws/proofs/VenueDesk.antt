@@ -143,10 +143,12 @@ module _ (words : WordsOfDay) (h : Here) (dealer : ℕ) (row : DealerRow)
         let least : 1 ≤ quote.request = accepts.0 in
         let place : quote.request - 1 + 1 ≡ quote.request = omega arith in
         room_fine (goes_through old settlement) quote.request (post_of quote) (λ room goes found. (
-          λ now later. record {
-            named = named_then quote.request room found now later;
-            within = accepts.1;
-            quoted = quoted_later later dealer room quote.number (record {
+          λ now later. (
+            record {
+              named = named_then quote.request room found now later;
+              within = accepts.1;
+            },
+            quoted_later later dealer room quote.number (record {
               own = quote;
               quoted = quoted quote (in_right (Quoted quote)
                   (settled_facts old by_way.Replacement settlement) _ (rw goes (inl refl)));
@@ -154,8 +156,8 @@ module _ (words : WordsOfDay) (h : Here) (dealer : ℕ) (row : DealerRow)
               request_is = number_later (since h effect) dealer room quote.request
                   (desk.numbered (quote.request - 1) room found
                   ∙ ap (λ (n : ℕ). Some n) place);
-            });
-          },
+            }),
+          ),
           refl,
         ))
     said_fine moment (verdict.CancelAccepted id quote request) settlement accepts of_day quoted =

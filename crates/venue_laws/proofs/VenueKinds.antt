@@ -16,7 +16,6 @@ use Rattle.venue_rows.specs.declared.dealer_rows.DealerRow.{DealerRow}
 use Rattle.dealer_desk.specs.DealerFacts.{Shown, Told}
 use Rattle.request_room.specs.Book.{where_so}
 use Rattle.request_room.specs.RoomFacts.{RoomFact}
-use Rattle.venue_places.specs.declared.actors.Actor.{Actor}
 use Rattle.step_replay.specs.Actions.{Dealer, Effect, acting_dealer, dealer_of, done_by, nothing}
 use Rattle.step_replay.specs.DealerTrail.{AtDesk, DealerEntry, ShownIn}
 use Rattle.step_replay.specs.EachLemmas.{Every, every_weaker}
@@ -96,9 +95,7 @@ module _ (h : Here) where
   pub acting_brings : (who : ByDealer h.config h.by) (action : Dealer → Effect)
       → Brings h (action (dealer_of who.dealer who.row))
       → Brings h (done_by (acting_dealer h.config h.by) action)
-  acting_brings who action brings =
-      subst (λ (a : Actor). Brings h (done_by (acting_dealer h.config a) action)) (sym who.by_is)
-      (rw who.row_is brings)
+  acting_brings who action brings = simp (who.by_is, who.row_is) brings
 
   pub plain_ok : (effect : Effect) (dealer : ℕ) (entries : List DealerEntry) → ArePlain entries
       → Every (λ entry. FactThen h effect (AtDealer dealer entry)) entries

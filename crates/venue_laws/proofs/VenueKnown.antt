@@ -109,7 +109,7 @@ pub needs : (config : Configuration) (by : Actor) (venue : AuditTrail) (left : D
 needs config by venue (duty.Open room ask dealers moment) ok = ok.known
 needs config by venue (duty.Show dealer room ask moment) ok =
     opened_by room venue.facts dealer ok.named
-needs config by venue (duty.Ready room moment) ok = ok.opened
+needs config by venue (duty.Ready room moment) ok = ok.1
 needs config by venue (duty.Tell dealer room close moment) ok = rw (ok.end_is) refl
 needs config by venue other ok = tt
 
@@ -157,7 +157,7 @@ module _ {config : Configuration} {venue : AuditTrail} (stood : VenueOk config v
 
   -- what was made ready was opened, and what ended was made ready
   pub ready_opened : (room : RoomRef) → is_ready (known room) ≡ true → IsOpened room venue.facts
-  ready_opened room is = (ready_in room is).did.ok.opened
+  ready_opened room is = (ready_in room is).did.ok.1
 
   pub ended_ready : (room : RoomRef) → is_ended (known room) ≡ true
       → is_ready (known room) ≡ true

@@ -122,10 +122,7 @@ module _ (h : Here) (room : RoomRef) where
             bears = opens.bears;
           })) (
             (
-              λ now later. record {
-                by_is = opens.by_is;
-                opened = rw (request_is now later) refl;
-              },
+              λ now later. (opens.by_is, rw (request_is now later) refl),
               (unready, shows_all),
             ),
             tt,
