@@ -28,8 +28,7 @@ use Rattle.step_replay.specs.declared.steps.Step.TheVariants as step
 use Rattle.venue_laws.specs.PriceAlike.{IsCoverAgainstDoneAway, IsOneButForCover, IsPriceAlike}
 use Rattle.venue_laws.specs.PriceAlike.{IsPricedByAnother}
 use Rattle.venue_laws.proofs.Erasing.{bare, bare_append, erase_entry, trail_left}
-use Rattle.venue_laws.proofs.ErasedActions.{left}
-use Rattle.venue_laws.proofs.ErasedSteps.{duty_left, message_left, said_left, sweep_left}
+use Rattle.venue_laws.proofs.ErasedSteps.{duty_left, left, message_left, said_left, sweep_left}
 use Rattle.venue_laws.proofs.LiveQuotes.{LoneQuotes}
 use Rattle.venue_laws.proofs.PricedMessages.{verdicts_alike}
 use Rattle.venue_laws.proofs.VenueDay.{step_stands, venue_ok}
@@ -55,10 +54,9 @@ duties_left : (by : Actor) (caused : List Caused)
     → filter_map (duty_of by) (map erase_caused caused)
     ≡ map unpriced_duty (filter_map (duty_of by) caused)
 duties_left by [] = refl
-duties_left by (next ∷ caused) = elim (cases_Bool (is_same_actor next.by by)) [
-  | inl is ↦ rw (is, duties_left by caused)
-  | inr is ↦ rw (is, duties_left by caused)
-]
+duties_left by (next ∷ caused) =
+    let later = duties_left by caused in
+    elim (cases_Bool (is_same_actor next.by by)) [ inl is ↦ rw (is, later) | inr is ↦ rw (is, later) ]
 
 module _ (config : Configuration) (own : ℕ) where
   -- the day without prices after a turn with these duties to do, and after a step

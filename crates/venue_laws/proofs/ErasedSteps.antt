@@ -1,52 +1,199 @@
--- Every duty, message and sweep in a day without prices: one line a duty.
-use Rattle.std.proofs.Common.{◌≡◌, ℕ, ◌==◌, List, [], map, None, refl, if◌then◌else◌}
-use Rattle.market_terms.specs.Unpriced.{unpriced_duty}
+-- What a duty, a message or a sweep adds and leaves in a day without prices is what it adds and
+-- leaves in the day, but for prices.
+use Rattle.std.proofs.Common.{◌≡◌, ℕ, ◌==◌, Bool, true, false, List, ◌++◌, map, Option, Some, inl}
+use Rattle.std.proofs.Common.{inr, None, option_map, option_to_list, refl, if◌then◌else◌}
+use Rattle.std.proofs.Common.{is_some, []}
+use Rattle.std.proofs.lemmas.Bool.{cases_Bool}
+use Rattle.std.proofs.lemmas.List.{map-append}
+use mathlib.Core.List.{map-map}
+use Rattle.market_terms.specs.Unpriced.{uncovered, unpriced_duty}
+use Rattle.market_terms.specs.declared.closes.Close.{Close}
+use Rattle.market_terms.specs.declared.closes.Close.TheVariants as closes
 use Rattle.market_terms.specs.declared.duties.Duty.{Duty}
 use Rattle.market_terms.specs.declared.duties.Duty.TheVariants as duty
+use Rattle.market_terms.specs.declared.rooms.ResponseRef.{ResponseRef}
 use Rattle.market_terms.specs.declared.rooms.RoomRef.{RoomRef}
-use Rattle.venue_rows.specs.Rows.{Configuration}
-use Rattle.dealer_desk.specs.DealerOutput.{event_facts, number_in, word_asked}
+use Rattle.quote_word.specs.declared.settled.Settled.{Settled}
+use Rattle.quote_word.specs.declared.settled.Settled.TheVariants as settled
+use Rattle.venue_rows.specs.Rows.{Configuration, dealer_numbered}
+use Rattle.dealer_desk.specs.DealerFacts.{DealerFact, book_of}
+use Rattle.dealer_desk.specs.DealerOutput.{event_facts, number_in, settled_facts}
 use Rattle.dealer_desk.specs.Unpriced.{unpriced, unpriced_verdict}
 use Rattle.dealer_desk.specs.declared.events.DealerEvent.TheVariants as at_desk
-use Rattle.dealer_desk.specs.declared.verdicts.DealerVerdict.{DealerVerdict}
-use Rattle.dealer_desk.proofs.UnpricedVerdicts.{asked_alike, came_alike, duty_alike, verdict_same}
-use Rattle.investor_desk.specs.InvestorDesk.{market_for}
-use Rattle.investor_desk.specs.InvestorRules.{InvestorMarket, investor_verdict}
-use Rattle.investor_desk.specs.Unpriced.{unpriced_event}
-use Rattle.investor_desk.specs.declared.events.InvestorEvent.{InvestorEvent}
-use Rattle.investor_desk.specs.declared.events.InvestorEvent.TheVariants as at_investor
-use Rattle.investor_desk.proofs.UnpricedDesks as investors
+use Rattle.dealer_desk.specs.declared.standing.Withdrawal.TheVariants as by
+use Rattle.dealer_desk.proofs.UnpricedBooks.{book_same}
+use Rattle.dealer_desk.proofs.UnpricedVerdicts.{some_to_drop, unposted_same, asked_alike}
+use Rattle.dealer_desk.proofs.UnpricedVerdicts.{came_alike, duty_alike}
+use Rattle.investor_desk.specs.InvestorRules.{InvestorMarket}
+use Rattle.request_room.specs.Book.{hit_refusal}
 use Rattle.request_room.specs.RoomFacts.{RoomFact}
+use Rattle.request_room.specs.Unpriced.{unpriced as unpriced_in_room}
 use Rattle.request_room.specs.declared.events.RoomEvent.TheVariants as at_room
-use Rattle.request_room.proofs.UnpricedRooms.{kept_same}
+use Rattle.request_room.proofs.UnpricedRooms.{asked_of_book, kept_same}
+use Rattle.venue_steps.specs.RoomSteps.{where_follows}
+use Rattle.step_replay.specs.DealerGrowth.{facts_grown}
+use Rattle.step_replay.specs.DealerTrail.{DealerEntry, book_by, entries_of, facts_of, rooms_by}
+use Rattle.step_replay.specs.DealerTrail.{was_withdrawn}
+use Rattle.step_replay.specs.VenueFacts.{Fact, of_dealer, of_room}
+use Rattle.step_replay.specs.Actions.{Effect, Dealer}
+use Rattle.step_replay.specs.Actions.{done_by, done_for, drop_at, dropped_by, hit_in}
+use Rattle.step_replay.specs.Actions.{quote_with_word, told_to}
+use Rattle.step_replay.specs.Actions.{acting_dealer, dealer_at, received_by_dealer, settlement_of}
+use Rattle.step_replay.specs.Actions.{verdict_on}
+use Rattle.venue_laws.proofs.Erasing.{added, answer_known, bare, bare_append, book_known, desk_kept}
+use Rattle.venue_laws.proofs.Erasing.{facts_known, known_at_desks, known_at_markets, number_known}
+use Rattle.venue_laws.proofs.Erasing.{room_left, rooms_known, withdrawn_known, market_kept, verdict_known}
+use Rattle.venue_laws.proofs.ListLemmas.{cases_some}
+use Rattle.dealer_desk.specs.declared.verdicts.DealerVerdict.{DealerVerdict}
+use Rattle.investor_desk.specs.declared.events.InvestorEvent.TheVariants as at_investor
 use Rattle.venue_places.specs.declared.actors.Actor.{Actor}
-use Rattle.step_replay.specs.DealerTrail.{DealerEntry, book_by, rooms_by}
-use Rattle.step_replay.specs.InvestorTrail.{book_by as investor_book_by}
-use Rattle.step_replay.specs.VenueFacts.{Fact, of_dealer, of_investor, of_room}
-use Rattle.step_replay.specs.Actions.{Dealer, acting_dealer, at_investor_of, dealer_at}
-use Rattle.step_replay.specs.Actions.{received_by_dealer, received_by_investor, settlement_of}
-use Rattle.step_replay.specs.Actions.{verdict_on, where_known, word_for}
 use Rattle.step_replay.specs.DutyEffects.{duty_effect, message_effect, sweep_effect}
-use Rattle.venue_laws.proofs.Erasing.{bare, book_known, desk_kept, market_kept, market_known}
-use Rattle.venue_laws.proofs.Erasing.{rooms_known}
-use Rattle.venue_laws.proofs.ErasedActions.{in_rooms, answer_known, dropped_left, effects, hit_left, known_left, left}
-use Rattle.venue_laws.proofs.ErasedActions.{left_done, left_for, left_if, list_left}
-use Rattle.venue_laws.proofs.ErasedActions.{told_left}
+
+-- Effects.
+
+-- what is left of what an action adds, and of what it leaves
+unfoldable pub left : ℕ → Effect → Effect
+left own effect =
+    record { facts = bare own effect.facts; duties = map unpriced_duty effect.duties }
+
+pub left_of : (own : ℕ) (facts : List Fact) (duties : List Duty)
+    → left own (record { facts = facts; duties = duties })
+    ≡ record { facts = bare own facts; duties = map unpriced_duty duties }
+unfolding left
+left_of own facts duties = refl
+
+pub left_if : (own : ℕ) (b : Bool) (one other : Effect)
+    → left own (if b then one else other) ≡ (if b then left own one else left own other)
+left_if own true one other = refl
+left_if own false one other = refl
+
+pub left_done : (own : ℕ) (found : Option Dealer) (action : Dealer → Effect)
+    → left own (done_by found action) ≡ done_by found (λ dealer. left own (action dealer))
+unfolding left bare
+left_done own None action = refl
+left_done own (Some dealer) action = refl
+
+pub left_for : (own : ℕ) (found : Option InvestorMarket) (action : InvestorMarket → Effect)
+    → left own (done_for found action) ≡ done_for found (λ market. left own (action market))
+unfolding left bare
+left_for own None action = refl
+left_for own (Some market) action = refl
+
+pub follows : (b : Bool) (duty : Duty)
+    → map unpriced_duty (where_follows b duty) ≡ where_follows b (unpriced_duty duty)
+follows true duty = refl
+follows false duty = refl
+
+pub list_left : (duty : Option Duty)
+    → map unpriced_duty (option_to_list duty) ≡ option_to_list (option_map unpriced_duty duty)
+list_left None = refl
+list_left (Some duty) = refl
+
+pub told_each : (at : RoomRef) (close : ℕ → Close) (moment : ℕ) (dealers : List ℕ)
+    → map unpriced_duty (map (λ dealer. duty.Tell dealer at (close dealer) moment) dealers)
+    ≡ map (λ dealer. duty.Tell dealer at (uncovered (close dealer)) moment) dealers
+told_each at close moment dealers = simp map-map
+
+-- how an award ended for a dealer, whoever was the cover
+pub covered : (won cover : Bool)
+    → uncovered (if won then closes.Hit else if cover then closes.Cover else closes.DoneAway)
+    ≡ (if won then closes.Hit else closes.DoneAway)
+covered true cover = refl
+covered false true = refl
+covered false false = refl
+
+-- what is left of an action, and what it asks of its desk or its room
+pub ruleset effects = (left_if, left_done, left_for, left_of, follows)
+
+pub ruleset at_desks = (effects, added, known_at_desks, known_at_markets)
+
+pub ruleset in_rooms = (effects, added, bare_append, room_left, told_each, covered, asked_of_book)
+
+-- What a drop adds bears no price.
+settled_bare : (stay : Bool) (asked : Option ℕ) (settlement : Option Settled)
+    → map (unpriced stay) (settled_facts asked by.Cancel settlement)
+    ≡ settled_facts asked by.Cancel settlement
+settled_bare stay None settlement = refl
+settled_bare stay (Some quote) (Some settled.Lifted) = refl
+settled_bare stay (Some quote) settlement = refl
 
 module _ (config : Configuration) (own : ℕ) (facts : List Fact) where
   -- the facts without prices
   abbrev known : List Fact
   known = bare own facts
 
-  -- what is known of a room
+  -- what is known of a room, and of a dealer
   abbrev here : RoomRef → List RoomFact
   here room = of_room room facts
 
-  to_investor : (room : RoomRef) (more : InvestorEvent)
-      → left own (at_investor_of config room (where_known known room.n None (unpriced_event more)))
-      ≡ left own (at_investor_of config room (where_known facts room.n None more))
-  to_investor room more =
-      left_for own (market_for config room.investor) _ _ (known_left config own facts room.n None more)
+  abbrev trail : Dealer → List DealerEntry
+  trail dealer = of_dealer dealer.number facts
+
+  abbrev known_trail : Dealer → List DealerEntry
+  known_trail dealer = of_dealer dealer.number known
+
+  -- A dealer is told how a request ended.
+
+  told_left : (room : RoomRef) (dealer : Dealer) (close : Close) (moment : ℕ)
+      → left own (told_to config known room (uncovered close) moment dealer)
+      ≡ left own (told_to config facts room close moment dealer)
+  told_left room dealer close moment =
+      elim (cases_some (number_in (rooms_by (trail dealer)) room)) [
+        | inl none ↦ rw (rooms_known, none)
+        | inr some ↦ rw (rooms_known, some.1)
+            (simp (at_desks, desk_kept (at_desk.Told some.0 close moment)))
+      ]
+
+  -- A drop.
+
+  module _ (dealer : Dealer) (last moment : ℕ) where
+    -- the facts of the desk after it
+    abbrev after : List DealerEntry → List DealerFact
+    after entries = facts_of (entries
+        ++ entries_of config.date dealer.row entries (drop_at entries last moment))
+
+    after_known : after (known_trail dealer)
+        ≡ map (unpriced (dealer.number == own)) (after (trail dealer))
+    unfolding event_facts
+    after_known =
+        rw (facts_grown, facts_grown, number_known own facts dealer.number last)
+        (simp (answer_known, facts_known, map-append, settled_bare))
+
+    dropped_left : left own (dropped_by config known last moment dealer)
+        ≡ left own (dropped_by config facts last moment dealer)
+    dropped_left =
+        rw (after_known, book_same, some_to_drop (book_of (after (trail dealer))))
+        (rw (number_known, answer_known, rooms_known, book_known)
+        (rw (unposted_same (book_by (trail dealer)))
+        (simp (at_desks, desk_kept (drop_at (trail dealer) last moment)))))
+
+  -- A hit: it is refused, the venue has no such quote, or the quote was withdrawn or is lifted.
+
+  refusal_same : (room : RoomRef) (word moment : ℕ)
+      → hit_refusal (map unpriced_in_room (here room)) word moment
+      ≡ hit_refusal (here room) word moment
+  unfolding hit_refusal
+  refusal_same room word moment = simp asked_of_book
+
+  hit_left : (room : RoomRef) (response : ResponseRef) (word moment : ℕ)
+      → left own (hit_in config known room response word moment)
+      ≡ left own (hit_in config facts room response word moment)
+  hit_left room response word moment =
+      let kept = λ (how : Option Settled). kept_same (here room) (at_room.Hit word moment how) in
+      rw (room_left, refusal_same) (elim (cases_some (hit_refusal (here room) word moment)) [
+        | inl none ↦ rw none (elim (cases_some (quote_with_word config word)) [
+          | inl lost ↦ rw lost (simp (in_rooms, kept))
+          | inr found ↦
+              let gone = was_withdrawn (of_dealer found.0.dealer facts) found.0.quote in
+              rw (found.1, withdrawn_known) (elim (cases_Bool gone) [
+                | inl is ↦ rw is (simp (in_rooms, kept))
+                | inr is ↦ rw is (simp (in_rooms, kept))
+              ])
+        ])
+        | inr some ↦ rw some.1 (simp (in_rooms, kept))
+      ])
+
+  -- Every duty and sweep.
 
   pub duty_left : (by : Actor) (more : Duty)
       → left own (duty_effect config known by (unpriced_duty more))
@@ -55,46 +202,34 @@ module _ (config : Configuration) (own : ℕ) (facts : List Fact) where
   duty_left by (duty.Open room ask dealers moment) =
       simp (in_rooms, kept_same (here room) (at_room.Open (record { ask = ask; dealers = dealers })))
   duty_left by (duty.Show dealer room ask moment) =
-      left_done own (dealer_at config dealer) _ _ (λ desk.
-      let shown = desk_kept own facts desk.number config.date desk.row
-      (at_desk.Shown room ask moment) in
-      simp (effects, rooms_known, shown))
+      simp (at_desks, desk_kept (at_desk.Shown room ask moment))
   duty_left by (duty.Ready room moment) = simp (in_rooms, kept_same (here room) at_room.Ready)
-  duty_left by (duty.Post room quote price valid_until moment) =
-      left_done own (acting_dealer config by) _ _ (λ desk.
-      let posted = at_room.Post desk.number (word_for config desk quote) price valid_until in
-      simp (in_rooms, kept_same (here room) posted))
+  duty_left by (duty.Post room quote price until moment) =
+      simp (in_rooms, λ (n word : ℕ). kept_same (here room) (at_room.Post n word price until))
   duty_left by (duty.Relay room offer moment) =
-      to_investor room (at_investor.QuoteCame room.n offer moment)
+      simp (at_desks, market_kept (at_investor.QuoteCame room.n offer moment))
   duty_left by (duty.Unpost room quote moment) =
-      left_done own (acting_dealer config by) _ _ (λ desk.
-      let unposted = at_room.Unpost desk.number (word_for config desk quote) in
-      simp (in_rooms, kept_same (here room) unposted))
+      simp (in_rooms, λ (n word : ℕ). kept_same (here room) (at_room.Unpost n word))
   duty_left by (duty.Gone room word moment) =
-      to_investor room (at_investor.QuoteGone room.n word moment)
+      simp (at_desks, market_kept (at_investor.QuoteGone room.n word moment))
   duty_left by (duty.Decline room moment) =
-      left_done own (acting_dealer config by) _ _
-      (λ desk. simp (in_rooms, kept_same (here room) (at_room.Decline desk.number)))
+      simp (in_rooms, λ (n : ℕ). kept_same (here room) (at_room.Decline n))
   duty_left by (duty.Declined room moment) =
-      left_done own (acting_dealer config by) _ _
-      (λ desk. to_investor room (at_investor.DealerDeclined room.n desk.row.name moment))
+      simp (at_desks, λ (name : List ℕ). market_kept (at_investor.DealerDeclined room.n name moment))
   duty_left by (duty.Hit room response word moment) =
-      hit_left config own facts room response word moment
+      hit_left room response word moment
   duty_left by (duty.Pass room response moment) =
       simp (in_rooms, kept_same (here room) (at_room.Pass moment))
   duty_left by (duty.Answer room response reply moment) =
-      left_for own (market_for config room.investor) _ _ (λ market.
-      let answered = known_left config own facts room.n response.k
-      (at_investor.Answered room.n response reply moment) market in
-      simp (answered, left_if))
-  duty_left by (duty.Close room moment) = to_investor room (at_investor.Closed room.n moment)
+      simp (at_desks, market_kept (at_investor.Answered room.n response reply moment))
+  duty_left by (duty.Close room moment) =
+      simp (at_desks, market_kept (at_investor.Closed room.n moment))
   duty_left by (duty.Tell dealer room close moment) =
-      left_done own (dealer_at config dealer) _ _ (λ desk. rw (rooms_known own facts desk.number)
-      (told_left config own facts desk close moment
-      (number_in (rooms_by (of_dealer desk.number facts)) room)))
+      simp left_done (λ i. done_by (dealer_at config dealer)
+      (λ desk. told_left room desk close moment i))
   duty_left by (duty.Drop last moment) =
-      left_done own (acting_dealer config by) _ _
-      (λ desk. dropped_left config own facts desk last moment)
+      simp left_done (λ i. done_by (acting_dealer config by)
+      (λ desk. dropped_left desk last moment i))
 
   pub sweep_left : (room : RoomRef) (moment : ℕ)
       → left own (sweep_effect config known room moment)
@@ -110,66 +245,39 @@ module _ (config : Configuration) (own : ℕ) (facts : List Fact) where
       ≡ unpriced_verdict (verdict_on config facts moment others dealer))
       (kept : (if dealer.number == own then bytes else [])
       ≡ (if dealer.number == own then others else [])) where
-    -- the dealer's trail, the verdict on each message, and the settlement of the word that it asks
-    abbrev trail : List DealerEntry
-    trail = of_dealer dealer.number facts
-
+    -- the verdicts
     abbrev v : DealerVerdict
     v = verdict_on config facts moment bytes dealer
 
     abbrev w : DealerVerdict
     w = verdict_on config facts moment others dealer
 
-    verdict_is : verdict_on config known moment bytes dealer ≡ v
-    verdict_is =
-        rw (book_known own facts dealer.number)
-        (verdict_same (book_by trail) config.date dealer.row moment bytes)
+    -- the facts of a message at the dealer's desk, with this trail
+    abbrev came_at : List DealerEntry → List ℕ → List DealerFact
+    came_at entries said = event_facts config.date dealer.row (book_by entries)
+        (at_desk.Received moment said (settlement_of (trail dealer) w))
 
-    kept_known : map (unpriced (dealer.number == own)) (event_facts config.date dealer.row
-        (book_by (of_dealer dealer.number known))
-        (at_desk.Received moment bytes (settlement_of trail w)))
-        ≡ map (unpriced (dealer.number == own)) (event_facts config.date dealer.row (book_by trail)
-        (at_desk.Received moment others (settlement_of trail w)))
+    kept_known : map (unpriced (dealer.number == own)) (came_at (known_trail dealer) bytes)
+        ≡ map (unpriced (dealer.number == own)) (came_at (trail dealer) others)
     unfolding event_facts
     kept_known =
-        rw verdict_is (came_alike v w alike (dealer.number == own) moment bytes others
-        (settlement_of trail w) kept)
+        rw verdict_known (came_alike v w alike (dealer.number == own) moment bytes others
+        (settlement_of (trail dealer) w) kept)
 
     pub said_left : left own (received_by_dealer config known moment bytes dealer)
         ≡ left own (received_by_dealer config facts moment others dealer)
     said_left =
-        rw (
-          verdict_is,
-          asked_alike v w alike,
-          answer_known own facts dealer.number (word_asked w),
-          rooms_known own facts dealer.number,
-        ) (simp (
-          effects,
-          kept_known,
-          list_left,
-          duty_alike v w alike (rooms_by trail) moment (settlement_of trail w),
-        ))
-
-  said_to_investor : (moment : ℕ) (bytes : List ℕ) (market : InvestorMarket)
-      → left own (received_by_investor known moment bytes market)
-      ≡ left own (received_by_investor facts moment bytes market)
-  said_to_investor moment bytes market =
-      let verdict_is : investor_verdict market (investor_book_by (of_investor market.firm known))
-      moment bytes
-      ≡ investor_verdict market (investor_book_by (of_investor market.firm facts)) moment bytes =
-      rw (market_known own facts market.firm) (investors.verdict_same market
-      (investor_book_by (of_investor market.firm facts)) moment bytes) in
-      rw verdict_is (simp (effects, market_kept own facts market (at_investor.Received moment bytes)))
+        let settlement = settlement_of (trail dealer) w in
+        let leaves = duty_alike v w alike (rooms_by (trail dealer)) moment settlement in
+        rw (verdict_known, asked_alike v w alike) (simp (at_desks, kept_known, list_left, leaves))
 
   -- the same message
   pub message_left : (firm moment : ℕ) (bytes : List ℕ)
       → left own (message_effect config known firm moment bytes)
       ≡ left own (message_effect config facts firm moment bytes)
   unfolding message_effect
-  message_left firm moment bytes =
-      simp (
-        left_if,
-        left_done own (dealer_at config firm) _ _
-            (λ dealer. said_left moment bytes bytes dealer refl refl),
-        left_for own (market_for config firm) _ _ (said_to_investor moment bytes),
-      )
+  message_left firm moment bytes = elim (cases_Bool (is_some (dealer_numbered config firm))) [
+    | inl is ↦ rw is (simp left_done (λ i. done_by (dealer_at config firm)
+        (λ dealer. said_left moment bytes bytes dealer refl refl i)))
+    | inr is ↦ rw is (simp (at_desks, market_kept (at_investor.Received moment bytes)))
+  ]

@@ -11,20 +11,23 @@ use mathlib.Core.List.{map-map}
 use Rattle.market_terms.specs.declared.rooms.RoomRef.{RoomRef}
 use Rattle.venue_rows.specs.declared.dealer_rows.DealerRow.{DealerRow}
 use Rattle.dealer_desk.specs.DealerFacts.{number_to_drop}
-use Rattle.dealer_desk.specs.DealerOutput.{event_facts, is_same_room, shown_room}
+use Rattle.dealer_desk.specs.DealerRules.{dealer_verdict}
+use Rattle.dealer_desk.specs.DealerOutput.{closable, event_facts, is_same_room, shown_room}
 use Rattle.dealer_desk.specs.Unpriced as dealers
 use Rattle.dealer_desk.specs.declared.events.DealerEvent.{DealerEvent}
 use Rattle.dealer_desk.proofs.UnpricedBooks.{book_same, withdrawn_same}
-use Rattle.dealer_desk.proofs.UnpricedVerdicts.{kept_same, number_same}
+use Rattle.dealer_desk.proofs.UnpricedVerdicts.{closable_same, kept_same, number_same}
+use Rattle.dealer_desk.proofs.UnpricedVerdicts.{verdict_same}
 use Rattle.investor_desk.specs.InvestorOutput as investor_output
-use Rattle.investor_desk.specs.InvestorRules.{InvestorMarket}
+use Rattle.investor_desk.specs.InvestorFacts.{InvestorBook, knows}
+use Rattle.investor_desk.specs.InvestorRules.{InvestorMarket, investor_verdict}
 use Rattle.investor_desk.specs.Unpriced as investors
 use Rattle.investor_desk.specs.declared.events.InvestorEvent.{InvestorEvent}
 use Rattle.investor_desk.proofs.UnpricedDesks as investors_same
 use Rattle.request_room.specs.RoomFacts.{RoomFact}
 use Rattle.request_room.specs.Unpriced as rooms
 use Rattle.step_replay.specs.DealerTrail.{DealerEntry, AtDesk, ShownIn, Sent, book_by}
-use Rattle.step_replay.specs.DealerTrail.{entries_of, facts_of, rooms_by, was_lifted, was_withdrawn}
+use Rattle.step_replay.specs.DealerTrail.{answer_to_dealer, entries_of, facts_of, rooms_by, was_lifted, was_withdrawn}
 use Rattle.step_replay.specs.InvestorTrail as investor_trail
 use Rattle.step_replay.specs.InvestorTrail.{InvestorEntry, AtDesk as AtInvestorsDesk}
 use Rattle.step_replay.specs.InvestorTrail.{Sent as SentToInvestor}
@@ -40,19 +43,16 @@ erase_entry stay (AtDesk fact) = Some (AtDesk (dealers.unpriced stay fact))
 erase_entry stay (Sent message) = None
 erase_entry stay entry = Some entry
 
--- at an investor
-abbrev erase_investor_entry : InvestorEntry → Option InvestorEntry
-erase_investor_entry (AtInvestorsDesk fact) = Some (AtInvestorsDesk (investors.unpriced fact))
-erase_investor_entry (SentToInvestor message) = None
-
 -- in the venue: the bytes stay that the dealer with this number sent
-abbrev erase : ℕ → Fact → Option Fact
+abbrev pub erase : ℕ → Fact → Option Fact
 erase own (AtDealer number entry) = option_map (AtDealer number) (erase_entry (number == own) entry)
 erase own (InRoom room fact) = Some (InRoom room (rooms.unpriced fact))
-erase own (AtInvestor number entry) = option_map (AtInvestor number) (erase_investor_entry entry)
+erase own (AtInvestor number (AtInvestorsDesk fact)) =
+    Some (AtInvestor number (AtInvestorsDesk (investors.unpriced fact)))
+erase own (AtInvestor number (SentToInvestor message)) = None
 
 -- what is left of facts
-pub bare : ℕ → List Fact → List Fact
+unfoldable pub bare : ℕ → List Fact → List Fact
 bare own facts = filter_map (erase own) facts
 
 -- What is left of what is added.
@@ -111,6 +111,8 @@ market_added own number market trail event =
       append-nil,
     )
 
+pub ruleset added = (desk_added, room_added, market_added)
+
 -- What is left at a place.
 
 pub trail_left : (own number : ℕ) (facts : List Fact) → of_dealer number (bare own facts)
@@ -118,10 +120,8 @@ pub trail_left : (own number : ℕ) (facts : List Fact) → of_dealer number (ba
 unfolding bare of_dealer
 trail_left own number [] = refl
 trail_left own number (AtDealer dealer (Sent message) ∷ facts) =
-    elim (cases_Bool (dealer == number)) [
-      | inl is ↦ rw (is, trail_left own number facts)
-      | inr is ↦ rw (is, trail_left own number facts)
-    ]
+    let later = trail_left own number facts in
+    elim (cases_Bool (dealer == number)) [ inl is ↦ rw (is, later) | inr is ↦ rw (is, later) ]
 trail_left own number (AtDealer dealer entry ∷ facts) =
     elim (cases_Bool (dealer == number)) [
       | inl is ↦ let same : dealer ≡ number = eqb-true dealer number is in
@@ -136,10 +136,9 @@ pub room_left : (own : ℕ) (place : RoomRef) (facts : List Fact)
     → of_room place (bare own facts) ≡ map rooms.unpriced (of_room place facts)
 unfolding bare of_room
 room_left own place [] = refl
-room_left own place (InRoom room fact ∷ facts) = elim (cases_Bool (is_same_room room place)) [
-  | inl is ↦ rw (is, room_left own place facts)
-  | inr is ↦ rw (is, room_left own place facts)
-]
+room_left own place (InRoom room fact ∷ facts) =
+    let later = room_left own place facts in
+    elim (cases_Bool (is_same_room room place)) [ inl is ↦ rw (is, later) | inr is ↦ rw (is, later) ]
 room_left own place (AtDealer dealer (Sent message) ∷ facts) = room_left own place facts
 room_left own place (AtInvestor investor (SentToInvestor message) ∷ facts) =
     room_left own place facts
@@ -151,15 +150,11 @@ market_left : (own number : ℕ) (facts : List Fact)
 unfolding bare of_investor
 market_left own number [] = refl
 market_left own number (AtInvestor investor (AtInvestorsDesk fact) ∷ facts) =
-    elim (cases_Bool (investor == number)) [
-      | inl is ↦ rw (is, market_left own number facts)
-      | inr is ↦ rw (is, market_left own number facts)
-    ]
+    let later = market_left own number facts in
+    elim (cases_Bool (investor == number)) [ inl is ↦ rw (is, later) | inr is ↦ rw (is, later) ]
 market_left own number (AtInvestor investor (SentToInvestor message) ∷ facts) =
-    elim (cases_Bool (investor == number)) [
-      | inl is ↦ rw (is, market_left own number facts)
-      | inr is ↦ rw (is, market_left own number facts)
-    ]
+    let later = market_left own number facts in
+    elim (cases_Bool (investor == number)) [ inl is ↦ rw (is, later) | inr is ↦ rw (is, later) ]
 market_left own number (AtDealer dealer (Sent message) ∷ facts) = market_left own number facts
 market_left own number (fact ∷ facts) = market_left own number facts
 
@@ -184,23 +179,7 @@ module _ (stay : Bool) where
   lifted_same quote (Sent message ∷ trail) = lifted_same quote trail
   lifted_same quote (entry ∷ trail) = rw (lifted_same quote trail)
 
-module _ (own : ℕ) (facts : List Fact) where
-  pub market_known : (number : ℕ) → investor_trail.book_by (of_investor number (bare own facts))
-      ≡ investors.unpriced_book (investor_trail.book_by (of_investor number facts))
-  market_known number =
-      rw (market_left own number facts)
-      (investors_same.book_same (investor_trail.facts_of (of_investor number facts)))
-
-  pub market_kept : (market : InvestorMarket) (more : InvestorEvent)
-      → map investors.unpriced (investor_output.event_facts market
-      (investor_trail.book_by (of_investor market.firm (bare own facts)))
-      (investors.unpriced_event more))
-      ≡ map investors.unpriced (investor_output.event_facts market
-      (investor_trail.book_by (of_investor market.firm facts)) more)
-  market_kept market more =
-      rw (market_known market.firm) (investors_same.kept_same market
-      (investor_trail.book_by (of_investor market.firm facts)) more)
-
+-- What is known of a dealer.
 module _ (own : ℕ) (facts : List Fact) (number : ℕ) where
   -- the dealer's trail
   abbrev trail : List DealerEntry
@@ -216,7 +195,7 @@ module _ (own : ℕ) (facts : List Fact) (number : ℕ) where
   pub rooms_known : rooms_by known ≡ rooms_by trail
   rooms_known = rw (trail_left own number facts) (rooms_same (number == own) trail)
 
-  pub lifted_known : (quote : ℕ) → was_lifted known quote ≡ was_lifted trail quote
+  lifted_known : (quote : ℕ) → was_lifted known quote ≡ was_lifted trail quote
   lifted_known quote = rw (trail_left own number facts) (lifted_same (number == own) quote trail)
 
   pub withdrawn_known : (quote : ℕ) → was_withdrawn known quote ≡ was_withdrawn trail quote
@@ -229,8 +208,67 @@ module _ (own : ℕ) (facts : List Fact) (number : ℕ) where
       → number_to_drop (book_by known) last ≡ number_to_drop (book_by trail) last
   number_known last = rw book_known (number_same (book_by trail) last)
 
-  pub desk_kept : (date : List ℕ) (row : DealerRow) (more : DealerEvent)
-      → map (dealers.unpriced (number == own))
-      (event_facts date row (book_by known) (dealers.unpriced_event more))
-      ≡ map (dealers.unpriced (number == own)) (event_facts date row (book_by trail) more)
-  desk_kept date row more = rw book_known (kept_same date row (number == own) (book_by trail) more)
+  pub closable_known : (request : ℕ)
+      → closable (book_by known) request ≡ closable (book_by trail) request
+  closable_known request = rw book_known (closable_same (book_by trail) request)
+
+  pub verdict_known : (date : List ℕ) (row : DealerRow) (moment : ℕ) (bytes : List ℕ)
+      → dealer_verdict date row (book_by known) moment bytes
+      ≡ dealer_verdict date row (book_by trail) moment bytes
+  verdict_known date row moment bytes =
+      rw book_known (verdict_same (book_by trail) date row moment bytes)
+
+  -- the answer to the word that the dealer asks, where it asks one
+  pub answer_known : (asked : Option ℕ)
+      → option_map (answer_to_dealer known) asked ≡ option_map (answer_to_dealer trail) asked
+  answer_known None = refl
+  answer_known (Some quote) = rw (lifted_known quote)
+
+pub ruleset known_at_desks = (rooms_known, number_known, closable_known, answer_known)
+
+pub desk_kept : (more : DealerEvent) (own : ℕ) (facts : List Fact) (number : ℕ) (date : List ℕ)
+    (row : DealerRow)
+    → map (dealers.unpriced (number == own)) (event_facts date row
+    (book_by (of_dealer number (bare own facts))) (dealers.unpriced_event more))
+    ≡ map (dealers.unpriced (number == own))
+    (event_facts date row (book_by (of_dealer number facts)) more)
+desk_kept more own facts number date row =
+    rw (book_known own facts number)
+    (kept_same date row (number == own) (book_by (of_dealer number facts)) more)
+
+-- What is known of an investor.
+module _ (own : ℕ) (facts : List Fact) (number : ℕ) where
+  -- the investor's book
+  abbrev market_book : InvestorBook
+  market_book = investor_trail.book_by (of_investor number facts)
+
+  -- what is left of it
+  abbrev known_book : InvestorBook
+  known_book = investor_trail.book_by (of_investor number (bare own facts))
+
+  market_known : known_book ≡ investors.unpriced_book market_book
+  market_known =
+      rw (market_left own number facts)
+      (investors_same.book_same (investor_trail.facts_of (of_investor number facts)))
+
+  pub knows_known : (request : ℕ) (quote : Option ℕ)
+      → knows known_book request quote ≡ knows market_book request quote
+  knows_known request quote = rw market_known (investors_same.knows_same market_book request quote)
+
+  pub said_known : (market : InvestorMarket) (moment : ℕ) (bytes : List ℕ)
+      → investor_verdict market known_book moment bytes
+      ≡ investor_verdict market market_book moment bytes
+  said_known market moment bytes =
+      rw market_known (investors_same.verdict_same market market_book moment bytes)
+
+pub ruleset known_at_markets = (knows_known, said_known)
+
+pub market_kept : (more : InvestorEvent) (own : ℕ) (facts : List Fact) (number : ℕ)
+    (market : InvestorMarket)
+    → map investors.unpriced (investor_output.event_facts market
+    (investor_trail.book_by (of_investor number (bare own facts))) (investors.unpriced_event more))
+    ≡ map investors.unpriced (investor_output.event_facts market
+    (investor_trail.book_by (of_investor number facts)) more)
+market_kept more own facts number market =
+    rw (market_known own facts number) (investors_same.kept_same market
+    (investor_trail.book_by (of_investor number facts)) more)

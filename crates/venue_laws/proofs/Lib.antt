@@ -2,7 +2,6 @@ mod AnswerLemmas
 mod BlindDues
 mod ComputedDays
 mod ConditionMet
-mod ErasedActions
 mod ErasedSteps
 mod Erasing
 mod InvestorVerdicts
@@ -13,7 +12,6 @@ mod NoticeLemmas
 mod PlainFacts
 mod PricedFields
 mod PricedMessages
-mod PricedQuotes
 mod ShownRequests
 mod ToldLemmas
 mod VenueDay
