@@ -1,13 +1,10 @@
 -- Every word that a dealer asks is answered as the dealer view says.
-use Rattle.std.proofs.Common.{List, None, Option, Some, ℕ, [], ap, filter_map, fold, if◌then◌else◌}
-use Rattle.std.proofs.Common.{map, option_map, option_to_list, refl, ◌++◌, ◌==◌, ◌∙◌, ◌∷◌}
-use Rattle.std.proofs.Common.{◌≡◌}
+use Rattle.std.proofs.Common.{List, None, Option, Some, ℕ, [], filter_map}
+use Rattle.std.proofs.Common.{map, option_map, option_to_list, refl, ◌++◌, ◌∙◌, ◌∷◌, ◌≡◌}
 use Rattle.std.proofs.lemmas.List.{append-nil, append_cancel_left}
 use Rattle.std.proofs.lemmas.List.Elements.{filter_map-append}
 use Rattle.std.proofs.lemmas.List.Sums.{fold-append}
-use Rattle.std.specs.List.{list_any}
 use Rattle.quote_word.specs.declared.settled.Settled.{Settled}
-use Rattle.quote_word.specs.declared.settled.Settled.TheVariants as settled
 use Rattle.venue_rows.specs.Rows.{Configuration, dealer_numbered}
 use Rattle.venue_rows.specs.declared.dealer_rows.DealerRow.{DealerRow}
 use Rattle.dealer_desk.specs.DealerFacts.{Came, DealerFact, Dropped, Late, Shown, Told, Withdrawn}
@@ -22,12 +19,11 @@ use Rattle.dealer_desk.specs.declared.standing.Withdrawal.TheVariants as by
 use Rattle.step_replay.specs.Actions.{answer_to_drop, drop_at, settlement_of}
 use Rattle.step_replay.specs.AuditTrail.{audit_trail}
 use Rattle.step_replay.specs.DealerGrowth.{desk_push, settled_undue, verdict_undue}
-use Rattle.step_replay.specs.DealerTrail.{AtDesk, DealerEntry, Sent, ShownIn}
-use Rattle.step_replay.specs.DealerTrail.{answer_to_dealer, book_by, entries_of, facts_of}
-use Rattle.step_replay.specs.DealerTrail.{message_by}
-use Rattle.step_replay.specs.DealerView.{DealerView, after_due, view_after}
+use Rattle.step_replay.specs.DealerTrail.{AtDesk, DealerEntry, Sent, ShownIn, answer_to_dealer}
+use Rattle.step_replay.specs.DealerTrail.{book_by, entries_of, facts_of, message_by}
+use Rattle.step_replay.specs.DealerView.{DealerView, after_due, answer_to, view_after}
 use Rattle.step_replay.specs.DueList.{due_by, due_by_fact, due_list}
-use Rattle.step_replay.specs.EachLemmas.{Each, Every, Stays, each_append, each_of, every_both}
+use Rattle.step_replay.specs.EachLemmas.{Each, Every, Stays, each_append, every_both}
 use Rattle.step_replay.specs.IsolationLemmas.{seen_is_kept}
 use Rattle.step_replay.specs.SeenLemmas.{Seen, start_seen}
 use Rattle.step_replay.specs.StepLemmas.{kept_by_all}
@@ -35,8 +31,7 @@ use Rattle.step_replay.specs.TrailKept.{IsKept}
 use Rattle.step_replay.specs.VenueFacts.{of_dealer}
 use Rattle.step_replay.specs.declared.steps.Step.{Step}
 use Rattle.venue_laws.proofs.ListLemmas.{every_map, first_grown}
-use Rattle.venue_laws.specs.Answers.{asked_at, next_settlement, settlement_by_view}
-use Rattle.venue_laws.specs.Answers.{settlement_in}
+use Rattle.venue_laws.specs.Answers.{asked_at, next_settlement, settlement_by_view, settlement_in}
 
 -- what one event more asks at a desk
 abbrev pub WordsAsked : Type 0
@@ -45,30 +40,27 @@ WordsAsked = (date : List ℕ) (row : DealerRow) (events : List DealerEvent) (mo
     ≡ settled_words (desk_after date row events).facts
     ++ asked_by date row (book_of (desk_after date row events).facts) more
 
--- a word with its answer by some liftings
-abbrev IsAnswer : List ℕ → ℕ × Settled → Type 0
-IsAnswer lifted word =
-    word.1 ≡ (if list_any (λ (one : ℕ). one == word.0) lifted
-    then settled.Lifted
-    else settled.Withdrawn)
+-- a word with its answer by a view
+abbrev IsAnswer : DealerView → ℕ × Settled → Type 0
+IsAnswer view word = word.1 ≡ answer_to view word.0
 
--- an entry of which nothing is due, and that answers a word by these liftings, if one
-abbrev IsQuiet : List ℕ → DealerEntry → Type 0
-IsQuiet lifted entry =
-    (due_by entry ≡ None) × Every (IsAnswer lifted) (option_to_list (settlement_in entry))
+-- an entry of which nothing is due, and that answers a word by this view, if one
+abbrev IsQuiet : DealerView → DealerEntry → Type 0
+IsQuiet view entry =
+    (due_by entry ≡ None) × Every (IsAnswer view) (option_to_list (settlement_in entry))
 
-quiet_facts : (lifted : List ℕ) (facts : List DealerFact) → filter_map due_by_fact facts ≡ []
-    → Every (IsAnswer lifted) (settled_words facts) → Every (IsQuiet lifted) (map AtDesk facts)
-quiet_facts lifted [] undue words = tt
-quiet_facts lifted (Came moment bytes used ∷ facts) undue words = cc
-quiet_facts lifted (Shown ask moment ∷ facts) undue words = cc
-quiet_facts lifted (Told request close moment ∷ facts) undue words = cc
-quiet_facts lifted (Dropped last moment ∷ facts) undue words = cc
-quiet_facts lifted (Withdrawn quote how ∷ facts) undue words =
-    ((refl, (words.0, tt)), quiet_facts lifted facts undue words.1)
-quiet_facts lifted (Late quote ∷ facts) undue words =
-    ((refl, (words.0, tt)), quiet_facts lifted facts undue words.1)
-quiet_facts lifted (fact ∷ facts) undue words = ((refl, tt), quiet_facts lifted facts undue words)
+quiet_facts : (view : DealerView) (facts : List DealerFact) → filter_map due_by_fact facts ≡ []
+    → Every (IsAnswer view) (settled_words facts) → Every (IsQuiet view) (map AtDesk facts)
+quiet_facts view [] undue words = tt
+quiet_facts view (Came moment bytes used ∷ facts) undue words = cc
+quiet_facts view (Shown ask moment ∷ facts) undue words = cc
+quiet_facts view (Told request close moment ∷ facts) undue words = cc
+quiet_facts view (Dropped last moment ∷ facts) undue words = cc
+quiet_facts view (Withdrawn quote how ∷ facts) undue words =
+    ((refl, (words.0, tt)), quiet_facts view facts undue words.1)
+quiet_facts view (Late quote ∷ facts) undue words =
+    ((refl, (words.0, tt)), quiet_facts view facts undue words.1)
+quiet_facts view (fact ∷ facts) undue words = ((refl, tt), quiet_facts view facts undue words)
 
 -- the first word that some facts settle is settled next
 next_stays : (word : ℕ × Settled) (entries more : List DealerEntry)
@@ -105,17 +97,11 @@ module _ (date : List ℕ) (row : DealerRow) where
   view_at before = view_after date row (due_list before)
 
   -- an event at the desk lifts no quote
-  lifts_none : (view : DealerView) (fact : DealerFact)
-      → (fold after_due view (due_list (AtDesk fact ∷ []))).lifted ≡ view.lifted
-  unfolding after_due
-  lifts_none view (Came moment bytes used) = refl
-  lifts_none view fact = refl
-
   fact_keeps : (before : List DealerEntry) (fact : DealerFact)
       → (view_at (before ++ AtDesk fact ∷ [])).lifted ≡ (view_at before).lifted
-  fact_keeps before fact =
-      rw (filter_map-append due_by before (AtDesk fact ∷ []), fold-append)
-      (lifts_none (view_at before) fact)
+  unfolding after_due
+  fact_keeps before (Came moment bytes used) = rw (filter_map-append, fold-append) refl
+  fact_keeps before fact = rw (filter_map-append, fold-append) refl
 
   asks_none : (before : List DealerEntry) (entry : DealerEntry) → due_by entry ≡ None
       → asked_at date row before entry ≡ None
@@ -123,51 +109,62 @@ module _ (date : List ℕ) (row : DealerRow) where
   asks_none before (AtDesk (Dropped last moment)) none = cc
   asks_none before entry none = refl
 
-  each_quiet : (lifted : List ℕ) (before entries : List DealerEntry)
-      → (view_at before).lifted ≡ lifted → Every (IsQuiet lifted) entries
+  each_quiet : (before entries : List DealerEntry) → Every (IsQuiet (view_at before)) entries
       → Each IsAnswered before entries
-  each_quiet lifted before [] is quiet = tt
-  each_quiet lifted before (entry ∷ entries) is quiet = (
+  each_quiet before [] quiet = tt
+  each_quiet before (entry ∷ entries) quiet = (
     record {
       asked = λ quote asks. cc (asks_none before entry quiet.0.0);
-      answered = λ quote settlement says. rw is ((rw says at quiet.0.1).0);
+      answered = λ quote settlement says. (rw says at quiet.0.1).0;
     },
-    each_quiet lifted (before ++ entry ∷ []) entries
-        (rw (filter_map-append due_by before (entry ∷ []), quiet.0.0, append-nil) is) quiet.1,
+    each_quiet (before ++ entry ∷ []) entries
+        (rw (filter_map-append due_by before (entry ∷ []), quiet.0.0, append-nil) quiet.1),
   )
 
-  module _ (law : WordsAsked) (trail : List DealerEntry) (seen : Seen date row trail) where
+  -- what is kept
+  abbrev Kept : List DealerEntry → Type 0
+  Kept trail = Seen date row trail × Each IsAnswered [] trail
+
+  module _ (law : WordsAsked) (trail : List DealerEntry) (before : Kept trail) where
     -- the word that is asked, if one, with its answer
     abbrev answers : Option ℕ → List (ℕ × Settled)
     answers asked = asked_word asked (option_map (answer_to_dealer trail) asked)
 
-    word_answered : (asked : Option ℕ) → Every (IsAnswer seen.lifted) (answers asked)
-    word_answered None = tt
-    word_answered (Some quote) = (rw (seen.lifted_are quote) refl, tt)
+    word_answered : (first : DealerFact) (asked : Option ℕ)
+        → Every (IsAnswer (view_at (trail ++ AtDesk first ∷ []))) (answers asked)
+    word_answered first None = tt
+    word_answered first (Some quote) =
+        (rw (fact_keeps trail first, before.0.view_is, before.0.lifted_are quote) refl, tt)
 
-    -- an event that adds a fact that may ask a word, and others of which nothing is due
-    event_each : (more : DealerEvent) (first : DealerFact) (rest : List DealerFact)
+    -- after an event that adds a fact that may ask a word, and others of which nothing is due
+    event_kept : (more : DealerEvent) (first : DealerFact) (rest : List DealerFact)
+        → Seen date row (trail ++ entries_of date row trail more)
         → event_facts date row (book_by trail) more ≡ first ∷ rest
         → filter_map due_by_fact rest ≡ [] → settled_word first ≡ None
         → asked_by date row (book_by trail) more ≡ answers (asked_at date row trail (AtDesk first))
-        → Each IsAnswered trail (entries_of date row trail more)
+        → Kept (trail ++ entries_of date row trail more)
     unfolding entries_of
-    event_each more first rest is undue still words =
-        rw is (
-          record {
-            asked = λ quote so. next_stays _ (map AtDesk rest ++ rooms) sent
-                (next_stays _ (map AtDesk rest) rooms (next quote so));
-            answered = λ quote settlement says. cc;
-          },
-          each_quiet seen.lifted (trail ++ AtDesk first ∷ []) (map AtDesk rest ++ rooms ++ sent)
-              (fact_keeps trail first ∙ ap (λ (view : DealerView). view.lifted) seen.view_is)
-              (every_both (IsQuiet seen.lifted) (map AtDesk rest ++ rooms) sent
-              (every_both (IsQuiet seen.lifted) (map AtDesk rest) rooms
-              (quiet_facts seen.lifted rest undue (rw settles (word_answered _)))
-              (every_map (IsQuiet seen.lifted) ShownIn _ (λ room among. (refl, tt))))
-              (every_map (IsQuiet seen.lifted) Sent _ (λ message among. (refl, tt)))),
-        )
+    event_kept more first rest seen is undue still words = (
+      seen,
+      each_append IsAnswered answered_stays [] trail _ before.1 (rw is (
+        record {
+          asked = λ quote so. next_stays _ (map AtDesk rest ++ rooms) sent
+              (next_stays _ (map AtDesk rest) rooms (next quote so));
+          answered = λ quote settlement says. cc;
+        },
+        each_quiet (trail ++ AtDesk first ∷ []) (map AtDesk rest ++ rooms ++ sent)
+            (every_both Quiet (map AtDesk rest ++ rooms) sent
+            (every_both Quiet (map AtDesk rest) rooms
+            (quiet_facts (view_at (trail ++ AtDesk first ∷ [])) rest undue
+            (rw settles (word_answered first _)))
+            (every_map Quiet ShownIn _ (λ room among. (refl, tt))))
+            (every_map Quiet Sent _ (λ message among. (refl, tt)))),
+      )),
+    )
       where
+        Quiet : DealerEntry → Type 0
+        Quiet entry = IsQuiet (view_at (trail ++ AtDesk first ∷ [])) entry
+
         rooms : List DealerEntry
         rooms = map ShownIn (option_to_list (shown_room more))
 
@@ -176,8 +173,8 @@ module _ (date : List ℕ) (row : DealerRow) where
 
         settles : settled_words rest ≡ answers (asked_at date row trail (AtDesk first))
         settles =
-            let grown =
-            rw (desk_push, seen.state_is, filter_map-append) at (law date row seen.events more) in
+            let grown = rw (desk_push, before.0.state_is, filter_map-append) at
+            (law date row before.0.events more) in
             let added = append_cancel_left (settled_words (facts_of trail)) _ _ grown in
             (rw (is, still) at added) ∙ words
 
@@ -185,57 +182,42 @@ module _ (date : List ℕ) (row : DealerRow) where
             → next_settlement (map AtDesk rest)
             ≡ Some (quote, settlement_by_view date row trail quote)
         next quote so =
-            rw (seen.view_is, seen.lifted_are quote)
+            rw (before.0.view_is, before.0.lifted_are quote)
             (next_settled rest (quote, answer_to_dealer trail quote) (rw so at settles))
-
-  -- what is kept
-  abbrev Kept : List DealerEntry → Type 0
-  Kept trail = Seen date row trail × Each IsAnswered [] trail
-
-  -- after an event that keeps the view
-  kept_more : (trail more : List DealerEntry) → Kept trail → Seen date row (trail ++ more)
-      → Each IsAnswered trail more → Kept (trail ++ more)
-  kept_more trail more before seen each =
-      (seen, each_append IsAnswered answered_stays [] trail more before.1 each)
 
   answers_are_kept : WordsAsked → IsKept date row Kept
   unfolding event_facts
   answers_are_kept law = record {
     own = λ trail moment bytes before.
         let v = dealer_verdict date row (book_by trail) moment bytes in
-        kept_more trail _ before (views.own trail moment bytes before.0)
-        (event_each law trail before.0 (event.Received moment bytes (settlement_of trail v))
-        (Came moment bytes (uses_number v)) (verdict_facts v (settlement_of trail v)) refl
-        (verdict_undue v (settlement_of trail v)) refl refl);
+        event_kept law trail before (event.Received moment bytes (settlement_of trail v))
+        (Came moment bytes (uses_number v)) (verdict_facts v (settlement_of trail v))
+        (views.own trail moment bytes before.0) refl (verdict_undue v (settlement_of trail v)) refl
+        refl;
     drop = λ trail last moment before.
-        kept_more trail _ before (views.drop trail last moment before.0)
-        (event_each law trail before.0 (drop_at trail last moment) (Dropped last moment)
+        event_kept law trail before (drop_at trail last moment) (Dropped last moment)
         (settled_facts (number_to_drop (book_by trail) last) by.Cancel (answer_to_drop trail last))
-        refl (settled_undue _ by.Cancel _) refl refl);
+        (views.drop trail last moment before.0) refl (settled_undue _ by.Cancel _) refl refl;
     shown = λ trail room ask moment before.
-        kept_more trail _ before (views.shown trail room ask moment before.0)
-        (event_each law trail before.0 (event.Shown room ask moment) (Shown ask moment) [] refl
-        refl refl refl);
+        event_kept law trail before (event.Shown room ask moment) (Shown ask moment) []
+        (views.shown trail room ask moment before.0) refl refl refl refl;
     told = λ trail request close moment may before.
-        kept_more trail _ before (views.told trail request close moment may before.0)
-        (event_each law trail before.0 (event.Told request close moment)
-        (Told request close moment) [] (rw may refl) refl refl refl);
-    lifted = λ trail quote within still before.
-        kept_more trail _ before (views.lifted trail quote within still before.0)
-        (record { asked = λ other asks. cc; answered = λ other settlement says. cc }, tt);
+        event_kept law trail before (event.Told request close moment) (Told request close moment) []
+        (views.told trail request close moment may before.0) (rw may refl) refl refl refl;
+    lifted = λ trail quote within still before. (
+      views.lifted trail quote within still before.0,
+      each_append IsAnswered answered_stays [] trail _ before.1
+          (record { asked = λ other asks. cc; answered = λ other settlement says. cc }, tt),
+    );
   }
     where
       views : IsKept date row (Seen date row)
       views = seen_is_kept date row
 
 -- at each place of a dealer's trail
-pub is_answered : WordsAsked → (config : Configuration) (steps : List Step) (dealer : ℕ)
-    (row : DealerRow) (before after : List DealerEntry) (entry : DealerEntry)
-    → dealer_numbered config dealer ≡ Some row
-    → of_dealer dealer (audit_trail config steps).facts ≡ before ++ entry ∷ after
-    → IsAnswered config.date row before entry after
-is_answered law config steps dealer row before after entry is splits =
-    let all = kept_by_all config dealer row is (Kept config.date row)
-    (answers_are_kept config.date row law) (start_seen config.date row, tt) steps in
-    each_of (IsAnswered config.date row) (of_dealer dealer (audit_trail config steps).facts)
-    before entry after all.1 splits
+pub are_answered : WordsAsked → (config : Configuration) (steps : List Step) (dealer : ℕ)
+    (row : DealerRow) → dealer_numbered config dealer ≡ Some row
+    → Each (IsAnswered config.date row) [] (of_dealer dealer (audit_trail config steps).facts)
+are_answered law config steps dealer row is =
+    (kept_by_all config dealer row is (Kept config.date row)
+    (answers_are_kept config.date row law) (start_seen config.date row, tt) steps).1

@@ -1,19 +1,18 @@
 -- What a verdict of an investor's desk says, and what comes to the desk brings of what stands of
 -- its requests and quotes.
 use Rattle.std.proofs.Common.{Bool, IfSome, List, None, Option, Some, ℕ, [], ap, arith, eq-eqb}
-use Rattle.std.proofs.Common.{false, is_some, length, nat_le, option_map, refl, sym, true, ◌&&◌}
-use Rattle.std.proofs.Common.{◌++◌, ◌+◌, ◌<◌, ◌==◌, ◌∙◌, ◌∷◌, ◌≡◌}
+use Rattle.std.proofs.Common.{false, if◌then◌else◌, is_some, length, nat_le, option_map, refl, sym}
+use Rattle.std.proofs.Common.{true, ◌&&◌, ◌++◌, ◌+◌, ◌==◌, ◌∙◌, ◌∷◌, ◌≡◌}
 use Rattle.std.proofs.lemmas.Bool.{not-false, or_left, or_right}
 use Rattle.std.proofs.lemmas.List.{append-nil, length-map}
+use Rattle.std.proofs.lemmas.List.Quantifiers.{position-Some}
 use Rattle.std.proofs.lemmas.Slice.Eq.{bytes_eq-Decides}
 use Rattle.market_terms.specs.Dealers.{are_distinct}
 use Rattle.market_terms.specs.declared.rooms.Offer.{Offer}
 use Rattle.market_terms.specs.declared.rooms.ResponseRef.{ResponseRef}
 use Rattle.quote_messages.specs.Arrivals.{investor_arrival}
-use Rattle.quote_messages.specs.declared.arrivals.Arrival.{Arrival}
 use Rattle.quote_messages.specs.declared.arrivals.Arrival.TheVariants as arrival
 use Rattle.quote_messages.specs.declared.reject_reasons.RequestRejectReason.{RequestRejectReason}
-use Rattle.quote_messages.specs.declared.requests.InvestorMessage.{InvestorMessage}
 use Rattle.quote_messages.specs.declared.requests.InvestorMessage.TheVariants as message
 use Rattle.quote_messages.specs.declared.requests.QuoteHit.{QuoteHit}
 use Rattle.quote_messages.specs.declared.requests.QuoteRequest.{QuoteRequest}
@@ -23,15 +22,16 @@ use Rattle.venue_rows.specs.Texts.{same_text}
 use Rattle.venue_rows.specs.declared.bond_rows.BondRow.{BondRow}
 use Rattle.venue_rows.specs.declared.investor_rows.InvestorRow.{InvestorRow}
 use Rattle.investor_desk.specs.InvestorDesk.{market_of}
-use Rattle.investor_desk.specs.InvestorFacts.{Asked, Came, Gone, InvestorBook, InvestorFact, Offered}
-use Rattle.investor_desk.specs.InvestorFacts.{StandingRequest, book_of, expected_number, knows}
-use Rattle.investor_desk.specs.InvestorFacts.{offer_named, offer_of_dealer, offer_with_word}
-use Rattle.investor_desk.specs.InvestorFacts.{offers_of, open_request, request_numbered}
-use Rattle.investor_desk.specs.InvestorFacts.{request_with_id, requests_of, while_open}
+use Rattle.investor_desk.specs.InvestorFacts.{Asked, Came, Gone, InvestorBook, InvestorFact}
+use Rattle.investor_desk.specs.InvestorFacts.{Offered, StandingRequest, book_of, expected_number}
+use Rattle.investor_desk.specs.InvestorFacts.{is_open, knows, offer_named, offer_of_dealer}
+use Rattle.investor_desk.specs.InvestorFacts.{offer_with_word, offers_of, open_request}
+use Rattle.investor_desk.specs.InvestorFacts.{request_numbered, request_with_id, requests_of}
+use Rattle.investor_desk.specs.InvestorFacts.{while_open}
 use Rattle.investor_desk.specs.InvestorOutput.{answer_facts, close_by_answer, closed_facts}
 use Rattle.investor_desk.specs.InvestorOutput.{event_facts, expiry_facts, gone_facts, next_offer}
-use Rattle.investor_desk.specs.InvestorOutput.{offer_facts, own_facts, refusal_of}
-use Rattle.investor_desk.specs.InvestorOutput.{uses_number, withdrawal_facts}
+use Rattle.investor_desk.specs.InvestorOutput.{offer_facts, own_facts, refusal_of, uses_number}
+use Rattle.investor_desk.specs.InvestorOutput.{withdrawal_facts}
 use Rattle.investor_desk.specs.InvestorRules as rules
 use Rattle.investor_desk.specs.InvestorRules.{InvestorMarket, arrival_verdict, dealer_named}
 use Rattle.investor_desk.specs.InvestorRules.{dealer_numbers, hit_of, hit_verdict, investor_verdict}
@@ -40,16 +40,16 @@ use Rattle.investor_desk.specs.InvestorRules.{request_refusal, request_verdict}
 use Rattle.investor_desk.specs.declared.events.InvestorEvent.{InvestorEvent}
 use Rattle.investor_desk.specs.declared.events.InvestorEvent.TheVariants as event
 use Rattle.investor_desk.specs.declared.standing.AcceptedRequest.{AcceptedRequest}
-use Rattle.investor_desk.specs.declared.standing.RequestClose.{RequestClose}
 use Rattle.investor_desk.specs.declared.standing.ShownOffer.{ShownOffer}
 use Rattle.investor_desk.specs.declared.verdicts.InvestorVerdict.{InvestorVerdict}
 use Rattle.investor_desk.specs.declared.verdicts.InvestorVerdict.TheVariants as verdict
 use Rattle.step_replay.specs.EachLemmas.{Each, Every, every_weaker}
+use Rattle.step_replay.specs.GrowthLemmas.{any_left}
 use Rattle.step_replay.specs.PlaceLemmas.{has_item}
 use Rattle.day_parts.specs.AcceptedQuotes.{next_of_day, none_holds}
-use Rattle.venue_laws.proofs.KnownDesks.{DeskFit, IsKnown, MayCome, asked, asked_grown, asked_is}
+use Rattle.venue_laws.proofs.KnownDesks.{DeskFit, IsKnown, MayCome, asked, asked_is, asks}
 use Rattle.venue_laws.proofs.KnownDesks.{asked_known, facts_fit, offers_both, requests_both}
-use Rattle.venue_laws.proofs.ListLemmas.{first_of_every, found_all, found_passes, position_within}
+use Rattle.venue_laws.proofs.ListLemmas.{first_of_every, found_all, found_passes}
 use Rattle.venue_laws.proofs.VenueInvariant.{IsDealer}
 use Rattle.venue_laws.proofs.VenueParts.{BearsGrid}
 
@@ -106,9 +106,8 @@ module _ (config : Configuration) (firm : ℕ) (row : InvestorRow) (may : ℕ �
   unfolding dealer_named
   are_dealers names =
       found_all (IsDealer config) (dealer_named market) (λ name dealer found.
-      let within : dealer < length market.dealers =
-      position_within (λ own. same_text own name) market.dealers dealer found in
-      has_item config.dealers dealer (rw length-map at within)) names
+      let is = position-Some (λ own. same_text own name) market.dealers dealer [] found in
+      has_item config.dealers dealer (rw length-map at is.0)) names
 
   -- the bond that is found by its identifier is found by the identifier that it has
   found_again : (id : List ℕ) (bond : BondRow) → bond_with_id config id ≡ Some bond
@@ -146,24 +145,22 @@ module _ (config : Configuration) (firm : ℕ) (row : InvestorRow) (may : ℕ �
   pass_fits pass (Some own) known =
       record { some_is = refl; knows_is = asked_known facts own.request.number known }
 
-  arrival_fits : (moment : ℕ) (came : Arrival InvestorMessage)
-      → VerdictFit config row facts (arrival_verdict market book moment came)
-  unfolding request_verdict hit_verdict pass_verdict rules.bond_with_id offer_named request_with_id
-  arrival_fits moment (arrival.Taken (message.Request request)) =
-      request_fits moment request (bond_with_id config request.bond) _ refl refl
-  arrival_fits moment (arrival.Taken (message.Hit hit)) =
-      hit_fits hit (offer_named book hit.quote)
-      (first_of_every (IsKnown facts) _ (offers_of facts) fit.known)
-  arrival_fits moment (arrival.Taken (message.Pass pass)) =
-      pass_fits pass (request_with_id book pass.request)
-      (first_of_every (IsAsked facts) _ (requests_of facts) (requests_asked facts))
-  arrival_fits moment other = tt
-
   pub verdict_fits : (moment : ℕ) (bytes : List ℕ)
       → VerdictFit config row facts (investor_verdict market book moment bytes)
-  unfolding investor_verdict
+  unfolding investor_verdict request_verdict hit_verdict pass_verdict rules.bond_with_id offer_named request_with_id
   verdict_fits moment bytes =
-      arrival_fits moment (investor_arrival market.date market.row (expected_number book) bytes)
+      elim (investor_arrival market.date market.row (expected_number book) bytes)
+      as (λ came. VerdictFit config row facts (arrival_verdict market book moment came)) [
+        | arrival.Taken (message.Request request) ↦
+            request_fits moment request (bond_with_id config request.bond) _ refl refl
+        | arrival.Taken (message.Hit hit) ↦
+            hit_fits hit (offer_named book hit.quote)
+            (first_of_every (IsKnown facts) _ (offers_of facts) fit.known)
+        | arrival.Taken (message.Pass pass) ↦
+            pass_fits pass (request_with_id book pass.request)
+            (first_of_every (IsAsked facts) _ (requests_of facts) (requests_asked facts))
+        | other ↦ tt
+      ]
 
   -- Events.
 
@@ -171,33 +168,24 @@ module _ (config : Configuration) (firm : ℕ) (row : InvestorRow) (may : ℕ �
   abbrev Comes : List InvestorFact → Type 0
   Comes more = Each (MayCome may) facts more
 
-  gone_comes : (number : ℕ) (shown : Option ShownOffer) → Comes (gone_facts number shown)
-  gone_comes number None = tt
-  gone_comes number (Some shown) = (tt, tt)
-
-  closed_comes : (number : ℕ) (close : Option RequestClose) → Comes (closed_facts number close)
-  closed_comes number None = tt
-  closed_comes number (Some close) = (tt, tt)
-
-  open_some : (own : Option StandingRequest) → is_some (while_open own) ≡ true
-      → is_some own ≡ true
-  open_some None is = is
-  open_some (Some own) is = refl
-
   offer_comes : (number : ℕ) (offer : Offer) (own : Option StandingRequest)
-      → (is_some own ≡ true → asked facts number ≡ true)
-      → Comes (offer_facts book number offer own)
+      → is_some own ≡ asked facts number → Comes (offer_facts book number offer (while_open own))
   offer_comes number offer None known = tt
-  offer_comes number offer (Some own) known = behind (offer_of_dealer own offer.dealer)
+  offer_comes number offer (Some own) known =
+      elim (is_open own)
+      as (λ b. Comes (offer_facts book number offer (if b then Some own else None))) [
+        | true ↦ behind (offer_of_dealer own offer.dealer)
+        | false ↦ tt
+      ]
     where
       behind : (old : Option ShownOffer)
           → Comes (gone_facts number old ++ Offered (next_offer book number offer) ∷ [])
-      behind None = ((known refl, refl), tt)
+      behind None = ((sym known, refl), tt)
       behind (Some old) =
           let gone = Gone number old.number ∷ [] in
           let same : offers_of (facts ++ gone) ≡ offers_of facts =
           offers_both facts gone ∙ append-nil (offers_of facts) in
-          (tt, ((asked_grown facts gone number (known refl), rw same refl), tt))
+          (tt, ((any_left (asks number) facts gone (sym known), rw same refl), tt))
 
   module _ (day : (number : ℕ) → (nat_le 1 number && nat_le number row.requests) ≡ true
       → may number ≡ true) where
@@ -216,19 +204,23 @@ module _ (config : Configuration) (firm : ℕ) (row : InvestorRow) (may : ℕ �
         said_comes moment bytes (investor_verdict market book moment bytes)
         (verdict_fits moment bytes)
     event_comes (event.QuoteCame request offer moment) =
-        offer_comes request offer (open_request book request)
-        (λ some. sym (asked_is request facts) ∙ open_some (request_numbered book request) some)
+        offer_comes request offer (request_numbered book request) (asked_is request facts)
     event_comes (event.QuoteGone request word moment) =
         elim (open_request book request) as (λ own. Comes (withdrawal_facts request word own)) [
           | None ↦ tt
-          | Some own ↦ gone_comes request (offer_with_word own word)
+          | Some own ↦
+              elim (offer_with_word own word) as (λ shown. Comes (gone_facts request shown)) [
+                | None ↦ tt
+                | Some shown ↦ (tt, tt)
+              ]
         ]
     event_comes (event.DealerDeclined request dealer moment) = tt
     event_comes (event.Answered request response reply moment) =
         elim (request_numbered book request)
         as (λ own. Comes (answer_facts book request response reply own)) [
           | None ↦ tt
-          | Some own ↦ closed_comes request (close_by_answer book response (refusal_of reply))
+          | Some own ↦ elim (close_by_answer book response (refusal_of reply))
+              as (λ close. Comes (closed_facts request close)) [ None ↦ tt | Some close ↦ (tt, tt) ]
         ]
     event_comes (event.Closed request moment) =
         elim (request_numbered book request) as (λ own. Comes (expiry_facts request own)) [

@@ -3,6 +3,7 @@
 use Rattle.std.proofs.Common.{Bool, List, None, Option, Some, ℕ, [], ap, arith, eq-eqb, false, find}
 use Rattle.std.proofs.Common.{inl, inr, is_some, length, refl, subst, true, ◌++◌, ◌+◌, ◌<◌, ◌==◌}
 use Rattle.std.proofs.Common.{◌∷◌, ◌≡◌, ◌≤◌}
+use Rattle.std.proofs.Math.Bool.{or-false}
 use Rattle.std.proofs.lemmas.Bool.{and_parts, cases_Bool, eqb-true, ne_eqb, or_cases}
 use Rattle.std.proofs.lemmas.List.{append-nil, append_assoc, length-append}
 use Rattle.std.proofs.lemmas.List.Folds.{list_any-append}
@@ -64,9 +65,6 @@ offers_both (Offered shown ∷ facts) more = ap (λ l. shown ∷ l) (offers_both
 offers_both (fact ∷ facts) more = offers_both facts more
 
 module _ (facts more : List InvestorFact) (number : ℕ) where
-  pub asked_grown : asked facts number ≡ true → asked (facts ++ more) number ≡ true
-  asked_grown is = any_left (asks number) facts more is
-
   quote_grown : (quote : Option ℕ) → knows_quote (book_of facts) number quote ≡ true
       → knows_quote (book_of (facts ++ more)) number quote ≡ true
   unfolding offer_numbered
@@ -82,7 +80,8 @@ module _ (facts more : List InvestorFact) (number : ℕ) where
       → knows (book_of (facts ++ more)) number quote ≡ true
   knows_grown quote is =
       let parts = and_parts _ _ (rw (asked_is number facts) at is) in
-      rw (asked_is number (facts ++ more), asked_grown parts.0) (quote_grown quote parts.1)
+      rw (asked_is number (facts ++ more), any_left (asks number) facts more parts.0)
+      (quote_grown quote parts.1)
 
 -- Desks.
 
@@ -136,14 +135,9 @@ module _ (may : ℕ → Bool) where
           (every_weaker (λ (s : ShownOffer). s.number ≤ length (offers_of facts)) _
           (λ s least. omega arith) _ fit.below) below);
       asked_ok = λ number asks_it. rw (requests_both facts (fact ∷ []))
-          (elim (or_cases _ _ (rw list_any-append at asks_it)) [
-            | inl before ↦
-                let stood = fit.asked_ok number before in
-                (omega arith, stood.1)
-            | inr now ↦ elim (or_cases (asks number fact) false now) [
-              | inl so ↦ added number so
-              | inr never ↦ cc
-            ]
+          (elim (or_cases _ _ (rw (list_any-append, or-false) at asks_it)) [
+            | inl before ↦ let stood = fit.asked_ok number before in (omega arith, stood.1)
+            | inr now ↦ added number now
           ]);
     }
 
@@ -159,7 +153,7 @@ module _ (may : ℕ → Bool) where
       fit_with facts fit (Offered shown) (
         rw (
           asked_is shown.request (facts ++ Offered shown ∷ []),
-          asked_grown facts (Offered shown ∷ []) shown.request next.0,
+          any_left (asks shown.request) facts (Offered shown ∷ []) next.0,
           offers_both facts (Offered shown ∷ []),
           found_last (length (offers_of facts)) (offers_of facts) shown fit.below beyond,
         ) (eq-eqb shown.request shown.request refl),

@@ -2,7 +2,6 @@ mod AnswerLemmas
 mod BlindDues
 mod ComputedDays
 mod ConditionMet
-mod ConditionMetOnce
 mod ErasedSteps
 mod Erasing
 mod InvestorVerdicts
@@ -18,7 +17,6 @@ mod ToldLemmas
 mod VenueDay
 mod VenueDesk
 mod VenueEnds
-mod VenueGrowth
 mod VenueHits
 mod VenueInvariant
 mod VenueKinds
@@ -26,6 +24,5 @@ mod VenueKnown
 mod VenueMarkets
 mod VenueParts
 mod VenueRooms
-mod VenueShow
 mod VenueSteps
 mod VenueTurns

@@ -1,13 +1,12 @@
 -- Options and lists: what the lemmas on a venue take of them.
 use Rattle.std.proofs.Common.{Bool, IfSome, List, None, Option, Some, ℕ, [], ap, arith, eq-eqb}
 use Rattle.std.proofs.Common.{false, filter, filter_map, find, inl, inr, is_none, is_some, length}
-use Rattle.std.proofs.Common.{map, nat_lt, position, refl, subst, suc, true, zero, ◌++◌, ◌<◌, ◌==◌}
+use Rattle.std.proofs.Common.{map, refl, subst, suc, true, zero, ◌++◌, ◌==◌}
 use Rattle.std.proofs.Common.{◌∷◌, ◌≡◌, ◌≤◌, ◌⊎◌}
 use Rattle.std.proofs.lemmas.Bool.{cases_Bool, eqb-true, or_cases, or_left, or_right}
-use Rattle.std.proofs.lemmas.Bool.Decides.{nat_tests}
 use Rattle.std.proofs.lemmas.List.Folds.{find-append}
-use Rattle.std.proofs.lemmas.Option.{cond_some, same_Some}
-use Rattle.std.specs.List.{list_any, position_or_len}
+use Rattle.std.proofs.lemmas.Option.{same_Some}
+use Rattle.std.specs.List.{list_any}
 use Rattle.std.specs.Option.{option_or}
 use Rattle.std.specs.Prelude.{slice_get}
 use Rattle.step_replay.specs.EachLemmas.{Every}
@@ -37,11 +36,6 @@ pub every_map : {A B : Type 0} (P : B → Type 0) (f : A → B) (xs : List A)
     → ((x : A) → In x xs → P (f x)) → Every P (map f xs)
 every_map P f [] each = tt
 every_map P f (x ∷ xs) each = (each x (inl refl), every_map P f xs (λ y is. each y (inr is)))
-
-pub every_mapped : {A B : Type 0} (P : B → Type 0) (f : A → B) (xs : List A)
-    → Every (λ x. P (f x)) xs → Every P (map f xs)
-every_mapped P f [] all = tt
-every_mapped P f (x ∷ xs) all = (all.0, every_mapped P f xs all.1)
 
 pub slice_holds : {A : Type 0} (P : A → Type 0) (xs : List A) (place : ℕ) (x : A)
     → slice_get xs place ≡ Some x → Every P xs → P x
@@ -129,14 +123,6 @@ in_named dealer (other ∷ dealers) is = elim (or_cases (other == dealer) _ is) 
 
 -- What is found first.
 
-pub position_within : {A : Type 0} (test : A → Bool) (xs : List A) (i : ℕ)
-    → position test xs ≡ Some i → i < length xs
-position_within test xs i is =
-    let parts = cond_some (nat_lt (position_or_len test xs) (length xs)) _ i is in
-    let within : nat_lt (position_or_len test xs) (length xs) ≡ true = parts.0 in
-    let same : position_or_len test xs ≡ i = parts.1 in
-    grind (arith, nat_tests)
-
 -- the first that is found passes the test
 pub found_passes : {X : Type 0} (test : X → Bool) (xs : List X) (x : X) → find test xs ≡ Some x
     → test x ≡ true
@@ -158,11 +144,6 @@ first_of_every P test (x ∷ xs) all = elim (cases_Bool (test x)) [
 pub find_grown : {A : Type 0} (test : A → Bool) (xs ys : List A) (x : A)
     → find test xs ≡ Some x → find test (xs ++ ys) ≡ Some x
 find_grown test xs ys x is = rw (find-append test xs ys, is) refl
-
--- what is found is one of the list
-pub found_holds : {A : Type 0} (P : A → Type 0) (test : A → Bool) (xs : List A) (x : A)
-    → find test xs ≡ Some x → Every P xs → P x
-found_holds P test xs x is all = rw is at (first_of_every P test xs all)
 
 -- the first that some items say stays the first
 pub first_grown : {E A : Type 0} (first : List E → Option A) (says : E → Option A)

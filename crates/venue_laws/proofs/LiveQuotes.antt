@@ -1,8 +1,7 @@
 -- The live quote of a dealer on a request, and what the notice of a hit names.
 use Rattle.std.proofs.Common.{Bool, List, None, Option, Some, ℕ, [], ap, eq-eqb, false, filter}
-use Rattle.std.proofs.Common.{find, inl, inr, is_none, is_some, length, map}
-use Rattle.std.proofs.Common.{option_map, option_to_list, refl, sym, true, ◌==◌, ◌∙◌}
-use Rattle.std.proofs.Common.{◌∷◌, ◌≡◌, ◌≤◌}
+use Rattle.std.proofs.Common.{find, inl, inr, is_none, is_some, length, map, option_map}
+use Rattle.std.proofs.Common.{option_to_list, refl, sym, true, ◌==◌, ◌∙◌, ◌∷◌, ◌≡◌, ◌≤◌}
 use Rattle.std.proofs.lemmas.Bool.{and_from, cases_Bool, eqb-true, or_parts}
 use Rattle.std.proofs.lemmas.Option.{same_Some}
 use Rattle.std.specs.List.{list_any}
@@ -92,77 +91,54 @@ module _ (lone : LoneQuotes) (config : Configuration) (facts : List Fact) (deale
   abbrev pub trail : List DealerEntry
   trail = of_dealer dealer facts
 
-  -- a lifted quote on a request that was not closed is the live one
-  record LiveLifted (request : ℕ) : Type 0 where
-    own : StandingQuote
-    live : live_quote_on (book_by trail) request ≡ Some own
-    lifted : was_lifted trail own.quote.number ≡ true
-
-  live_lifted : (room : RoomRef) (request : ℕ) → LiftedIn facts dealer room
-      → number_for facts dealer room ≡ Some request
-      → is_some (closable (book_by trail) request) ≡ true → LiveLifted request
-  unfolding live_quote_on closable request_numbered
-  live_lifted room request hit is may =
-      record {
-        own = standing.0;
-        live = lone_found (is_live_on request) standing.0 (standings (facts_of trail)) standing.1
-            (and_from _ _ (ap is_none standing.3) (eq-eqb _ _ (ap requested standing.2
-            ∙ request_is))) few;
-        lifted = ap (λ (q : AcceptedQuote). was_lifted trail q.number) standing.2 ∙ lifted;
-      }
-    where
-      own : AcceptedQuote
-      own = hit.quoted.own
-
-      requested : AcceptedQuote → ℕ
-      requested quote = quote.request
-
-      request_is : own.request ≡ request
-      request_is = same_Some own.request request (sym hit.quoted.request_is ∙ is)
-
-      lifted : was_lifted trail own.number ≡ true
-      lifted = ap (was_lifted trail) hit.quoted.number_is ∙ hit.lifted
-
-      standing : (standing : StandingQuote) × In standing (standings (facts_of trail))
-          × (standing.quote ≡ own) × (standing.end ≡ None)
-      standing =
-          live_stands own (facts_of trail) hit.quoted.quoted
-          (rw lifted at (desk.one_of own.number))
-          (rw request_is (desk.noticed.told_as request ∙ (untold_is _ may).2))
-
-      few : length (filter (is_live_on request) (standings (facts_of trail))) ≤ 1
-      few = rw desk.seen.state_is at (lone config.date row desk.seen.events request)
-
-  -- the request that may be closed
-  number_is : (request : ℕ) (found : StandingRequest)
-      → is_some (closable (book_by trail) request) ≡ true
-      → closable (book_by trail) request ≡ Some found → found.number ≡ request
-  unfolding closable request_numbered
-  number_is request found may is =
-      eqb-true found.number request
-      (found_passes (λ (other : StandingRequest). other.number == request)
-      (book_by trail).requests found (sym (untold_is _ may).0 ∙ is))
-
-  -- the notice of a hit
+  -- the notice of a hit, of a request that was not closed, names the lifted quote: the live one
   pub hit_names : (room : RoomRef) (request moment : ℕ) → LiftedIn facts dealer room
       → number_for facts dealer room ≡ Some request
       → is_some (closable (book_by trail) request) ≡ true
       → NamesLiftedQuote config.date row trail request moment
       (map Sent (option_to_list (message_by config.date row trail
       (event.Told request closes.Hit moment))))
-  unfolding event_message
+  unfolding event_message live_quote_on closable request_numbered
   hit_names room request moment hit is may =
-      let live = live_lifted room request hit is may in
-      let found = some_of (closable (book_by trail) request) may in
       record {
-        own = live.own;
+        own = standing.0;
         notice = notice_of (book_by trail) closes.Hit found.0;
-        live = live.live;
-        lifted = live.lifted;
+        live = live;
+        lifted = ap (λ (q : AcceptedQuote). was_lifted trail q.number) standing.2 ∙ lifted;
         written = ap (option_map (notice_of (book_by trail) closes.Hit)) found.1;
-        named = rw (number_is request found.0 may found.1)
-            (ap (option_map quoted_price) live.live);
+        named = rw number_is (ap (option_map quoted_price) live);
         sent = ap (λ (o : Option StandingRequest). next_sent (map Sent (option_to_list
             (option_map (next_message config.date row (sent_by trail) moment)
             (option_map (notice_of (book_by trail) closes.Hit) o))))) found.1;
       }
+    where
+      request_is : hit.quoted.own.request ≡ request
+      request_is = same_Some hit.quoted.own.request request (sym hit.quoted.request_is ∙ is)
+
+      lifted : was_lifted trail hit.quoted.own.number ≡ true
+      lifted = ap (was_lifted trail) hit.quoted.number_is ∙ hit.lifted
+
+      standing : (standing : StandingQuote) × In standing (standings (facts_of trail))
+          × (standing.quote ≡ hit.quoted.own) × (standing.end ≡ None)
+      standing =
+          live_stands hit.quoted.own (facts_of trail) hit.quoted.quoted
+          (rw lifted at (desk.one_of hit.quoted.own.number))
+          (rw request_is (desk.noticed.told_as request ∙ (untold_is _ may).2))
+
+      live : live_quote_on (book_by trail) request ≡ Some standing.0
+      live =
+          let few = rw desk.seen.state_is at (lone config.date row desk.seen.events request) in
+          let asked = ap (λ (q : AcceptedQuote). q.request) standing.2 ∙ request_is in
+          lone_found (is_live_on request) standing.0 (standings (facts_of trail)) standing.1
+          (and_from _ _ (ap is_none standing.3) (eq-eqb _ _ asked)) few
+
+      found : (request_too : StandingRequest)
+          × (closable (book_by trail) request ≡ Some request_too)
+      found = some_of (closable (book_by trail) request) may
+
+      -- the request that may be closed
+      number_is : found.0.number ≡ request
+      number_is =
+          eqb-true found.0.number request
+          (found_passes (λ (other : StandingRequest). other.number == request)
+          (book_by trail).requests found.0 (sym (untold_is _ may).0 ∙ found.1))

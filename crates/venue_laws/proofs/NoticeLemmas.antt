@@ -1,6 +1,6 @@
 -- A closing notice comes after its request was shown, and at most once.
-use Rattle.std.proofs.Common.{List, None, Some, ℕ, [], ap, arith, eq-eqb, false, filter, filter_map}
-use Rattle.std.proofs.Common.{inl, inr, is_some, length, refl, subst, true, ◌++◌, ◌∙◌, ◌∷◌, ◌≡◌, ◌≤◌}
+use Rattle.std.proofs.Common.{List, Some, ℕ, [], arith, false, filter, filter_map, inl, inr}
+use Rattle.std.proofs.Common.{is_some, length, refl, subst, true, ◌++◌, ◌∙◌, ◌∷◌, ◌≡◌, ◌≤◌}
 use Rattle.std.proofs.Math.Bool.{and-false, or-false}
 use Rattle.std.proofs.lemmas.Bool.{cases_Bool, eqb-true, or_parts}
 use Rattle.std.proofs.lemmas.List.{append-nil, append_assoc, length-append}
@@ -8,23 +8,19 @@ use Rattle.std.proofs.lemmas.List.Elements.{filter-append, filter_map-append}
 use Rattle.std.proofs.lemmas.List.Folds.{list_any-append}
 use Rattle.std.proofs.lemmas.Option.{slice_get_within}
 use Rattle.std.specs.List.{list_any}
-use Rattle.market_terms.specs.declared.closes.Close.{Close}
 use Rattle.market_terms.specs.declared.rooms.RoomRef.{RoomRef}
 use Rattle.venue_rows.specs.Rows.{Configuration, dealer_numbered}
 use Rattle.venue_rows.specs.declared.dealer_rows.DealerRow.{DealerRow}
 use Rattle.dealer_desk.specs.DealerFacts.{DealerFact, Shown, Told, number_to_drop, request_numbered}
 use Rattle.dealer_desk.specs.DealerFacts.{tells}
-use Rattle.dealer_desk.specs.DealerOutput.{closable, event_facts, number_in, shown_room, untold}
+use Rattle.dealer_desk.specs.DealerOutput.{closable, event_facts, number_in, untold}
 use Rattle.dealer_desk.specs.DealerRules.{dealer_verdict}
-use Rattle.dealer_desk.specs.declared.events.DealerEvent.{DealerEvent}
-use Rattle.dealer_desk.specs.declared.events.DealerEvent.TheVariants as event
 use Rattle.dealer_desk.specs.declared.standing.Withdrawal.TheVariants as by
-use Rattle.step_replay.specs.Actions.{drop_at, settlement_of}
+use Rattle.step_replay.specs.Actions.{settlement_of}
 use Rattle.step_replay.specs.AuditTrail.{audit_trail}
 use Rattle.step_replay.specs.DealerGrowth.{facts_grown, rooms_grown}
-use Rattle.step_replay.specs.DealerTrail.{AtDesk, DealerEntry, Lifted, book_by, entries_of, fact_in}
-use Rattle.step_replay.specs.DealerTrail.{facts_of, room_in, rooms_by}
-use Rattle.step_replay.specs.EachLemmas.{Each, Every, each_append, each_of}
+use Rattle.step_replay.specs.DealerTrail.{DealerEntry, book_by, facts_of, rooms_by}
+use Rattle.step_replay.specs.EachLemmas.{Each, Every, each_append}
 use Rattle.step_replay.specs.StepLemmas.{kept_by_all}
 use Rattle.step_replay.specs.TrailKept.{IsKept}
 use Rattle.step_replay.specs.VenueFacts.{of_dealer}
@@ -32,7 +28,6 @@ use Rattle.step_replay.specs.declared.steps.Step.{Step}
 use Rattle.venue_laws.proofs.PlainFacts.{IsPlain, settled_plain, verdict_plain}
 use Rattle.venue_laws.proofs.ShownRequests.{found, has_notice, noticed_push, number_place}
 use Rattle.venue_laws.proofs.ShownRequests.{request_within, shown_in, told_is, untold_is}
-use Rattle.venue_laws.specs.Notices.{was_shown}
 
 -- a notice stands behind the request that was shown
 abbrev pub IsAfterShown : List DealerFact → DealerFact → List DealerFact → Type 0
@@ -64,30 +59,23 @@ module _ (facts : List DealerFact) (rooms : List RoomRef) (fact : DealerFact)
     (before : Noticed facts rooms)
     (may : (request : ℕ) → tells request fact ≡ true
     → is_some (untold (found request 1 facts)) ≡ true) where
-  told_then : (request : ℕ) → list_any (tells request) (facts ++ fact ∷ [])
-      ≡ has_notice (found request 1 (facts ++ fact ∷ []))
-  told_then request =
-      rw (list_any-append, or-false, noticed_push request 1 facts fact, before.told_as request)
-      (elim (cases_Bool (tells request fact)) [
-        | inl now ↦ rw (now, (untold_is _ (may request now)).1) refl
-        | inr none ↦ rw (none, and-false) refl
-      ])
-
-  once_then : (request : ℕ) → length (filter (tells request) (facts ++ fact ∷ [])) ≤ 1
-  once_then request = elim (cases_Bool (tells request fact)) [
-    | inl now ↦
-        let none = before.told_as request ∙ (untold_is _ (may request now)).2 in
-        rw (filter-append, none_filtered request facts none, now) (omega arith)
-    | inr none ↦ rw (filter-append, none, append-nil) (before.once request)
-  ]
-
   noticed_then : (more : List RoomRef) → length more ≡ length (filter_map shown_in (fact ∷ []))
       → Noticed (facts ++ fact ∷ []) (rooms ++ more)
   noticed_then more as_many = record {
     after_shown = each_append IsAfterShown (λ front one rest last holds. holds) [] facts (fact ∷ [])
         before.after_shown (λ request is. (untold_is _ (may request is)).1, tt);
-    told_as = told_then;
-    once = once_then;
+    told_as = λ request.
+        rw (list_any-append, or-false, noticed_push request 1 facts fact, before.told_as request)
+        (elim (cases_Bool (tells request fact)) [
+          | inl now ↦ rw (now, (untold_is _ (may request now)).1) refl
+          | inr none ↦ rw (none, and-false) refl
+        ]);
+    once = λ request. elim (cases_Bool (tells request fact)) [
+      | inl now ↦
+          let none = before.told_as request ∙ (untold_is _ (may request now)).2 in
+          rw (filter-append, none_filtered request facts none, now) (omega arith)
+      | inr none ↦ rw (filter-append, none, append-nil) (before.once request)
+    ];
     counted =
         rw (filter_map-append, length-append, length-append, before.counted, as_many) refl;
   }
@@ -111,46 +99,29 @@ noticed_still facts (fact ∷ more) rooms before plain =
     (λ request is. cc (plain_silent request fact plain.0, is)) []
     (rw (plain_unshown fact plain.0) refl))) plain.1)
 
-module _ (date : List ℕ) (row : DealerRow) where
-  -- an event that shows no room
-  plainly : (trail : List DealerEntry) (more : DealerEvent) → shown_room more ≡ None
-      → Noticed (facts_of trail ++ event_facts date row (book_by trail) more) (rooms_by trail)
-      → IsNoticed (trail ++ entries_of date row trail more)
-  plainly trail more none after =
-      rw (
-        facts_grown date row trail more,
-        rooms_grown date row trail more,
-        none,
-        append-nil (rooms_by trail),
-      ) after
-
-  pub noticed_is_kept : IsKept date row IsNoticed
-  unfolding event_facts closable request_numbered
-  noticed_is_kept = record {
-    own = λ trail moment bytes before.
-        let v = dealer_verdict date row (book_by trail) moment bytes in
-        plainly trail (event.Received moment bytes (settlement_of trail v)) refl
-        (noticed_still (facts_of trail) _ (rooms_by trail) before
-        (refl, verdict_plain v (settlement_of trail v)));
-    drop = λ trail last moment before.
-        plainly trail (drop_at trail last moment) refl
-        (noticed_still (facts_of trail) _ (rooms_by trail) before
-        (refl, settled_plain (number_to_drop (book_by trail) last) by.Cancel _));
-    shown = λ trail room ask moment before.
-        rw (facts_grown, rooms_grown)
-        (noticed_then (facts_of trail) (rooms_by trail) (Shown ask moment) before
-        (λ request is. cc) (room ∷ []) refl);
-    told = λ trail request close moment may before.
-        rw (facts_grown, rooms_grown, may)
-        (noticed_then (facts_of trail) (rooms_by trail) (Told request close moment) before
-        (λ other is. rw (eqb-true request other is) at may) [] refl);
-    lifted = λ trail quote within stays before. rw (
-      filter_map-append fact_in trail (Lifted quote ∷ []),
-      append-nil (facts_of trail),
-      filter_map-append room_in trail (Lifted quote ∷ []),
-      append-nil (rooms_by trail),
-    ) before;
-  }
+pub noticed_is_kept : (date : List ℕ) (row : DealerRow) → IsKept date row IsNoticed
+unfolding event_facts closable request_numbered
+noticed_is_kept date row = record {
+  own = λ trail moment bytes before.
+      let v = dealer_verdict date row (book_by trail) moment bytes in
+      rw (facts_grown, rooms_grown, append-nil (rooms_by trail))
+      (noticed_still (facts_of trail) _ (rooms_by trail) before
+      (refl, verdict_plain v (settlement_of trail v)));
+  drop = λ trail last moment before.
+      rw (facts_grown, rooms_grown, append-nil (rooms_by trail))
+      (noticed_still (facts_of trail) _ (rooms_by trail) before
+      (refl, settled_plain (number_to_drop (book_by trail) last) by.Cancel _));
+  shown = λ trail room ask moment before.
+      rw (facts_grown, rooms_grown)
+      (noticed_then (facts_of trail) (rooms_by trail) (Shown ask moment) before
+      (λ request is. cc) (room ∷ []) refl);
+  told = λ trail request close moment may before.
+      rw (facts_grown, rooms_grown, may)
+      (noticed_then (facts_of trail) (rooms_by trail) (Told request close moment) before
+      (λ other is. rw (eqb-true request other is) at may) [] refl);
+  lifted = λ trail quote within stays before.
+      rw (filter_map-append, append-nil, filter_map-append, append-nil) before;
+}
 
 -- a request that was shown in a room, and may not be closed, was told
 pub told_if_closed : (trail : List DealerEntry) → IsNoticed trail → (room : RoomRef) (number : ℕ)
@@ -174,24 +145,8 @@ start_noticed = record {
   counted = refl;
 }
 
-pub is_noticed : (config : Configuration) (steps : List Step) (dealer : ℕ) (row : DealerRow)
+pub are_noticed : (config : Configuration) (steps : List Step) (dealer : ℕ) (row : DealerRow)
     → dealer_numbered config dealer ≡ Some row
     → IsNoticed (of_dealer dealer (audit_trail config steps).facts)
-is_noticed config steps dealer row is =
+are_noticed config steps dealer row is =
     kept_by_all config dealer row is IsNoticed (noticed_is_kept config.date row) start_noticed steps
-
--- a notice stands behind its request
-pub is_after_shown : (config : Configuration) (steps : List Step) (dealer : ℕ) (row : DealerRow)
-    (before after : List DealerEntry) (request : ℕ) (close : Close) (moment : ℕ)
-    → dealer_numbered config dealer ≡ Some row
-    → of_dealer dealer (audit_trail config steps).facts
-    ≡ before ++ AtDesk (Told request close moment) ∷ after
-    → was_shown before request ≡ true
-unfolding request_numbered
-is_after_shown config steps dealer row before after request close moment is splits =
-    each_of IsAfterShown (facts_of (of_dealer dealer (audit_trail config steps).facts))
-    (facts_of before) (Told request close moment) (facts_of after)
-    (is_noticed config steps dealer row is).after_shown
-    (ap facts_of splits
-    ∙ filter_map-append fact_in before (AtDesk (Told request close moment) ∷ after))
-    request (eq-eqb request request refl)

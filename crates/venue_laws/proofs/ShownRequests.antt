@@ -1,8 +1,8 @@
 -- The requests that some facts show: which of them may still be told to be closed, and that they
 -- are as many as the rooms that were shown.
 use Rattle.std.proofs.Common.{Bool, List, None, Option, Some, ℕ, [], ap, arith, false, filter_map}
-use Rattle.std.proofs.Common.{find, inl, inr, is_some, length, refl, suc, true, ◌&&◌, ◌++◌}
-use Rattle.std.proofs.Common.{◌+◌, ◌==◌, ◌||◌, ◌∷◌, ◌≡◌, ◌≤◌}
+use Rattle.std.proofs.Common.{find, inl, inr, is_some, length, refl, suc, true, ◌&&◌, ◌++◌, ◌+◌}
+use Rattle.std.proofs.Common.{◌==◌, ◌||◌, ◌∷◌, ◌≡◌, ◌≤◌}
 use Rattle.std.proofs.Math.Bool.{or-false}
 use Rattle.std.proofs.lemmas.Bool.{cases_Bool, eqb-true}
 use Rattle.std.proofs.lemmas.Bool.Decides.{nat_tests}
@@ -13,13 +13,10 @@ use Rattle.std.specs.Prelude.{slice_get}
 use Rattle.market_terms.specs.declared.asks.Ask.{Ask}
 use Rattle.market_terms.specs.declared.closes.Close.{Close}
 use Rattle.market_terms.specs.declared.rooms.RoomRef.{RoomRef}
-use Rattle.dealer_desk.specs.DealerFacts.{DealerFact, Shown, Told}
-use Rattle.dealer_desk.specs.DealerFacts.{requests_from, tells}
-use Rattle.dealer_desk.specs.DealerOutput.{is_same_room, number_from}
-use Rattle.dealer_desk.specs.DealerOutput.{untold}
+use Rattle.dealer_desk.specs.DealerFacts.{DealerFact, Shown, Told, requests_from, tells}
+use Rattle.dealer_desk.specs.DealerOutput.{is_same_room, number_from, untold}
 use Rattle.dealer_desk.specs.declared.standing.StandingRequest.{StandingRequest}
-use Rattle.step_replay.specs.DealerTrail.{AtDesk, DealerEntry}
-use Rattle.step_replay.specs.DealerTrail.{facts_of}
+use Rattle.step_replay.specs.DealerTrail.{AtDesk, DealerEntry, facts_of}
 use Rattle.step_replay.specs.GrowthLemmas.{In, same_room}
 
 -- Requests.

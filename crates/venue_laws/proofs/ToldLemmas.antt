@@ -2,8 +2,6 @@
 use Rattle.std.proofs.Common.{Some, ℕ, [], ap, eq-eqb, filter, refl, sym, true, ◌++◌, ◌∙◌, ◌≡◌}
 use Rattle.std.proofs.lemmas.List.{append-nil, take-append-drop}
 use Rattle.std.proofs.lemmas.Option.{same_Some}
-use Rattle.market_terms.specs.declared.closes.Close.{Close}
-use Rattle.market_terms.specs.declared.duties.Duty.TheVariants as duty
 use Rattle.market_terms.specs.declared.rooms.RoomRef.{RoomRef}
 use Rattle.venue_rows.specs.Rows.{Configuration}
 use Rattle.dealer_desk.specs.DealerFacts.{Told, tells}
@@ -12,16 +10,15 @@ use Rattle.request_room.specs.declared.ends.End.{End}
 use Rattle.venue_steps.specs.RoomSteps.{close_for}
 use Rattle.venue_places.specs.declared.actors.Actor.{Actor}
 use Rattle.step_replay.specs.AuditTrail.{AuditTrail, pending}
-use Rattle.step_replay.specs.DealerTrail.{AtDesk, facts_of, rooms_by}
-use Rattle.step_replay.specs.GrowthLemmas.{In, all_in}
-use Rattle.step_replay.specs.VenueFacts.{AtDealer, of_dealer, of_room}
+use Rattle.step_replay.specs.DealerTrail.{facts_of}
+use Rattle.step_replay.specs.GrowthLemmas.{all_in}
+use Rattle.step_replay.specs.VenueFacts.{of_dealer, of_room}
 use Rattle.venue_laws.proofs.ListLemmas.{in_filter, only_one}
-use Rattle.venue_laws.proofs.ShownRequests.{in_facts, told_in}
-use Rattle.venue_laws.proofs.VenueGrowth.{later_same}
-use Rattle.venue_laws.proofs.VenueInvariant.{ClosedIn, Did, FactOk, VenueOk}
-use Rattle.venue_laws.proofs.VenueKnown.{all_there, ended_in, named_dealer, one_number}
+use Rattle.venue_laws.proofs.ShownRequests.{told_in}
+use Rattle.venue_laws.proofs.VenueInvariant.{VenueOk}
+use Rattle.venue_laws.proofs.VenueKnown.{ended_in, named_dealer, told_did}
 use Rattle.venue_laws.proofs.VenueParts.{MarkOk, Still, Telling, WasTold, closer, did_in, duties_by}
-use Rattle.venue_laws.proofs.VenueParts.{marks}
+use Rattle.venue_laws.proofs.VenueParts.{later_same, marks}
 use Rattle.venue_laws.proofs.VenueTurns.{turns_of}
 use Rattle.venue_laws.specs.Notices.{IsToldOnce}
 
@@ -43,24 +40,6 @@ module _ (config : Configuration) (venue : AuditTrail) (stood : VenueOk config v
       (rw (all_done by) ((ended_in stood room end end_is).told dealer named)) venue
       (later_same venue)
 
-  close_is : (close : Close) (moment : ℕ)
-      → In (Told was_told.request close moment) (facts_of (of_dealer dealer venue.facts))
-      → close ≡ close_for end dealer
-  close_is close moment stands =
-      let closed : ClosedIn config dealer was_told.request close venue =
-      all_in (λ entry. Still (FactOk config (AtDealer dealer entry)) venue)
-      (AtDesk (Told was_told.request close moment)) (of_dealer dealer venue.facts)
-      (all_there stood dealer)
-      (in_facts (Told was_told.request close moment) (of_dealer dealer venue.facts) stands) venue
-      (later_same venue) in
-      let rooms : closed.room ≡ room =
-      one_number (rooms_by (of_dealer dealer venue.facts)) closed.room room
-      was_told.request closed.request_is was_told.request_is in
-      let did : Did config (duty.Tell dealer room close closed.moment) venue =
-      rw rooms at closed.did in
-      let ends : did.ok.end ≡ end = same_Some did.ok.end end (sym did.ok.end_is ∙ end_is) in
-      did.ok.close_is ∙ ap (λ (e : End). close_for e dealer) ends
-
   pub is_told_once : IsToldOnce (of_dealer dealer venue.facts) room (close_for end dealer)
   is_told_once =
       let there = named_dealer stood room dealer named in
@@ -71,9 +50,14 @@ module _ (config : Configuration) (venue : AuditTrail) (stood : VenueOk config v
       (in_filter (tells was_told.request) notice facts told.2
       (eq-eqb was_told.request was_told.request refl))
       ((stood.desks dealer there.0 there.1).noticed.once was_told.request) in
+      let did = (told_did stood room dealer was_told.request told.0 told.1 was_told.request_is
+      told.2).1 in
+      let close_is : told.0 ≡ close_for end dealer =
+      did.ok.close_is ∙ ap (λ (e : End). close_for e dealer)
+      (same_Some did.ok.end end (sym did.ok.end_is ∙ end_is)) in
       record {
         request = was_told.request;
         moment = told.1;
         shown = was_told.request_is;
-        told = rw (← close_is told.0 told.1 told.2) only;
+        told = rw (← close_is) only;
       }

@@ -9,11 +9,14 @@ use Rattle.market_terms.specs.declared.rooms.RoomRef.{RoomRef}
 use Rattle.venue_rows.specs.Rows.{Configuration, dealer_numbered, has_room}
 use Rattle.investor_desk.specs.InvestorDesk.{market_for}
 use Rattle.investor_desk.specs.declared.events.InvestorEvent.{InvestorEvent}
+use Rattle.request_room.specs.Book.{event_facts, may_unpost, quote_posted}
+use Rattle.request_room.specs.RoomFacts.{Noted, Posted, Unposted, takes_quotes}
 use Rattle.venue_steps.specs.InvestorSteps.{replies_to}
 use Rattle.venue_steps.specs.RoomSteps.{hit_word}
 use Rattle.venue_places.specs.declared.actors.Actor.{Actor}
 use Rattle.venue_places.specs.declared.actors.Actor.TheVariants as actor
-use Rattle.step_replay.specs.Actions.{Effect, answer_to_hit, done_for, quote_asked, where_known}
+use Rattle.step_replay.specs.Actions.{Effect, answer_to_hit, dealer_of, done_for, quote_asked}
+use Rattle.step_replay.specs.Actions.{where_known, word_for}
 use Rattle.step_replay.specs.AuditTrail.{AuditTrail, after_step, after_turn, audit_trail, no_steps}
 use Rattle.step_replay.specs.AuditTrail.{pending}
 use Rattle.step_replay.specs.DutyEffects.{duty_effect, message_effect, sweep_effect}
@@ -23,23 +26,22 @@ use Rattle.step_replay.specs.StepLemmas.{duty_keeps, message_keeps, sweep_keeps}
 use Rattle.step_replay.specs.VenueFacts.{of_dealer, of_investor}
 use Rattle.step_replay.specs.declared.steps.Step.{Step}
 use Rattle.step_replay.specs.declared.steps.Step.TheVariants as step
-use Rattle.venue_laws.proofs.ConditionMetOnce.{show_met, tell_met}
+use Rattle.venue_laws.proofs.ConditionMet.{show_met, tell_met}
 use Rattle.venue_laws.proofs.KnownDesks.{start_fit}
 use Rattle.venue_laws.proofs.ListLemmas.{cases_some}
 use Rattle.venue_laws.proofs.LiveQuotes.{LoneQuotes}
 use Rattle.venue_laws.proofs.NoticeLemmas.{start_noticed}
 use Rattle.venue_laws.proofs.VenueDesk.{WordsOfDay, dropped_brings, said_brings}
 use Rattle.venue_laws.proofs.VenueEnds.{expired_brings, passed_brings}
-use Rattle.venue_laws.proofs.VenueGrowth.{later_same}
 use Rattle.venue_laws.proofs.VenueHits.{hit_brings}
 use Rattle.venue_laws.proofs.VenueInvariant.{DutyOk, VenueOk}
 use Rattle.venue_laws.proofs.VenueKinds.{DoneNow, acting_brings, known, when_brings}
-use Rattle.venue_laws.proofs.VenueKnown.{named_dealer, pending_ok, shown_ended}
+use Rattle.venue_laws.proofs.VenueKnown.{named_dealer, opened_by, pending_ok, shown_ended}
 use Rattle.venue_laws.proofs.VenueMarkets.{asked_brings, investor_brings, known_brings}
-use Rattle.venue_laws.proofs.VenueParts.{OrderOk, did_in, mark_of, marks}
-use Rattle.venue_laws.proofs.VenueRooms.{declined_brings, opened_brings, posted_brings}
-use Rattle.venue_laws.proofs.VenueRooms.{readied_brings, unposted_brings}
-use Rattle.venue_laws.proofs.VenueShow.{shown_brings, told_brings}
+use Rattle.venue_laws.proofs.VenueParts.{OrderOk, did_in, later_same, mark_of, marks, named_later}
+use Rattle.venue_laws.proofs.VenueParts.{quoted_later}
+use Rattle.venue_laws.proofs.VenueRooms.{may_bring, opened_brings, readied_brings, shown_brings}
+use Rattle.venue_laws.proofs.VenueRooms.{told_brings}
 use Rattle.venue_laws.proofs.VenueSteps.{Brings, DoneThen, Here, ok_then, to_now}
 use Rattle.venue_laws.proofs.VenueTurns.{Doing, beside, own_did, turn}
 
@@ -59,7 +61,7 @@ module _ (lone : LoneQuotes) (words : WordsOfDay) (h : Here) where
   pub turn_does : (left : Duty) → DutyOk h.config h.by left h.venue
       → OrderOk h.venue (marks (did_in h.venue h.by)) (mark_of left) → DoneNow h left
       → Does left (duty_effect h.config h.venue.facts h.by left)
-  unfolding duty_effect
+  unfolding duty_effect event_facts
   turn_does (duty.Open room ask dealers moment) ok order did =
       (opened_brings h room ask dealers moment ok did, (λ now later. tt, tt))
   turn_does (duty.Show dealer room ask moment) ok order did =
@@ -71,14 +73,42 @@ module _ (lone : LoneQuotes) (words : WordsOfDay) (h : Here) where
   turn_does (duty.Ready room moment) ok order did =
       (readied_brings h room moment order.1 did, (λ now later. tt, tt))
   turn_does (duty.Post room quote price valid_until moment) ok order did =
-      let brings = posted_brings h room quote price valid_until moment ok in
-      (acting_brings h ok.named.who _ brings, tt)
+      let who = ok.0.named.who in
+      let word = word_for h.config (dealer_of who.dealer who.row) quote in (
+        acting_brings h who _ (may_bring h room _ (takes_quotes (known h room)) _
+            (Posted (quote_posted who.dealer word price valid_until)) _ refl
+            (λ effect now later. record {
+              row = who.row;
+              quote = quote;
+              row_is = who.row_is;
+              within = ok.0.within;
+              word_is = refl;
+              quoted = quoted_later (to_now h effect later) who.dealer room quote ok.1;
+            })
+            (λ effect now later. opened_by room now.facts who.dealer
+            (named_later (to_now h effect later) room who.dealer ok.0.named.named))),
+        tt,
+      )
   turn_does (duty.Relay room offer moment) ok order did = (to_investor room None _, tt)
   turn_does (duty.Unpost room quote moment) ok order did =
-      (acting_brings h ok.named.who _ (unposted_brings h room quote moment ok.named), tt)
+      let who = ok.named.who in
+      let word = word_for h.config (dealer_of who.dealer who.row) quote in (
+        acting_brings h who _ (may_bring h room _ (may_unpost (known h room) who.dealer word) _
+            (Unposted who.dealer word) _ refl (λ effect now later. tt)
+            (λ effect now later. opened_by room now.facts who.dealer
+            (named_later (to_now h effect later) room who.dealer ok.named.named))),
+        tt,
+      )
   turn_does (duty.Gone room word moment) ok order did = (to_investor room None _, tt)
-  turn_does (duty.Decline room moment) ok order did =
-      (acting_brings h ok.who _ (declined_brings h room moment ok), tt)
+  turn_does (duty.Decline room moment) ok order did = (
+    acting_brings h ok.who _ (may_bring h room _ (takes_quotes (known h room)) _
+        (Noted ok.who.dealer) _ refl (λ effect now later. tt)
+        (λ effect now later. record {
+          who = ok.who;
+          named = named_later (to_now h effect later) room ok.who.dealer ok.named;
+        })),
+    tt,
+  )
   turn_does (duty.Declined room moment) ok order did =
       (acting_brings h ok.who _ (to_investor room None _), tt)
   turn_does (duty.Hit room response word moment) ok order did = (
@@ -136,8 +166,8 @@ module _ (lone : LoneQuotes) (words : WordsOfDay) (config : Configuration) where
         (λ effect now later. record {
           by = by;
           ok = fits.0 now (to_now h effect later);
-          done = later.did by left (rw ((own_did venue by effect (stood.queues by).within
-              (turn left rest is)).0) (in_right left (did_in venue by) (left ∷ []) (inl refl)));
+          done = later.did by left (rw (own_did venue by effect (stood.queues by).within
+              (turn left rest is)) (in_right left (did_in venue by) (left ∷ []) (inl refl)));
         }) in
         ok_then h (duty_effect config venue.facts by left) (λ dealer row found P kept.
         duty_keeps config dealer row found P kept venue.facts by left) does.0 does.1

@@ -6,6 +6,7 @@ use Rattle.std.proofs.lemmas.List.{append-nil}
 use Rattle.market_terms.specs.Dealers.{are_distinct}
 use Rattle.market_terms.specs.declared.closes.Close.TheVariants as closes
 use Rattle.market_terms.specs.declared.closes.HitRefusal.{HitRefusal}
+use Rattle.market_terms.specs.declared.closes.Reply.{Reply}
 use Rattle.market_terms.specs.declared.duties.Duty.{Duty}
 use Rattle.market_terms.specs.declared.duties.Duty.TheVariants as duty
 use Rattle.market_terms.specs.declared.rooms.ResponseRef.{ResponseRef}
@@ -31,14 +32,13 @@ use Rattle.step_replay.specs.PlaceLemmas.{investor_grown, investor_in_room, own_
 use Rattle.step_replay.specs.VenueFacts.{AtDealer, Fact, InRoom, of_investor, of_room}
 use Rattle.venue_laws.proofs.ListLemmas.{found_in, in_map, in_named, named_in, none_some, some_of}
 use Rattle.venue_laws.proofs.PlainFacts.{AreQuiet, is_quiet}
-use Rattle.venue_laws.proofs.VenueGrowth.{known_later, marks_both, named_already, named_later}
-use Rattle.venue_laws.proofs.VenueGrowth.{ready_later, said_later}
 use Rattle.venue_laws.proofs.VenueInvariant.{RespondsIn}
 use Rattle.venue_laws.proofs.VenueKinds.{Fine, each_once, fine_left, in_it, known, quiet_brings}
 use Rattle.venue_laws.proofs.VenueKinds.{room_brings, same_markets, where_brings}
 use Rattle.venue_laws.proofs.VenueKnown.{opened_in, ready_opened}
-use Rattle.venue_laws.proofs.VenueParts.{Later, LiftedIn, Telling, closer, duties_by, mark_of}
-use Rattle.venue_laws.proofs.VenueParts.{marks}
+use Rattle.venue_laws.proofs.VenueParts.{Later, LiftedIn, Telling, closer, duties_by, known_later}
+use Rattle.venue_laws.proofs.VenueParts.{mark_of, marks, marks_both, named_already, named_later}
+use Rattle.venue_laws.proofs.VenueParts.{ready_later, said_later}
 use Rattle.venue_laws.proofs.VenueSteps.{Brings, FactThen, Here, day, queue, to_now}
 use Rattle.venue_laws.proofs.VenueTurns.{own_left}
 
@@ -50,16 +50,6 @@ lifting_is : (P : List Fact → Type 0) → P []
 lifting_is P none one None outcome = none
 lifting_is P none one (Some hit) (Ok award) = one hit
 lifting_is P none one (Some hit) (Err why) = none
-
-lifting_elsewhere : (room : RoomRef) (found : Option QuoteRef) (outcome : Result End HitRefusal)
-    → of_room room (lifting found outcome) ≡ []
-unfolding of_room
-lifting_elsewhere room = lifting_is (λ l. of_room room l ≡ []) refl (λ hit. refl)
-
-lifting_away : (investor : ℕ) (found : Option QuoteRef) (outcome : Result End HitRefusal)
-    → of_investor investor (lifting found outcome) ≡ []
-unfolding of_investor
-lifting_away investor = lifting_is (λ l. of_investor investor l ≡ []) refl (λ hit. refl)
 
 pub none_lifted : (found : Option QuoteRef) (why : HitRefusal) → lifting found (Err why) ≡ []
 none_lifted None why = refl
@@ -102,11 +92,12 @@ module _ (h : Here) (room : RoomRef) where
       tell dealer = duty.Tell dealer room (close_for end dealer) moment
 
       end_now : end_of (of_room room (day h ending).facts) ≡ Some end
+      unfolding of_room
       end_now =
           rw (
             room_grown room h.venue.facts ending.facts,
             room_grown room (lifting lifted (Ok end)) (map (InRoom room) (Ended end moment ∷ [])),
-            lifting_elsewhere room lifted (Ok end),
+            lifting_is (λ l. of_room room l ≡ []) refl (λ hit. refl) lifted (Ok end),
             own_room room (Ended end moment ∷ []),
           ) (said_after ended_as (known h room) (Ended end moment ∷ [])
           (none_some (end_of (known h room)) (not-true (is_ended (known h room)) (parts is).1)))
@@ -131,11 +122,12 @@ module _ (h : Here) (room : RoomRef) where
       }
 
       away : (investor : ℕ) → of_investor investor ending.facts ≡ []
+      unfolding of_investor
       away investor =
           rw (
             investor_grown investor (lifting lifted (Ok end))
                 (map (InRoom room) (Ended end moment ∷ [])),
-            lifting_away investor lifted (Ok end),
+            lifting_is (λ l. of_investor investor l ≡ []) refl (λ hit. refl) lifted (Ok end),
           ) (investor_in_room investor room (Ended end moment ∷ []))
 
       pub ended_brings : Brings h ending
@@ -172,6 +164,13 @@ module _ (h : Here) (room : RoomRef) where
       room_brings h room [] (left ∷ []) tt
       (fine_left h (in_it h room [] (left ∷ [])) (queue h) (left ∷ []) (fine, tt))
 
+  -- the reply to a response of the investor
+  pub answered : {some : Bool} (response : ResponseRef) (reply : Reply) (moment : ℕ)
+      → RespondsIn h.config h.by room response some h.venue → replies_to response.k reply ≡ true
+      → (effect : Effect) → Fine h effect (duty.Answer room response reply moment)
+  answered response reply moment fits replies effect =
+      (λ now later. (replies, known_later (to_now h effect later) room response.k fits.known), refl)
+
   -- A pass, and an expiry.
 
   pub passed_brings : (response : ResponseRef) (moment : ℕ)
@@ -180,24 +179,17 @@ module _ (h : Here) (room : RoomRef) where
       (duties_of_pass (known h room) room response moment))
   unfolding event_facts
   passed_brings response moment passes =
+      let none = none_some response.k passes.some_is in
       where_brings h room _ (is_open (known h room)) (Ended passed moment)
       (λ (b : Bool). reply b ∷ (if b then told_in (known h room) room passed moment else []))
       (λ is. ended_brings passed moment (reply true) None is passes.by_is
-      (answered true refl (ending passed moment (reply true) None)) (λ now later dealer hit. cc))
-      (left_brings (reply false) (answered false refl (in_it h room [] (reply false ∷ []))))
+      (answered response (reply_to_pass true) moment passes (rw none refl)
+      (ending passed moment (reply true) None)) (λ now later dealer hit. cc))
+      (left_brings (reply false) (answered response (reply_to_pass false) moment passes
+      (rw none refl) (in_it h room [] (reply false ∷ []))))
     where
       reply : Bool → Duty
       reply b = duty.Answer room response (reply_to_pass b) moment
-
-      answered : (b : Bool) → replies_to None (reply_to_pass b) ≡ true → (effect : Effect)
-          → Fine h effect (reply b)
-      answered b replies effect = (
-        λ now later. (
-          rw (none_some response.k passes.some_is) replies,
-          known_later (to_now h effect later) room response.k passes.known,
-        ),
-        refl,
-      )
 
   pub expired_brings : (moment : ℕ) → h.by ≡ actor.Clock
       → Brings h (sweep_effect h.config h.venue.facts room moment)

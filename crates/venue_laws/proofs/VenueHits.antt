@@ -1,9 +1,8 @@
 -- A hit brings what stands in a venue: where it awards, the winner's quote of the book is lifted.
 use Rattle.std.proofs.Common.{Bool, Err, List, None, Ok, Option, Result, Some, ℕ, [], ap, arith}
-use Rattle.std.proofs.Common.{eq-eqb, false, if◌then◌else◌, inl, inr, map, option_map, refl, subst}
-use Rattle.std.proofs.Common.{sym, true, ◌++◌, ◌+◌, ◌∙◌, ◌∷◌, ◌≡◌}
-use Rattle.std.proofs.lemmas.Bool.{cases_Bool, not-false, or_left}
-use Rattle.std.proofs.lemmas.Bool.Decides.{nat_tests}
+use Rattle.std.proofs.Common.{eq-eqb, false, if◌then◌else◌, inl, inr, map, refl, subst, sym, true}
+use Rattle.std.proofs.Common.{◌++◌, ◌+◌, ◌∙◌, ◌∷◌, ◌≡◌}
+use Rattle.std.proofs.lemmas.Bool.{cases_Bool, eqb-true, not-false, or_left}
 use Rattle.market_terms.specs.declared.closes.Close.TheVariants as closes
 use Rattle.market_terms.specs.declared.closes.HitRefusal.{HitRefusal}
 use Rattle.market_terms.specs.declared.duties.Duty.{Duty}
@@ -16,7 +15,6 @@ use Rattle.request_room.specs.Book.{hit_refusal, is_lift, quote_meant, reply_of}
 use Rattle.request_room.specs.RoomFacts.{Ended, RoomFact, is_open}
 use Rattle.request_room.specs.declared.ends.End.{End}
 use Rattle.request_room.specs.declared.quotes.PostedQuote.{PostedQuote as BookQuote}
-use Rattle.venue_steps.specs.InvestorSteps.{replies_to}
 use Rattle.venue_steps.specs.RoomSteps.{close_for, is_cover, is_winner, told_of_hit}
 use Rattle.step_replay.specs.Actions.{Effect, QuoteRef, hit_with, lifting, quote_with_word}
 use Rattle.step_replay.specs.DealerTrail.{Lifted, lifts}
@@ -26,13 +24,12 @@ use Rattle.step_replay.specs.PlaceLemmas.{dealer_grown, own_trail}
 use Rattle.step_replay.specs.VenueFacts.{Fact, InRoom, of_dealer}
 use Rattle.day_parts.specs.AcceptedQuotes.{none_holds}
 use Rattle.venue_laws.proofs.ListLemmas.{cases_some, some_of}
-use Rattle.venue_laws.proofs.VenueEnds.{ended_brings, ending, left_brings, none_lifted}
-use Rattle.venue_laws.proofs.VenueGrowth.{known_later, lifted_later, quoted_later}
+use Rattle.venue_laws.proofs.VenueEnds.{answered, ended_brings, ending, left_brings, none_lifted}
 use Rattle.venue_laws.proofs.VenueInvariant.{PostedIn, RespondsIn}
-use Rattle.venue_laws.proofs.VenueKinds.{Fine, in_it, known}
+use Rattle.venue_laws.proofs.VenueKinds.{in_it, known}
 use Rattle.venue_laws.proofs.VenueKnown.{posted_in}
-use Rattle.venue_laws.proofs.VenueParts.{LiftedIn, closer}
-use Rattle.venue_laws.proofs.VenueSteps.{Brings, Here, day, since, to_now, trail_of}
+use Rattle.venue_laws.proofs.VenueParts.{LiftedIn, closer, lifted_later, quoted_later}
+use Rattle.venue_laws.proofs.VenueSteps.{Brings, Here, day, since, trail_of}
 
 -- a hit that awards asked a word that no check refused, and ends as the book says
 awards : (facts : List RoomFact) (word moment : ℕ) (settlement : Option Settled) (award : End)
@@ -86,25 +83,23 @@ module _ (h : Here) (room : RoomRef) where
     winner_lifted : (dealer : ℕ) → close_for award dealer ≡ closes.Hit
         → Lifts (quote_with_word h.config word) dealer
     winner_lifted dealer hit =
-        by_quote (quote_meant (book_of (known h room)) word) refl
-        (winner_is (is_winner (award_of (known h room) word).winner dealer)
-        (is_cover (award_of (known h room) word).cover dealer) (rw (← award_is) at hit))
-      where
-        by_quote : (found : Option BookQuote) → quote_meant (book_of (known h room)) word ≡ found
-            → is_winner (option_map (λ (q : BookQuote). (q.dealer, q.word)) found) dealer ≡ true
-            → Lifts (quote_with_word h.config word) dealer
-        by_quote None found wins = cc
-        by_quote (Some quote) found wins =
-            let posted = posted_in h.stood room word quote found in
-            let dealer_is : quote.dealer ≡ dealer = grind (arith, nat_tests) in
-            let number : 0 + quote.dealer ≡ quote.dealer = omega arith in
-            subst (Lifts (quote_with_word h.config word)) dealer_is
-            (subst (λ (o : Option QuoteRef). Lifts o quote.dealer)
-            (sym (ap (quote_with_word h.config) (sym posted.0 ∙ posted.1.word_is)
-            ∙ owner_among 0 h.config.dealers quote.dealer posted.1.row posted.1.quote
-            posted.1.row_is posted.1.within
-            ∙ ap (λ (n : ℕ). Some (quote_at n posted.1.quote)) number))
-            (lift quote posted.1))
+        let wins = winner_is (is_winner (award_of (known h room) word).winner dealer)
+        (is_cover (award_of (known h room) word).cover dealer) (rw (← award_is) at hit) in
+        elim (cases_some (quote_meant (book_of (known h room)) word)) [
+          | inl none ↦ cc (rw none at wins)
+          | inr some ↦
+              let quote = some.0 in
+              let posted = posted_in h.stood room word quote some.1 in
+              let number : 0 + quote.dealer ≡ quote.dealer = omega arith in
+              subst (Lifts (quote_with_word h.config word))
+              (eqb-true quote.dealer dealer (rw (some.1) at wins))
+              (subst (λ (o : Option QuoteRef). Lifts o quote.dealer)
+              (sym (ap (quote_with_word h.config) (sym posted.0 ∙ posted.1.word_is)
+              ∙ owner_among 0 h.config.dealers quote.dealer posted.1.row posted.1.quote
+              posted.1.row_is posted.1.within
+              ∙ ap (λ (n : ℕ). Some (quote_at n posted.1.quote)) number))
+              (lift quote posted.1))
+        ]
 
   pub hit_brings : (response : ResponseRef) (word moment : ℕ) (settlement : Option Settled)
       → RespondsIn h.config h.by room response true h.venue
@@ -116,16 +111,8 @@ module _ (h : Here) (room : RoomRef) where
       replied : Result End HitRefusal → Duty
       replied outcome = duty.Answer room response (reply_of outcome) moment
 
-      answered : (outcome : Result End HitRefusal)
-          → ((quote : ℕ) → replies_to (Some quote) (reply_of outcome) ≡ true)
-          → (effect : Effect) → Fine h effect (replied outcome)
-      answered outcome replies effect = (
-        λ now later. (
-          let quote = some_of response.k hits.some_is in rw (quote.1) (replies quote.0),
-          known_later (to_now h effect later) room response.k hits.known,
-        ),
-        refl,
-      )
+      quote : (n : ℕ) × (response.k ≡ Some n)
+      quote = some_of response.k hits.some_is
 
       by_outcome : (outcome : Result End HitRefusal)
           → hit_outcome (known h room) word moment settlement ≡ outcome
@@ -141,11 +128,12 @@ module _ (h : Here) (room : RoomRef) where
           (not-false (is_open (known h room))
           (none_holds (hit_checks (known h room) word moment) so.0).0)
           (hits.by_is ∙ ap (λ (e : End). closer e.kind room) so.1)
-          (answered (Ok award) (λ quote. refl) (ending h room award moment (replied (Ok award))
-          lifted))
+          (answered h room response (reply_of (Ok award)) moment hits (rw (quote.1) refl)
+          (ending h room award moment (replied (Ok award)) lifted))
           (λ now later dealer hit. lifted_later later dealer room (winner_lifted word award so.1
           (map (InRoom room) (Ended award moment ∷ [])) dealer hit))
       by_outcome (Err why) is =
           rw (none_lifted (quote_with_word h.config word) why)
           (left_brings h room (replied (Err why))
-          (answered (Err why) (λ quote. refl) (in_it h room [] (replied (Err why) ∷ []))))
+          (answered h room response (reply_of (Err why)) moment hits (rw (quote.1) refl)
+          (in_it h room [] (replied (Err why) ∷ []))))

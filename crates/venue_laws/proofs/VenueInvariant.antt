@@ -71,16 +71,7 @@ module _ (config : Configuration) where
       pub named : is_named (of_room room venue.facts) dealer ≡ true
       pub bears : BearsGrid config ask
 
-    pub record ReadiesBy (room : RoomRef) (venue : AuditTrail) : Type 0 where
-      pub by_is : by ≡ actor.Firm room.investor
-      pub opened : IsOpened room venue.facts
-
     -- a quote to be posted, or taken out, by its dealer
-    pub record PostsIn (room : RoomRef) (quote : ℕ) (venue : AuditTrail) : Type 0 where
-      pub named : ByNamed by room venue.facts
-      pub within : (nat_le 1 quote && nat_le quote named.who.row.quotes) ≡ true
-      pub quoted : QuotedIn venue.facts named.who.dealer room quote
-
     pub record UnpostsIn (room : RoomRef) (quote : ℕ) (venue : AuditTrail) : Type 0 where
       pub named : ByNamed by room venue.facts
       pub within : (nat_le 1 quote && nat_le quote named.who.row.quotes) ≡ true
@@ -106,8 +97,11 @@ module _ (config : Configuration) where
     abbrev pub DutyOk : Duty → AuditTrail → Type 0
     DutyOk (duty.Open room ask dealers moment) venue = OpensIn room ask dealers venue
     DutyOk (duty.Show dealer room ask moment) venue = ShowsIn dealer room ask venue
-    DutyOk (duty.Ready room moment) venue = ReadiesBy room venue
-    DutyOk (duty.Post room quote price valid_until moment) venue = PostsIn room quote venue
+    DutyOk (duty.Ready room moment) venue =
+        (by ≡ actor.Firm room.investor) × IsOpened room venue.facts
+    DutyOk (duty.Post room quote price valid_until moment) venue =
+        (posts : UnpostsIn room quote venue)
+        × QuotedIn venue.facts posts.named.who.dealer room quote
     DutyOk (duty.Relay room offer moment) venue = IsOpened room venue.facts
     DutyOk (duty.Unpost room quote moment) venue = UnpostsIn room quote venue
     DutyOk (duty.Gone room word moment) venue = IsOpened room venue.facts

@@ -4,17 +4,18 @@ use Rattle.std.proofs.Common.{Bool, List, None, Some, ℕ, [], false, if◌then�
 use Rattle.std.proofs.Common.{not, refl, subst, sym, true, ◌++◌, ◌==◌, ◌∙◌, ◌∷◌, ◌≡◌}
 use Rattle.std.proofs.lemmas.Bool.{and_parts, both_ways, cases_Bool, eqb-true, not-true}
 use Rattle.std.proofs.lemmas.List.{append-nil}
+use Rattle.std.proofs.lemmas.List.Elements.{filter_map-append}
 use Rattle.std.proofs.lemmas.Option.{same_Some}
 use Rattle.std.specs.List.{list_any}
 use Rattle.market_terms.specs.Dealers.{are_distinct}
 use Rattle.market_terms.specs.declared.duties.Duty.{Duty}
 use Rattle.market_terms.specs.declared.rooms.RoomRef.{RoomRef}
+use Rattle.day_parts.specs.KeptItems.{every_in}
 use Rattle.venue_rows.specs.Rows.{dealer_numbered}
 use Rattle.venue_rows.specs.declared.dealer_rows.DealerRow.{DealerRow}
 use Rattle.dealer_desk.specs.DealerFacts.{Shown, Told}
 use Rattle.request_room.specs.Book.{where_so}
 use Rattle.request_room.specs.RoomFacts.{RoomFact}
-use Rattle.venue_places.specs.declared.actors.Actor.{Actor}
 use Rattle.step_replay.specs.Actions.{Dealer, Effect, acting_dealer, dealer_of, done_by, nothing}
 use Rattle.step_replay.specs.DealerTrail.{AtDesk, DealerEntry, ShownIn}
 use Rattle.step_replay.specs.EachLemmas.{Every, every_weaker}
@@ -22,14 +23,13 @@ use Rattle.step_replay.specs.GrowthLemmas.{In}
 use Rattle.step_replay.specs.PlaceLemmas.{investor_at_dealer, investor_in_room, other_trail}
 use Rattle.step_replay.specs.PlaceLemmas.{own_trail}
 use Rattle.step_replay.specs.VenueFacts.{AtDealer, Fact, InRoom, of_investor, of_room}
-use Rattle.venue_laws.proofs.ListLemmas.{every_map, every_mapped, in_both, in_found, in_one}
-use Rattle.venue_laws.proofs.ListLemmas.{named_in}
+use Rattle.venue_laws.proofs.ListLemmas.{every_map, in_both, in_found, in_one, named_in}
 use Rattle.venue_laws.proofs.PlainFacts.{ArePlain, AreQuiet, is_plain_entry, is_quiet, plain_names}
 use Rattle.venue_laws.proofs.PlainFacts.{plain_rooms, quiet_trail}
-use Rattle.venue_laws.proofs.VenueGrowth.{investor_facts_grown, later_same, marks_both}
 use Rattle.venue_laws.proofs.VenueInvariant.{ByDealer, Did, LeftOk, MarketOk}
 use Rattle.venue_laws.proofs.VenueKnown.{each_holds, needs}
-use Rattle.venue_laws.proofs.VenueParts.{InOrder, Mark, Needs, Still, WasLeft, mark_of, marks}
+use Rattle.venue_laws.proofs.VenueParts.{InOrder, Mark, Needs, Still, WasLeft, investor_facts_grown}
+use Rattle.venue_laws.proofs.VenueParts.{later_same, mark_of, marks, marks_both}
 use Rattle.venue_laws.proofs.VenueSteps.{Brings, DeskAdds, DutyThen, FactThen, Here, LeftThen, day}
 use Rattle.venue_laws.proofs.VenueSteps.{queue, trail_of}
 
@@ -63,7 +63,8 @@ module _ (h : Here) where
       → dealer_numbered h.config dealer ≡ Some row → ArePlain entries
       → DeskAdds h dealer row entries
   plain_adds dealer row entries is plain = (
-    rw (plain_rooms entries plain, append-nil) (h.stood.desks dealer row is).numbered,
+    rw (filter_map-append, plain_rooms entries plain, append-nil)
+        (h.stood.desks dealer row is).numbered,
     plain_names h.config.date row (trail_of h dealer) entries plain,
   )
 
@@ -94,9 +95,7 @@ module _ (h : Here) where
   pub acting_brings : (who : ByDealer h.config h.by) (action : Dealer → Effect)
       → Brings h (action (dealer_of who.dealer who.row))
       → Brings h (done_by (acting_dealer h.config h.by) action)
-  acting_brings who action brings =
-      subst (λ (a : Actor). Brings h (done_by (acting_dealer h.config a) action)) (sym who.by_is)
-      (rw who.row_is brings)
+  acting_brings who action brings = simp (who.by_is, who.row_is) brings
 
   pub plain_ok : (effect : Effect) (dealer : ℕ) (entries : List DealerEntry) → ArePlain entries
       → Every (λ entry. FactThen h effect (AtDealer dealer entry)) entries
@@ -124,8 +123,7 @@ module _ (h : Here) where
         → Every (Fine (at_desk dealer entries duties)) duties
         → Brings h (at_desk dealer entries duties)
     desk_brings adds entry_ok fine = record {
-      facts = every_mapped (FactThen h (at_desk dealer entries duties)) (AtDealer dealer) entries
-          entry_ok;
+      facts = every_in _ (FactThen h _) (AtDealer dealer) (λ entry ok. ok) entries entry_ok;
       left = fine_left (at_desk dealer entries duties) (queue h) duties fine;
       adds = λ other row_too is_too. elim (cases_Bool (dealer == other)) [
         | inr differs ↦ rw (other_trail other dealer differs entries)
@@ -160,7 +158,7 @@ module _ (h : Here) where
   room_brings room added duties facts_ok left =
       quiet_brings (in_it room added duties)
       (every_map (λ fact. is_quiet fact ≡ true) (InRoom room) added (λ fact is. refl))
-      (every_mapped (FactThen h (in_it room added duties)) (InRoom room) added facts_ok) left
+      (every_in _ (FactThen h _) (InRoom room) (λ fact ok. ok) added facts_ok) left
       (λ investor. same_markets (map (InRoom room) added) investor
       (investor_in_room investor room added))
 
@@ -189,13 +187,6 @@ module _ (h : Here) where
       (apart : (dealer other : ℕ) → mark dealer ≡ mark other → dealer ≡ other)
       (plain : (before : List Mark) (dealer : ℕ)
       → Still (InOrder before (mark dealer)) (day h effect)) where
-    absent : (dealer other : ℕ) (dealers : List ℕ)
-        → not (list_any (λ (named : ℕ). named == dealer) dealers) ≡ true → In other dealers
-        → dealer ≡ other → ⊥
-    absent dealer other dealers none among same =
-        both_ways (list_any (λ (named : ℕ). named == dealer) dealers) (not-true _ none)
-        (named_in dealer dealers (subst (λ (d : ℕ). In d dealers) (sym same) among))
-
     once_behind : (front : List Duty) (dealers : List ℕ) → are_distinct dealers ≡ true
         → ((dealer : ℕ) → In dealer dealers → DutyThen h effect (make dealer))
         → ((dealer : ℕ) → In dealer dealers → In (mark dealer) (marks front) → ⊥)
@@ -210,8 +201,9 @@ module _ (h : Here) where
               (λ other among stands. elim (in_both (mark other) (marks front) (mark dealer ∷ [])
               (rw (marks_both front (make dealer ∷ []), is dealer) at stands)) [
                 | inl before ↦ clear other (inr among) before
-                | inr here ↦ absent dealer other dealers parts.0 among
-                    (apart dealer other (in_one (mark other) (mark dealer) here))
+                | inr here ↦ both_ways _ (not-true _ parts.0) (named_in dealer dealers
+                    (subst (λ (d : ℕ). In d dealers)
+                    (sym (apart dealer other (in_one (mark other) (mark dealer) here))) among))
               ]),
         )
 

@@ -6,12 +6,13 @@ use Rattle.std.proofs.lemmas.List.{take-append-drop}
 use Rattle.std.proofs.lemmas.Option.{same_Some}
 use Rattle.std.specs.List.{list_any}
 use Rattle.std.specs.Prelude.{slice_get}
+use Rattle.market_terms.specs.declared.closes.Close.{Close}
 use Rattle.market_terms.specs.declared.duties.Duty.{Duty}
 use Rattle.market_terms.specs.declared.duties.Duty.TheVariants as duty
 use Rattle.market_terms.specs.declared.rooms.RoomRef.{RoomRef}
 use Rattle.venue_rows.specs.Rows.{Configuration, dealer_numbered, has_room}
 use Rattle.venue_rows.specs.declared.dealer_rows.DealerRow.{DealerRow}
-use Rattle.dealer_desk.specs.DealerFacts.{Shown, requests_from}
+use Rattle.dealer_desk.specs.DealerFacts.{Shown, Told, requests_from}
 use Rattle.dealer_desk.specs.DealerOutput.{is_same_room, number_in}
 use Rattle.dealer_desk.specs.declared.standing.StandingRequest.{StandingRequest}
 use Rattle.request_room.specs.Book.{book_of, quote_meant, takes_out}
@@ -30,12 +31,11 @@ use Rattle.step_replay.specs.VenueFacts.{AtDealer, Fact, InRoom, of_dealer, of_r
 use Rattle.venue_laws.proofs.KnownDesks.{known_asked}
 use Rattle.venue_laws.proofs.ListLemmas.{in_named, some_of}
 use Rattle.venue_laws.proofs.PlainFacts.{at_dealer_all, in_room_all, rooms_all}
-use Rattle.venue_laws.proofs.ShownRequests.{number_place}
-use Rattle.venue_laws.proofs.VenueGrowth.{later_same}
-use Rattle.venue_laws.proofs.VenueInvariant.{DutyOk, EndedIn, FactOk, IsDealer, LeftOk, OpenedIn}
-use Rattle.venue_laws.proofs.VenueInvariant.{PostedIn, ReadyIn, ShownTo, VenueOk}
+use Rattle.venue_laws.proofs.ShownRequests.{in_facts, number_place}
+use Rattle.venue_laws.proofs.VenueInvariant.{ClosedIn, Did, DutyOk, EndedIn, FactOk, IsDealer}
+use Rattle.venue_laws.proofs.VenueInvariant.{LeftOk, OpenedIn, PostedIn, ReadyIn, ShownTo, VenueOk}
 use Rattle.venue_laws.proofs.VenueParts.{BearsGrid, IsOpened, KnownIn, Needs, Still, did_in}
-use Rattle.venue_laws.proofs.VenueParts.{duties_by, investor_facts, mark_of, number_for}
+use Rattle.venue_laws.proofs.VenueParts.{duties_by, investor_facts, later_same, mark_of, number_for}
 use Rattle.venue_laws.proofs.VenueTurns.{turns_of}
 
 -- Facts of a room.
@@ -85,7 +85,7 @@ room_self room =
     and_from _ _ (eq-eqb room.investor room.investor refl) (eq-eqb room.n room.n refl)
 
 -- two rooms that one number names are one
-pub one_number : (rooms : List RoomRef) (one other : RoomRef) (number : ℕ)
+one_number : (rooms : List RoomRef) (one other : RoomRef) (number : ℕ)
     → number_in rooms one ≡ Some number → number_in rooms other ≡ Some number → one ≡ other
 one_number rooms one other number is also =
     let first = number_place 1 rooms one number is in
@@ -109,7 +109,7 @@ pub needs : (config : Configuration) (by : Actor) (venue : AuditTrail) (left : D
 needs config by venue (duty.Open room ask dealers moment) ok = ok.known
 needs config by venue (duty.Show dealer room ask moment) ok =
     opened_by room venue.facts dealer ok.named
-needs config by venue (duty.Ready room moment) ok = ok.opened
+needs config by venue (duty.Ready room moment) ok = ok.1
 needs config by venue (duty.Tell dealer room close moment) ok = rw (ok.end_is) refl
 needs config by venue other ok = tt
 
@@ -126,7 +126,7 @@ module _ {config : Configuration} {venue : AuditTrail} (stood : VenueOk config v
   known room = of_room room venue.facts
 
   -- what stands at a fact from this venue on
-  abbrev pub Stands : Fact → Type 0
+  abbrev Stands : Fact → Type 0
   Stands fact = Still (FactOk config fact) venue
 
   -- what stands at each fact of a room
@@ -139,7 +139,7 @@ module _ {config : Configuration} {venue : AuditTrail} (stood : VenueOk config v
       (every_weaker Stands (λ fact. FactOk config fact venue)
       (λ fact stands. stands venue (later_same venue)) venue.facts stood.facts)
 
-  pub all_there : (dealer : ℕ)
+  all_there : (dealer : ℕ)
       → Every (λ entry. Stands (AtDealer dealer entry)) (of_dealer dealer venue.facts)
   all_there dealer = at_dealer_all Stands dealer venue.facts stood.facts
 
@@ -157,7 +157,7 @@ module _ {config : Configuration} {venue : AuditTrail} (stood : VenueOk config v
 
   -- what was made ready was opened, and what ended was made ready
   pub ready_opened : (room : RoomRef) → is_ready (known room) ≡ true → IsOpened room venue.facts
-  ready_opened room is = (ready_in room is).did.ok.opened
+  ready_opened room is = (ready_in room is).did.ok.1
 
   pub ended_ready : (room : RoomRef) → is_ended (known room) ≡ true
       → is_ready (known room) ≡ true
@@ -178,6 +178,20 @@ module _ {config : Configuration} {venue : AuditTrail} (stood : VenueOk config v
       rooms_all (λ entry. Stands (AtDealer dealer entry)) (λ room. ShownTo config dealer room venue)
       (λ room stands. stands venue (later_same venue)) (of_dealer dealer venue.facts)
       (all_there dealer)
+
+  -- a notice of a room's end was told as the duty says that was done
+  pub told_did : (room : RoomRef) (dealer request : ℕ) (close : Close) (moment : ℕ)
+      → number_for venue.facts dealer room ≡ Some request
+      → In (Told request close moment) (facts_of (of_dealer dealer venue.facts))
+      → (when : ℕ) × Did config (duty.Tell dealer room close when) venue
+  told_did room dealer request close moment found is =
+      let trail = of_dealer dealer venue.facts in
+      let closed : ClosedIn config dealer request close venue =
+      all_in (λ entry. Stands (AtDealer dealer entry)) (AtDesk (Told request close moment)) trail
+      (all_there dealer) (in_facts (Told request close moment) trail is) venue (later_same venue) in
+      let same : closed.room ≡ room =
+      one_number (rooms_by trail) closed.room room request closed.request_is found in
+      (closed.moment, rw same at closed.did)
 
   -- Rooms that an investor knows.
 

@@ -30,11 +30,10 @@ use Rattle.venue_laws.proofs.InvestorVerdicts.{verdict_fits}
 use Rattle.venue_laws.proofs.KnownDesks.{asked_known, asks, known_asked}
 use Rattle.venue_laws.proofs.ListLemmas.{cases_some, every_map}
 use Rattle.venue_laws.proofs.PlainFacts.{is_quiet}
-use Rattle.venue_laws.proofs.VenueGrowth.{known_later}
 use Rattle.venue_laws.proofs.VenueInvariant.{MarketOk, RespondsIn}
 use Rattle.venue_laws.proofs.VenueKinds.{nothing_brings, queued, quiet_brings, same_markets}
 use Rattle.venue_laws.proofs.VenueKinds.{when_brings}
-use Rattle.venue_laws.proofs.VenueParts.{KnownIn, Opening, Still, investor_facts}
+use Rattle.venue_laws.proofs.VenueParts.{KnownIn, Opening, Still, investor_facts, known_later}
 use Rattle.venue_laws.proofs.VenueSteps.{Brings, FactThen, Here, LeftThen, day, queue, to_now}
 
 module _ (h : Here) where

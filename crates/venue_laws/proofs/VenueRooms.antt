@@ -1,37 +1,56 @@
--- What happens in a room until it ends brings what stands in a venue: that it is opened and made
--- ready, quotes and declines.
-use Rattle.std.proofs.Common.{Bool, List, None, Option, Some, ℕ, [], ap, false, if◌then◌else◌, inl}
-use Rattle.std.proofs.Common.{inr, is_none, map, not, refl, sym, true, ◌++◌, ◌==◌, ◌∙◌, ◌∷◌, ◌≡◌}
-use Rattle.std.proofs.lemmas.Bool.{and_parts}
+-- What is done once brings what stands in a venue: a room is opened, its request is shown, it is
+-- made ready, and a dealer is told its end. So do quotes and declines.
+use Rattle.std.proofs.Common.{Bool, List, None, Option, Some, ℕ, [], ap, eq-eqb, false}
+use Rattle.std.proofs.Common.{if◌then◌else◌, inl, inr, is_none, is_some, map, not, option_to_list}
+use Rattle.std.proofs.Common.{refl, subst, sym, true, ◌++◌, ◌==◌, ◌∙◌, ◌∷◌, ◌≡◌}
+use Rattle.std.proofs.lemmas.Bool.{and_parts, or_left}
+use Rattle.std.proofs.lemmas.List.{append-nil}
+use Rattle.std.proofs.lemmas.List.Elements.{filter_map-append}
 use Rattle.std.specs.List.{list_any}
 use Rattle.market_terms.specs.declared.asks.Ask.{Ask}
+use Rattle.market_terms.specs.declared.closes.Close.{Close}
+use Rattle.market_terms.specs.declared.closes.Close.TheVariants as closes
 use Rattle.market_terms.specs.declared.duties.Duty.{Duty}
 use Rattle.market_terms.specs.declared.duties.Duty.TheVariants as duty
+use Rattle.market_terms.specs.declared.duties.Duty.TheVariants as duty
 use Rattle.market_terms.specs.declared.rooms.RoomRef.{RoomRef}
-use Rattle.request_room.specs.Book.{event_facts, may_unpost, quote_posted, where_so}
-use Rattle.request_room.specs.RoomFacts.{Noted, Opened, Posted, Readied, RoomFact, Unposted}
-use Rattle.request_room.specs.RoomFacts.{is_ended, is_named, is_opening, is_vacant, names}
-use Rattle.request_room.specs.RoomFacts.{opened_for, request_of, takes_quotes}
+use Rattle.venue_rows.specs.Rows.{dealer_numbered}
+use Rattle.venue_rows.specs.declared.dealer_rows.DealerRow.{DealerRow}
+use Rattle.dealer_desk.specs.DealerFacts.{Told, tells}
+use Rattle.dealer_desk.specs.DealerOutput.{closable, event_facts, number_in}
+use Rattle.dealer_desk.specs.declared.events.DealerEvent.TheVariants as event
+use Rattle.request_room.specs.Book.{event_facts as room_facts, where_so}
+use Rattle.request_room.specs.RoomFacts.{Opened, Readied, RoomFact, is_ended, is_named, is_opening}
+use Rattle.request_room.specs.RoomFacts.{is_vacant, names, opened_for, request_of}
 use Rattle.request_room.specs.declared.events.RoomEvent.TheVariants as at_room
 use Rattle.request_room.specs.declared.requests.RoomRequest.{RoomRequest}
 use Rattle.venue_steps.specs.RoomSteps.{where_follows}
-use Rattle.step_replay.specs.Actions.{Effect, dealer_of, declined_by, in_room, nothing, opened}
-use Rattle.step_replay.specs.Actions.{posted_by, unposted_by, word_for}
+use Rattle.step_replay.specs.Actions.{Effect, dealer_of, in_room, nothing, opened, shown_to}
+use Rattle.step_replay.specs.Actions.{told_of, told_to}
 use Rattle.step_replay.specs.AuditTrail.{AuditTrail}
+use Rattle.step_replay.specs.DealerGrowth.{rooms_grown}
+use Rattle.step_replay.specs.DealerTrail.{AtDesk, DealerEntry, Sent, book_by, entries_of, facts_of}
+use Rattle.step_replay.specs.DealerTrail.{message_by, rooms_by}
 use Rattle.step_replay.specs.EachLemmas.{Every, each_append}
-use Rattle.step_replay.specs.GrowthLemmas.{In, all_in, in_right, said_after}
-use Rattle.step_replay.specs.PlaceLemmas.{own_room, room_grown}
-use Rattle.step_replay.specs.VenueFacts.{InRoom, of_room}
+use Rattle.step_replay.specs.GrowthLemmas.{In, all_in, any_right, in_right, number_next}
+use Rattle.step_replay.specs.GrowthLemmas.{numbered_push, said_after}
+use Rattle.step_replay.specs.PlaceLemmas.{dealer_grown, own_room, own_trail, room_grown}
+use Rattle.step_replay.specs.VenueFacts.{AtDealer, InRoom, of_dealer, of_room}
 use Rattle.venue_laws.proofs.ListLemmas.{every_map, found_in, in_both, in_found, in_map, in_named}
-use Rattle.venue_laws.proofs.ListLemmas.{named_in, none_is}
-use Rattle.venue_laws.proofs.VenueGrowth.{marks_both, named_later, quoted_later, said_later}
-use Rattle.venue_laws.proofs.VenueInvariant.{ByNamed, LeftOk, OpensIn, PostsIn}
-use Rattle.venue_laws.proofs.VenueKinds.{DoneNow, Fine, each_once, fine_left, in_it, known, queued}
-use Rattle.venue_laws.proofs.VenueKinds.{room_brings, when_brings, where_brings}
-use Rattle.venue_laws.proofs.VenueKnown.{opened_by}
-use Rattle.venue_laws.proofs.VenueParts.{InOrder, IsOpened, Later, MarkOk, Readying, Showing, Still}
-use Rattle.venue_laws.proofs.VenueParts.{did_in, mark_of, marks}
-use Rattle.venue_laws.proofs.VenueSteps.{Brings, DutyThen, FactThen, Here, day, queue, to_now}
+use Rattle.venue_laws.proofs.ListLemmas.{named_in, none_is, none_some}
+use Rattle.venue_laws.proofs.LiveQuotes.{LoneQuotes, hit_names}
+use Rattle.venue_laws.proofs.PlainFacts.{plain_names, plain_rooms, sent_plain}
+use Rattle.venue_laws.proofs.VenueInvariant.{DeskOk, LeftOk, OpensIn, TellsIn}
+use Rattle.venue_laws.proofs.VenueKinds.{DoneNow, Fine, at_desk, desk_brings, each_once, fine_left}
+use Rattle.venue_laws.proofs.VenueKinds.{in_it, known, plain_ok, queued, room_brings, when_brings}
+use Rattle.venue_laws.proofs.VenueKinds.{where_brings}
+use Rattle.venue_laws.proofs.VenueKnown.{room_self}
+use Rattle.venue_laws.proofs.VenueParts.{BearsGrid, InOrder, IsOpened, Later, Mark, MarkOk}
+use Rattle.venue_laws.proofs.VenueParts.{NamesLifted, Readying, Showing, Still, Telling, did_in}
+use Rattle.venue_laws.proofs.VenueParts.{mark_of, marks, marks_both, number_for, number_later}
+use Rattle.venue_laws.proofs.VenueParts.{said_later, shown_later, told_later}
+use Rattle.venue_laws.proofs.VenueSteps.{Brings, DutyThen, FactThen, Here, day, queue, since}
+use Rattle.venue_laws.proofs.VenueSteps.{to_now, trail_of}
 
 module _ (h : Here) (room : RoomRef) where
   -- An opening.
@@ -103,10 +122,7 @@ module _ (h : Here) (room : RoomRef) where
             bears = opens.bears;
           })) (
             (
-              λ now later. record {
-                by_is = opens.by_is;
-                opened = rw (request_is now later) refl;
-              },
+              λ now later. (opens.by_is, rw (request_is now later) refl),
               (unready, shows_all),
             ),
             tt,
@@ -115,7 +131,7 @@ module _ (h : Here) (room : RoomRef) where
     pub opened_brings : OpensIn h.config h.by room ask dealers h.venue
         → DoneNow h (duty.Open room ask dealers moment)
         → Brings h (opened h.config h.venue.facts room ask dealers moment)
-    unfolding event_facts
+    unfolding room_facts
     opened_brings opens did =
         where_brings h room _ (is_vacant (known h room)) (Opened request)
         (λ (b : Bool). if b then showing ++ duty.Ready room moment ∷ [] else [])
@@ -127,7 +143,7 @@ module _ (h : Here) (room : RoomRef) where
       → Still (InOrder (marks (did_in h.venue h.by)) (Readying room)) h.venue
       → DoneNow h (duty.Ready room moment)
       → Brings h (in_room h.config h.venue.facts room true at_room.Ready [])
-  unfolding event_facts
+  unfolding room_facts
   readied_brings moment shows did =
       let effect = in_it h room (Readied ∷ []) [] in
       where_brings h room _ (is_opening (known h room)) Readied (λ b. [])
@@ -148,7 +164,7 @@ module _ (h : Here) (room : RoomRef) where
   -- Quotes and declines.
 
   -- a fact that may be added, and a duty that may follow
-  may_bring : (may b c : Bool) (fact : RoomFact) (left : Duty) → mark_of left ≡ None
+  pub may_bring : (may b c : Bool) (fact : RoomFact) (left : Duty) → mark_of left ≡ None
       → ((effect : Effect) → FactThen h effect (InRoom room fact))
       → ((effect : Effect) → DutyThen h effect left)
       → Brings h (if may then in_it h room (where_so b fact) (where_follows c left) else nothing)
@@ -168,47 +184,97 @@ module _ (h : Here) (room : RoomRef) where
       follows true = ((leaves effect, free), tt)
       follows false = tt
 
-  pub posted_brings : (quote price : ℕ) (valid_until : Option ℕ) (moment : ℕ)
-      (posts : PostsIn h.config h.by room quote h.venue)
-      → Brings h (posted_by h.config h.venue.facts room quote price valid_until moment
-      (dealer_of posts.named.who.dealer posts.named.who.row))
-  unfolding event_facts
-  posted_brings quote price valid_until moment posts =
-      let who = posts.named.who in
-      may_bring _ (takes_quotes (known h room)) _
-      (Posted (quote_posted who.dealer (word_for h.config (dealer_of who.dealer who.row) quote) price
-      valid_until)) _ refl
-      (λ effect now later. record {
-        row = who.row;
-        quote = quote;
-        row_is = who.row_is;
-        within = posts.within;
-        word_is = refl;
-        quoted = quoted_later (to_now h effect later) who.dealer room quote posts.quoted;
-      })
-      (λ effect now later. opened_by room now.facts who.dealer
-      (named_later (to_now h effect later) room who.dealer posts.named.named))
+-- At a dealer's desk: a request that is shown, and a notice that is told.
 
-  pub unposted_brings : (quote moment : ℕ) (named : ByNamed h.config h.by room h.venue.facts)
-      → Brings h (unposted_by h.config h.venue.facts room quote moment
-      (dealer_of named.who.dealer named.who.row))
-  unfolding event_facts
-  unposted_brings quote moment named =
-      let who = named.who in
-      let word = word_for h.config (dealer_of who.dealer who.row) quote in
-      may_bring _ (may_unpost (known h room) who.dealer word) _ (Unposted who.dealer word) _
-      refl (λ effect now later. tt)
-      (λ effect now later. opened_by room now.facts who.dealer
-      (named_later (to_now h effect later) room who.dealer named.named))
+module _ (h : Here) (dealer : ℕ) (row : DealerRow)
+    (is : dealer_numbered h.config dealer ≡ Some row) (room : RoomRef) (moment : ℕ) where
+  abbrev own : List DealerEntry
+  own = trail_of h dealer
 
-  pub declined_brings : (moment : ℕ) (named : ByNamed h.config h.by room h.venue.facts)
-      → Brings h (declined_by h.config h.venue.facts room moment
-      (dealer_of named.who.dealer named.who.row))
-  unfolding event_facts
-  declined_brings moment named =
-      may_bring _ (takes_quotes (known h room)) _ (Noted named.who.dealer) _ refl
-      (λ effect now later. tt)
-      (λ effect now later. record {
-        who = named.who;
-        named = named_later (to_now h effect later) room named.who.dealer named.named;
-      })
+  desk : DeskOk h.config h.venue.facts dealer row
+  desk = h.stood.desks dealer row is
+
+  trail_with : (entries : List DealerEntry)
+      → of_dealer dealer (day h (at_desk h dealer entries [])).facts ≡ own ++ entries
+  trail_with entries =
+      rw (
+        dealer_grown dealer h.venue.facts (map (AtDealer dealer) entries),
+        own_trail dealer entries,
+      ) refl
+
+  -- what happens at the desk, and what is done by it
+  abbrev Does : Effect → Mark → Type 0
+  Does effect mark = Brings h effect × Still (MarkOk mark) (day h effect)
+
+  pub shown_brings : is_some (number_in (rooms_by own) room) ≡ false → (ask : Ask)
+      → BearsGrid h.config ask → DoneNow h (duty.Show dealer room ask moment)
+      → Does (shown_to h.config h.venue.facts room ask moment (dealer_of dealer row))
+      (Showing dealer room)
+  unfolding entries_of event_facts
+  shown_brings yet ask bears did =
+      let more = event.Shown room ask moment in
+      let entries = entries_of h.config.date row own more in
+      let effect = at_desk h dealer entries [] in
+      rw yet (
+        desk_brings h dealer row is entries [] (
+          rw (rooms_grown h.config.date row own more) (numbered_push (rooms_by own) room
+              desk.numbered (none_some _ yet) (room_self room)),
+          (tt, (tt, plain_names h.config.date row _ (map Sent _) (sent_plain _))),
+        ) (
+          λ now later. bears,
+          (λ now later. (ask, moment, did effect now later), plain_ok h effect dealer _ (sent_plain _)),
+        ) tt,
+        λ now later. shown_later later dealer room (rw (
+          trail_with entries,
+          rooms_grown h.config.date row own more,
+          number_next 1 (rooms_by own) room (none_some _ yet) (room_self room),
+        ) refl),
+      )
+
+  module _ (lone : LoneQuotes) (close : Close)
+      (fits : TellsIn h.config h.by dealer room close h.venue) (request : ℕ)
+      (found : number_for h.venue.facts dealer room ≡ Some request)
+      (may : is_some (closable (book_by own) request) ≡ true)
+      (did : DoneNow h (duty.Tell dealer room close moment)) where
+    -- what is sent of a notice
+    abbrev sent_of : Close → List DealerEntry
+    sent_of how = map Sent (option_to_list (message_by h.config.date row own
+        (event.Told request how moment)))
+
+    told_names : (how : Close) → how ≡ close
+        → NamesLifted h.config.date row own (AtDesk (Told request how moment)) (sent_of how)
+    told_names closes.Hit how =
+        hit_names lone h.config h.venue.facts dealer row desk room request moment
+        (fits.hit (sym how)) found may
+    told_names other how = tt
+
+    pub told_brings : Does (told_to h.config h.venue.facts room close moment (dealer_of dealer row))
+        (Telling dealer room)
+    unfolding entries_of event_facts
+    told_brings =
+        let entries : List DealerEntry = AtDesk (Told request close moment) ∷ sent_of close in
+        let effect = at_desk h dealer entries [] in
+        let plain = sent_plain (option_to_list (message_by h.config.date row own
+        (event.Told request close moment))) in
+        subst (λ (o : Option ℕ). Does (told_of h.config h.venue.facts (dealer_of dealer row) close
+        moment o) (Telling dealer room)) (sym found) (rw may (
+          desk_brings h dealer row is entries [] (
+            rw (filter_map-append, plain_rooms (sent_of close) plain, append-nil) desk.numbered,
+            (told_names close refl, plain_names h.config.date row _ (sent_of close) plain),
+          ) (
+            λ now later. record {
+              room = room;
+              moment = moment;
+              request_is = number_later (to_now h effect later) dealer room request found;
+              did = did effect now later;
+            },
+            plain_ok h effect dealer (sent_of close) plain,
+          ) tt,
+          λ now later. told_later later dealer room (record {
+            request = request;
+            request_is = number_later (since h effect) dealer room request found;
+            told = rw (trail_with entries, filter_map-append)
+                (any_right (tells request) (facts_of own) (facts_of entries)
+                (or_left _ _ (eq-eqb request request refl)));
+          }),
+        ))

@@ -1,6 +1,5 @@
 -- What an effect has to bring for what stands in a venue to stand after it.
 use Rattle.std.proofs.Common.{List, None, Option, Some, ℕ, [], inl, inr, refl, subst, ◌++◌, ◌≡◌}
-use Rattle.std.proofs.lemmas.List.Elements.{filter_map-append}
 use Rattle.market_terms.specs.declared.closes.Close.TheVariants as closes
 use Rattle.market_terms.specs.declared.duties.Duty.{Duty}
 use Rattle.venue_rows.specs.Rows.{Configuration, dealer_numbered}
@@ -21,11 +20,11 @@ use Rattle.step_replay.specs.VenueFacts.{Fact, of_dealer}
 use Rattle.step_replay.specs.WordLemmas.{IsOneOf, one_is_kept}
 use Rattle.venue_laws.proofs.ListLemmas.{first_grown}
 use Rattle.venue_laws.proofs.NoticeLemmas.{IsNoticed, noticed_is_kept}
-use Rattle.venue_laws.proofs.VenueGrowth.{later_both, marks_both, still_later}
 use Rattle.venue_laws.proofs.VenueInvariant.{DeskOk, DutyOk, FactOk, LeftOk, MarketOk, QueueOk}
 use Rattle.venue_laws.proofs.VenueInvariant.{VenueOk}
 use Rattle.venue_laws.proofs.VenueParts.{InOrder, Later, Mark, MarkOk, NamesLifted, OrderOk, Still}
-use Rattle.venue_laws.proofs.VenueParts.{did_in, duties_by, mark_of, marks}
+use Rattle.venue_laws.proofs.VenueParts.{did_in, duties_by, later_both, mark_of, marks, marks_both}
+use Rattle.venue_laws.proofs.VenueParts.{still_later}
 use Rattle.venue_laws.proofs.VenueTurns.{Doing, Grown, doing_now, grown, venue_with}
 use Rattle.venue_laws.specs.Notices.{next_sent}
 
@@ -65,7 +64,7 @@ module _ (h : Here) where
   -- what entries more keep at a desk: that the rooms that were shown are numbered, and what its
   -- notices name
   abbrev pub DeskAdds : ℕ → DealerRow → List DealerEntry → Type 0
-  DeskAdds dealer row entries = AreNumbered (rooms_by (trail_of dealer) ++ rooms_by entries)
+  DeskAdds dealer row entries = AreNumbered (rooms_by (trail_of dealer ++ entries))
       × Each (NamesLifted h.config.date row) (trail_of dealer) entries
 
 -- what is left goes on to stand in a queue
@@ -101,12 +100,6 @@ module _ (h : Here) (effect : Effect) where
   abbrev pub DoneThen : List Duty → Type 0
   DoneThen left = Every (λ mark. Still (MarkOk mark) day) (marks left)
 
-  -- what is kept at each desk
-  abbrev KeepsDesks : Type 1
-  KeepsDesks = (dealer : ℕ) (row : DealerRow) → dealer_numbered h.config dealer ≡ Some row
-      → (P : List DealerEntry → Type 0) → IsKept h.config.date row P → P (trail_of h dealer)
-      → P (of_dealer dealer day.facts)
-
   grown_by : (other : Actor) → Grown h.venue h.by effect h.doing other
   grown_by other = grown h.venue h.by effect h.doing other (λ a. (h.stood.queues a).within)
 
@@ -122,8 +115,10 @@ module _ (h : Here) (effect : Effect) where
   pub to_now : {now : AuditTrail} → Later day now → Later h.venue now
   to_now later = later_both since later
 
-  pub ok_then : KeepsDesks → Brings → DoneThen (doing_now h.venue h.by h.doing)
-      → VenueOk h.config day
+  pub ok_then : ((dealer : ℕ) (row : DealerRow) → dealer_numbered h.config dealer ≡ Some row
+      → (P : List DealerEntry → Type 0) → IsKept h.config.date row P → P (trail_of h dealer)
+      → P (of_dealer dealer day.facts))
+      → Brings → DoneThen (doing_now h.venue h.by h.doing) → VenueOk h.config day
   ok_then keeps brings done = record {
     facts = every_both FactThen h.venue.facts effect.facts
         (every_weaker (λ fact. Still (FactOk h.config fact) h.venue) FactThen
@@ -175,8 +170,7 @@ module _ (h : Here) (effect : Effect) where
             seen = keeps dealer row is (Seen date row) (seen_is_kept date row) stood.seen;
             one_of = keeps dealer row is IsOneOf (one_is_kept date row) stood.one_of;
             noticed = keeps dealer row is IsNoticed (noticed_is_kept date row) stood.noticed;
-            numbered = rw (dealer_grown dealer h.venue.facts effect.facts, filter_map-append)
-                adds.0;
+            numbered = rw (dealer_grown dealer h.venue.facts effect.facts) (adds.0);
             names = rw (dealer_grown dealer h.venue.facts effect.facts)
                 (each_append (NamesLifted date row) (names_after date row) []
                 (trail_of h dealer) (of_dealer dealer effect.facts) stood.names adds.1);

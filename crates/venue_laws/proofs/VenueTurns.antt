@@ -1,14 +1,14 @@
 -- The duties that actors left, which of them an actor does next, and what was done then.
-use Rattle.std.proofs.Common.{List, ℕ, [], ap, arith, count_by, drop, false, inl, inr, length, map}
-use Rattle.std.proofs.Common.{refl, subst, suc, sym, take, true, zero, ◌++◌, ◌+◌, ◌∙◌, ◌∷◌, ◌≡◌}
-use Rattle.std.proofs.Common.{◌≤◌, ◌⊎◌}
+use Rattle.std.proofs.Common.{List, ℕ, [], ap, arith, count_by, drop, false, inl, inr, length, refl}
+use Rattle.std.proofs.Common.{subst, suc, sym, take, true, zero, ◌++◌, ◌+◌, ◌∙◌, ◌∷◌, ◌≡◌, ◌≤◌, ◌⊎◌}
 use Rattle.std.proofs.lemmas.Bool.{cases_Bool}
 use Rattle.std.proofs.lemmas.List.{append-nil, length-append, take-append-le}
 use Rattle.std.proofs.lemmas.List.Elements.{filter_map-append}
 use Rattle.market_terms.specs.declared.duties.Duty.{Duty}
+use Rattle.day_parts.specs.DayParts.{caused_by, left_by}
 use Rattle.venue_places.specs.declared.actors.Actor.{Actor}
 use Rattle.step_replay.specs.Actions.{Effect}
-use Rattle.step_replay.specs.AuditTrail.{AuditTrail, Caused, duty_of, is_same_actor, pending}
+use Rattle.step_replay.specs.AuditTrail.{AuditTrail, duty_of, is_same_actor, pending}
 use Rattle.step_replay.specs.PlaceLemmas.{everything_of, nothing_of}
 use Rattle.step_replay.specs.QueueLemmas.{one_actor, same_actor, same_either, turn_counted}
 use Rattle.venue_laws.proofs.VenueParts.{did_in, duties_by}
@@ -29,10 +29,6 @@ next_of (suc n) (y ∷ xs) x rest is =
 -- how many turns an actor had
 abbrev pub turns_of : Actor → List Actor → ℕ
 turns_of other done = count_by (is_same_actor other) done
-
--- duties as an actor left them
-abbrev pub left_by : Actor → List Duty → List Caused
-left_by by duties = map (λ duty. record { by = by; duty = duty }) duties
 
 -- What happens.
 
@@ -77,31 +73,27 @@ module _ (venue : AuditTrail) (by : Actor) where
     own_left =
         filter_map-append (duty_of by) venue.caused (left_by by effect.duties)
         ∙ ap (λ l. duties_by by venue.caused ++ l)
-        (everything_of (duty_of by) (λ (duty : Duty). record { by = by; duty = duty })
-        (λ duty. rw (same_actor by) refl) effect.duties)
+        (everything_of (duty_of by) (caused_by by) (λ duty. rw (same_actor by) refl) effect.duties)
 
-    -- what the actor did then, which is no more than it was left
-    pub own_did : turns_of by venue.done ≤ length (duties_by by venue.caused)
-        → (doing : Doing venue by)
-        → (did_in (venue_with effect doing) by ≡ did_in venue by ++ doing_now doing)
-        × (turns_of by (turns_then doing) ≤ length (duties_by by (venue_with effect doing).caused))
-    own_did within beside = (
-      ap (take (turns_of by venue.done)) own_left
-          ∙ take-append-le (turns_of by venue.done) (duties_by by venue.caused) effect.duties
-          within ∙ sym (append-nil (did_in venue by)),
-      rw (own_left, length-append) (omega arith),
-    )
-    own_did within (turn one rest is) =
-        let next = next_of (turns_of by venue.done) (duties_by by venue.caused) one rest is in
+    -- its turns then are no more than it was left before, and so is what they do
+    turned : turns_of by venue.done ≤ length (duties_by by venue.caused) → (doing : Doing venue by)
+        → (turns_of by (turns_then doing) ≤ length (duties_by by venue.caused))
+        × (take (turns_of by (turns_then doing)) (duties_by by venue.caused)
+        ≡ did_in venue by ++ doing_now doing)
+    turned within beside = (within, sym (append-nil (did_in venue by)))
+    turned within (turn one rest is) =
         let more : turns_of by (venue.done ++ by ∷ []) ≡ turns_of by venue.done + 1 =
         turn_counted by by venue.done true (same_actor by) in
         let counted : turns_of by (venue.done ++ by ∷ []) ≡ suc (turns_of by venue.done) =
-        omega arith in (
-          rw (counted, own_left)
-              (take-append-le (suc (turns_of by venue.done)) (duties_by by venue.caused)
-              effect.duties next.0 ∙ next.1),
-          rw (counted, own_left, length-append) (omega (arith, next.0)),
-        )
+        omega arith in
+        rw counted (next_of (turns_of by venue.done) (duties_by by venue.caused) one rest is)
+
+    pub own_did : turns_of by venue.done ≤ length (duties_by by venue.caused)
+        → (doing : Doing venue by)
+        → did_in (venue_with effect doing) by ≡ did_in venue by ++ doing_now doing
+    own_did within doing =
+        let turned = turned within doing in
+        rw own_left (take-append-le _ (duties_by by venue.caused) effect.duties turned.0 ∙ turned.1)
 
     module _ (other : Actor) (differs : is_same_actor by other ≡ false) where
       other_left : duties_by other (venue.caused ++ left_by by effect.duties)
@@ -109,8 +101,7 @@ module _ (venue : AuditTrail) (by : Actor) where
       other_left =
           filter_map-append (duty_of other) venue.caused (left_by by effect.duties)
           ∙ ap (λ l. duties_by other venue.caused ++ l)
-          (nothing_of (duty_of other) (λ (duty : Duty). record { by = by; duty = duty })
-          (λ duty. rw differs refl) effect.duties)
+          (nothing_of (duty_of other) (caused_by by) (λ duty. rw differs refl) effect.duties)
 
       same_turns : (doing : Doing venue by)
           → turns_of other (turns_then doing) ≡ turns_of other venue.done
@@ -140,8 +131,8 @@ module _ (venue : AuditTrail) (by : Actor) where
             added = effect.duties;
             also = doing_now doing;
             left = own_left;
-            did = (own_did (within by) doing).0;
-            within = (own_did (within by) doing).1;
+            did = own_did (within by) doing;
+            within = rw (own_left, length-append) (omega (arith, (turned (within by) doing).0));
             own = inr (refl, refl, refl);
           })
       | inr differs ↦ other_then other differs (within other) doing
