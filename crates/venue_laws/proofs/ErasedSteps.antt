@@ -42,7 +42,8 @@ use Rattle.step_replay.specs.Actions.{acting_dealer, dealer_at, received_by_deal
 use Rattle.step_replay.specs.Actions.{verdict_on}
 use Rattle.venue_laws.proofs.Erasing.{added, answer_known, bare, bare_append, book_known, desk_kept}
 use Rattle.venue_laws.proofs.Erasing.{facts_known, known_at_desks, known_at_markets, number_known}
-use Rattle.venue_laws.proofs.Erasing.{room_left, rooms_known, withdrawn_known, market_kept, verdict_known}
+use Rattle.venue_laws.proofs.Erasing.{market_kept, room_left, rooms_known, verdict_known}
+use Rattle.venue_laws.proofs.Erasing.{withdrawn_known}
 use Rattle.venue_laws.proofs.ListLemmas.{cases_some}
 use Rattle.dealer_desk.specs.declared.verdicts.DealerVerdict.{DealerVerdict}
 use Rattle.investor_desk.specs.declared.events.InvestorEvent.TheVariants as at_investor

@@ -27,7 +27,8 @@ use Rattle.investor_desk.proofs.UnpricedDesks as investors_same
 use Rattle.request_room.specs.RoomFacts.{RoomFact}
 use Rattle.request_room.specs.Unpriced as rooms
 use Rattle.step_replay.specs.DealerTrail.{DealerEntry, AtDesk, ShownIn, Sent, book_by}
-use Rattle.step_replay.specs.DealerTrail.{answer_to_dealer, entries_of, facts_of, rooms_by, was_lifted, was_withdrawn}
+use Rattle.step_replay.specs.DealerTrail.{answer_to_dealer, entries_of, facts_of, rooms_by}
+use Rattle.step_replay.specs.DealerTrail.{was_lifted, was_withdrawn}
 use Rattle.step_replay.specs.InvestorTrail as investor_trail
 use Rattle.step_replay.specs.InvestorTrail.{InvestorEntry, AtDesk as AtInvestorsDesk}
 use Rattle.step_replay.specs.InvestorTrail.{Sent as SentToInvestor}
@@ -137,8 +138,9 @@ pub room_left : (own : ℕ) (place : RoomRef) (facts : List Fact)
 unfolding bare of_room
 room_left own place [] = refl
 room_left own place (InRoom room fact ∷ facts) =
+    let same = is_same_room room place in
     let later = room_left own place facts in
-    elim (cases_Bool (is_same_room room place)) [ inl is ↦ rw (is, later) | inr is ↦ rw (is, later) ]
+    elim (cases_Bool same) [ inl is ↦ rw (is, later) | inr is ↦ rw (is, later) ]
 room_left own place (AtDealer dealer (Sent message) ∷ facts) = room_left own place facts
 room_left own place (AtInvestor investor (SentToInvestor message) ∷ facts) =
     room_left own place facts
