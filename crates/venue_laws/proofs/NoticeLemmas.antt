@@ -1,4 +1,5 @@
--- A closing notice comes after its request was shown, and at most once.
+-- A closing notice comes after its request was shown, and at most once; and as many requests as
+-- rooms were shown.
 use Rattle.std.proofs.Common.{List, Some, ℕ, [], arith, false, filter, filter_map, inl, inr}
 use Rattle.std.proofs.Common.{is_some, length, refl, subst, true, ◌++◌, ◌∙◌, ◌∷◌, ◌≡◌, ◌≤◌}
 use Rattle.std.proofs.Math.Bool.{and-false, or-false}

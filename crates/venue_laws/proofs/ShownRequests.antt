@@ -1,5 +1,5 @@
--- The requests that some facts show: which of them may still be told to be closed, and that they
--- are as many as the rooms that were shown.
+-- The requests that some facts show, by their numbers: which of them were told to be closed, and
+-- which may still be.
 use Rattle.std.proofs.Common.{Bool, List, None, Option, Some, ℕ, [], ap, arith, false, filter_map}
 use Rattle.std.proofs.Common.{find, inl, inr, is_some, length, refl, suc, true, ◌&&◌, ◌++◌, ◌+◌}
 use Rattle.std.proofs.Common.{◌==◌, ◌||◌, ◌∷◌, ◌≡◌, ◌≤◌}

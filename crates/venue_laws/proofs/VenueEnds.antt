@@ -12,8 +12,8 @@ use Rattle.market_terms.specs.declared.duties.Duty.TheVariants as duty
 use Rattle.market_terms.specs.declared.rooms.ResponseRef.{ResponseRef}
 use Rattle.market_terms.specs.declared.rooms.RoomRef.{RoomRef}
 use Rattle.request_room.specs.Book.{event_facts, expired, is_past_deadline, may_expire, passed}
-use Rattle.request_room.specs.RoomFacts.{Ended, end_of, ended_as, is_ended, is_open, is_ready}
-use Rattle.request_room.specs.RoomFacts.{opened_for, request_of}
+use Rattle.request_room.specs.RoomFacts.{Ended, end_of, ended_as, is_ended, is_open, is_readied}
+use Rattle.request_room.specs.RoomFacts.{is_ready, opened_for, request_of}
 use Rattle.request_room.specs.declared.ends.End.{End}
 use Rattle.request_room.specs.declared.events.RoomEvent.TheVariants as at_room
 use Rattle.request_room.specs.declared.requests.RoomRequest.{RoomRequest}
@@ -27,7 +27,7 @@ use Rattle.step_replay.specs.AuditTrail.{AuditTrail}
 use Rattle.step_replay.specs.DealerTrail.{Lifted}
 use Rattle.step_replay.specs.DutyEffects.{sweep_effect}
 use Rattle.step_replay.specs.EachLemmas.{Every, every_both}
-use Rattle.step_replay.specs.GrowthLemmas.{In, in_right, said_after}
+use Rattle.step_replay.specs.GrowthLemmas.{In, any_left, in_right, said_after}
 use Rattle.step_replay.specs.PlaceLemmas.{investor_grown, investor_in_room, own_room, room_grown}
 use Rattle.step_replay.specs.VenueFacts.{AtDealer, Fact, InRoom, of_investor, of_room}
 use Rattle.venue_laws.proofs.ListLemmas.{found_in, in_map, in_named, named_in, none_some, some_of}
@@ -38,7 +38,7 @@ use Rattle.venue_laws.proofs.VenueKinds.{room_brings, same_markets, where_brings
 use Rattle.venue_laws.proofs.VenueKnown.{opened_in, ready_opened}
 use Rattle.venue_laws.proofs.VenueParts.{Later, LiftedIn, Telling, closer, duties_by, known_later}
 use Rattle.venue_laws.proofs.VenueParts.{mark_of, marks, marks_both, named_already, named_later}
-use Rattle.venue_laws.proofs.VenueParts.{ready_later, said_later}
+use Rattle.venue_laws.proofs.VenueParts.{said_later}
 use Rattle.venue_laws.proofs.VenueSteps.{Brings, FactThen, Here, day, queue, to_now}
 use Rattle.venue_laws.proofs.VenueTurns.{own_left}
 
@@ -112,7 +112,8 @@ module _ (h : Here) (room : RoomRef) where
 
       ended : FactThen h ending (InRoom room (Ended end moment))
       ended now later = record {
-        ready = ready_later (to_now h ending later) room (parts is).0;
+        ready = rw ((to_now h ending later).facts_are, room_grown)
+            (any_left is_readied (known h room) _ (parts is).0);
         told = λ dealer named.
             found_in mark_of (tell dealer) (Telling dealer room) _ refl
             (later.left (closer end.kind room) (tell dealer) (told_left dealer

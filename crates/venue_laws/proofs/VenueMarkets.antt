@@ -1,7 +1,7 @@
 -- What comes to an investor's desk, and what its message leaves, brings what stands in a venue.
 use Rattle.std.proofs.Common.{Bool, List, None, Option, Some, ℕ, [], ap, arith, eq-eqb, false, inl}
-use Rattle.std.proofs.Common.{inr, length, map, nat_le, option_to_list, refl, subst, sym, true}
-use Rattle.std.proofs.Common.{◌&&◌, ◌++◌, ◌+◌, ◌==◌, ◌∙◌, ◌≡◌, ◌≤◌}
+use Rattle.std.proofs.Common.{inr, length, map, option_to_list, refl, subst, sym, true, ◌++◌, ◌+◌}
+use Rattle.std.proofs.Common.{◌==◌, ◌∙◌, ◌≡◌, ◌≤◌}
 use Rattle.std.proofs.lemmas.Bool.{cases_Bool, eqb-true, or_left}
 use Rattle.market_terms.specs.declared.duties.Duty.{Duty}
 use Rattle.market_terms.specs.declared.rooms.ResponseRef.{ResponseRef}
@@ -53,10 +53,6 @@ module _ (h : Here) where
     abbrev desk_facts : List InvestorFact
     desk_facts = investor_facts h.venue.facts firm
 
-    day_of : (number : ℕ) → (nat_le 1 number && nat_le number row.requests) ≡ true
-        → has_room h.config firm number ≡ true
-    day_of number within = ap (λ (r : Option InvestorRow). may_request r number) is ∙ within
-
     -- the facts of its desk after an event
     facts_then : (event : InvestorEvent) (duties : List Duty)
         → investor_facts (day h (at_market h.venue.facts market event duties)).facts firm
@@ -83,7 +79,9 @@ module _ (h : Here) where
               subst (MarketOk h.config (h.venue.facts ++ map (AtInvestor firm) entries))
               (eqb-true firm investor test) (rw (facts_then event duties)
               (event_fits h.config firm row (has_room h.config firm) desk_facts
-              (h.stood.markets firm) day_of event))
+              (h.stood.markets firm)
+              (λ number within. ap (λ (r : Option InvestorRow). may_request r number) is ∙ within)
+              event))
         ])
       where
         entries : List InvestorEntry

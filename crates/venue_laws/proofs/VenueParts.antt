@@ -1,7 +1,7 @@
 -- What the invariant of a venue speaks of: desks and rooms by the facts that stand, what is done
 -- once, and what goes on to stand.
 use Rattle.std.proofs.Common.{List, None, Option, Some, ℕ, [], ap, count_by, filter_map, is_some}
-use Rattle.std.proofs.Common.{option_map, refl, sym, take, true, ◌++◌, ◌∙◌, ◌≡◌}
+use Rattle.std.proofs.Common.{option_map, sym, take, true, ◌++◌, ◌∙◌, ◌≡◌}
 use Rattle.std.proofs.lemmas.List.{append-nil, append_assoc}
 use Rattle.std.proofs.lemmas.List.Elements.{filter_map-append}
 use Rattle.std.specs.List.{list_any}
@@ -17,8 +17,7 @@ use Rattle.dealer_desk.specs.DealerFacts.{Quoted, Told, tells}
 use Rattle.dealer_desk.specs.DealerOutput.{number_in}
 use Rattle.dealer_desk.specs.declared.accepted.AcceptedQuote.{AcceptedQuote}
 use Rattle.investor_desk.specs.InvestorFacts.{InvestorFact, book_of, knows}
-use Rattle.request_room.specs.RoomFacts.{RoomFact, first_said, is_ended, is_named, is_readied}
-use Rattle.request_room.specs.RoomFacts.{is_ready, request_of}
+use Rattle.request_room.specs.RoomFacts.{RoomFact, first_said, is_ended, is_named, request_of}
 use Rattle.request_room.specs.declared.ends.EndKind.{EndKind}
 use Rattle.request_room.specs.declared.ends.EndKind.TheVariants as ends
 use Rattle.request_room.specs.declared.requests.RoomRequest.{RoomRequest}
@@ -33,7 +32,6 @@ use Rattle.step_replay.specs.InvestorTrail as investor_trail
 use Rattle.step_replay.specs.PlaceLemmas.{dealer_grown, investor_grown, room_grown}
 use Rattle.step_replay.specs.VenueFacts.{Fact, of_dealer, of_investor, of_room}
 use Rattle.venue_laws.proofs.KnownDesks.{knows_grown}
-use Rattle.venue_laws.proofs.ListLemmas.{some_of}
 use Rattle.venue_laws.specs.Notices.{NamesLiftedQuote}
 
 -- the number under which a dealer was shown the request of a room
@@ -212,25 +210,12 @@ module _ {was now : AuditTrail} (later : Later was now) where
       rw (later.facts_are, dealer_grown dealer was.facts later.more, filter_map-append)
       (number_grown 1 _ _ room number is)
 
-  pub shown_later : (dealer : ℕ) (room : RoomRef)
-      → is_some (number_for was.facts dealer room) ≡ true
-      → is_some (number_for now.facts dealer room) ≡ true
-  shown_later dealer room is =
-      let number = some_of (number_for was.facts dealer room) is in
-      rw (number_later dealer room number.0 number.1) refl
-
   pub said_later : {A : Type 0} (says : RoomFact → Option A) (room : RoomRef) (x : A)
       → first_said says (of_room room was.facts) ≡ Some x
       → first_said says (of_room room now.facts) ≡ Some x
   said_later says room x is =
       rw (later.facts_are, room_grown room was.facts later.more)
       (said_grown says (of_room room was.facts) (of_room room later.more) x is)
-
-  pub ready_later : (room : RoomRef) → is_ready (of_room room was.facts) ≡ true
-      → is_ready (of_room room now.facts) ≡ true
-  ready_later room is =
-      rw (later.facts_are, room_grown room was.facts later.more)
-      (any_left is_readied (of_room room was.facts) (of_room room later.more) is)
 
   pub named_later : (room : RoomRef) (dealer : ℕ)
       → is_named (of_room room was.facts) dealer ≡ true
@@ -248,16 +233,12 @@ module _ {was now : AuditTrail} (later : Later was now) where
       named_before (of_room room was.facts) (of_room room later.more) request dealer is
       (rw (later.facts_are, room_grown room was.facts later.more) at named)
 
-  pub facts_later : (dealer : ℕ) → facts_of (of_dealer dealer now.facts)
-      ≡ facts_of (of_dealer dealer was.facts) ++ facts_of (of_dealer dealer later.more)
-  facts_later dealer =
-      rw (later.facts_are, dealer_grown dealer was.facts later.more, filter_map-append)
-
   pub quoted_later : (dealer : ℕ) (room : RoomRef) (quote : ℕ)
       → QuotedIn was.facts dealer room quote → QuotedIn now.facts dealer room quote
   quoted_later dealer room quote before = record {
     own = before.own;
-    quoted = rw (facts_later dealer) (in_left (Quoted before.own) _ _ before.quoted);
+    quoted = rw (later.facts_are, dealer_grown dealer was.facts later.more, filter_map-append)
+        (in_left (Quoted before.own) _ _ before.quoted);
     number_is = before.number_is;
     request_is = number_later dealer room before.own.request before.request_is;
   }
@@ -276,7 +257,7 @@ module _ {was now : AuditTrail} (later : Later was now) where
   told_later dealer room before = record {
     request = before.request;
     request_is = number_later dealer room before.request before.request_is;
-    told = rw (facts_later dealer)
+    told = rw (later.facts_are, dealer_grown dealer was.facts later.more, filter_map-append)
         (any_left (tells before.request) (facts_of (of_dealer dealer was.facts)) _ before.told);
   }
 

@@ -1,8 +1,9 @@
 -- What is done once brings what stands in a venue: a room is opened, its request is shown, it is
 -- made ready, and a dealer is told its end. So do quotes and declines.
 use Rattle.std.proofs.Common.{Bool, List, None, Option, Some, ℕ, [], ap, eq-eqb, false}
-use Rattle.std.proofs.Common.{if◌then◌else◌, inl, inr, is_none, is_some, map, not, option_to_list}
-use Rattle.std.proofs.Common.{refl, subst, sym, true, ◌++◌, ◌==◌, ◌∙◌, ◌∷◌, ◌≡◌}
+use Rattle.std.proofs.Common.{if◌then◌else◌, inl, inr, is_none, is_some, length, map, not}
+use Rattle.std.proofs.Common.{option_to_list, refl, subst, sym, true, ◌++◌, ◌+◌, ◌==◌, ◌∙◌, ◌∷◌}
+use Rattle.std.proofs.Common.{◌≡◌}
 use Rattle.std.proofs.lemmas.Bool.{and_parts, or_left}
 use Rattle.std.proofs.lemmas.List.{append-nil}
 use Rattle.std.proofs.lemmas.List.Elements.{filter_map-append}
@@ -48,7 +49,7 @@ use Rattle.venue_laws.proofs.VenueKnown.{room_self}
 use Rattle.venue_laws.proofs.VenueParts.{BearsGrid, InOrder, IsOpened, Later, Mark, MarkOk}
 use Rattle.venue_laws.proofs.VenueParts.{NamesLifted, Readying, Showing, Still, Telling, did_in}
 use Rattle.venue_laws.proofs.VenueParts.{mark_of, marks, marks_both, number_for, number_later}
-use Rattle.venue_laws.proofs.VenueParts.{said_later, shown_later, told_later}
+use Rattle.venue_laws.proofs.VenueParts.{said_later, told_later}
 use Rattle.venue_laws.proofs.VenueSteps.{Brings, DutyThen, FactThen, Here, day, queue, since}
 use Rattle.venue_laws.proofs.VenueSteps.{to_now, trail_of}
 
@@ -224,11 +225,9 @@ module _ (h : Here) (dealer : ℕ) (row : DealerRow)
           λ now later. bears,
           (λ now later. (ask, moment, did effect now later), plain_ok h effect dealer _ (sent_plain _)),
         ) tt,
-        λ now later. shown_later later dealer room (rw (
-          trail_with entries,
-          rooms_grown h.config.date row own more,
-          number_next 1 (rooms_by own) room (none_some _ yet) (room_self room),
-        ) refl),
+        λ now later. rw (number_later later dealer room (1 + length (rooms_by own))
+            (rw (trail_with entries, rooms_grown h.config.date row own more)
+            (number_next 1 (rooms_by own) room (none_some _ yet) (room_self room)))) refl,
       )
 
   module _ (lone : LoneQuotes) (close : Close)
