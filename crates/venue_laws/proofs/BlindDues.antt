@@ -55,8 +55,8 @@ duties_left : (by : Actor) (caused : List Caused)
     ≡ map unpriced_duty (filter_map (duty_of by) caused)
 duties_left by [] = refl
 duties_left by (next ∷ caused) =
-    let later = duties_left by caused in
-    elim (cases_Bool (is_same_actor next.by by)) [ inl is ↦ rw (is, later) | inr is ↦ rw (is, later) ]
+    let rest = duties_left by caused in
+    elim (cases_Bool (is_same_actor next.by by)) [ inl is ↦ rw (is, rest) | inr is ↦ rw (is, rest) ]
 
 module _ (config : Configuration) (own : ℕ) where
   -- the day without prices after a turn with these duties to do, and after a step

@@ -57,46 +57,46 @@ unfoldable pub left : ℕ → Effect → Effect
 left own effect =
     record { facts = bare own effect.facts; duties = map unpriced_duty effect.duties }
 
-pub left_of : (own : ℕ) (facts : List Fact) (duties : List Duty)
+left_of : (own : ℕ) (facts : List Fact) (duties : List Duty)
     → left own (record { facts = facts; duties = duties })
     ≡ record { facts = bare own facts; duties = map unpriced_duty duties }
 unfolding left
 left_of own facts duties = refl
 
-pub left_if : (own : ℕ) (b : Bool) (one other : Effect)
+left_if : (own : ℕ) (b : Bool) (one other : Effect)
     → left own (if b then one else other) ≡ (if b then left own one else left own other)
 left_if own true one other = refl
 left_if own false one other = refl
 
-pub left_done : (own : ℕ) (found : Option Dealer) (action : Dealer → Effect)
+left_done : (own : ℕ) (found : Option Dealer) (action : Dealer → Effect)
     → left own (done_by found action) ≡ done_by found (λ dealer. left own (action dealer))
 unfolding left bare
 left_done own None action = refl
 left_done own (Some dealer) action = refl
 
-pub left_for : (own : ℕ) (found : Option InvestorMarket) (action : InvestorMarket → Effect)
+left_for : (own : ℕ) (found : Option InvestorMarket) (action : InvestorMarket → Effect)
     → left own (done_for found action) ≡ done_for found (λ market. left own (action market))
 unfolding left bare
 left_for own None action = refl
 left_for own (Some market) action = refl
 
-pub follows : (b : Bool) (duty : Duty)
+follows : (b : Bool) (duty : Duty)
     → map unpriced_duty (where_follows b duty) ≡ where_follows b (unpriced_duty duty)
 follows true duty = refl
 follows false duty = refl
 
-pub list_left : (duty : Option Duty)
+list_left : (duty : Option Duty)
     → map unpriced_duty (option_to_list duty) ≡ option_to_list (option_map unpriced_duty duty)
 list_left None = refl
 list_left (Some duty) = refl
 
-pub told_each : (at : RoomRef) (close : ℕ → Close) (moment : ℕ) (dealers : List ℕ)
+told_each : (at : RoomRef) (close : ℕ → Close) (moment : ℕ) (dealers : List ℕ)
     → map unpriced_duty (map (λ dealer. duty.Tell dealer at (close dealer) moment) dealers)
     ≡ map (λ dealer. duty.Tell dealer at (uncovered (close dealer)) moment) dealers
 told_each at close moment dealers = simp map-map
 
 -- how an award ended for a dealer, whoever was the cover
-pub covered : (won cover : Bool)
+covered : (won cover : Bool)
     → uncovered (if won then closes.Hit else if cover then closes.Cover else closes.DoneAway)
     ≡ (if won then closes.Hit else closes.DoneAway)
 covered true cover = refl
@@ -104,11 +104,11 @@ covered false true = refl
 covered false false = refl
 
 -- what is left of an action, and what it asks of its desk or its room
-pub ruleset effects = (left_if, left_done, left_for, left_of, follows)
+ruleset effects = (left_if, left_done, left_for, left_of, follows)
 
-pub ruleset at_desks = (effects, added, known_at_desks, known_at_markets)
+ruleset at_desks = (effects, added, known_at_desks, known_at_markets)
 
-pub ruleset in_rooms = (effects, added, bare_append, room_left, told_each, covered, asked_of_book)
+ruleset in_rooms = (effects, added, bare_append, room_left, told_each, covered, asked_of_book)
 
 -- What a drop adds bears no price.
 settled_bare : (stay : Bool) (asked : Option ℕ) (settlement : Option Settled)
@@ -200,8 +200,8 @@ module _ (config : Configuration) (own : ℕ) (facts : List Fact) where
       → left own (duty_effect config known by (unpriced_duty more))
       ≡ left own (duty_effect config facts by more)
   unfolding duty_effect
-  duty_left by (duty.Open room ask dealers moment) =
-      simp (in_rooms, kept_same (here room) (at_room.Open (record { ask = ask; dealers = dealers })))
+  duty_left by (duty.Open room ask named moment) =
+      simp (in_rooms, kept_same (here room) (at_room.Open (record { ask = ask; dealers = named })))
   duty_left by (duty.Show dealer room ask moment) =
       simp (at_desks, desk_kept (at_desk.Shown room ask moment))
   duty_left by (duty.Ready room moment) = simp (in_rooms, kept_same (here room) at_room.Ready)
@@ -216,7 +216,7 @@ module _ (config : Configuration) (own : ℕ) (facts : List Fact) where
   duty_left by (duty.Decline room moment) =
       simp (in_rooms, λ (n : ℕ). kept_same (here room) (at_room.Decline n))
   duty_left by (duty.Declined room moment) =
-      simp (at_desks, λ (name : List ℕ). market_kept (at_investor.DealerDeclined room.n name moment))
+      simp (at_desks, λ (who : List ℕ). market_kept (at_investor.DealerDeclined room.n who moment))
   duty_left by (duty.Hit room response word moment) =
       hit_left room response word moment
   duty_left by (duty.Pass room response moment) =

@@ -124,11 +124,11 @@ module _ (row : DealerRow) (book : DealerBook) (moment : ℕ) (config : Configur
       → quote_refusal row book moment former (Some shown)
       ≡ quote_refusal row book moment latter (Some shown)
   unfolding quote_refusal price_for
-  refusal_same shown bears = elim (cases_Bool (same_text quote.bond shown.ask.bond)) [
+  refusal_same own bears = elim (cases_Bool (same_text quote.bond own.ask.bond)) [
     | inl is ↦
-        let named : bond_with_id config shown.ask.bond ≡ bond =
-        ap (bond_with_id config) (sym ((bytes_eq-Decides quote.bond shown.ask.bond).0 is)) ∙ meant in
-        rw (lawful_same bond shown.ask.grid (rw named at bears) shown.ask.side quote bid bid_too offer
+        let named : bond_with_id config own.ask.bond ≡ bond =
+        ap (bond_with_id config) (sym ((bytes_eq-Decides quote.bond own.ask.bond).0 is)) ∙ meant in
+        rw (lawful_same bond own.ask.grid (rw named at bears) own.ask.side quote bid bid_too offer
         offer_too bids offers)
     | inr is ↦ rw is
   ]
@@ -180,11 +180,11 @@ module _ (config : Configuration) (date : List ℕ) (row : DealerRow) (book : De
   same_times = times_same (bond_meant config one) one other alike
 
   -- a quote without a fault names a bond: the quote of the other message, at the prices of either
-  quote_one : first_fault quote_lines date other ≡ None
+  quoted : first_fault quote_lines date other ≡ None
       → judged (Taken (message.Quote
       (priced (quote_of date other) (value_of 132 one) (value_of 133 one))))
       ≡ judged (Taken (message.Quote (quote_of date other)))
-  quote_one fine =
+  quoted fine =
       let named = stands date 48 other (or_next-none _ _ (or_next-none _ _ (or_next-none _ _
       fine).1).1).0 in
       let meant : bond_with_id config (text_at 48 other) ≡ bond_meant config one =
@@ -196,8 +196,8 @@ module _ (config : Configuration) (date : List ℕ) (row : DealerRow) (book : De
 
   -- All messages.
 
-  numbered_same : (expected : ℕ) (number : Option (List ℕ)) (said : Result DealerMessage SessionFault)
-      → numbered expected one number said ≡ numbered expected other number said
+  numbered_same : (expected : ℕ) (text : Option (List ℕ)) (said : Result DealerMessage SessionFault)
+      → numbered expected one text said ≡ numbered expected other text said
   numbered_same expected None said = refl
   numbered_same expected (Some number) (Ok message) = rw (same_value 35 refl)
   numbered_same expected (Some number) (Err fault) = rw (same_value 35 refl)
@@ -232,7 +232,7 @@ module _ (config : Configuration) (date : List ℕ) (row : DealerRow) (book : De
       (first_fault (header_lines row.name row.traders (types_of dealer_tables)) date other)
       (same_text (codes "S") (text_at 35 other)) (first_fault quote_lines date other)
       (message.Quote (priced (quote_of date other) (value_of 132 one) (value_of 133 one)))
-      (message.Quote (quote_of date other)) (verdict_by (drop 1 dealer_tables) date other) quote_one))
+      (message.Quote (quote_of date other)) (verdict_by (drop 1 dealer_tables) date other) quoted))
 
   pub verdicts_alike : (bytes others : List ℕ) → frame_of bytes ≡ Some one
       → frame_of others ≡ Some other
