@@ -1,35 +1,25 @@
 -- Every word that a dealer asks is answered as the dealer view says.
-use Rattle.std.proofs.Common.{List, None, Option, Some, ℕ, [], filter_map}
-use Rattle.std.proofs.Common.{map, option_map, option_to_list, refl, ◌++◌, ◌∙◌, ◌∷◌, ◌≡◌}
-use Rattle.std.proofs.lemmas.List.{append-nil, append_cancel_left}
-use Rattle.std.proofs.lemmas.List.Elements.{filter_map-append}
+use Rattle.venue_laws.proofs.Common.{List, None, Option, Some, ℕ, [], filter_map, map, option_map}
+use Rattle.venue_laws.proofs.Common.{option_to_list, refl, ◌++◌, ◌∙◌, ◌∷◌, ◌≡◌, append-nil}
+use Rattle.venue_laws.proofs.Common.{filter_map-append, Settled, Configuration, dealer_numbered}
+use Rattle.venue_laws.proofs.Common.{DealerRow, Came, DealerFact, Dropped, Shown, Told, Withdrawn}
+use Rattle.venue_laws.proofs.Common.{number_to_drop, desk_after, event_facts, settled_facts}
+use Rattle.venue_laws.proofs.Common.{shown_room, uses_number, verdict_facts, dealer_verdict}
+use Rattle.venue_laws.proofs.Common.{DealerEvent, answer_to_drop, drop_at, settlement_of}
+use Rattle.venue_laws.proofs.Common.{audit_trail, settled_undue, verdict_undue, AtDesk, DealerEntry}
+use Rattle.venue_laws.proofs.Common.{Sent, ShownIn, answer_to_dealer, book_by, entries_of, facts_of}
+use Rattle.venue_laws.proofs.Common.{message_by, due_by_fact, due_list, Each, Every, Stays}
+use Rattle.venue_laws.proofs.Common.{each_append, every_both, seen_is_kept, Seen, start_seen}
+use Rattle.venue_laws.proofs.Common.{kept_by_all, IsKept, of_dealer, Step}
+use Rattle.std.proofs.lemmas.List.{append_cancel_left}
 use Rattle.std.proofs.lemmas.List.Sums.{fold-append}
-use Rattle.quote_word.specs.declared.settled.Settled.{Settled}
-use Rattle.venue_rows.specs.Rows.{Configuration, dealer_numbered}
-use Rattle.venue_rows.specs.declared.dealer_rows.DealerRow.{DealerRow}
-use Rattle.dealer_desk.specs.DealerFacts.{Came, DealerFact, Dropped, Late, Shown, Told, Withdrawn}
-use Rattle.dealer_desk.specs.DealerFacts.{book_of, number_to_drop}
-use Rattle.dealer_desk.specs.DealerOutput.{desk_after, event_facts, settled_facts, shown_room}
-use Rattle.dealer_desk.specs.DealerOutput.{uses_number, verdict_facts}
-use Rattle.dealer_desk.specs.DealerRules.{dealer_verdict}
+use Rattle.dealer_desk.specs.DealerFacts.{Late, book_of}
 use Rattle.dealer_desk.specs.SettledWords.{asked_by, asked_word, settled_word, settled_words}
-use Rattle.dealer_desk.specs.declared.events.DealerEvent.{DealerEvent}
 use Rattle.dealer_desk.specs.declared.events.DealerEvent.TheVariants as event
 use Rattle.dealer_desk.specs.declared.standing.Withdrawal.TheVariants as by
-use Rattle.step_replay.specs.Actions.{answer_to_drop, drop_at, settlement_of}
-use Rattle.step_replay.specs.AuditTrail.{audit_trail}
-use Rattle.step_replay.specs.DealerGrowth.{desk_push, settled_undue, verdict_undue}
-use Rattle.step_replay.specs.DealerTrail.{AtDesk, DealerEntry, Sent, ShownIn, answer_to_dealer}
-use Rattle.step_replay.specs.DealerTrail.{book_by, entries_of, facts_of, message_by}
+use Rattle.step_replay.specs.DealerGrowth.{desk_push}
 use Rattle.step_replay.specs.DealerView.{DealerView, after_due, answer_to, view_after}
-use Rattle.step_replay.specs.DueList.{due_by, due_by_fact, due_list}
-use Rattle.step_replay.specs.EachLemmas.{Each, Every, Stays, each_append, every_both}
-use Rattle.step_replay.specs.IsolationLemmas.{seen_is_kept}
-use Rattle.step_replay.specs.SeenLemmas.{Seen, start_seen}
-use Rattle.step_replay.specs.StepLemmas.{kept_by_all}
-use Rattle.step_replay.specs.TrailKept.{IsKept}
-use Rattle.step_replay.specs.VenueFacts.{of_dealer}
-use Rattle.step_replay.specs.declared.steps.Step.{Step}
+use Rattle.step_replay.specs.DueList.{due_by}
 use Rattle.venue_laws.proofs.ListLemmas.{every_map, first_grown}
 use Rattle.venue_laws.specs.Answers.{asked_at, next_settlement, settlement_by_view, settlement_in}
 

@@ -1,32 +1,23 @@
 -- Blindness to prices: two days that are one but for the prices of other dealers stay one without
 -- prices, step by step, and what is due to a dealer is one in both but for the cover.
-use Rattle.std.proofs.Common.{◌≡◌, ℕ, List, [], ◌∷◌, ◌++◌, map, filter_map, count_by, fold}
-use Rattle.std.proofs.Common.{Some, refl, sym, ap, ◌∙◌, ◌==◌, ◌⊎◌, inl, inr, true, eq-eqb}
-use Rattle.std.proofs.lemmas.Bool.{cases_Bool}
-use Rattle.std.proofs.lemmas.List.{drop-map, map-append}
-use mathlib.Core.List.{map-map}
-use Rattle.market_terms.specs.Unpriced.{uncovered, unpriced_duty}
+use Rattle.venue_laws.proofs.Common.{◌≡◌, ℕ, List, [], ◌∷◌, ◌++◌, map, filter_map, count_by, fold}
+use Rattle.venue_laws.proofs.Common.{Some, refl, sym, ap, ◌∙◌, ◌==◌, ◌⊎◌, inl, inr, true, eq-eqb}
+use Rattle.venue_laws.proofs.Common.{cases_Bool, map-append, map-map, uncovered, unpriced_duty}
+use Rattle.venue_laws.proofs.Common.{Duty, Field, frame_of, Configuration, Actor, Told, Effect}
+use Rattle.venue_laws.proofs.Common.{dealer_of, AuditTrail, Caused, after_step, after_turn}
+use Rattle.venue_laws.proofs.Common.{audit_trail, duty_of, is_same_actor, no_steps, pending, AtDesk}
+use Rattle.venue_laws.proofs.Common.{DealerEntry, Sent, book_by, due_list, duty_effect}
+use Rattle.venue_laws.proofs.Common.{message_effect, sweep_effect, Fact, of_dealer, Step}
+use Rattle.venue_laws.proofs.Common.{IsPricedByAnother}
+use Rattle.std.proofs.lemmas.List.{drop-map}
 use Rattle.market_terms.specs.declared.closes.Close.TheVariants as closes
-use Rattle.market_terms.specs.declared.duties.Duty.{Duty}
-use Rattle.fix_fields.specs.Frame.{Field, IsFrame, frame_of}
-use Rattle.venue_rows.specs.Rows.{Configuration}
-use Rattle.venue_places.specs.declared.actors.Actor.{Actor}
+use Rattle.fix_fields.specs.Frame.{IsFrame}
 use Rattle.venue_places.specs.declared.actors.Actor.TheVariants as actor
-use Rattle.dealer_desk.specs.DealerFacts.{Told}
-use Rattle.step_replay.specs.Actions.{Effect, dealer_of}
-use Rattle.step_replay.specs.AuditTrail.{AuditTrail, Caused, after_step, after_turn, audit_trail}
-use Rattle.step_replay.specs.AuditTrail.{due_to, duty_of, is_same_actor, no_steps, pending}
-use Rattle.step_replay.specs.AuditTrail.{with_effect}
-use Rattle.step_replay.specs.DealerTrail.{AtDesk, DealerEntry, Sent, book_by}
-use Rattle.step_replay.specs.DueList.{due_list}
-use Rattle.step_replay.specs.DutyEffects.{duty_effect, message_effect, sweep_effect}
-use Rattle.step_replay.specs.VenueFacts.{Fact, of_dealer}
+use Rattle.step_replay.specs.AuditTrail.{due_to, with_effect}
 use Rattle.step_replay.specs.declared.dues.Due.{Due}
 use Rattle.step_replay.specs.declared.dues.Due.TheVariants as due
-use Rattle.step_replay.specs.declared.steps.Step.{Step}
 use Rattle.step_replay.specs.declared.steps.Step.TheVariants as step
 use Rattle.venue_laws.specs.PriceAlike.{IsCoverAgainstDoneAway, IsOneButForCover, IsPriceAlike}
-use Rattle.venue_laws.specs.PriceAlike.{IsPricedByAnother}
 use Rattle.venue_laws.proofs.Erasing.{bare, bare_append, erase_entry, trail_left}
 use Rattle.venue_laws.proofs.ErasedSteps.{duty_left, left, message_left, said_left, sweep_left}
 use Rattle.venue_laws.proofs.LiveQuotes.{LoneQuotes}

@@ -1,5 +1,5 @@
 -- What a worked day computes with: to open `computed` is to open each definition that it names.
-use Rattle.std.proofs.Common.{List}
+use Rattle.venue_laws.proofs.Common.{List, Step, venue}
 use Rattle.std.specs.Fmt as fmt
 use Rattle.fix_fields.specs.Frame as frame
 use Rattle.fix_fields.specs.UtcTimestamp as timestamp
@@ -23,8 +23,6 @@ use Rattle.step_replay.specs.DealerTrail as dealer_trail
 use Rattle.step_replay.specs.DutyEffects as effects
 use Rattle.step_replay.specs.InvestorTrail as investor_trail
 use Rattle.step_replay.specs.VenueFacts as facts
-use Rattle.step_replay.specs.declared.steps.Step.{Step}
-use Rattle.venue_laws.specs.WorkedVenue.{venue}
 
 -- the audit trail of a worked day
 unfoldable pub computed : List Step → audit.AuditTrail

@@ -1,41 +1,28 @@
 -- A duty that is left meets the test of its action as its turn comes, by what stands in a venue:
 -- what is done once was not done before.
-use Rattle.std.proofs.Common.{Bool, IfSome, List, None, Option, Some, ℕ, ap, arith, false, inl, inr}
-use Rattle.std.proofs.Common.{is_some, nat_le, nat_lt, option_map, refl, subst, sym, take, true}
-use Rattle.std.proofs.Common.{◌&&◌, ◌+◌, ◌-◌, ◌∙◌, ◌≡◌, ◌≤◌}
-use Rattle.std.proofs.lemmas.Bool.{and_from, both_ways, false_from_ne_true, not_from_false}
-use Rattle.std.proofs.lemmas.Bool.{or_right, true_from_ne_false}
-use Rattle.std.proofs.lemmas.Bool.Decides.{nat_tests}
+use Rattle.venue_laws.proofs.Common.{Bool, IfSome, List, None, Option, Some, ℕ, ap, arith, false}
+use Rattle.venue_laws.proofs.Common.{inl, inr, is_some, nat_le, option_map, refl, subst, sym, take}
+use Rattle.venue_laws.proofs.Common.{true, ◌&&◌, ◌+◌, ◌-◌, ◌∙◌, ◌≡◌, ◌≤◌, and_from, both_ways}
+use Rattle.venue_laws.proofs.Common.{or_right, nat_tests, same_Some, slice_get_within, slice_get}
+use Rattle.venue_laws.proofs.Common.{Ask, Close, HitRefusal, Duty, RoomRef, none_holds}
+use Rattle.venue_laws.proofs.Common.{Configuration, dealer_numbered, investor_numbered, DealerRow}
+use Rattle.venue_laws.proofs.Common.{number_to_drop, closable, knows, hit_checks, hit_refusal}
+use Rattle.venue_laws.proofs.Common.{quote_meant, RoomFact, is_ended, is_named, is_opening}
+use Rattle.venue_laws.proofs.Common.{is_ready, is_vacant, request_of, End, replies_to, hit_word}
+use Rattle.venue_laws.proofs.Common.{Actor, Dealer, acting_dealer, dealer_at, dealer_of, word_for}
+use Rattle.venue_laws.proofs.Common.{AuditTrail, DealerEntry, book_by, facts_of, rooms_by}
+use Rattle.venue_laws.proofs.Common.{of_dealer, of_room}
+use Rattle.std.proofs.Common.{nat_lt}
+use Rattle.std.proofs.lemmas.Bool.{false_from_ne_true, not_from_false, true_from_ne_false}
 use Rattle.std.proofs.lemmas.List.Sums.{sum_by_more_le}
-use Rattle.std.proofs.lemmas.Option.{get_or_from_slice_get, same_Some, slice_get_within}
-use Rattle.std.specs.Prelude.{slice_get}
-use Rattle.market_terms.specs.declared.asks.Ask.{Ask}
-use Rattle.market_terms.specs.declared.closes.Close.{Close}
-use Rattle.market_terms.specs.declared.closes.HitRefusal.{HitRefusal}
-use Rattle.market_terms.specs.declared.duties.Duty.{Duty}
+use Rattle.std.proofs.lemmas.Option.{get_or_from_slice_get}
 use Rattle.market_terms.specs.declared.duties.Duty.TheVariants as duty
 use Rattle.market_terms.specs.declared.duties.Duty.TheVariants as duty
-use Rattle.market_terms.specs.declared.rooms.RoomRef.{RoomRef}
-use Rattle.day_parts.specs.AcceptedQuotes.{none_holds}
-use Rattle.venue_rows.specs.Rows.{Configuration, dealer_numbered, investor_numbered}
-use Rattle.venue_rows.specs.declared.dealer_rows.DealerRow.{DealerRow}
-use Rattle.dealer_desk.specs.DealerFacts.{number_to_drop}
-use Rattle.dealer_desk.specs.DealerOutput.{closable}
-use Rattle.investor_desk.specs.InvestorFacts.{knows}
-use Rattle.request_room.specs.Book.{book_of, hit_checks, hit_refusal, quote_meant, word_or}
-use Rattle.request_room.specs.RoomFacts.{RoomFact, is_ended, is_named, is_opening, is_ready}
-use Rattle.request_room.specs.RoomFacts.{is_vacant, request_of}
-use Rattle.request_room.specs.declared.ends.End.{End}
-use Rattle.venue_steps.specs.InvestorSteps.{replies_to}
-use Rattle.venue_steps.specs.RoomSteps.{hit_word, word_asked_by}
+use Rattle.request_room.specs.Book.{book_of, word_or}
+use Rattle.venue_steps.specs.RoomSteps.{word_asked_by}
 use Rattle.venue_steps.specs.Words.{has_word}
-use Rattle.venue_places.specs.declared.actors.Actor.{Actor}
 use Rattle.venue_places.specs.declared.actors.Actor.TheVariants as actor
-use Rattle.step_replay.specs.Actions.{Dealer, acting_dealer, dealer_at, dealer_of, has_word_for}
-use Rattle.step_replay.specs.Actions.{quotes_of, word_for, words_of}
-use Rattle.step_replay.specs.AuditTrail.{AuditTrail}
-use Rattle.step_replay.specs.DealerTrail.{DealerEntry, book_by, facts_of, rooms_by}
-use Rattle.step_replay.specs.VenueFacts.{of_dealer, of_room}
+use Rattle.step_replay.specs.Actions.{has_word_for, quotes_of, words_of}
 use Rattle.venue_laws.proofs.ListLemmas.{cases_some, found_in, slice_holds, some_of}
 use Rattle.venue_laws.proofs.NoticeLemmas.{told_if_closed}
 use Rattle.venue_laws.proofs.ShownRequests.{number_place, told_in}

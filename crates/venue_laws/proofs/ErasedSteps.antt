@@ -1,54 +1,37 @@
 -- What a duty, a message or a sweep adds and leaves in a day without prices is what it adds and
 -- leaves in the day, but for prices.
-use Rattle.std.proofs.Common.{◌≡◌, ℕ, ◌==◌, Bool, true, false, List, ◌++◌, map, Option, Some, inl}
-use Rattle.std.proofs.Common.{inr, None, option_map, option_to_list, refl, if◌then◌else◌}
-use Rattle.std.proofs.Common.{is_some, []}
-use Rattle.std.proofs.lemmas.Bool.{cases_Bool}
-use Rattle.std.proofs.lemmas.List.{map-append}
-use mathlib.Core.List.{map-map}
-use Rattle.market_terms.specs.Unpriced.{uncovered, unpriced_duty}
-use Rattle.market_terms.specs.declared.closes.Close.{Close}
+use Rattle.venue_laws.proofs.Common.{◌≡◌, ℕ, ◌==◌, Bool, true, false, List, ◌++◌, map, Option, Some}
+use Rattle.venue_laws.proofs.Common.{inl, inr, None, option_map, option_to_list, refl}
+use Rattle.venue_laws.proofs.Common.{if◌then◌else◌, is_some, [], cases_Bool, map-append, map-map}
+use Rattle.venue_laws.proofs.Common.{uncovered, unpriced_duty, Close, Duty, ResponseRef, RoomRef}
+use Rattle.venue_laws.proofs.Common.{Settled, Configuration, dealer_numbered, DealerFact}
+use Rattle.venue_laws.proofs.Common.{event_facts, number_in, settled_facts, unpriced_verdict}
+use Rattle.venue_laws.proofs.Common.{book_same, InvestorMarket, hit_refusal, RoomFact}
+use Rattle.venue_laws.proofs.Common.{where_follows, facts_grown, DealerEntry, book_by, entries_of}
+use Rattle.venue_laws.proofs.Common.{facts_of, rooms_by, was_withdrawn, Fact, of_dealer, of_room}
+use Rattle.venue_laws.proofs.Common.{Effect, Dealer, done_by, done_for, drop_at, dropped_by}
+use Rattle.venue_laws.proofs.Common.{quote_with_word, told_to, acting_dealer, dealer_at}
+use Rattle.venue_laws.proofs.Common.{received_by_dealer, settlement_of, DealerVerdict, Actor}
+use Rattle.venue_laws.proofs.Common.{duty_effect, message_effect, sweep_effect}
 use Rattle.market_terms.specs.declared.closes.Close.TheVariants as closes
-use Rattle.market_terms.specs.declared.duties.Duty.{Duty}
 use Rattle.market_terms.specs.declared.duties.Duty.TheVariants as duty
-use Rattle.market_terms.specs.declared.rooms.ResponseRef.{ResponseRef}
-use Rattle.market_terms.specs.declared.rooms.RoomRef.{RoomRef}
-use Rattle.quote_word.specs.declared.settled.Settled.{Settled}
 use Rattle.quote_word.specs.declared.settled.Settled.TheVariants as settled
-use Rattle.venue_rows.specs.Rows.{Configuration, dealer_numbered}
-use Rattle.dealer_desk.specs.DealerFacts.{DealerFact, book_of}
-use Rattle.dealer_desk.specs.DealerOutput.{event_facts, number_in, settled_facts}
-use Rattle.dealer_desk.specs.Unpriced.{unpriced, unpriced_verdict}
+use Rattle.dealer_desk.specs.DealerFacts.{book_of}
+use Rattle.dealer_desk.specs.Unpriced.{unpriced}
 use Rattle.dealer_desk.specs.declared.events.DealerEvent.TheVariants as at_desk
 use Rattle.dealer_desk.specs.declared.standing.Withdrawal.TheVariants as by
-use Rattle.dealer_desk.proofs.UnpricedBooks.{book_same}
 use Rattle.dealer_desk.proofs.UnpricedVerdicts.{some_to_drop, unposted_same, asked_alike}
 use Rattle.dealer_desk.proofs.UnpricedVerdicts.{came_alike, duty_alike}
-use Rattle.investor_desk.specs.InvestorRules.{InvestorMarket}
-use Rattle.request_room.specs.Book.{hit_refusal}
-use Rattle.request_room.specs.RoomFacts.{RoomFact}
 use Rattle.request_room.specs.Unpriced.{unpriced as unpriced_in_room}
 use Rattle.request_room.specs.declared.events.RoomEvent.TheVariants as at_room
 use Rattle.request_room.proofs.UnpricedRooms.{asked_of_book, kept_same}
-use Rattle.venue_steps.specs.RoomSteps.{where_follows}
-use Rattle.step_replay.specs.DealerGrowth.{facts_grown}
-use Rattle.step_replay.specs.DealerTrail.{DealerEntry, book_by, entries_of, facts_of, rooms_by}
-use Rattle.step_replay.specs.DealerTrail.{was_withdrawn}
-use Rattle.step_replay.specs.VenueFacts.{Fact, of_dealer, of_room}
-use Rattle.step_replay.specs.Actions.{Effect, Dealer}
-use Rattle.step_replay.specs.Actions.{done_by, done_for, drop_at, dropped_by, hit_in}
-use Rattle.step_replay.specs.Actions.{quote_with_word, told_to}
-use Rattle.step_replay.specs.Actions.{acting_dealer, dealer_at, received_by_dealer, settlement_of}
-use Rattle.step_replay.specs.Actions.{verdict_on}
+use Rattle.step_replay.specs.Actions.{hit_in, verdict_on}
 use Rattle.venue_laws.proofs.Erasing.{added, answer_known, bare, bare_append, book_known, desk_kept}
 use Rattle.venue_laws.proofs.Erasing.{facts_known, known_at_desks, known_at_markets, number_known}
 use Rattle.venue_laws.proofs.Erasing.{market_kept, room_left, rooms_known, verdict_known}
 use Rattle.venue_laws.proofs.Erasing.{withdrawn_known}
 use Rattle.venue_laws.proofs.ListLemmas.{cases_some}
-use Rattle.dealer_desk.specs.declared.verdicts.DealerVerdict.{DealerVerdict}
 use Rattle.investor_desk.specs.declared.events.InvestorEvent.TheVariants as at_investor
-use Rattle.venue_places.specs.declared.actors.Actor.{Actor}
-use Rattle.step_replay.specs.DutyEffects.{duty_effect, message_effect, sweep_effect}
 
 -- Effects.
 

@@ -1,40 +1,26 @@
 -- A day of which the prices are erased, who was the cover, what was sent, and the bytes of what
 -- dealers sent, but for one dealer: what is left is what that dealer's due list can tell of, but
 -- for the cover. Whoever asks for nothing that is erased reads the same of what is left.
-use Rattle.std.proofs.Common.{◌≡◌, Bool, List, [], ◌∷◌, ◌++◌, map, filter_map, append-nil}
-use Rattle.std.proofs.Common.{Option, Some, None, option_map, option_to_list, refl, ℕ, ◌==◌}
-use Rattle.std.proofs.Common.{inl, inr}
-use Rattle.std.proofs.lemmas.Bool.{cases_Bool, eqb-true}
-use Rattle.std.proofs.lemmas.List.{map-append}
-use Rattle.std.proofs.lemmas.List.Elements.{filter_map-append}
-use mathlib.Core.List.{map-map}
-use Rattle.market_terms.specs.declared.rooms.RoomRef.{RoomRef}
-use Rattle.venue_rows.specs.declared.dealer_rows.DealerRow.{DealerRow}
-use Rattle.dealer_desk.specs.DealerFacts.{number_to_drop}
-use Rattle.dealer_desk.specs.DealerRules.{dealer_verdict}
-use Rattle.dealer_desk.specs.DealerOutput.{closable, event_facts, is_same_room, shown_room}
+use Rattle.venue_laws.proofs.Common.{◌≡◌, Bool, List, [], ◌∷◌, ◌++◌, map, filter_map, Option, Some}
+use Rattle.venue_laws.proofs.Common.{None, option_map, option_to_list, refl, ℕ, ◌==◌, inl, inr}
+use Rattle.venue_laws.proofs.Common.{cases_Bool, eqb-true, map-append, filter_map-append, map-map}
+use Rattle.venue_laws.proofs.Common.{RoomRef, DealerRow, number_to_drop, dealer_verdict, closable}
+use Rattle.venue_laws.proofs.Common.{event_facts, is_same_room, shown_room, DealerEvent, book_same}
+use Rattle.venue_laws.proofs.Common.{InvestorBook, knows, InvestorMarket, investor_verdict}
+use Rattle.venue_laws.proofs.Common.{InvestorEvent, RoomFact, DealerEntry, AtDesk, ShownIn, Sent}
+use Rattle.venue_laws.proofs.Common.{book_by, answer_to_dealer, entries_of, facts_of, rooms_by}
+use Rattle.venue_laws.proofs.Common.{was_lifted, was_withdrawn, InvestorEntry, nothing_of, Fact}
+use Rattle.venue_laws.proofs.Common.{AtDealer, InRoom, AtInvestor, of_dealer, of_investor, of_room}
+use Rattle.std.proofs.Common.{append-nil}
 use Rattle.dealer_desk.specs.Unpriced as dealers
-use Rattle.dealer_desk.specs.declared.events.DealerEvent.{DealerEvent}
-use Rattle.dealer_desk.proofs.UnpricedBooks.{book_same, withdrawn_same}
-use Rattle.dealer_desk.proofs.UnpricedVerdicts.{closable_same, kept_same, number_same}
-use Rattle.dealer_desk.proofs.UnpricedVerdicts.{verdict_same}
+use Rattle.dealer_desk.proofs.UnpricedBooks.{withdrawn_same}
+use Rattle.dealer_desk.proofs.UnpricedVerdicts.{closable_same, kept_same, number_same, verdict_same}
 use Rattle.investor_desk.specs.InvestorOutput as investor_output
-use Rattle.investor_desk.specs.InvestorFacts.{InvestorBook, knows}
-use Rattle.investor_desk.specs.InvestorRules.{InvestorMarket, investor_verdict}
 use Rattle.investor_desk.specs.Unpriced as investors
-use Rattle.investor_desk.specs.declared.events.InvestorEvent.{InvestorEvent}
 use Rattle.investor_desk.proofs.UnpricedDesks as investors_same
-use Rattle.request_room.specs.RoomFacts.{RoomFact}
 use Rattle.request_room.specs.Unpriced as rooms
-use Rattle.step_replay.specs.DealerTrail.{DealerEntry, AtDesk, ShownIn, Sent, book_by}
-use Rattle.step_replay.specs.DealerTrail.{answer_to_dealer, entries_of, facts_of, rooms_by}
-use Rattle.step_replay.specs.DealerTrail.{was_lifted, was_withdrawn}
 use Rattle.step_replay.specs.InvestorTrail as investor_trail
-use Rattle.step_replay.specs.InvestorTrail.{InvestorEntry, AtDesk as AtInvestorsDesk}
-use Rattle.step_replay.specs.InvestorTrail.{Sent as SentToInvestor}
-use Rattle.step_replay.specs.PlaceLemmas.{nothing_of}
-use Rattle.step_replay.specs.VenueFacts.{Fact, AtDealer, InRoom, AtInvestor, of_dealer, of_investor}
-use Rattle.step_replay.specs.VenueFacts.{of_room}
+use Rattle.step_replay.specs.InvestorTrail.{AtDesk as AtInvestorsDesk, Sent as SentToInvestor}
 
 -- What is left of a fact, where anything is.
 

@@ -1,15 +1,19 @@
 -- What a verdict of an investor's desk says, and what comes to the desk brings of what stands of
 -- its requests and quotes.
-use Rattle.std.proofs.Common.{Bool, IfSome, List, None, Option, Some, ℕ, [], ap, arith, eq-eqb}
-use Rattle.std.proofs.Common.{false, if◌then◌else◌, is_some, length, nat_le, option_map, refl, sym}
-use Rattle.std.proofs.Common.{true, ◌&&◌, ◌++◌, ◌+◌, ◌==◌, ◌∙◌, ◌∷◌, ◌≡◌}
-use Rattle.std.proofs.lemmas.Bool.{not-false, or_left, or_right}
-use Rattle.std.proofs.lemmas.List.{append-nil, length-map}
+use Rattle.venue_laws.proofs.Common.{Bool, IfSome, List, None, Option, Some, ℕ, [], ap, arith}
+use Rattle.venue_laws.proofs.Common.{eq-eqb, false, if◌then◌else◌, is_some, length, nat_le}
+use Rattle.venue_laws.proofs.Common.{option_map, refl, sym, true, ◌&&◌, ◌++◌, ◌+◌, ◌==◌, ◌∙◌, ◌∷◌}
+use Rattle.venue_laws.proofs.Common.{◌≡◌, not-false, or_left, or_right, append-nil}
+use Rattle.venue_laws.proofs.Common.{bytes_eq-Decides, are_distinct, ResponseRef, Configuration}
+use Rattle.venue_laws.proofs.Common.{bond_with_id, same_text, BondRow, InvestorRow, market_of}
+use Rattle.venue_laws.proofs.Common.{Asked, InvestorBook, InvestorFact, Offered, book_of, knows}
+use Rattle.venue_laws.proofs.Common.{offers_of, requests_of, own_facts, InvestorMarket}
+use Rattle.venue_laws.proofs.Common.{investor_verdict, InvestorEvent, AcceptedRequest, ShownOffer}
+use Rattle.venue_laws.proofs.Common.{InvestorVerdict, Each, Every, every_weaker, any_left}
+use Rattle.venue_laws.proofs.Common.{none_holds}
+use Rattle.std.proofs.lemmas.List.{length-map}
 use Rattle.std.proofs.lemmas.List.Quantifiers.{position-Some}
-use Rattle.std.proofs.lemmas.Slice.Eq.{bytes_eq-Decides}
-use Rattle.market_terms.specs.Dealers.{are_distinct}
 use Rattle.market_terms.specs.declared.rooms.Offer.{Offer}
-use Rattle.market_terms.specs.declared.rooms.ResponseRef.{ResponseRef}
 use Rattle.quote_messages.specs.Arrivals.{investor_arrival}
 use Rattle.quote_messages.specs.declared.arrivals.Arrival.TheVariants as arrival
 use Rattle.quote_messages.specs.declared.reject_reasons.RequestRejectReason.{RequestRejectReason}
@@ -17,36 +21,22 @@ use Rattle.quote_messages.specs.declared.requests.InvestorMessage.TheVariants as
 use Rattle.quote_messages.specs.declared.requests.QuoteHit.{QuoteHit}
 use Rattle.quote_messages.specs.declared.requests.QuoteRequest.{QuoteRequest}
 use Rattle.quote_messages.specs.declared.requests.RequestPass.{RequestPass}
-use Rattle.venue_rows.specs.Rows.{Configuration, bond_with_id}
-use Rattle.venue_rows.specs.Texts.{same_text}
-use Rattle.venue_rows.specs.declared.bond_rows.BondRow.{BondRow}
-use Rattle.venue_rows.specs.declared.investor_rows.InvestorRow.{InvestorRow}
-use Rattle.investor_desk.specs.InvestorDesk.{market_of}
-use Rattle.investor_desk.specs.InvestorFacts.{Asked, Came, Gone, InvestorBook, InvestorFact}
-use Rattle.investor_desk.specs.InvestorFacts.{Offered, StandingRequest, book_of, expected_number}
-use Rattle.investor_desk.specs.InvestorFacts.{is_open, knows, offer_named, offer_of_dealer}
-use Rattle.investor_desk.specs.InvestorFacts.{offer_with_word, offers_of, open_request}
-use Rattle.investor_desk.specs.InvestorFacts.{request_numbered, request_with_id, requests_of}
+use Rattle.investor_desk.specs.InvestorFacts.{Came, Gone, StandingRequest, expected_number, is_open}
+use Rattle.investor_desk.specs.InvestorFacts.{offer_named, offer_of_dealer, offer_with_word}
+use Rattle.investor_desk.specs.InvestorFacts.{open_request, request_numbered, request_with_id}
 use Rattle.investor_desk.specs.InvestorFacts.{while_open}
 use Rattle.investor_desk.specs.InvestorOutput.{answer_facts, close_by_answer, closed_facts}
 use Rattle.investor_desk.specs.InvestorOutput.{event_facts, expiry_facts, gone_facts, next_offer}
-use Rattle.investor_desk.specs.InvestorOutput.{offer_facts, own_facts, refusal_of, uses_number}
+use Rattle.investor_desk.specs.InvestorOutput.{offer_facts, refusal_of, uses_number}
 use Rattle.investor_desk.specs.InvestorOutput.{withdrawal_facts}
 use Rattle.investor_desk.specs.InvestorRules as rules
-use Rattle.investor_desk.specs.InvestorRules.{InvestorMarket, arrival_verdict, dealer_named}
-use Rattle.investor_desk.specs.InvestorRules.{dealer_numbers, hit_of, hit_verdict, investor_verdict}
-use Rattle.investor_desk.specs.InvestorRules.{pass_of, pass_verdict, request_answer, request_checks}
-use Rattle.investor_desk.specs.InvestorRules.{request_refusal, request_verdict}
-use Rattle.investor_desk.specs.declared.events.InvestorEvent.{InvestorEvent}
+use Rattle.investor_desk.specs.InvestorRules.{arrival_verdict, dealer_named, dealer_numbers, hit_of}
+use Rattle.investor_desk.specs.InvestorRules.{hit_verdict, pass_of, pass_verdict, request_answer}
+use Rattle.investor_desk.specs.InvestorRules.{request_checks, request_refusal, request_verdict}
 use Rattle.investor_desk.specs.declared.events.InvestorEvent.TheVariants as event
-use Rattle.investor_desk.specs.declared.standing.AcceptedRequest.{AcceptedRequest}
-use Rattle.investor_desk.specs.declared.standing.ShownOffer.{ShownOffer}
-use Rattle.investor_desk.specs.declared.verdicts.InvestorVerdict.{InvestorVerdict}
 use Rattle.investor_desk.specs.declared.verdicts.InvestorVerdict.TheVariants as verdict
-use Rattle.step_replay.specs.EachLemmas.{Each, Every, every_weaker}
-use Rattle.step_replay.specs.GrowthLemmas.{any_left}
 use Rattle.step_replay.specs.PlaceLemmas.{has_item}
-use Rattle.day_parts.specs.AcceptedQuotes.{next_of_day, none_holds}
+use Rattle.day_parts.specs.AcceptedQuotes.{next_of_day}
 use Rattle.venue_laws.proofs.KnownDesks.{DeskFit, IsKnown, MayCome, asked, asked_is, asks}
 use Rattle.venue_laws.proofs.KnownDesks.{asked_known, facts_fit, offers_both, requests_both}
 use Rattle.venue_laws.proofs.ListLemmas.{first_of_every, found_all, found_passes}

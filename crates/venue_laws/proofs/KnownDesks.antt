@@ -1,19 +1,15 @@
 -- What stands at an investor's desk, and goes on to stand: which requests and quotes it knows, and
 -- that its quotes are numbered.
-use Rattle.std.proofs.Common.{Bool, List, None, Option, Some, ℕ, [], ap, arith, eq-eqb, false, find}
-use Rattle.std.proofs.Common.{inl, inr, is_some, length, refl, subst, true, ◌++◌, ◌+◌, ◌<◌, ◌==◌}
-use Rattle.std.proofs.Common.{◌∷◌, ◌≡◌, ◌≤◌}
-use Rattle.std.proofs.Math.Bool.{or-false}
-use Rattle.std.proofs.lemmas.Bool.{and_parts, cases_Bool, eqb-true, ne_eqb, or_cases}
-use Rattle.std.proofs.lemmas.List.{append-nil, append_assoc, length-append}
-use Rattle.std.proofs.lemmas.List.Folds.{list_any-append}
-use Rattle.std.specs.List.{list_any}
-use Rattle.investor_desk.specs.InvestorFacts.{Asked, InvestorFact, Offered, book_of, knows}
-use Rattle.investor_desk.specs.InvestorFacts.{knows_quote, offer_numbered, offers_of}
-use Rattle.investor_desk.specs.InvestorFacts.{request_numbered, requests_of}
-use Rattle.investor_desk.specs.declared.standing.ShownOffer.{ShownOffer}
-use Rattle.step_replay.specs.EachLemmas.{Each, Every, every_both, every_weaker}
-use Rattle.step_replay.specs.GrowthLemmas.{any_left}
+use Rattle.venue_laws.proofs.Common.{Bool, List, None, Option, Some, ℕ, [], ap, arith, eq-eqb}
+use Rattle.venue_laws.proofs.Common.{false, find, inl, inr, is_some, length, refl, subst, true}
+use Rattle.venue_laws.proofs.Common.{◌++◌, ◌+◌, ◌==◌, ◌∷◌, ◌≡◌, ◌≤◌, or-false, and_parts}
+use Rattle.venue_laws.proofs.Common.{cases_Bool, eqb-true, or_cases, append-nil, append_assoc}
+use Rattle.venue_laws.proofs.Common.{length-append, list_any-append, list_any, Asked, InvestorFact}
+use Rattle.venue_laws.proofs.Common.{Offered, book_of, knows, offers_of, requests_of, ShownOffer}
+use Rattle.venue_laws.proofs.Common.{Each, Every, every_both, every_weaker, any_left}
+use Rattle.std.proofs.Common.{◌<◌}
+use Rattle.std.proofs.lemmas.Bool.{ne_eqb}
+use Rattle.investor_desk.specs.InvestorFacts.{knows_quote, offer_numbered, request_numbered}
 use Rattle.venue_laws.proofs.ListLemmas.{cases_some, find_grown}
 
 -- Requests.

@@ -1,5 +1,6 @@
 mod AnswerLemmas
 mod BlindDues
+mod Common
 mod ComputedDays
 mod ConditionMet
 mod ErasedSteps

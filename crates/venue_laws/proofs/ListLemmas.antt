@@ -1,16 +1,11 @@
 -- Options and lists: what the lemmas on a venue take of them.
-use Rattle.std.proofs.Common.{Bool, IfSome, List, None, Option, Some, ℕ, [], ap, arith, eq-eqb}
-use Rattle.std.proofs.Common.{false, filter, filter_map, find, inl, inr, is_none, is_some, length}
-use Rattle.std.proofs.Common.{map, refl, subst, suc, true, zero, ◌++◌, ◌==◌}
-use Rattle.std.proofs.Common.{◌∷◌, ◌≡◌, ◌≤◌, ◌⊎◌}
-use Rattle.std.proofs.lemmas.Bool.{cases_Bool, eqb-true, or_cases, or_left, or_right}
+use Rattle.venue_laws.proofs.Common.{Bool, IfSome, List, None, Option, Some, ℕ, [], ap, arith}
+use Rattle.venue_laws.proofs.Common.{eq-eqb, false, filter, filter_map, find, inl, inr, is_none}
+use Rattle.venue_laws.proofs.Common.{is_some, length, map, refl, subst, suc, true, zero, ◌++◌, ◌==◌}
+use Rattle.venue_laws.proofs.Common.{◌∷◌, ◌≡◌, ◌≤◌, ◌⊎◌, cases_Bool, eqb-true, or_cases, or_left}
+use Rattle.venue_laws.proofs.Common.{or_right, same_Some, list_any, slice_get, Every, In}
 use Rattle.std.proofs.lemmas.List.Folds.{find-append}
-use Rattle.std.proofs.lemmas.Option.{same_Some}
-use Rattle.std.specs.List.{list_any}
 use Rattle.std.specs.Option.{option_or}
-use Rattle.std.specs.Prelude.{slice_get}
-use Rattle.step_replay.specs.EachLemmas.{Every}
-use Rattle.step_replay.specs.GrowthLemmas.{In}
 
 -- Options.
 

@@ -1,35 +1,25 @@
 -- The live quote of a dealer on a request, and what the notice of a hit names.
-use Rattle.std.proofs.Common.{Bool, List, None, Option, Some, ℕ, [], ap, eq-eqb, false, filter}
-use Rattle.std.proofs.Common.{find, inl, inr, is_none, is_some, length, map, option_map}
-use Rattle.std.proofs.Common.{option_to_list, refl, sym, true, ◌==◌, ◌∙◌, ◌∷◌, ◌≡◌, ◌≤◌}
-use Rattle.std.proofs.lemmas.Bool.{and_from, cases_Bool, eqb-true, or_parts}
-use Rattle.std.proofs.lemmas.Option.{same_Some}
-use Rattle.std.specs.List.{list_any}
-use Rattle.std.specs.Prelude.{slice_get}
+use Rattle.venue_laws.proofs.Common.{Bool, List, None, Option, Some, ℕ, [], ap, eq-eqb, false}
+use Rattle.venue_laws.proofs.Common.{filter, find, inl, inr, is_none, is_some, length, map}
+use Rattle.venue_laws.proofs.Common.{option_map, option_to_list, refl, sym, true, ◌==◌, ◌∙◌, ◌∷◌}
+use Rattle.venue_laws.proofs.Common.{◌≡◌, ◌≤◌, and_from, cases_Bool, eqb-true, or_parts, same_Some}
+use Rattle.venue_laws.proofs.Common.{list_any, slice_get, RoomRef, Configuration, DealerRow}
+use Rattle.venue_laws.proofs.Common.{DealerFact, Quoted, Told, Withdrawn, request_numbered, tells}
+use Rattle.venue_laws.proofs.Common.{closable, desk_after, untold, AcceptedQuote, DealerEvent}
+use Rattle.venue_laws.proofs.Common.{StandingQuote, StandingRequest, DealerEntry, Sent, book_by}
+use Rattle.venue_laws.proofs.Common.{facts_of, message_by, was_lifted, In, Fact, of_dealer}
+use Rattle.venue_laws.proofs.Common.{NamesLiftedQuote, next_sent}
 use Rattle.market_terms.specs.declared.closes.Close.TheVariants as closes
-use Rattle.market_terms.specs.declared.rooms.RoomRef.{RoomRef}
-use Rattle.venue_rows.specs.Rows.{Configuration}
-use Rattle.venue_rows.specs.declared.dealer_rows.DealerRow.{DealerRow}
-use Rattle.dealer_desk.specs.DealerFacts.{DealerFact, Quoted, Told, Withdrawn, book_of, ends}
-use Rattle.dealer_desk.specs.DealerFacts.{first_said, is_live_on, live_quote_on, request_numbered}
-use Rattle.dealer_desk.specs.DealerFacts.{standing_quote, standings, tells}
-use Rattle.dealer_desk.specs.DealerOutput.{closable, desk_after, event_message, next_message}
-use Rattle.dealer_desk.specs.DealerOutput.{notice_of, quoted_price, untold}
+use Rattle.dealer_desk.specs.DealerFacts.{book_of, ends, first_said, is_live_on, live_quote_on}
+use Rattle.dealer_desk.specs.DealerFacts.{standing_quote, standings}
+use Rattle.dealer_desk.specs.DealerOutput.{event_message, next_message, notice_of, quoted_price}
 use Rattle.dealer_desk.specs.DeskLaws.{withdraws}
-use Rattle.dealer_desk.specs.declared.accepted.AcceptedQuote.{AcceptedQuote}
-use Rattle.dealer_desk.specs.declared.events.DealerEvent.{DealerEvent}
 use Rattle.dealer_desk.specs.declared.events.DealerEvent.TheVariants as event
-use Rattle.dealer_desk.specs.declared.standing.StandingQuote.{StandingQuote}
-use Rattle.dealer_desk.specs.declared.standing.StandingRequest.{StandingRequest}
-use Rattle.step_replay.specs.DealerTrail.{DealerEntry, Sent, book_by, facts_of, message_by, sent_by}
-use Rattle.step_replay.specs.DealerTrail.{was_lifted}
-use Rattle.step_replay.specs.GrowthLemmas.{In}
-use Rattle.step_replay.specs.VenueFacts.{Fact, of_dealer}
+use Rattle.step_replay.specs.DealerTrail.{sent_by}
 use Rattle.venue_laws.proofs.ListLemmas.{found_passes, in_filter, only_one, some_of}
 use Rattle.venue_laws.proofs.ShownRequests.{untold_is}
 use Rattle.venue_laws.proofs.VenueInvariant.{DeskOk}
 use Rattle.venue_laws.proofs.VenueParts.{LiftedIn, number_for}
-use Rattle.venue_laws.specs.Notices.{NamesLiftedQuote, next_sent}
 
 -- The quotes of a dealer on one request: at most one is live.
 abbrev pub LoneQuotes : Type 0

@@ -1,31 +1,19 @@
 -- A closing notice comes after its request was shown, and at most once; and as many requests as
 -- rooms were shown.
-use Rattle.std.proofs.Common.{List, Some, ℕ, [], arith, false, filter, filter_map, inl, inr}
-use Rattle.std.proofs.Common.{is_some, length, refl, subst, true, ◌++◌, ◌∙◌, ◌∷◌, ◌≡◌, ◌≤◌}
-use Rattle.std.proofs.Math.Bool.{and-false, or-false}
-use Rattle.std.proofs.lemmas.Bool.{cases_Bool, eqb-true, or_parts}
-use Rattle.std.proofs.lemmas.List.{append-nil, append_assoc, length-append}
-use Rattle.std.proofs.lemmas.List.Elements.{filter-append, filter_map-append}
-use Rattle.std.proofs.lemmas.List.Folds.{list_any-append}
-use Rattle.std.proofs.lemmas.Option.{slice_get_within}
-use Rattle.std.specs.List.{list_any}
-use Rattle.market_terms.specs.declared.rooms.RoomRef.{RoomRef}
-use Rattle.venue_rows.specs.Rows.{Configuration, dealer_numbered}
-use Rattle.venue_rows.specs.declared.dealer_rows.DealerRow.{DealerRow}
-use Rattle.dealer_desk.specs.DealerFacts.{DealerFact, Shown, Told, number_to_drop, request_numbered}
-use Rattle.dealer_desk.specs.DealerFacts.{tells}
-use Rattle.dealer_desk.specs.DealerOutput.{closable, event_facts, number_in, untold}
-use Rattle.dealer_desk.specs.DealerRules.{dealer_verdict}
+use Rattle.venue_laws.proofs.Common.{List, Some, ℕ, [], arith, false, filter, filter_map, inl, inr}
+use Rattle.venue_laws.proofs.Common.{is_some, length, refl, subst, true, ◌++◌, ◌∙◌, ◌∷◌, ◌≡◌, ◌≤◌}
+use Rattle.venue_laws.proofs.Common.{or-false, cases_Bool, eqb-true, or_parts, append-nil}
+use Rattle.venue_laws.proofs.Common.{append_assoc, length-append, filter_map-append}
+use Rattle.venue_laws.proofs.Common.{list_any-append, slice_get_within, list_any, RoomRef}
+use Rattle.venue_laws.proofs.Common.{Configuration, dealer_numbered, DealerRow, DealerFact, Shown}
+use Rattle.venue_laws.proofs.Common.{Told, number_to_drop, request_numbered, tells, closable}
+use Rattle.venue_laws.proofs.Common.{event_facts, number_in, untold, dealer_verdict, settlement_of}
+use Rattle.venue_laws.proofs.Common.{audit_trail, facts_grown, rooms_grown, DealerEntry, book_by}
+use Rattle.venue_laws.proofs.Common.{facts_of, rooms_by, Each, Every, each_append, kept_by_all}
+use Rattle.venue_laws.proofs.Common.{IsKept, of_dealer, Step}
+use Rattle.std.proofs.Math.Bool.{and-false}
+use Rattle.std.proofs.lemmas.List.Elements.{filter-append}
 use Rattle.dealer_desk.specs.declared.standing.Withdrawal.TheVariants as by
-use Rattle.step_replay.specs.Actions.{settlement_of}
-use Rattle.step_replay.specs.AuditTrail.{audit_trail}
-use Rattle.step_replay.specs.DealerGrowth.{facts_grown, rooms_grown}
-use Rattle.step_replay.specs.DealerTrail.{DealerEntry, book_by, facts_of, rooms_by}
-use Rattle.step_replay.specs.EachLemmas.{Each, Every, each_append}
-use Rattle.step_replay.specs.StepLemmas.{kept_by_all}
-use Rattle.step_replay.specs.TrailKept.{IsKept}
-use Rattle.step_replay.specs.VenueFacts.{of_dealer}
-use Rattle.step_replay.specs.declared.steps.Step.{Step}
 use Rattle.venue_laws.proofs.PlainFacts.{IsPlain, settled_plain, verdict_plain}
 use Rattle.venue_laws.proofs.ShownRequests.{found, has_notice, noticed_push, number_place}
 use Rattle.venue_laws.proofs.ShownRequests.{request_within, shown_in, told_is, untold_is}

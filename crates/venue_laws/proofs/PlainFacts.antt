@@ -1,21 +1,12 @@
 -- The facts of one place among those of a venue; entries that no room and no other desk looks at.
-use Rattle.std.proofs.Common.{Bool, List, Option, ℕ, [], false, filter_map, inl, inr, map, refl}
-use Rattle.std.proofs.Common.{true, ◌++◌, ◌==◌, ◌∷◌, ◌≡◌}
-use Rattle.std.proofs.lemmas.Bool.{cases_Bool, eqb-true}
-use Rattle.market_terms.specs.declared.rooms.RoomRef.{RoomRef}
-use Rattle.quote_word.specs.declared.settled.Settled.{Settled}
-use Rattle.venue_rows.specs.declared.dealer_rows.DealerRow.{DealerRow}
-use Rattle.dealer_desk.specs.DealerFacts.{Came, DealerFact, Dropped, Shown, Told}
-use Rattle.dealer_desk.specs.DealerOutput.{is_same_room, settled_facts, verdict_facts}
+use Rattle.venue_laws.proofs.Common.{Bool, List, Option, ℕ, [], false, filter_map, inl, inr, map}
+use Rattle.venue_laws.proofs.Common.{refl, true, ◌++◌, ◌==◌, ◌∷◌, ◌≡◌, cases_Bool, eqb-true}
+use Rattle.venue_laws.proofs.Common.{RoomRef, Settled, DealerRow, Came, DealerFact, Dropped, Shown}
+use Rattle.venue_laws.proofs.Common.{Told, is_same_room, settled_facts, verdict_facts}
+use Rattle.venue_laws.proofs.Common.{DealerVerdict, RoomFact, settled_undue, verdict_undue, AtDesk}
+use Rattle.venue_laws.proofs.Common.{DealerEntry, Sent, ShownIn, rooms_by, due_by_fact, Each, Every}
+use Rattle.venue_laws.proofs.Common.{same_room, AtDealer, Fact, InRoom, of_dealer, of_room}
 use Rattle.dealer_desk.specs.declared.standing.Withdrawal.{Withdrawal}
-use Rattle.dealer_desk.specs.declared.verdicts.DealerVerdict.{DealerVerdict}
-use Rattle.request_room.specs.RoomFacts.{RoomFact}
-use Rattle.step_replay.specs.DealerGrowth.{settled_undue, verdict_undue}
-use Rattle.step_replay.specs.DealerTrail.{AtDesk, DealerEntry, Sent, ShownIn, rooms_by}
-use Rattle.step_replay.specs.DueList.{due_by_fact}
-use Rattle.step_replay.specs.EachLemmas.{Each, Every}
-use Rattle.step_replay.specs.GrowthLemmas.{same_room}
-use Rattle.step_replay.specs.VenueFacts.{AtDealer, Fact, InRoom, of_dealer, of_room}
 use Rattle.venue_laws.proofs.ListLemmas.{every_map}
 use Rattle.venue_laws.proofs.VenueParts.{NamesLifted}
 

@@ -1,20 +1,16 @@
 -- Two messages that differ in their prices alone: every tag but those of prices reads the same, and
 -- no line of the session checks tells them apart.
-use Rattle.std.proofs.Common.{◌≡◌, ℕ, ◌==◌, true, false, List, [], ◌∷◌, map, length, ◌∙◌}
-use Rattle.std.proofs.Common.{Option, Some, None, count_by, refl, sym, ap, arith, if◌then◌else◌}
-use Rattle.std.proofs.Common.{Ok, ◌⊎◌, inl, inr, subst₂}
-use Rattle.std.specs.List.{AllZip}
-use Rattle.std.proofs.lemmas.Bool.{cases_Bool, eqb-true}
-use Rattle.std.proofs.lemmas.Bool.Decides.{nat_tests}
-use Rattle.bond_prices.specs.Price.{price_of}
-use Rattle.fix_fields.specs.Frame.{Field, value_of, times_of}
-use Rattle.venue_rows.specs.declared.bond_rows.BondRow.{BondRow}
+use Rattle.venue_laws.proofs.Common.{◌≡◌, ℕ, ◌==◌, true, false, List, [], ◌∷◌, map, length, ◌∙◌}
+use Rattle.venue_laws.proofs.Common.{Option, Some, None, count_by, refl, sym, ap, arith}
+use Rattle.venue_laws.proofs.Common.{if◌then◌else◌, Ok, ◌⊎◌, inl, inr, AllZip, cases_Bool, eqb-true}
+use Rattle.venue_laws.proofs.Common.{nat_tests, price_of, Field, value_of, times_of, BondRow}
+use Rattle.venue_laws.proofs.Common.{first_fault, tag_fault, quote_lines, ArePricesOf}
+use Rattle.venue_laws.proofs.Common.{IsOneOrPriced, is_price_tag}
+use Rattle.std.proofs.Common.{subst₂}
 use Rattle.quote_messages.specs.ValueForms.{APrice, value_fault}
-use Rattle.quote_messages.specs.SessionLines.{first_fault, optional, tag_fault}
-use Rattle.quote_messages.specs.SessionChecks.{quote_lines}
+use Rattle.quote_messages.specs.SessionLines.{optional}
 use Rattle.quote_messages.specs.declared.session_faults.SessionRejectReason.TheVariants as reason
 use Rattle.market_terms.proofs.ErasedLists.{by_erased, count_map}
-use Rattle.venue_laws.specs.PriceAlike.{ArePricesOf, IsOneOrPriced, is_price_tag}
 
 -- two values of a tag are lawful prices
 pub record ArePrices (bond : Option BondRow) (tag : ℕ) (one other : Option (List ℕ))

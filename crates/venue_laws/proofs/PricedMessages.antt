@@ -1,50 +1,40 @@
 -- Two messages of a dealer that differ in lawful prices alone: the verdicts on them are one but for
 -- the price.
-use Rattle.std.proofs.Common.{◌≡◌, ℕ, Option, Some, None, option_map, is_none, is_some, List, refl}
-use Rattle.std.proofs.Common.{ap, ◌∙◌, Bool, true, Result, Ok, inl, inr, IfSome, sym, ◌==◌, false}
-use Rattle.std.proofs.Common.{drop, codes, if◌then◌else◌, Err}
-use Rattle.std.proofs.lemmas.Bool.{cases_Bool}
-use Rattle.std.proofs.lemmas.Slice.Eq.{bytes_eq-Decides}
+use Rattle.venue_laws.proofs.Common.{◌≡◌, ℕ, Option, Some, None, option_map, is_none, is_some, List}
+use Rattle.venue_laws.proofs.Common.{refl, ap, ◌∙◌, Bool, true, Result, Ok, inl, inr, IfSome, sym}
+use Rattle.venue_laws.proofs.Common.{◌==◌, false, drop, codes, if◌then◌else◌, Err, cases_Bool}
+use Rattle.venue_laws.proofs.Common.{bytes_eq-Decides, price_of, Configuration, bond_with_id}
+use Rattle.venue_laws.proofs.Common.{same_text, BondRow, DealerRow, dealer_verdict}
+use Rattle.venue_laws.proofs.Common.{unpriced_verdict, StandingRequest, Every, is_price_tag}
+use Rattle.venue_laws.proofs.Common.{IsOneOrPriced, bond_meant, AllZip, Field, frame_of, value_of}
+use Rattle.venue_laws.proofs.Common.{times_of, first_fault, tag_fault, quote_lines, DealerVerdict}
 use Rattle.bond_prices.specs.Grid.{on_grid}
-use Rattle.bond_prices.specs.Price.{price_of}
 use Rattle.bond_prices.specs.declared.fault.PriceFault.{PriceFault}
 use Rattle.market_terms.specs.declared.asks.Side.{Side}
 use Rattle.market_terms.specs.declared.asks.Side.TheVariants as side
 use Rattle.quote_messages.specs.declared.quotes.Quote.{Quote}
 use Rattle.quote_messages.specs.Written.{request_name}
-use Rattle.venue_rows.specs.Rows.{Configuration, bond_with_id}
-use Rattle.venue_rows.specs.Texts.{same_text}
-use Rattle.venue_rows.specs.declared.bond_rows.BondRow.{BondRow}
-use Rattle.venue_rows.specs.declared.dealer_rows.DealerRow.{DealerRow}
 use Rattle.dealer_desk.specs.DealerFacts.{DealerBook, request_named, expected_number}
 use Rattle.dealer_desk.specs.DealerRules.{asked_price, if_on_grid, lone_price, other_price}
 use Rattle.dealer_desk.specs.DealerRules.{price_for, quote_on, quote_refusal, quote_verdict}
-use Rattle.dealer_desk.specs.DealerRules.{arrival_verdict, dealer_verdict}
-use Rattle.dealer_desk.specs.Unpriced.{unpriced_verdict}
-use Rattle.dealer_desk.specs.declared.standing.StandingRequest.{StandingRequest}
-use Rattle.step_replay.specs.EachLemmas.{Every}
-use Rattle.venue_laws.specs.PriceAlike.{IsPriceOf, is_on_grid_of, is_price_tag, IsOneOrPriced}
-use Rattle.venue_laws.specs.PriceAlike.{bond_meant}
+use Rattle.dealer_desk.specs.DealerRules.{arrival_verdict}
+use Rattle.venue_laws.specs.PriceAlike.{IsPriceOf, is_on_grid_of}
 use Rattle.venue_laws.proofs.ListLemmas.{cases_some, first_of_every}
 use Rattle.venue_laws.proofs.PricedFields.{AreValues, price_value, quote_same, times_same}
 use Rattle.venue_laws.proofs.PricedFields.{value_same}
 use Rattle.venue_laws.proofs.VenueParts.{BearsGrid}
-use Rattle.std.specs.List.{AllZip}
 use Rattle.std.specs.Str.Parse.{digits_value}
-use Rattle.fix_fields.specs.Frame.{Field, frame_of, value_of, times_of}
 use Rattle.quote_messages.proofs.GroupLemmas.{or_next-none}
 use Rattle.quote_messages.specs.Arrivals.{dealer_arrival, numbered, sequence_number}
 use Rattle.quote_messages.specs.ValueForms.{AnId}
-use Rattle.quote_messages.specs.SessionLines.{first_fault, required, tag_fault, text_at}
-use Rattle.quote_messages.specs.SessionLines.{unless_fault}
+use Rattle.quote_messages.specs.SessionLines.{required, text_at, unless_fault}
 use Rattle.quote_messages.specs.SessionChecks.{dealer_session_verdict, dealer_tables, header_lines}
-use Rattle.quote_messages.specs.SessionChecks.{quote_lines, quote_of, types_of, verdict_by}
+use Rattle.quote_messages.specs.SessionChecks.{quote_of, types_of, verdict_by}
 use Rattle.quote_messages.specs.declared.arrivals.Arrival.{Arrival}
 use Rattle.quote_messages.specs.declared.arrivals.Arrival.TheVariants.{Taken}
 use Rattle.quote_messages.specs.declared.quotes.DealerMessage.{DealerMessage}
 use Rattle.quote_messages.specs.declared.quotes.DealerMessage.TheVariants as message
 use Rattle.quote_messages.specs.declared.session_faults.SessionFault.{SessionFault}
-use Rattle.dealer_desk.specs.declared.verdicts.DealerVerdict.{DealerVerdict}
 
 -- Two quotes.
 

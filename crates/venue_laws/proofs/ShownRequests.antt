@@ -1,23 +1,14 @@
 -- The requests that some facts show, by their numbers: which of them were told to be closed, and
 -- which may still be.
-use Rattle.std.proofs.Common.{Bool, List, None, Option, Some, ℕ, [], ap, arith, false, filter_map}
-use Rattle.std.proofs.Common.{find, inl, inr, is_some, length, refl, suc, true, ◌&&◌, ◌++◌, ◌+◌}
-use Rattle.std.proofs.Common.{◌==◌, ◌||◌, ◌∷◌, ◌≡◌, ◌≤◌}
-use Rattle.std.proofs.Math.Bool.{or-false}
-use Rattle.std.proofs.lemmas.Bool.{cases_Bool, eqb-true}
-use Rattle.std.proofs.lemmas.Bool.Decides.{nat_tests}
-use Rattle.std.proofs.lemmas.List.Folds.{list_any-append}
-use Rattle.std.proofs.lemmas.Option.{same_Some}
-use Rattle.std.specs.List.{list_any}
-use Rattle.std.specs.Prelude.{slice_get}
-use Rattle.market_terms.specs.declared.asks.Ask.{Ask}
-use Rattle.market_terms.specs.declared.closes.Close.{Close}
-use Rattle.market_terms.specs.declared.rooms.RoomRef.{RoomRef}
-use Rattle.dealer_desk.specs.DealerFacts.{DealerFact, Shown, Told, requests_from, tells}
-use Rattle.dealer_desk.specs.DealerOutput.{is_same_room, number_from, untold}
-use Rattle.dealer_desk.specs.declared.standing.StandingRequest.{StandingRequest}
-use Rattle.step_replay.specs.DealerTrail.{AtDesk, DealerEntry, facts_of}
-use Rattle.step_replay.specs.GrowthLemmas.{In, same_room}
+use Rattle.venue_laws.proofs.Common.{Bool, List, None, Option, Some, ℕ, [], ap, arith, false}
+use Rattle.venue_laws.proofs.Common.{filter_map, find, inl, inr, is_some, length, refl, suc, true}
+use Rattle.venue_laws.proofs.Common.{◌&&◌, ◌++◌, ◌+◌, ◌==◌, ◌∷◌, ◌≡◌, ◌≤◌, or-false, cases_Bool}
+use Rattle.venue_laws.proofs.Common.{eqb-true, nat_tests, list_any-append, same_Some, list_any}
+use Rattle.venue_laws.proofs.Common.{slice_get, Ask, Close, RoomRef, DealerFact, Shown, Told}
+use Rattle.venue_laws.proofs.Common.{requests_from, tells, is_same_room, untold, StandingRequest}
+use Rattle.venue_laws.proofs.Common.{AtDesk, DealerEntry, facts_of, In, same_room}
+use Rattle.std.proofs.Common.{◌||◌}
+use Rattle.dealer_desk.specs.DealerOutput.{number_from}
 
 -- Requests.
 

@@ -1,18 +1,9 @@
 -- Where every queue is empty and a room has ended, each dealer that it names was told so once.
-use Rattle.std.proofs.Common.{Some, ℕ, [], ap, eq-eqb, filter, refl, sym, true, ◌++◌, ◌∙◌, ◌≡◌}
-use Rattle.std.proofs.lemmas.List.{append-nil, take-append-drop}
-use Rattle.std.proofs.lemmas.Option.{same_Some}
-use Rattle.market_terms.specs.declared.rooms.RoomRef.{RoomRef}
-use Rattle.venue_rows.specs.Rows.{Configuration}
-use Rattle.dealer_desk.specs.DealerFacts.{Told, tells}
-use Rattle.request_room.specs.RoomFacts.{end_of, is_named}
-use Rattle.request_room.specs.declared.ends.End.{End}
-use Rattle.venue_steps.specs.RoomSteps.{close_for}
-use Rattle.venue_places.specs.declared.actors.Actor.{Actor}
-use Rattle.step_replay.specs.AuditTrail.{AuditTrail, pending}
-use Rattle.step_replay.specs.DealerTrail.{facts_of}
-use Rattle.step_replay.specs.GrowthLemmas.{all_in}
-use Rattle.step_replay.specs.VenueFacts.{of_dealer, of_room}
+use Rattle.venue_laws.proofs.Common.{Some, ℕ, [], ap, eq-eqb, filter, refl, sym, true, ◌++◌, ◌∙◌}
+use Rattle.venue_laws.proofs.Common.{◌≡◌, append-nil, take-append-drop, same_Some, RoomRef}
+use Rattle.venue_laws.proofs.Common.{Configuration, Told, tells, end_of, is_named, End, close_for}
+use Rattle.venue_laws.proofs.Common.{Actor, AuditTrail, pending, facts_of, all_in, of_dealer}
+use Rattle.venue_laws.proofs.Common.{of_room}
 use Rattle.venue_laws.proofs.ListLemmas.{in_filter, only_one}
 use Rattle.venue_laws.proofs.ShownRequests.{told_in}
 use Rattle.venue_laws.proofs.VenueInvariant.{VenueOk}

@@ -1,30 +1,19 @@
 -- What every duty, message and sweep brings, line by line of the market's table. So what stands in
 -- a venue stands after every list of steps.
-use Rattle.std.proofs.Common.{List, None, Option, ℕ, [], arith, fold, inl, inr, option_map, refl}
-use Rattle.std.proofs.Common.{◌∷◌, ◌≡◌, ◌≤◌}
-use Rattle.std.proofs.lemmas.Bool.{not-true}
-use Rattle.market_terms.specs.declared.duties.Duty.{Duty}
+use Rattle.venue_laws.proofs.Common.{List, None, Option, ℕ, [], arith, fold, inl, inr, option_map}
+use Rattle.venue_laws.proofs.Common.{refl, ◌∷◌, ◌≡◌, ◌≤◌, not-true, Duty, RoomRef, Configuration}
+use Rattle.venue_laws.proofs.Common.{dealer_numbered, has_room, market_for, InvestorEvent, Posted}
+use Rattle.venue_laws.proofs.Common.{replies_to, hit_word, Actor, Effect, dealer_of, done_for}
+use Rattle.venue_laws.proofs.Common.{where_known, word_for, AuditTrail, after_step, after_turn}
+use Rattle.venue_laws.proofs.Common.{audit_trail, no_steps, pending, duty_effect, message_effect}
+use Rattle.venue_laws.proofs.Common.{sweep_effect, in_right, start_seen, of_dealer, of_investor}
+use Rattle.venue_laws.proofs.Common.{Step}
 use Rattle.market_terms.specs.declared.duties.Duty.TheVariants as duty
-use Rattle.market_terms.specs.declared.rooms.RoomRef.{RoomRef}
-use Rattle.venue_rows.specs.Rows.{Configuration, dealer_numbered, has_room}
-use Rattle.investor_desk.specs.InvestorDesk.{market_for}
-use Rattle.investor_desk.specs.declared.events.InvestorEvent.{InvestorEvent}
 use Rattle.request_room.specs.Book.{event_facts, may_unpost, quote_posted}
-use Rattle.request_room.specs.RoomFacts.{Noted, Posted, Unposted, takes_quotes}
-use Rattle.venue_steps.specs.InvestorSteps.{replies_to}
-use Rattle.venue_steps.specs.RoomSteps.{hit_word}
-use Rattle.venue_places.specs.declared.actors.Actor.{Actor}
+use Rattle.request_room.specs.RoomFacts.{Noted, Unposted, takes_quotes}
 use Rattle.venue_places.specs.declared.actors.Actor.TheVariants as actor
-use Rattle.step_replay.specs.Actions.{Effect, answer_to_hit, dealer_of, done_for, quote_asked}
-use Rattle.step_replay.specs.Actions.{where_known, word_for}
-use Rattle.step_replay.specs.AuditTrail.{AuditTrail, after_step, after_turn, audit_trail, no_steps}
-use Rattle.step_replay.specs.AuditTrail.{pending}
-use Rattle.step_replay.specs.DutyEffects.{duty_effect, message_effect, sweep_effect}
-use Rattle.step_replay.specs.GrowthLemmas.{in_right}
-use Rattle.step_replay.specs.SeenLemmas.{start_seen}
+use Rattle.step_replay.specs.Actions.{answer_to_hit, quote_asked}
 use Rattle.step_replay.specs.StepLemmas.{duty_keeps, message_keeps, sweep_keeps}
-use Rattle.step_replay.specs.VenueFacts.{of_dealer, of_investor}
-use Rattle.step_replay.specs.declared.steps.Step.{Step}
 use Rattle.step_replay.specs.declared.steps.Step.TheVariants as step
 use Rattle.venue_laws.proofs.ConditionMet.{show_met, tell_met}
 use Rattle.venue_laws.proofs.KnownDesks.{start_fit}

@@ -1,37 +1,27 @@
 -- What a dealer says and drops brings what stands in a venue.
-use Rattle.std.proofs.Common.{Bool, IfSome, List, None, Option, Some, ℕ, ap, arith, false}
-use Rattle.std.proofs.Common.{if◌then◌else◌, inl, inr, map, nat_le, option_map, option_to_list}
-use Rattle.std.proofs.Common.{refl, subst, true, ◌&&◌, ◌+◌, ◌-◌, ◌∙◌, ◌∷◌, ◌≡◌, ◌≤◌}
-use Rattle.std.proofs.lemmas.Bool.Decides.{nat_tests}
-use Rattle.market_terms.specs.declared.duties.Duty.{Duty}
+use Rattle.venue_laws.proofs.Common.{Bool, IfSome, List, None, Option, Some, ℕ, ap, arith, false}
+use Rattle.venue_laws.proofs.Common.{if◌then◌else◌, inl, inr, map, nat_le, option_map}
+use Rattle.venue_laws.proofs.Common.{option_to_list, refl, subst, true, ◌&&◌, ◌+◌, ◌-◌, ◌∙◌, ◌∷◌}
+use Rattle.venue_laws.proofs.Common.{◌≡◌, ◌≤◌, nat_tests, Duty, RoomRef, Settled, Configuration}
+use Rattle.venue_laws.proofs.Common.{dealer_numbered, DealerRow, Came, Dropped, Quoted}
+use Rattle.venue_laws.proofs.Common.{number_to_drop, event_facts, settled_facts, uses_number}
+use Rattle.venue_laws.proofs.Common.{verdict_facts, dealer_verdict, AcceptedQuote, StandingQuote}
+use Rattle.venue_laws.proofs.Common.{DealerVerdict, Effect, answer_to_drop, dealer_of, drop_at}
+use Rattle.venue_laws.proofs.Common.{dropped_by, received_by_dealer, settlement_of, facts_grown}
+use Rattle.venue_laws.proofs.Common.{DealerEntry, book_by, entries_of, facts_of, rooms_by, Every}
+use Rattle.venue_laws.proofs.Common.{every_both, In, in_right, dealer_grown, own_trail, AtDealer}
+use Rattle.venue_laws.proofs.Common.{Fact, of_dealer}
 use Rattle.market_terms.specs.declared.duties.Duty.TheVariants as duty
-use Rattle.market_terms.specs.declared.rooms.RoomRef.{RoomRef}
 use Rattle.day_parts.specs.AcceptedQuotes.{AcceptOk, verdict_accepts}
-use Rattle.quote_word.specs.declared.settled.Settled.{Settled}
-use Rattle.venue_rows.specs.Rows.{Configuration, dealer_numbered}
-use Rattle.venue_rows.specs.declared.dealer_rows.DealerRow.{DealerRow}
 use Rattle.dealer_desk.specs.DealerDesk.{DeskEvents, book_at, verdict_at}
-use Rattle.dealer_desk.specs.DealerFacts.{Came, Dropped, Quoted, book_of, number_to_drop}
-use Rattle.dealer_desk.specs.DealerFacts.{quote_to_drop}
-use Rattle.dealer_desk.specs.DealerOutput.{DeskState, event_facts, goes_through, is_withdrawn}
-use Rattle.dealer_desk.specs.DealerOutput.{post_of, room_of, settled_facts, unpost_dropped}
-use Rattle.dealer_desk.specs.DealerOutput.{uses_number, verdict_duty, verdict_facts, word_asked}
-use Rattle.dealer_desk.specs.DealerRules.{dealer_verdict}
-use Rattle.dealer_desk.specs.declared.accepted.AcceptedQuote.{AcceptedQuote}
+use Rattle.dealer_desk.specs.DealerFacts.{book_of, quote_to_drop}
+use Rattle.dealer_desk.specs.DealerOutput.{DeskState, goes_through, is_withdrawn, post_of, room_of}
+use Rattle.dealer_desk.specs.DealerOutput.{unpost_dropped, verdict_duty, word_asked}
 use Rattle.dealer_desk.specs.declared.events.DealerEvent.TheVariants as event
-use Rattle.dealer_desk.specs.declared.standing.StandingQuote.{StandingQuote}
 use Rattle.dealer_desk.specs.declared.standing.Withdrawal.TheVariants as by_way
-use Rattle.dealer_desk.specs.declared.verdicts.DealerVerdict.{DealerVerdict}
 use Rattle.dealer_desk.specs.declared.verdicts.DealerVerdict.TheVariants as verdict
 use Rattle.venue_places.specs.declared.actors.Actor.TheVariants as actor
-use Rattle.step_replay.specs.Actions.{Effect, answer_to_drop, dealer_of, drop_at, dropped_by}
-use Rattle.step_replay.specs.Actions.{left_by, left_by_drop, received_by_dealer, settlement_of}
-use Rattle.step_replay.specs.DealerGrowth.{facts_grown}
-use Rattle.step_replay.specs.DealerTrail.{DealerEntry, book_by, entries_of, facts_of, rooms_by}
-use Rattle.step_replay.specs.EachLemmas.{Every, every_both}
-use Rattle.step_replay.specs.GrowthLemmas.{In, in_right}
-use Rattle.step_replay.specs.PlaceLemmas.{dealer_grown, own_trail}
-use Rattle.step_replay.specs.VenueFacts.{AtDealer, Fact, of_dealer}
+use Rattle.step_replay.specs.Actions.{left_by, left_by_drop}
 use Rattle.venue_laws.proofs.ListLemmas.{cases_some, slice_holds}
 use Rattle.venue_laws.proofs.PlainFacts.{event_plain, settled_plain, verdict_plain}
 use Rattle.venue_laws.proofs.VenueInvariant.{ByDealer, ByNamed, DeskOk, ShownTo}

@@ -1,35 +1,22 @@
 -- The end of a room brings what stands in a venue: a pass, an expiry, a hit.
-use Rattle.std.proofs.Common.{Bool, Err, List, None, Ok, Option, Result, Some, ℕ, [], ap, false}
-use Rattle.std.proofs.Common.{if◌then◌else◌, inr, map, not, refl, subst, true, ◌++◌, ◌∙◌, ◌∷◌, ◌≡◌}
-use Rattle.std.proofs.lemmas.Bool.{and_parts, both_ways, not-true}
-use Rattle.std.proofs.lemmas.List.{append-nil}
-use Rattle.market_terms.specs.Dealers.{are_distinct}
+use Rattle.venue_laws.proofs.Common.{Bool, Err, List, None, Ok, Option, Result, Some, ℕ, [], ap}
+use Rattle.venue_laws.proofs.Common.{false, if◌then◌else◌, inr, map, not, refl, subst, true, ◌++◌}
+use Rattle.venue_laws.proofs.Common.{◌∙◌, ◌∷◌, ◌≡◌, and_parts, both_ways, not-true, append-nil}
+use Rattle.venue_laws.proofs.Common.{are_distinct, HitRefusal, Duty, ResponseRef, RoomRef, Ended}
+use Rattle.venue_laws.proofs.Common.{end_of, ended_as, is_ended, is_open, is_readied, is_ready}
+use Rattle.venue_laws.proofs.Common.{opened_for, request_of, End, RoomRequest, replies_to}
+use Rattle.venue_laws.proofs.Common.{close_for, Actor, Effect, QuoteRef, in_room, lifting}
+use Rattle.venue_laws.proofs.Common.{AuditTrail, Lifted, sweep_effect, Every, every_both, In}
+use Rattle.venue_laws.proofs.Common.{any_left, in_right, said_after, investor_grown}
+use Rattle.venue_laws.proofs.Common.{investor_in_room, own_room, room_grown, AtDealer, Fact, InRoom}
+use Rattle.venue_laws.proofs.Common.{of_investor, of_room}
 use Rattle.market_terms.specs.declared.closes.Close.TheVariants as closes
-use Rattle.market_terms.specs.declared.closes.HitRefusal.{HitRefusal}
 use Rattle.market_terms.specs.declared.closes.Reply.{Reply}
-use Rattle.market_terms.specs.declared.duties.Duty.{Duty}
 use Rattle.market_terms.specs.declared.duties.Duty.TheVariants as duty
-use Rattle.market_terms.specs.declared.rooms.ResponseRef.{ResponseRef}
-use Rattle.market_terms.specs.declared.rooms.RoomRef.{RoomRef}
 use Rattle.request_room.specs.Book.{event_facts, expired, is_past_deadline, may_expire, passed}
-use Rattle.request_room.specs.RoomFacts.{Ended, end_of, ended_as, is_ended, is_open, is_readied}
-use Rattle.request_room.specs.RoomFacts.{is_ready, opened_for, request_of}
-use Rattle.request_room.specs.declared.ends.End.{End}
 use Rattle.request_room.specs.declared.events.RoomEvent.TheVariants as at_room
-use Rattle.request_room.specs.declared.requests.RoomRequest.{RoomRequest}
-use Rattle.venue_steps.specs.InvestorSteps.{replies_to}
-use Rattle.venue_steps.specs.RoomSteps.{close_for, dealers_of, duties_of_pass, reply_to_pass}
-use Rattle.venue_steps.specs.RoomSteps.{told_in}
-use Rattle.venue_places.specs.declared.actors.Actor.{Actor}
+use Rattle.venue_steps.specs.RoomSteps.{dealers_of, duties_of_pass, reply_to_pass, told_in}
 use Rattle.venue_places.specs.declared.actors.Actor.TheVariants as actor
-use Rattle.step_replay.specs.Actions.{Effect, QuoteRef, in_room, lifting}
-use Rattle.step_replay.specs.AuditTrail.{AuditTrail}
-use Rattle.step_replay.specs.DealerTrail.{Lifted}
-use Rattle.step_replay.specs.DutyEffects.{sweep_effect}
-use Rattle.step_replay.specs.EachLemmas.{Every, every_both}
-use Rattle.step_replay.specs.GrowthLemmas.{In, any_left, in_right, said_after}
-use Rattle.step_replay.specs.PlaceLemmas.{investor_grown, investor_in_room, own_room, room_grown}
-use Rattle.step_replay.specs.VenueFacts.{AtDealer, Fact, InRoom, of_investor, of_room}
 use Rattle.venue_laws.proofs.ListLemmas.{found_in, in_map, in_named, named_in, none_some, some_of}
 use Rattle.venue_laws.proofs.PlainFacts.{AreQuiet, is_quiet}
 use Rattle.venue_laws.proofs.VenueInvariant.{RespondsIn}

@@ -1,28 +1,20 @@
 -- A hit brings what stands in a venue: where it awards, the winner's quote of the book is lifted.
-use Rattle.std.proofs.Common.{Bool, Err, List, None, Ok, Option, Result, Some, ℕ, [], ap, arith}
-use Rattle.std.proofs.Common.{eq-eqb, false, if◌then◌else◌, inl, inr, map, refl, subst, sym, true}
-use Rattle.std.proofs.Common.{◌++◌, ◌+◌, ◌∙◌, ◌∷◌, ◌≡◌}
-use Rattle.std.proofs.lemmas.Bool.{cases_Bool, eqb-true, not-false, or_left}
+use Rattle.venue_laws.proofs.Common.{Bool, Err, List, None, Ok, Option, Result, Some, ℕ, [], ap}
+use Rattle.venue_laws.proofs.Common.{arith, eq-eqb, false, if◌then◌else◌, inl, inr, map, refl}
+use Rattle.venue_laws.proofs.Common.{subst, sym, true, ◌++◌, ◌+◌, ◌∙◌, ◌∷◌, ◌≡◌, cases_Bool}
+use Rattle.venue_laws.proofs.Common.{eqb-true, not-false, or_left, HitRefusal, Duty, ResponseRef}
+use Rattle.venue_laws.proofs.Common.{RoomRef, Settled, hit_checks, hit_refusal, quote_meant, Ended}
+use Rattle.venue_laws.proofs.Common.{RoomFact, is_open, End, close_for, Effect, QuoteRef, lifting}
+use Rattle.venue_laws.proofs.Common.{quote_with_word, Lifted, lifts, any_right, dealer_grown}
+use Rattle.venue_laws.proofs.Common.{own_trail, Fact, InRoom, of_dealer, none_holds}
 use Rattle.market_terms.specs.declared.closes.Close.TheVariants as closes
-use Rattle.market_terms.specs.declared.closes.HitRefusal.{HitRefusal}
-use Rattle.market_terms.specs.declared.duties.Duty.{Duty}
 use Rattle.market_terms.specs.declared.duties.Duty.TheVariants as duty
-use Rattle.market_terms.specs.declared.rooms.ResponseRef.{ResponseRef}
-use Rattle.market_terms.specs.declared.rooms.RoomRef.{RoomRef}
-use Rattle.quote_word.specs.declared.settled.Settled.{Settled}
-use Rattle.request_room.specs.Book.{award_of, book_of, end_by, event_facts, hit_checks, hit_outcome}
-use Rattle.request_room.specs.Book.{hit_refusal, is_lift, quote_meant, reply_of}
-use Rattle.request_room.specs.RoomFacts.{Ended, RoomFact, is_open}
-use Rattle.request_room.specs.declared.ends.End.{End}
+use Rattle.request_room.specs.Book.{award_of, book_of, end_by, event_facts, hit_outcome, is_lift}
+use Rattle.request_room.specs.Book.{reply_of}
 use Rattle.request_room.specs.declared.quotes.PostedQuote.{PostedQuote as BookQuote}
-use Rattle.venue_steps.specs.RoomSteps.{close_for, is_cover, is_winner, told_of_hit}
-use Rattle.step_replay.specs.Actions.{Effect, QuoteRef, hit_with, lifting, quote_with_word}
-use Rattle.step_replay.specs.DealerTrail.{Lifted, lifts}
-use Rattle.step_replay.specs.GrowthLemmas.{any_right}
+use Rattle.venue_steps.specs.RoomSteps.{is_cover, is_winner, told_of_hit}
+use Rattle.step_replay.specs.Actions.{hit_with}
 use Rattle.step_replay.specs.OwnerLemmas.{owner_among, quote_at}
-use Rattle.step_replay.specs.PlaceLemmas.{dealer_grown, own_trail}
-use Rattle.step_replay.specs.VenueFacts.{Fact, InRoom, of_dealer}
-use Rattle.day_parts.specs.AcceptedQuotes.{none_holds}
 use Rattle.venue_laws.proofs.ListLemmas.{cases_some, some_of}
 use Rattle.venue_laws.proofs.VenueEnds.{answered, ended_brings, ending, left_brings, none_lifted}
 use Rattle.venue_laws.proofs.VenueInvariant.{PostedIn, RespondsIn}

@@ -1,35 +1,18 @@
 -- What stands in every venue of rooms, desks and the duties that were left: at each fact, at each
 -- duty, and at each desk.
-use Rattle.std.proofs.Common.{Bool, List, None, Some, ℕ, [], count_by, false, is_some, length}
-use Rattle.std.proofs.Common.{nat_le, true, ◌&&◌, ◌≡◌, ◌≤◌}
-use Rattle.market_terms.specs.Dealers.{are_distinct}
-use Rattle.market_terms.specs.declared.asks.Ask.{Ask}
-use Rattle.market_terms.specs.declared.closes.Close.{Close}
+use Rattle.venue_laws.proofs.Common.{Bool, List, None, Some, ℕ, [], count_by, false, is_some}
+use Rattle.venue_laws.proofs.Common.{length, nat_le, true, ◌&&◌, ◌≡◌, ◌≤◌, are_distinct, Ask, Close}
+use Rattle.venue_laws.proofs.Common.{Duty, ResponseRef, RoomRef, Configuration, dealer_numbered}
+use Rattle.venue_laws.proofs.Common.{has_room, DealerRow, Shown, Told, Ended, Opened, Posted}
+use Rattle.venue_laws.proofs.Common.{Readied, RoomFact, end_of, is_named, is_ready, End}
+use Rattle.venue_laws.proofs.Common.{RoomRequest, replies_to, close_for, Actor, dealer_of, word_for}
+use Rattle.venue_laws.proofs.Common.{AuditTrail, is_same_actor, AtDesk, DealerEntry, ShownIn}
+use Rattle.venue_laws.proofs.Common.{rooms_by, Each, Every, AreNumbered, In, Seen, AtDealer}
+use Rattle.venue_laws.proofs.Common.{AtInvestor, Fact, InRoom, of_dealer, of_room, IsOneOf}
 use Rattle.market_terms.specs.declared.closes.Close.TheVariants as closes
-use Rattle.market_terms.specs.declared.duties.Duty.{Duty}
 use Rattle.market_terms.specs.declared.duties.Duty.TheVariants as duty
-use Rattle.market_terms.specs.declared.rooms.ResponseRef.{ResponseRef}
-use Rattle.market_terms.specs.declared.rooms.RoomRef.{RoomRef}
-use Rattle.venue_rows.specs.Rows.{Configuration, dealer_numbered, has_room}
-use Rattle.venue_rows.specs.declared.dealer_rows.DealerRow.{DealerRow}
-use Rattle.dealer_desk.specs.DealerFacts.{Shown, Told}
-use Rattle.request_room.specs.RoomFacts.{Ended, Opened, Posted, Readied, RoomFact, end_of, is_named}
-use Rattle.request_room.specs.RoomFacts.{is_ready}
-use Rattle.request_room.specs.declared.ends.End.{End}
 use Rattle.request_room.specs.declared.quotes.PostedQuote.{PostedQuote as BookQuote}
-use Rattle.request_room.specs.declared.requests.RoomRequest.{RoomRequest}
-use Rattle.venue_steps.specs.InvestorSteps.{replies_to}
-use Rattle.venue_steps.specs.RoomSteps.{close_for}
-use Rattle.venue_places.specs.declared.actors.Actor.{Actor}
 use Rattle.venue_places.specs.declared.actors.Actor.TheVariants as actor
-use Rattle.step_replay.specs.Actions.{dealer_of, word_for}
-use Rattle.step_replay.specs.AuditTrail.{AuditTrail, is_same_actor}
-use Rattle.step_replay.specs.DealerTrail.{AtDesk, DealerEntry, ShownIn, rooms_by}
-use Rattle.step_replay.specs.EachLemmas.{Each, Every}
-use Rattle.step_replay.specs.GrowthLemmas.{AreNumbered, In}
-use Rattle.step_replay.specs.SeenLemmas.{Seen}
-use Rattle.step_replay.specs.VenueFacts.{AtDealer, AtInvestor, Fact, InRoom, of_dealer, of_room}
-use Rattle.step_replay.specs.WordLemmas.{IsOneOf}
 use Rattle.venue_laws.proofs.KnownDesks.{DeskFit}
 use Rattle.venue_laws.proofs.NoticeLemmas.{IsNoticed}
 use Rattle.venue_laws.proofs.VenueParts.{BearsGrid, IsOpened, KnownIn, LiftedIn, MarkOk}

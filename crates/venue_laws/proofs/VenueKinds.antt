@@ -1,28 +1,16 @@
 -- What each kind of effect brings for what stands in a venue: nothing, an event at a dealer's desk,
 -- and what happens in a room.
-use Rattle.std.proofs.Common.{Bool, List, None, Some, ℕ, [], false, if◌then◌else◌, inl, inr, map}
-use Rattle.std.proofs.Common.{not, refl, subst, sym, true, ◌++◌, ◌==◌, ◌∙◌, ◌∷◌, ◌≡◌}
-use Rattle.std.proofs.lemmas.Bool.{and_parts, both_ways, cases_Bool, eqb-true, not-true}
-use Rattle.std.proofs.lemmas.List.{append-nil}
-use Rattle.std.proofs.lemmas.List.Elements.{filter_map-append}
-use Rattle.std.proofs.lemmas.Option.{same_Some}
-use Rattle.std.specs.List.{list_any}
-use Rattle.market_terms.specs.Dealers.{are_distinct}
-use Rattle.market_terms.specs.declared.duties.Duty.{Duty}
-use Rattle.market_terms.specs.declared.rooms.RoomRef.{RoomRef}
+use Rattle.venue_laws.proofs.Common.{Bool, List, None, Some, ℕ, [], false, if◌then◌else◌, inl, inr}
+use Rattle.venue_laws.proofs.Common.{map, not, refl, subst, sym, true, ◌++◌, ◌==◌, ◌∙◌, ◌∷◌, ◌≡◌}
+use Rattle.venue_laws.proofs.Common.{and_parts, both_ways, cases_Bool, eqb-true, not-true}
+use Rattle.venue_laws.proofs.Common.{append-nil, filter_map-append, same_Some, list_any}
+use Rattle.venue_laws.proofs.Common.{are_distinct, Duty, RoomRef, dealer_numbered, DealerRow, Shown}
+use Rattle.venue_laws.proofs.Common.{Told, where_so, RoomFact, Dealer, Effect, acting_dealer}
+use Rattle.venue_laws.proofs.Common.{dealer_of, done_by, nothing, AtDesk, DealerEntry, ShownIn}
+use Rattle.venue_laws.proofs.Common.{Every, every_weaker, In, investor_in_room, own_trail, AtDealer}
+use Rattle.venue_laws.proofs.Common.{Fact, InRoom, of_investor, of_room}
 use Rattle.day_parts.specs.KeptItems.{every_in}
-use Rattle.venue_rows.specs.Rows.{dealer_numbered}
-use Rattle.venue_rows.specs.declared.dealer_rows.DealerRow.{DealerRow}
-use Rattle.dealer_desk.specs.DealerFacts.{Shown, Told}
-use Rattle.request_room.specs.Book.{where_so}
-use Rattle.request_room.specs.RoomFacts.{RoomFact}
-use Rattle.step_replay.specs.Actions.{Dealer, Effect, acting_dealer, dealer_of, done_by, nothing}
-use Rattle.step_replay.specs.DealerTrail.{AtDesk, DealerEntry, ShownIn}
-use Rattle.step_replay.specs.EachLemmas.{Every, every_weaker}
-use Rattle.step_replay.specs.GrowthLemmas.{In}
-use Rattle.step_replay.specs.PlaceLemmas.{investor_at_dealer, investor_in_room, other_trail}
-use Rattle.step_replay.specs.PlaceLemmas.{own_trail}
-use Rattle.step_replay.specs.VenueFacts.{AtDealer, Fact, InRoom, of_investor, of_room}
+use Rattle.step_replay.specs.PlaceLemmas.{investor_at_dealer, other_trail}
 use Rattle.venue_laws.proofs.ListLemmas.{every_map, in_both, in_found, in_one, named_in}
 use Rattle.venue_laws.proofs.PlainFacts.{ArePlain, AreQuiet, is_plain_entry, is_quiet, plain_names}
 use Rattle.venue_laws.proofs.PlainFacts.{plain_rooms, quiet_trail}

@@ -1,33 +1,20 @@
 -- What stands of a room in a venue, by its facts: its request, that it is ready, its end.
-use Rattle.std.proofs.Common.{List, None, Option, Some, ℕ, [], ap, arith, eq-eqb, inl, inr, refl}
-use Rattle.std.proofs.Common.{subst, sym, true, ◌++◌, ◌+◌, ◌==◌, ◌∙◌, ◌∷◌, ◌≡◌}
-use Rattle.std.proofs.lemmas.Bool.{and_from, cases_Bool, eqb-true}
-use Rattle.std.proofs.lemmas.List.{take-append-drop}
-use Rattle.std.proofs.lemmas.Option.{same_Some}
-use Rattle.std.specs.List.{list_any}
-use Rattle.std.specs.Prelude.{slice_get}
-use Rattle.market_terms.specs.declared.closes.Close.{Close}
-use Rattle.market_terms.specs.declared.duties.Duty.{Duty}
+use Rattle.venue_laws.proofs.Common.{List, None, Option, Some, ℕ, [], ap, arith, eq-eqb, inl, inr}
+use Rattle.venue_laws.proofs.Common.{refl, subst, sym, true, ◌++◌, ◌+◌, ◌==◌, ◌∙◌, ◌∷◌, ◌≡◌}
+use Rattle.venue_laws.proofs.Common.{and_from, cases_Bool, eqb-true, take-append-drop, same_Some}
+use Rattle.venue_laws.proofs.Common.{list_any, slice_get, Close, Duty, RoomRef, Configuration}
+use Rattle.venue_laws.proofs.Common.{dealer_numbered, has_room, DealerRow, Shown, Told}
+use Rattle.venue_laws.proofs.Common.{requests_from, is_same_room, number_in, StandingRequest}
+use Rattle.venue_laws.proofs.Common.{quote_meant, Ended, Opened, Posted, Readied, RoomFact, end_of}
+use Rattle.venue_laws.proofs.Common.{ended_as, first_said, is_ended, is_named, is_readied, is_ready}
+use Rattle.venue_laws.proofs.Common.{names, opened_for, request_of, End, RoomRequest, Actor}
+use Rattle.venue_laws.proofs.Common.{AuditTrail, pending, AtDesk, DealerEntry, book_by, facts_of}
+use Rattle.venue_laws.proofs.Common.{rooms_by, Each, Every, each_of, every_weaker, In, all_in}
+use Rattle.venue_laws.proofs.Common.{AtDealer, Fact, InRoom, of_dealer, of_room}
 use Rattle.market_terms.specs.declared.duties.Duty.TheVariants as duty
-use Rattle.market_terms.specs.declared.rooms.RoomRef.{RoomRef}
-use Rattle.venue_rows.specs.Rows.{Configuration, dealer_numbered, has_room}
-use Rattle.venue_rows.specs.declared.dealer_rows.DealerRow.{DealerRow}
-use Rattle.dealer_desk.specs.DealerFacts.{Shown, Told, requests_from}
-use Rattle.dealer_desk.specs.DealerOutput.{is_same_room, number_in}
-use Rattle.dealer_desk.specs.declared.standing.StandingRequest.{StandingRequest}
-use Rattle.request_room.specs.Book.{book_of, quote_meant, takes_out}
-use Rattle.request_room.specs.RoomFacts.{Ended, Opened, Posted, Readied, RoomFact, end_of, ended_as}
-use Rattle.request_room.specs.RoomFacts.{first_said, is_ended, is_named, is_readied, is_ready}
-use Rattle.request_room.specs.RoomFacts.{names, opened_for, request_of}
-use Rattle.request_room.specs.declared.ends.End.{End}
+use Rattle.request_room.specs.Book.{book_of, takes_out}
 use Rattle.request_room.specs.declared.quotes.PostedQuote.{PostedQuote as BookQuote}
-use Rattle.request_room.specs.declared.requests.RoomRequest.{RoomRequest}
-use Rattle.venue_places.specs.declared.actors.Actor.{Actor}
-use Rattle.step_replay.specs.AuditTrail.{AuditTrail, pending}
-use Rattle.step_replay.specs.DealerTrail.{AtDesk, DealerEntry, book_by, facts_of, rooms_by}
-use Rattle.step_replay.specs.EachLemmas.{Each, Every, each_of, every_weaker}
-use Rattle.step_replay.specs.GrowthLemmas.{In, all_in, names_some}
-use Rattle.step_replay.specs.VenueFacts.{AtDealer, Fact, InRoom, of_dealer, of_room}
+use Rattle.step_replay.specs.GrowthLemmas.{names_some}
 use Rattle.venue_laws.proofs.KnownDesks.{known_asked}
 use Rattle.venue_laws.proofs.ListLemmas.{in_named, some_of}
 use Rattle.venue_laws.proofs.PlainFacts.{at_dealer_all, in_room_all, rooms_all}

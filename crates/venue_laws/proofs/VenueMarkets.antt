@@ -1,30 +1,22 @@
 -- What comes to an investor's desk, and what its message leaves, brings what stands in a venue.
-use Rattle.std.proofs.Common.{Bool, List, None, Option, Some, ℕ, [], ap, arith, eq-eqb, false, inl}
-use Rattle.std.proofs.Common.{inr, length, map, option_to_list, refl, subst, sym, true, ◌++◌, ◌+◌}
-use Rattle.std.proofs.Common.{◌==◌, ◌∙◌, ◌≡◌, ◌≤◌}
-use Rattle.std.proofs.lemmas.Bool.{cases_Bool, eqb-true, or_left}
-use Rattle.market_terms.specs.declared.duties.Duty.{Duty}
-use Rattle.market_terms.specs.declared.rooms.ResponseRef.{ResponseRef}
-use Rattle.market_terms.specs.declared.rooms.RoomRef.{RoomRef}
-use Rattle.venue_rows.specs.Rows.{has_room, investor_numbered, may_request}
-use Rattle.venue_rows.specs.declared.investor_rows.InvestorRow.{InvestorRow}
-use Rattle.investor_desk.specs.InvestorDesk.{market_for, market_of}
-use Rattle.investor_desk.specs.InvestorFacts.{InvestorFact, book_of, requests_of}
-use Rattle.investor_desk.specs.InvestorOutput.{DeskState, event_facts, own_facts, verdict_duty}
-use Rattle.investor_desk.specs.InvestorRules.{InvestorMarket, investor_verdict}
-use Rattle.investor_desk.specs.declared.events.InvestorEvent.{InvestorEvent}
+use Rattle.venue_laws.proofs.Common.{Bool, List, None, Option, Some, ℕ, [], ap, arith, eq-eqb}
+use Rattle.venue_laws.proofs.Common.{false, inl, inr, length, map, option_to_list, refl, subst, sym}
+use Rattle.venue_laws.proofs.Common.{true, ◌++◌, ◌+◌, ◌==◌, ◌∙◌, ◌≡◌, ◌≤◌, cases_Bool, eqb-true}
+use Rattle.venue_laws.proofs.Common.{or_left, Duty, ResponseRef, RoomRef, has_room}
+use Rattle.venue_laws.proofs.Common.{investor_numbered, InvestorRow, market_for, market_of}
+use Rattle.venue_laws.proofs.Common.{InvestorFact, book_of, requests_of, own_facts, InvestorMarket}
+use Rattle.venue_laws.proofs.Common.{investor_verdict, InvestorEvent, AcceptedRequest}
+use Rattle.venue_laws.proofs.Common.{InvestorVerdict, Effect, done_for, where_known, any_right}
+use Rattle.venue_laws.proofs.Common.{InvestorEntry, investor_grown, AtInvestor, of_investor}
+use Rattle.venue_rows.specs.Rows.{may_request}
+use Rattle.investor_desk.specs.InvestorOutput.{DeskState, event_facts, verdict_duty}
 use Rattle.investor_desk.specs.declared.events.InvestorEvent.TheVariants as at_investor
-use Rattle.investor_desk.specs.declared.standing.AcceptedRequest.{AcceptedRequest}
-use Rattle.investor_desk.specs.declared.verdicts.InvestorVerdict.{InvestorVerdict}
 use Rattle.investor_desk.specs.declared.verdicts.InvestorVerdict.TheVariants as verdict
 use Rattle.venue_places.specs.declared.actors.Actor.TheVariants as actor
-use Rattle.step_replay.specs.Actions.{Effect, at_market, done_for, left_by_investor}
-use Rattle.step_replay.specs.Actions.{received_by_investor, where_known}
-use Rattle.step_replay.specs.GrowthLemmas.{any_right}
+use Rattle.step_replay.specs.Actions.{at_market, left_by_investor, received_by_investor}
 use Rattle.step_replay.specs.InvestorGrowth.{trail_push}
-use Rattle.step_replay.specs.InvestorTrail.{InvestorEntry, entries_of}
-use Rattle.step_replay.specs.PlaceLemmas.{investor_grown, other_investor, own_investor}
-use Rattle.step_replay.specs.VenueFacts.{AtInvestor, of_investor}
+use Rattle.step_replay.specs.InvestorTrail.{entries_of}
+use Rattle.step_replay.specs.PlaceLemmas.{other_investor, own_investor}
 use Rattle.venue_laws.proofs.InvestorVerdicts.{RequestFit, ResponseFit, VerdictFit, event_fits}
 use Rattle.venue_laws.proofs.InvestorVerdicts.{verdict_fits}
 use Rattle.venue_laws.proofs.KnownDesks.{asked_known, asks, known_asked}

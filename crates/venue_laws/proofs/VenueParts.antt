@@ -1,38 +1,24 @@
 -- What the invariant of a venue speaks of: desks and rooms by the facts that stand, what is done
 -- once, and what goes on to stand.
-use Rattle.std.proofs.Common.{List, None, Option, Some, ℕ, [], ap, count_by, filter_map, is_some}
-use Rattle.std.proofs.Common.{option_map, sym, take, true, ◌++◌, ◌∙◌, ◌≡◌}
-use Rattle.std.proofs.lemmas.List.{append-nil, append_assoc}
-use Rattle.std.proofs.lemmas.List.Elements.{filter_map-append}
-use Rattle.std.specs.List.{list_any}
-use Rattle.market_terms.specs.declared.asks.Ask.{Ask}
+use Rattle.venue_laws.proofs.Common.{List, None, Option, Some, ℕ, [], ap, count_by, filter_map}
+use Rattle.venue_laws.proofs.Common.{is_some, option_map, sym, take, true, ◌++◌, ◌∙◌, ◌≡◌}
+use Rattle.venue_laws.proofs.Common.{append-nil, append_assoc, filter_map-append, list_any, Ask}
+use Rattle.venue_laws.proofs.Common.{Duty, RoomRef, Configuration, bond_with_id, BondRow, DealerRow}
+use Rattle.venue_laws.proofs.Common.{Quoted, Told, tells, number_in, AcceptedQuote, InvestorFact}
+use Rattle.venue_laws.proofs.Common.{book_of, knows, RoomFact, first_said, is_ended, is_named}
+use Rattle.venue_laws.proofs.Common.{request_of, RoomRequest, Actor, AuditTrail, Caused, duty_of}
+use Rattle.venue_laws.proofs.Common.{is_same_actor, AtDesk, DealerEntry, facts_of, lifts, rooms_by}
+use Rattle.venue_laws.proofs.Common.{was_lifted, In, any_left, in_left, dealer_grown}
+use Rattle.venue_laws.proofs.Common.{investor_grown, room_grown, Fact, of_dealer, of_investor}
+use Rattle.venue_laws.proofs.Common.{of_room, NamesLiftedQuote}
 use Rattle.market_terms.specs.declared.closes.Close.TheVariants as closes
-use Rattle.market_terms.specs.declared.duties.Duty.{Duty}
 use Rattle.market_terms.specs.declared.duties.Duty.TheVariants as duty
-use Rattle.market_terms.specs.declared.rooms.RoomRef.{RoomRef}
-use Rattle.venue_rows.specs.Rows.{Configuration, bond_with_id}
-use Rattle.venue_rows.specs.declared.bond_rows.BondRow.{BondRow}
-use Rattle.venue_rows.specs.declared.dealer_rows.DealerRow.{DealerRow}
-use Rattle.dealer_desk.specs.DealerFacts.{Quoted, Told, tells}
-use Rattle.dealer_desk.specs.DealerOutput.{number_in}
-use Rattle.dealer_desk.specs.declared.accepted.AcceptedQuote.{AcceptedQuote}
-use Rattle.investor_desk.specs.InvestorFacts.{InvestorFact, book_of, knows}
-use Rattle.request_room.specs.RoomFacts.{RoomFact, first_said, is_ended, is_named, request_of}
 use Rattle.request_room.specs.declared.ends.EndKind.{EndKind}
 use Rattle.request_room.specs.declared.ends.EndKind.TheVariants as ends
-use Rattle.request_room.specs.declared.requests.RoomRequest.{RoomRequest}
-use Rattle.venue_places.specs.declared.actors.Actor.{Actor}
 use Rattle.venue_places.specs.declared.actors.Actor.TheVariants as actor
-use Rattle.step_replay.specs.AuditTrail.{AuditTrail, Caused, duty_of, is_same_actor}
-use Rattle.step_replay.specs.DealerTrail.{AtDesk, DealerEntry, facts_of, lifts, rooms_by}
-use Rattle.step_replay.specs.DealerTrail.{was_lifted}
-use Rattle.step_replay.specs.GrowthLemmas.{In, any_left, in_left, named_before, named_grown}
-use Rattle.step_replay.specs.GrowthLemmas.{number_grown, said_grown}
+use Rattle.step_replay.specs.GrowthLemmas.{named_before, named_grown, number_grown, said_grown}
 use Rattle.step_replay.specs.InvestorTrail as investor_trail
-use Rattle.step_replay.specs.PlaceLemmas.{dealer_grown, investor_grown, room_grown}
-use Rattle.step_replay.specs.VenueFacts.{Fact, of_dealer, of_investor, of_room}
 use Rattle.venue_laws.proofs.KnownDesks.{knows_grown}
-use Rattle.venue_laws.specs.Notices.{NamesLiftedQuote}
 
 -- the number under which a dealer was shown the request of a room
 abbrev pub number_for : List Fact → ℕ → RoomRef → Option ℕ

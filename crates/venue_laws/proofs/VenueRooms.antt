@@ -1,42 +1,27 @@
 -- What is done once brings what stands in a venue: a room is opened, its request is shown, it is
 -- made ready, and a dealer is told its end. So do quotes and declines.
-use Rattle.std.proofs.Common.{Bool, List, None, Option, Some, ℕ, [], ap, eq-eqb, false}
-use Rattle.std.proofs.Common.{if◌then◌else◌, inl, inr, is_none, is_some, length, map, not}
-use Rattle.std.proofs.Common.{option_to_list, refl, subst, sym, true, ◌++◌, ◌+◌, ◌==◌, ◌∙◌, ◌∷◌}
-use Rattle.std.proofs.Common.{◌≡◌}
-use Rattle.std.proofs.lemmas.Bool.{and_parts, or_left}
-use Rattle.std.proofs.lemmas.List.{append-nil}
-use Rattle.std.proofs.lemmas.List.Elements.{filter_map-append}
-use Rattle.std.specs.List.{list_any}
-use Rattle.market_terms.specs.declared.asks.Ask.{Ask}
-use Rattle.market_terms.specs.declared.closes.Close.{Close}
+use Rattle.venue_laws.proofs.Common.{Bool, List, None, Option, Some, ℕ, [], ap, eq-eqb, false}
+use Rattle.venue_laws.proofs.Common.{if◌then◌else◌, inl, inr, is_none, is_some, length, map, not}
+use Rattle.venue_laws.proofs.Common.{option_to_list, refl, subst, sym, true, ◌++◌, ◌+◌, ◌==◌, ◌∙◌}
+use Rattle.venue_laws.proofs.Common.{◌∷◌, ◌≡◌, and_parts, or_left, append-nil, filter_map-append}
+use Rattle.venue_laws.proofs.Common.{list_any, Ask, Close, Duty, RoomRef, dealer_numbered}
+use Rattle.venue_laws.proofs.Common.{DealerRow, Told, tells, closable, event_facts, number_in}
+use Rattle.venue_laws.proofs.Common.{where_so, Opened, Readied, RoomFact, is_ended, is_named}
+use Rattle.venue_laws.proofs.Common.{is_opening, is_vacant, names, opened_for, request_of}
+use Rattle.venue_laws.proofs.Common.{RoomRequest, where_follows, Effect, dealer_of, in_room}
+use Rattle.venue_laws.proofs.Common.{nothing, told_to, AuditTrail, rooms_grown, AtDesk, DealerEntry}
+use Rattle.venue_laws.proofs.Common.{Sent, book_by, entries_of, facts_of, message_by, rooms_by}
+use Rattle.venue_laws.proofs.Common.{Every, each_append, In, all_in, any_right, in_right}
+use Rattle.venue_laws.proofs.Common.{said_after, dealer_grown, own_room, own_trail, room_grown}
+use Rattle.venue_laws.proofs.Common.{AtDealer, InRoom, of_dealer, of_room}
 use Rattle.market_terms.specs.declared.closes.Close.TheVariants as closes
-use Rattle.market_terms.specs.declared.duties.Duty.{Duty}
 use Rattle.market_terms.specs.declared.duties.Duty.TheVariants as duty
 use Rattle.market_terms.specs.declared.duties.Duty.TheVariants as duty
-use Rattle.market_terms.specs.declared.rooms.RoomRef.{RoomRef}
-use Rattle.venue_rows.specs.Rows.{dealer_numbered}
-use Rattle.venue_rows.specs.declared.dealer_rows.DealerRow.{DealerRow}
-use Rattle.dealer_desk.specs.DealerFacts.{Told, tells}
-use Rattle.dealer_desk.specs.DealerOutput.{closable, event_facts, number_in}
 use Rattle.dealer_desk.specs.declared.events.DealerEvent.TheVariants as event
-use Rattle.request_room.specs.Book.{event_facts as room_facts, where_so}
-use Rattle.request_room.specs.RoomFacts.{Opened, Readied, RoomFact, is_ended, is_named, is_opening}
-use Rattle.request_room.specs.RoomFacts.{is_vacant, names, opened_for, request_of}
+use Rattle.request_room.specs.Book.{event_facts as room_facts}
 use Rattle.request_room.specs.declared.events.RoomEvent.TheVariants as at_room
-use Rattle.request_room.specs.declared.requests.RoomRequest.{RoomRequest}
-use Rattle.venue_steps.specs.RoomSteps.{where_follows}
-use Rattle.step_replay.specs.Actions.{Effect, dealer_of, in_room, nothing, opened, shown_to}
-use Rattle.step_replay.specs.Actions.{told_of, told_to}
-use Rattle.step_replay.specs.AuditTrail.{AuditTrail}
-use Rattle.step_replay.specs.DealerGrowth.{rooms_grown}
-use Rattle.step_replay.specs.DealerTrail.{AtDesk, DealerEntry, Sent, book_by, entries_of, facts_of}
-use Rattle.step_replay.specs.DealerTrail.{message_by, rooms_by}
-use Rattle.step_replay.specs.EachLemmas.{Every, each_append}
-use Rattle.step_replay.specs.GrowthLemmas.{In, all_in, any_right, in_right, number_next}
-use Rattle.step_replay.specs.GrowthLemmas.{numbered_push, said_after}
-use Rattle.step_replay.specs.PlaceLemmas.{dealer_grown, own_room, own_trail, room_grown}
-use Rattle.step_replay.specs.VenueFacts.{AtDealer, InRoom, of_dealer, of_room}
+use Rattle.step_replay.specs.Actions.{opened, shown_to, told_of}
+use Rattle.step_replay.specs.GrowthLemmas.{number_next, numbered_push}
 use Rattle.venue_laws.proofs.ListLemmas.{every_map, found_in, in_both, in_found, in_map, in_named}
 use Rattle.venue_laws.proofs.ListLemmas.{named_in, none_is, none_some}
 use Rattle.venue_laws.proofs.LiveQuotes.{LoneQuotes, hit_names}

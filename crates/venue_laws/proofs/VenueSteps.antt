@@ -1,23 +1,14 @@
 -- What an effect has to bring for what stands in a venue to stand after it.
-use Rattle.std.proofs.Common.{List, None, Option, Some, ℕ, [], inl, inr, refl, subst, ◌++◌, ◌≡◌}
+use Rattle.venue_laws.proofs.Common.{List, None, Option, Some, ℕ, [], inl, inr, refl, subst, ◌++◌}
+use Rattle.venue_laws.proofs.Common.{◌≡◌, Duty, Configuration, dealer_numbered, DealerRow, Told}
+use Rattle.venue_laws.proofs.Common.{Actor, Effect, AuditTrail, AtDesk, DealerEntry, rooms_by, Each}
+use Rattle.venue_laws.proofs.Common.{Every, Stays, each_append, every_both, every_weaker}
+use Rattle.venue_laws.proofs.Common.{AreNumbered, in_left, seen_is_kept, dealer_grown, Seen, IsKept}
+use Rattle.venue_laws.proofs.Common.{Fact, of_dealer, IsOneOf, next_sent}
 use Rattle.market_terms.specs.declared.closes.Close.TheVariants as closes
-use Rattle.market_terms.specs.declared.duties.Duty.{Duty}
-use Rattle.venue_rows.specs.Rows.{Configuration, dealer_numbered}
-use Rattle.venue_rows.specs.declared.dealer_rows.DealerRow.{DealerRow}
-use Rattle.dealer_desk.specs.DealerFacts.{Told}
-use Rattle.venue_places.specs.declared.actors.Actor.{Actor}
-use Rattle.step_replay.specs.Actions.{Effect}
-use Rattle.step_replay.specs.AuditTrail.{AuditTrail}
-use Rattle.step_replay.specs.DealerTrail.{AtDesk, DealerEntry, message_in, rooms_by}
-use Rattle.step_replay.specs.EachLemmas.{Each, Every, Stays, each_append, each_weaker, every_both}
-use Rattle.step_replay.specs.EachLemmas.{every_weaker}
-use Rattle.step_replay.specs.GrowthLemmas.{AreNumbered, in_left}
-use Rattle.step_replay.specs.IsolationLemmas.{seen_is_kept}
-use Rattle.step_replay.specs.PlaceLemmas.{dealer_grown}
-use Rattle.step_replay.specs.SeenLemmas.{Seen}
-use Rattle.step_replay.specs.TrailKept.{IsKept}
-use Rattle.step_replay.specs.VenueFacts.{Fact, of_dealer}
-use Rattle.step_replay.specs.WordLemmas.{IsOneOf, one_is_kept}
+use Rattle.step_replay.specs.DealerTrail.{message_in}
+use Rattle.step_replay.specs.EachLemmas.{each_weaker}
+use Rattle.step_replay.specs.WordLemmas.{one_is_kept}
 use Rattle.venue_laws.proofs.ListLemmas.{first_grown}
 use Rattle.venue_laws.proofs.NoticeLemmas.{IsNoticed, noticed_is_kept}
 use Rattle.venue_laws.proofs.VenueInvariant.{DeskOk, DutyOk, FactOk, LeftOk, MarketOk, QueueOk}
@@ -26,7 +17,6 @@ use Rattle.venue_laws.proofs.VenueParts.{InOrder, Later, Mark, MarkOk, NamesLift
 use Rattle.venue_laws.proofs.VenueParts.{did_in, duties_by, later_both, mark_of, marks, marks_both}
 use Rattle.venue_laws.proofs.VenueParts.{still_later}
 use Rattle.venue_laws.proofs.VenueTurns.{Doing, Grown, doing_now, grown, venue_with}
-use Rattle.venue_laws.specs.Notices.{next_sent}
 
 next_sent_stays : (message : List ℕ) (after more : List DealerEntry)
     → next_sent after ≡ Some message → next_sent (after ++ more) ≡ Some message

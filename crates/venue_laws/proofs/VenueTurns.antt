@@ -1,15 +1,12 @@
 -- The duties that actors left, which of them an actor does next, and what was done then.
-use Rattle.std.proofs.Common.{List, ℕ, [], ap, arith, count_by, drop, false, inl, inr, length, refl}
-use Rattle.std.proofs.Common.{subst, suc, sym, take, true, zero, ◌++◌, ◌+◌, ◌∙◌, ◌∷◌, ◌≡◌, ◌≤◌, ◌⊎◌}
-use Rattle.std.proofs.lemmas.Bool.{cases_Bool}
-use Rattle.std.proofs.lemmas.List.{append-nil, length-append, take-append-le}
-use Rattle.std.proofs.lemmas.List.Elements.{filter_map-append}
-use Rattle.market_terms.specs.declared.duties.Duty.{Duty}
+use Rattle.venue_laws.proofs.Common.{List, ℕ, [], ap, arith, count_by, drop, false, inl, inr}
+use Rattle.venue_laws.proofs.Common.{length, refl, subst, suc, sym, take, true, zero, ◌++◌, ◌+◌}
+use Rattle.venue_laws.proofs.Common.{◌∙◌, ◌∷◌, ◌≡◌, ◌≤◌, ◌⊎◌, cases_Bool, append-nil, length-append}
+use Rattle.venue_laws.proofs.Common.{filter_map-append, Duty, Actor, Effect, AuditTrail, duty_of}
+use Rattle.venue_laws.proofs.Common.{is_same_actor, pending, nothing_of}
+use Rattle.std.proofs.lemmas.List.{take-append-le}
 use Rattle.day_parts.specs.DayParts.{caused_by, left_by}
-use Rattle.venue_places.specs.declared.actors.Actor.{Actor}
-use Rattle.step_replay.specs.Actions.{Effect}
-use Rattle.step_replay.specs.AuditTrail.{AuditTrail, duty_of, is_same_actor, pending}
-use Rattle.step_replay.specs.PlaceLemmas.{everything_of, nothing_of}
+use Rattle.step_replay.specs.PlaceLemmas.{everything_of}
 use Rattle.step_replay.specs.QueueLemmas.{one_actor, same_actor, same_either, turn_counted}
 use Rattle.venue_laws.proofs.VenueParts.{did_in, duties_by}
 

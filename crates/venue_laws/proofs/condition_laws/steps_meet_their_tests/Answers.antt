@@ -1,4 +1,4 @@
-use Rattle.step_replay.specs.AuditTrail.{audit_trail}
+use Rattle.venue_laws.proofs.Common.{audit_trail}
 use Rattle.venue_laws.proofs.ConditionMet.{message_met, met}
 use Rattle.venue_laws.proofs.VenueDay.{venue_ok}
 use Rattle.venue_laws.proofs.VenueDesk.{WordsOfDay}

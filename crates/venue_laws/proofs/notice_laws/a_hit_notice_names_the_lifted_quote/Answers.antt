@@ -1,9 +1,5 @@
+use Rattle.venue_laws.proofs.Common.{Told, audit_trail, AtDesk, of_dealer, each_of}
 use Rattle.market_terms.specs.declared.closes.Close.TheVariants as closes
-use Rattle.dealer_desk.specs.DealerFacts.{Told}
-use Rattle.step_replay.specs.AuditTrail.{audit_trail}
-use Rattle.step_replay.specs.DealerTrail.{AtDesk}
-use Rattle.step_replay.specs.VenueFacts.{of_dealer}
-use Rattle.step_replay.specs.EachLemmas.{each_of}
 use Rattle.venue_laws.proofs.VenueDay.{venue_ok}
 use Rattle.venue_laws.proofs.VenueParts.{NamesLifted}
 use Rattle.venue_laws.proofs.notice_laws.a_hit_notice_names_the_lifted_quote.Goals as goal

@@ -1,4 +1,4 @@
-use Rattle.step_replay.specs.AuditTrail.{audit_trail}
+use Rattle.venue_laws.proofs.Common.{audit_trail}
 use Rattle.venue_laws.proofs.ToldLemmas.{is_told_once}
 use Rattle.venue_laws.proofs.VenueDay.{venue_ok}
 use Rattle.venue_laws.proofs.notice_laws.each_named_dealer_is_told_once.Goals as goal

@@ -1,8 +1,6 @@
-use Rattle.std.proofs.Common.{ap, eq-eqb, refl, ◌∙◌, ◌∷◌}
-use Rattle.std.proofs.lemmas.List.Elements.{filter_map-append}
-use Rattle.dealer_desk.specs.DealerFacts.{Told, request_numbered}
-use Rattle.step_replay.specs.DealerTrail.{AtDesk, fact_in, facts_of}
-use Rattle.step_replay.specs.EachLemmas.{each_of}
+use Rattle.venue_laws.proofs.Common.{ap, eq-eqb, refl, ◌∙◌, ◌∷◌, filter_map-append, Told}
+use Rattle.venue_laws.proofs.Common.{request_numbered, AtDesk, facts_of, each_of}
+use Rattle.step_replay.specs.DealerTrail.{fact_in}
 use Rattle.venue_laws.proofs.NoticeLemmas.{IsAfterShown, are_noticed}
 use Rattle.venue_laws.proofs.notice_laws.notices_come_once_after_their_requests.Goals as goal
 

@@ -1,4 +1,4 @@
-use Rattle.step_replay.specs.EachLemmas.{each_of}
+use Rattle.venue_laws.proofs.Common.{each_of}
 use Rattle.venue_laws.proofs.AnswerLemmas.{IsAnswered, are_answered}
 use Rattle.venue_laws.proofs.notice_laws.words_are_settled_as_the_view_says.Goals as goal
 

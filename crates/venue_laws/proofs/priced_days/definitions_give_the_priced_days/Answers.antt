@@ -1,13 +1,14 @@
 -- Both days are computed.
+use Rattle.venue_laws.proofs.Common.{List, [], ◌∷◌, ◌++◌, ◌≡◌, ◌⊎◌, ℕ, codes, drop, inl, inr, refl}
+use Rattle.venue_laws.proofs.Common.{take, AllZip, Field, ArePricesOf, IsPricedByAnother}
+use Rattle.venue_laws.proofs.Common.{bond_meant, venue}
 use Prim.Native.String.{String}
-use Rattle.std.proofs.Common.{List, [], ◌∷◌, ◌++◌, ◌≡◌, ◌⊎◌, ℕ, codes, drop, inl, inr, refl, take}
-use Rattle.std.specs.List.{AllZip}
-use Rattle.fix_fields.specs.Frame.{Field, fields_of}
+use Rattle.fix_fields.specs.Frame.{fields_of}
 use Rattle.step_replay.specs.declared.steps.Step.TheVariants as step
-use Rattle.venue_laws.specs.PriceAlike.{ArePricesOf, DiffersInPrices, IsPricedByAnother, bond_meant}
+use Rattle.venue_laws.specs.PriceAlike.{DiffersInPrices}
 use Rattle.venue_laws.specs.PricedDays.{cheap, day_with, dear}
 use Rattle.venue_laws.specs.WorkedParts.{message, moment, with_soh}
-use Rattle.venue_laws.specs.WorkedVenue.{dlr2, venue}
+use Rattle.venue_laws.specs.WorkedVenue.{dlr2}
 use Rattle.venue_laws.proofs.ComputedDays.{computed}
 use Rattle.venue_laws.proofs.priced_days.definitions_give_the_priced_days.Goals as goal
 

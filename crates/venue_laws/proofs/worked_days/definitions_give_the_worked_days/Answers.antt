@@ -1,5 +1,5 @@
 -- Each day is computed.
-use Rattle.std.proofs.Common.{refl}
+use Rattle.venue_laws.proofs.Common.{refl}
 use Rattle.venue_laws.proofs.ComputedDays.{computed}
 use Rattle.venue_laws.proofs.worked_days.definitions_give_the_worked_days.Goals as goal
 
