@@ -176,8 +176,8 @@ pub record AnswersAgree (config : Configuration) (day : RecordedDay) : Type 0 wh
 -- swept as the clock was told; each dealer was shown once the request of each room that names it,
 -- as it was asked, and nothing else; the quotes that took effect in each room came to its investor,
 -- each dealer's in order and as they were posted, and no others; so did, in order, the replies to
--- its hits and passes; all settlements of one word agree; and each event is that of an action at
--- its desk or in its room.
+-- its hits and passes, and that it expired, where it did; all settlements of one word agree; and
+-- each event is that of an action at its desk or in its room.
 pub record KeepsDay (config : Configuration) (inboxes : List (List Inbound)) (sweeps : List Sweep)
     (day : RecordedDay) : Type 0 where
   pub dealers_are : length day.dealers ≡ length config.dealers

@@ -32,7 +32,7 @@ pub enum DayFault {
     /// dealer's in order and as they were posted.
     Relayed(RoomRef),
     /// The replies to the hits and passes in this room are not those that its investor was
-    /// answered, in their order.
+    /// answered, in their order, or it was not told once that the request expired, where it did.
     Answered(RoomRef),
 }
 
