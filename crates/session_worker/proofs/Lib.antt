@@ -9,6 +9,7 @@ pub mod DealerAnswers
 pub mod DealerLockLemmas
 pub mod FaultLemmas
 pub mod InboxLemmas
+pub mod JoinedLemmas
 pub mod KeepLemmas
 pub mod LeftLemmas
 pub mod LockLemmas
