@@ -63,6 +63,8 @@ in_time() {
         cut=yes
         kill -KILL "-$child" 2>/dev/null # who is left of its processes
         echo "not done in $seconds s" >>"$work/told"
+    elif [ "$status" != 0 ]; then
+        echo "ended with status $status" >>"$work/told" # over 128: by a signal
     fi
     child=
     return "$status"
