@@ -50,19 +50,12 @@ count() {
     failed=$((failed + $2))
 }
 
-# Root has a form in namespaces of its own, where they can be had: when it ends all ends that it started, and what
-# it mounted is gone.
-apart="unshare --pid --mount-proc --fork --kill-child"
-$apart true 2>"$work/why" || apart=
-
 # in_time SECONDS COMMAND ..: so that a signal to this script ends the command too. cut says whether its time is over.
 in_time() {
     seconds=$1 status=0 cut=
     shift
     since=$(date +%s)
-    # The shell waits for what the command does at SIGTERM.
-    # shellcheck disable=SC2086,SC2016 # the words of $apart; what the inner shell reads
-    timeout -k 60 "$seconds" $apart sh -c 'trap : TERM; "$@"; exit "$?"' form "$@" >"$work/told" 2>&1 &
+    timeout -k 60 "$seconds" "$@" >"$work/told" 2>&1 &
     child=$!
     wait "$child" || status=$?
     # By SIGTERM, or by SIGKILL where that did not end it.
@@ -70,6 +63,8 @@ in_time() {
         cut=yes
         kill -KILL "-$child" 2>/dev/null # who is left of its processes
         echo "not done in $seconds s" >>"$work/told"
+    elif [ "$status" != 0 ]; then
+        echo "ended with status $status" >>"$work/told" # over 128: by a signal
     fi
     child=
     return "$status"
@@ -174,7 +169,7 @@ try_refused_memory() {
 
 # Hosts are network namespaces, whose disks are files.
 try_replicas() {
-    if [ "$(id -u)" != 0 ] || ! unshare --net true 2>"$work/why" || ! losetup -f >"$work/why" 2>&1; then
+    if [ "$(id -u)" != 0 ] || ! unshare --net --mount-proc --pid --fork true 2>"$work/why" || ! losetup -f >"$work/why" 2>&1; then
         echo "replicas: not run: namespaces and file systems are made by root alone, and not in each container"
         return
     fi
