@@ -121,7 +121,8 @@ pub run_answered : (form : LineForm) (argument : List ℕ) (run : LiveRun) (know
 run_answered form argument run None left out err first answers = (inl refl, tt)
 run_answered form argument run (Some all) left out err first answers =
     let start : Start = record { out = out.before; err = err.before } in
-    (inl refl, inl (refl, answers form [] start (first start)))
+    let ends = answers form [] start (first start) in
+    (inl refl, inl (refl, ends.0, ends.1))
 
 pub run_failed : (form : LineForm) (argument : List ℕ) (run : LiveRun) (known left o o' e e' e'' : Option (List ℕ)) (fault : ProgramFault) (status : ℕ)
     → StandsFirst form run
