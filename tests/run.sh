@@ -9,8 +9,9 @@
 # Each short form tells that it begins, and what it installs, and prints a line of its own with its seed
 # and its time; one that fails is counted, its last lines are printed, and the others go on. Its limit of
 # time is many times what it takes, also on two processors that have other work: one that is not done by
-# then hangs, and has failed. What a machine can't do (a package that can't be had, no root) is told as not
-# run, and counts neither as passed nor as failed.
+# then hangs, has failed, and ends with all that it started. What a machine can't do (a package that can't be
+# had, no root) is told as not run, and counts neither as passed nor as failed. The day of a gateway ends at
+# midnight in UTC: what would come too near to it waits for the next day, on top of its limit of time.
 #
 # SEED is the seed of all (1), JOBS how many processors they take (all). GATEWAY has a gateway that is
 # built already. MINUTES is the time for everything (no limit): a form that can't be done in what is left
@@ -23,15 +24,17 @@ jobs=${JOBS:-$(nproc)}
 start=$(date +%s)
 most=$((${MINUTES:-1440} * 60))
 least=300 # seconds: no form is begun with less
+in_day=1500 # seconds: so near to midnight in UTC a test waits for it at most, by gateway/midnight.py
 program=$root/crates/rfq_venue/out/rfq_venue
 gateway=${GATEWAY:-}
 work=$(mktemp -d) || exit 2
+images=
 child=
 passed=0
 failed=0
 end() {
     [ -z "$child" ] || kill "$child" 2>/dev/null
-    rm -rf "$work"
+    rm -rf "$work" ${images:+"$images"}
 }
 trap end EXIT
 trap 'exit 143' HUP INT TERM
@@ -47,14 +50,23 @@ count() {
     failed=$((failed + $2))
 }
 
-# in_time SECONDS COMMAND ..: so that a signal to this script ends the command too.
+# in_time SECONDS COMMAND ..: so that a signal to this script ends the command too. cut says whether its time is over.
 in_time() {
-    timeout -k 30 "$@" >"$work/told" 2>&1 &
+    seconds=$1 status=0 cut=
+    shift
+    since=$(date +%s)
+    timeout -k 60 "$seconds" "$@" >"$work/told" 2>&1 &
     child=$!
-    status=0
     wait "$child" || status=$?
+    # By SIGTERM, or by SIGKILL where that did not end it.
+    if [ "$status" = 124 ] || [ "$status" = 137 ] && [ $(($(date +%s) - since)) -ge "$seconds" ]; then
+        cut=yes
+        kill -KILL "-$child" 2>/dev/null # who is left of its processes
+        echo "not done in $seconds s" >>"$work/told"
+    elif [ "$status" != 0 ]; then
+        echo "ended with status $status" >>"$work/told" # over 128: by a signal
+    fi
     child=
-    [ "$status" != 124 ] || echo "not done in $1 s" >>"$work/told"
     return "$status"
 }
 
@@ -95,7 +107,7 @@ form() {
     good=
     ! in_time "$limit" "$@" || good=$(sed -n "$tried" "$work/told" | tail -n 1)
     took=$(($(date +%s) - began))
-    if [ "$status" = 124 ] && [ "$limit" = "$left" ]; then
+    if [ -n "$cut" ] && [ "$limit" = "$left" ]; then
         echo "$name: not run to its end: $left s were left"
         return
     fi
@@ -111,6 +123,23 @@ form() {
     count "${good:-0}" "${bad:-1}"
 }
 
+# day_form NAME SECONDS ..: a form whose tests play days, each within one of UTC. What they wait for the next one is not
+# of its time.
+day_form() {
+    name=$1 limit=$2
+    shift 2
+    left=$(what_is_left)
+    midnight=$((86400 - $(date +%s) % 86400))
+    if [ "$midnight" -lt "$in_day" ]; then
+        if [ $((left - midnight)) -lt "$least" ]; then
+            echo "$name: not run: $left s are left, and it might wait $midnight s for midnight in UTC"
+            return
+        fi
+        echo "$name: may wait $midnight s for midnight in UTC" >&2
+    fi
+    form "$name" $((limit + in_day)) "$@"
+}
+
 gate() {
     rt ci | tee "$work/gate"
     told=$(sed -n 's/^\([0-9]*\) passed, \([0-9]*\) failed$/\1 \2/p' "$work/gate" | tail -n 1)
@@ -123,9 +152,9 @@ build_gateway() {
     [ -z "$gateway" ] || return
     gateway=$root/gateway/out/mireseason-gateway
     # shellcheck disable=SC2016 # of the inner shell
-    form build 7200 "$(gateway/packages.sh)" 's/^100% tests passed, 0 tests failed out of \([0-9]*\)$/\1/p' \
+    day_form build 7200 "$(gateway/packages.sh)" 's/^100% tests passed, 0 tests failed out of \([0-9]*\)$/\1/p' \
         sh -c 'cmake -S gateway -B gateway/out && cmake --build gateway/out -j "$1" &&
-            ctest --test-dir gateway/out --output-on-failure' build "$jobs"
+            python3 tests/gateway/midnight.py && ctest --test-dir gateway/out --output-on-failure' build "$jobs"
 }
 
 # It runs tests of crates, too, as the gate has built them.
@@ -140,15 +169,19 @@ try_refused_memory() {
 
 # Hosts are network namespaces, whose disks are files.
 try_replicas() {
-    if [ "$(id -u)" != 0 ] || ! unshare --net true 2>"$work/why" || ! losetup -f >"$work/why" 2>&1; then
+    if [ "$(id -u)" != 0 ] || ! unshare --net --mount-proc --pid --fork true 2>"$work/why" || ! losetup -f >"$work/why" 2>&1; then
         echo "replicas: not run: namespaces and file systems are made by root alone, and not in each container"
         return
     fi
-    images=/dev/shm/mireseason
-    [ "$(df --output=avail -k /dev/shm 2>/dev/null | tail -n 1)" -gt 1500000 ] || images=$work/images
-    form replicas 3600 "$(gateway/packages.sh) postgresql patroni etcd-server etcd-client iproute2" \
+    if [ "$(df --output=avail -k /dev/shm 2>/dev/null | tail -n 1)" -gt 1500000 ]; then
+        images=$(mktemp -d /dev/shm/mireseason.XXXXXX)
+    else
+        images=$work/images
+    fi
+    day_form replicas 3600 "$(gateway/packages.sh) postgresql patroni etcd-server etcd-client iproute2" \
         's/^\([0-9]*\) passed, 0 failed$/\1/p' env VENUE="$program" GATEWAY="$gateway" \
         tests/replicas/run.sh short --messages 200 --faults 4 --seed "$seed" --images "$images"
+    rm -rf "$images"
 }
 
 beside() {
@@ -162,6 +195,8 @@ beside() {
         python3 tests/pages.py --venue "$program"
     form page_checks 1800 python3 's/^Ran \([0-9]*\) tests in .*/\1/p' \
         env PYTHONPATH=tests python3 -m unittest page_checks.test_checks
+    form midnight 1800 python3 's/^Ran \([0-9]*\) tests in .*/\1/p' \
+        env PYTHONPATH=tests/gateway python3 -m unittest test_midnight
     form engines 1800 "g++ libquickfix-dev" '$s/.*/1/p' tests/engines/run.sh "$program"
     form model 1800 python3 's/^\([0-9]*\) inputs, .*: no difference$/\1/p' \
         python3 tests/model/compare.py "$program" 1000 "$seed" "$jobs"
@@ -179,11 +214,11 @@ beside() {
         python3 tests/hostile/full_day.py run "$program" 3
     try_refused_memory
     build_gateway
-    form gateway 5400 "$(gateway/packages.sh) openssl postgresql" 's/^\([0-9]*\) passed, 0 failed$/\1/p' \
+    day_form gateway 5400 "$(gateway/packages.sh) openssl postgresql" 's/^\([0-9]*\) passed, 0 failed$/\1/p' \
         env VENUE="$program" GATEWAY="$gateway" SEED="$seed" tests/gateway/run.sh short
     [ "$(what_is_left)" -lt "$least" ] || tests/packages.sh chromium 2>"$work/packages" ||
         echo "audit: without a browser: chromium can't be installed"
-    form audit 5400 "python3 python3-jinja2 python3-psycopg2 openssl sqlite3 postgresql" \
+    day_form audit 5400 "python3 python3-jinja2 python3-psycopg2 openssl sqlite3 postgresql" \
         's/^Ran \([0-9]*\) tests* in .*/\1/p' \
         env VENUE="$program" GATEWAY="$gateway" SEED="$seed" tests/audit/run.sh short
     try_replicas

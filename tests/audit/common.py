@@ -22,6 +22,7 @@ DAY = STORED / "day.db"
 SQLITE = "file:%s?mode=ro"
 
 sys.path.insert(0, str(ROOT / "audit"))
+sys.path.append(str(ROOT / "tests" / "gateway"))  # behind this folder: both have a `ledger`
 
 
 def venue_words() -> list[str]:

@@ -33,6 +33,7 @@ fi
 REMEMBERED=$(mktemp -d)
 export REMEMBERED
 trap 'rm -rf "$REMEMBERED"' EXIT
+trap 'exit 143' HUP INT TERM
 cd "$here"
 
 /usr/bin/python3 -m unittest discover -v -p "test_*.py" 2>&1 | tee "$REMEMBERED/told"

@@ -9,6 +9,7 @@ import unittest
 from pathlib import Path
 
 from common import ROOT, audit, folder, venue_words
+from midnight import wait_for_room
 from pages import read_page, rows_of, table_behind
 
 GATEWAY = Path(os.environ.get("GATEWAY", ROOT / "gateway" / "out" / "mireseason-gateway"))
@@ -17,6 +18,7 @@ GATEWAY = Path(os.environ.get("GATEWAY", ROOT / "gateway" / "out" / "mireseason-
 @unittest.skipUnless(GATEWAY.exists(), "the gateway is not built")
 class Example(unittest.TestCase):
     def test_a_day_of_the_gateway(self) -> None:
+        wait_for_room("the gateway's example")
         with folder() as name:
             own = {"VENUE": shlex.join(venue_words()), "GATEWAY": str(GATEWAY)}
             script = ROOT / "examples" / "gateway" / "run.sh"

@@ -2,6 +2,7 @@
 
 import os
 import shutil
+import signal
 import sqlite3
 import subprocess
 import unittest
@@ -11,16 +12,19 @@ from typing import Any
 
 import psycopg2
 from common import DAY, ROOT, Folder, audit, folder
+from wait import LONG, until
 
 SERVERS = sorted(Path("/usr/lib/postgresql").glob("*/bin/initdb"))
 SCHEMA = "day_20261125"
 TABLES = ("entry", "sent", "outgoing", "session")
+# A server ends with the test that started it, however that ends.
+AS_USER = "setpriv --reuid=postgres --regid=postgres --clear-groups --pdeathsig=QUIT --".split()
 
 
 def as_user(*words: object) -> list[str]:
     """A server does not run as root, and nobody else may become another."""
     listed = [str(word) for word in words]
-    return ["runuser", "-u", "postgres", "--", *listed] if is_root() else listed
+    return [*AS_USER, *listed] if is_root() else listed
 
 
 def is_root() -> bool:
@@ -31,29 +35,27 @@ def is_root() -> bool:
 class Postgres(unittest.TestCase):
     kept: Folder
     place: Path
-    bin: Path
-    stop: list[str]
     connection: str
 
     @classmethod
     def setUpClass(cls) -> None:
         cls.kept = folder()
+        cls.addClassCleanup(cls.kept.cleanup)
         cls.place = Path(cls.kept.name)
         if is_root():
             shutil.chown(cls.place, "postgres")
-        cls.bin, data = SERVERS[-1].parent, cls.place / "data"
-        run(as_user(cls.bin / "initdb", "-D", data, "-A", "trust", "-U", "postgres", "--no-sync"))
-        words = "-k %s -c listen_addresses= -c fsync=off" % cls.place
-        cls.stop = as_user(cls.bin / "pg_ctl", "-D", data, "-m", "immediate", "stop")
-        start = ["-l", cls.place / "log", "-o", words, "-w", "start"]
-        run(as_user(cls.bin / "pg_ctl", "-D", data, *start))
+        programs, data = SERVERS[-1].parent, cls.place / "data"
+        words = ["-D", data, "-A", "trust", "-U", "postgres", "--no-sync"]
+        run(as_user(programs / "initdb", *words))
+        words = ["-D", data, "-k", cls.place, "-c", "listen_addresses=", "-c", "fsync=off"]
+        with open(cls.place / "log", "wb") as log:
+            server = subprocess.Popen(
+                as_user(programs / "postgres", *words), stdout=log, stderr=log, cwd="/"
+            )
+        cls.addClassCleanup(end, server)
         cls.connection = "host=%s user=postgres dbname=postgres" % cls.place
+        until("PostgreSQL answers", LONG, lambda: has_ended(server) or answers(cls.connection))
         fill(cls.connection)
-
-    @classmethod
-    def tearDownClass(cls) -> None:
-        run(cls.stop)
-        cls.kept.cleanup()
 
     def check(self) -> tuple[int, str]:
         ran = audit("check", "postgres:" + self.connection, "--schema", SCHEMA)
@@ -90,6 +92,23 @@ class Postgres(unittest.TestCase):
 
 def run(words: list[str]) -> None:
     subprocess.run(words, check=True, stdout=subprocess.DEVNULL, cwd="/")
+
+
+def has_ended(server: "subprocess.Popen[bytes]") -> bool:
+    return server.poll() is not None
+
+
+def end(server: "subprocess.Popen[bytes]") -> None:
+    server.send_signal(signal.SIGQUIT)  # at once, and without a word to its clients
+    server.wait(LONG)
+
+
+def answers(connection: str) -> bool:
+    try:
+        execute(connection, "SELECT 1")
+    except psycopg2.OperationalError:
+        return False
+    return True
 
 
 def execute(connection: str, query: str, rows: list[Any] | None = None) -> None:

@@ -8,6 +8,8 @@ import tempfile
 from collections.abc import Callable
 from pathlib import Path
 
+from midnight import TEST, wait_for_room
+
 TOLD_FAULTS = 20  # of a day
 
 # By the words, in a folder of the day's own, of this seed: what is wrong in the end.
@@ -26,10 +28,11 @@ def parser_of(damages: str, usual: int) -> argparse.ArgumentParser:
     return parser
 
 
-def play_all(words: argparse.Namespace, one_day: OneDay) -> int:
-    """Plays each day, and tells what is wrong and how many passed; the status."""
+def play_all(words: argparse.Namespace, one_day: OneDay, needs: float = TEST) -> int:
+    """Plays each day, which takes so many seconds at most, and tells what is wrong and how many passed; the status."""
     failed = 0
     for seed in range(words.seed, words.seed + words.days):
+        wait_for_room("day %d" % seed, needs)
         with tempfile.TemporaryDirectory(prefix="mrt") as name:
             folder = Path(name)
             folder.chmod(0o755)  # a database reads there as another user

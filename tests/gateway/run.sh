@@ -31,6 +31,7 @@ if ! command -v "$program" >/dev/null; then
 fi
 work=$(mktemp -d)
 trap 'rm -rf "$work"' EXIT
+trap 'exit 143' HUP INT TERM
 gateway=${GATEWAY:-}
 if [ -z "$gateway" ]; then
     cmake -S "$root/gateway" -B "$root/gateway/out" >"$work/built" 2>&1 &&

@@ -46,6 +46,7 @@ built() {
         { tail -n 50 "$work/built"; return 1; }
 }
 own_tests() {
+    python3 "$here/midnight.py"
     (cd "$root/gateway" && ctest --preset "$1") >"$work/own" 2>&1 || tail -n 50 "$work/own"
     sed -n 's/^[0-9]*% tests passed, \([0-9]*\) tests failed out of \([0-9]*\)$/\2 \1/p' "$work/own" |
         awk '{ print $1 - $2 " passed, " $2 " failed" } END { if (NR == 0) print "0 passed, 1 failed" }'

@@ -28,6 +28,7 @@ import tried_log
 import tried_logon
 import tried_messages
 from door import programs_of
+from midnight import wait_for_room
 from stage import Stage, Tools, Wrong
 from wait import TooLong
 
@@ -48,7 +49,8 @@ def outcome(test: Callable[[Stage], None], stage: Stage) -> str | None:
 
 
 def tried(test: Callable[[Stage], None], tools: Tools, keep: Path | None) -> bool:
-    """Does one test in a folder of its own; whether all was as it has to be."""
+    """Does one test in a folder of its own and within one day; whether all was as it has to be."""
+    wait_for_room(test.__name__)
     began = time.monotonic()
     with tempfile.TemporaryDirectory() as name:
         fault = outcome(test, Stage(tools, Path(name)))

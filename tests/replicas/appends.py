@@ -59,7 +59,7 @@ def main() -> None:
         folder = Path(name)
         folder.chmod(0o755)
         machine = Machine(folder, words.images / folder.name, words.out, site_here(()),
-                          "mrt%d" % os.getpid())
+                          folder.name)
         try:
             machine.bring_up_databases()
             failed = tried(machine, words.out, words.seconds)

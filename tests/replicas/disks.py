@@ -9,6 +9,7 @@ emptied is empty.
 
 import argparse
 import os
+import signal
 import sys
 import tempfile
 from pathlib import Path
@@ -76,6 +77,8 @@ def main() -> int:
     parser = argparse.ArgumentParser()
     parser.add_argument("--images", type=Path, help="where the disk's image is")
     words = parser.parse_args()
+    # The disk is taken away also where it is interrupted.
+    signal.signal(signal.SIGTERM, lambda *_: sys.exit(143))
     failed = 0
     tries = (synced_stays, unsynced_goes, full_takes_no_more, emptied_stays_empty)
     with tempfile.TemporaryDirectory(dir=words.images) as folder:

@@ -29,6 +29,7 @@ from damage import Course, Damage, Damages
 from door import today
 from figures import Figures
 from held import count_of
+from midnight import TEST
 from parts.gateway import PORT
 from parts.machine import FIRMS, GATEWAYS, Machine, site_here
 from parts.run import Fault, whole_paths
@@ -46,6 +47,7 @@ USUAL_PACE = 0.1  # seconds that a message waits for an answer
 PACE = 0.4  # the same while something is damaged
 STILL = 2.0  # seconds without an entry at the end of a day: longer than the shortest deadline
 LOOKS = 30  # how often the end of a day is looked at until no deadline comes in between
+FAULT = 60.0  # seconds of its day that a fault has, at most: four times what it takes
 
 # Both addresses, and a heartbeat that finds a gateway that is gone before its cut is mended.
 SETTINGS = {"SocketConnectHost": GATEWAYS[0].address, "SocketConnectPort": str(PORT),
@@ -59,7 +61,7 @@ class Day:
         self.names = (ALONE,) if words.venues == 1 else NAMES[:words.venues]
         site = site_here(tuple(self.venue), self.names, synchronous_of(words.wrong))
         self.machine = Machine(folder, words.images / folder.name, words.gateway.resolve(), site,
-                               "mrt%d" % os.getpid())
+                               folder.name)
         inside = tuple(self.machine.network.words(FIRMS.name))
         stage = Stage(folder, words.player.resolve(), PORT, SETTINGS, inside)
         self.sides = [self.side(stage, name, seed + 1000 * at)
@@ -240,4 +242,5 @@ def read_words() -> argparse.Namespace:
 if __name__ == "__main__":
     # Hosts are taken away also where it is interrupted.
     signal.signal(signal.SIGTERM, lambda *_: sys.exit(143))
-    sys.exit(play_all(read_words(), one_day))
+    words = read_words()
+    sys.exit(play_all(words, one_day, TEST + FAULT * words.faults))

@@ -15,6 +15,13 @@
 # venues behind one gateway, and one day of nine faults. The last line counts all: `N passed, M
 # failed`.
 set -eu
+# In namespaces of processes and of mounts of its own: however this ends, so does all that it started,
+# and what it mounted is gone, its hosts' network namespaces too. And nobody else has a disk of its
+# hosts mounted, which then would not lose its power.
+[ -n "${IN_NAMESPACES:-}" ] ||
+    IN_NAMESPACES=yes exec unshare --pid --mount-proc --fork --kill-child "$0" "$@"
+mkdir -p /run/netns
+mount -t tmpfs tmpfs /run/netns
 here=$(cd "$(dirname "$0")" && pwd)
 root=$(cd "$here/../.." && pwd)
 venue=${VENUE:-$root/crates/rfq_venue/out/rfq_venue}

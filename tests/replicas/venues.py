@@ -9,6 +9,7 @@ other's; a Logon that names no venue, or one that is not there, is refused.
 """
 
 import argparse
+import signal
 import socket
 import subprocess
 import sys
@@ -23,6 +24,7 @@ import reach
 from door import Port
 from firm import Firm
 from ledger import Ledger, read_ledger
+from midnight import wait_for_room
 from parts.run import whole_paths
 from parts.site import file_of, venues_text
 from played import TOLD_FAULTS
@@ -146,6 +148,9 @@ def main() -> None:
     parser.add_argument("--messages", type=int, default=300)
     parser.add_argument("venue", nargs="+")
     words = parser.parse_args()
+    # The gateway is ended also where it is interrupted.
+    signal.signal(signal.SIGTERM, lambda *_: sys.exit(143))
+    wait_for_room("the day of two venues")
     with tempfile.TemporaryDirectory() as name:
         both = TwoVenues(words, Path(name))
         try:

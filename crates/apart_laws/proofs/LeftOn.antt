@@ -22,18 +22,19 @@ use Rattle.venue_steps.specs.RoomSteps.{dealers_of}
 use Rattle.venue_places.specs.declared.actors.Actor.{Actor}
 use Rattle.venue_places.specs.declared.actors.Actor.TheVariants as actor
 use Rattle.step_replay.specs.Actions.{dealer_of, verdict_on}
-use Rattle.step_replay.specs.DealerTrail.{book_by, rooms_by}
+use Rattle.step_replay.specs.DealerTrail.{facts_of, rooms_by}
 use Rattle.step_replay.specs.DutyEffects.{duty_effect, message_effect, sweep_effect}
 use Rattle.step_replay.specs.EachLemmas.{Every, every_weaker}
 use Rattle.step_replay.specs.InvestorTrail as investor_trail
 use Rattle.step_replay.specs.VenueFacts.{Fact, of_dealer, of_investor, of_room}
+use Rattle.day_parts.specs.AcceptedQuotes.{AcceptOk, verdict_accepts}
 use Rattle.day_parts.specs.KeptItems.{every_all, every_met}
 use Rattle.day_parts.specs.LeftDuties.{Leaves, duty_leaves, message_leaves, sweep_leaves}
 use Rattle.day_parts.specs.MayLeave.{AreTold, InRooms, MayLeave, MaySay}
 use Rattle.apart_laws.specs.Apart.{are_parted, asks_across}
 use Rattle.apart_laws.proofs.ThereFacts.{AskedOn, FactsOn, HappenedOn, IsOn, OwnerOn, RoomWith}
 use Rattle.apart_laws.proofs.ThereFacts.{asked_on, room_on, rooms_on}
-use Rattle.apart_laws.proofs.Verdicts.{AcceptsOfDay, AsksFew, owner_is, verdict_few, verdict_of_day}
+use Rattle.apart_laws.proofs.Verdicts.{AsksFew, owner_is, verdict_few}
 
 -- who is not parted is on one side
 one_side : (own other : Bool) → are_parted own other ≡ false → other ≡ own
@@ -122,13 +123,13 @@ module _ (side : ℕ → Bool) (config : Configuration) (own : Bool) (facts : Li
     Unless more = asks_across side more ≡ false → On (actor.Firm firm) more
 
     dealer_may : (row : DealerRow) → dealer_numbered config firm ≡ Some row → (v : DealerVerdict)
-        → AcceptsOfDay row v → MaySay Unless config facts firm moment v
+        → AcceptOk row v → MaySay Unless config facts firm moment v
     dealer_may row is (verdict.QuoteAccepted request id quote replaced) within =
         in_rooms Unless firm here (post_of quote) (λ room there none. record {
           desk_on = tt;
           room_on = there;
           named_on = subst (OwnerOn side own)
-              (sym (owner_is config firm row quote.number is within)) here;
+              (sym (owner_is config firm row quote.number is within.1)) here;
         })
     dealer_may row is (verdict.CancelAccepted id quote request) within =
         in_rooms Unless firm here (λ room. duty.Unpost room quote moment)
@@ -169,7 +170,7 @@ module _ (side : ℕ → Bool) (config : Configuration) (own : Bool) (facts : Li
           (message_leaves Unless config facts firm moment bytes
           (λ row found. dealer_may row found
           (verdict_on config facts moment bytes (dealer_of firm row))
-          (verdict_of_day row (book_by (of_dealer firm facts)) config.date moment bytes))
+          (verdict_accepts row (facts_of (of_dealer firm facts)) moment config.date bytes))
           (λ row isnt. let market = market_of config firm row in
           let book = investor_trail.book_by (of_investor firm facts) in
           asker_may row (investor_verdict market book moment bytes)

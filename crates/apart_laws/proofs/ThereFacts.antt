@@ -2,7 +2,7 @@
 -- names firms of that side alone.
 use Rattle.std.proofs.Common.{◌≡◌, ◌≤◌, ℕ, Bool, List, length, take, Option, Some, None, ◌==◌, true}
 use Rattle.std.proofs.Common.{false, [], ◌∷◌, filter, find, IfSome, is_none, refl, ap, ◌∙◌, subst}
-use Rattle.std.proofs.Common.{arith, if◌then◌else◌}
+use Rattle.std.proofs.Common.{arith}
 use Rattle.std.specs.List.{list_any}
 use Rattle.std.proofs.lemmas.Bool.{and_parts, both_ways, cond_both, eqb-true, false_from_ne_true}
 use Rattle.std.proofs.lemmas.Bool.Decides.{nat_tests}
@@ -10,7 +10,6 @@ use Rattle.market_terms.specs.declared.duties.Duty.{Duty}
 use Rattle.market_terms.specs.declared.duties.Duty.TheVariants as duty
 use Rattle.market_terms.specs.declared.rooms.RoomRef.{RoomRef}
 use Rattle.market_terms.specs.declared.rooms.TheConstants.AskedDealers.{MOST}
-use Rattle.market_terms.specs.Checks.{first_refusal}
 use Rattle.venue_rows.specs.Rows.{Configuration}
 use Rattle.dealer_desk.specs.DealerOutput.{is_same_room}
 use Rattle.request_room.specs.RoomFacts.{RoomFact, Opened, Posted, request_of}
@@ -29,6 +28,7 @@ use Rattle.step_replay.specs.VenueFacts.{Fact, AtDealer, InRoom, AtInvestor, of_
 use Rattle.step_replay.specs.VenueFacts.{of_investor, entry_at_dealer, fact_in_room}
 use Rattle.step_replay.specs.VenueFacts.{entry_at_investor}
 use Rattle.step_replay.specs.DealerTrail as dealer_trail
+use Rattle.day_parts.specs.AcceptedQuotes.{none_holds}
 use Rattle.day_parts.specs.DayParts.{part}
 use Rattle.day_parts.specs.KeptItems.{found_kept, every_found}
 use Rattle.apart_laws.specs.Apart.{acts_there}
@@ -106,20 +106,6 @@ abbrev pub FactsOn : (ℕ → Bool) → Configuration → List Fact → Type 0
 FactsOn side config facts = Every (FactOn side config) facts
 
 -- Tests.
-
--- checks of which none refuses: none of them holds
-pub none_holds : {A : Type 0} (checks : List (Bool × A)) → first_refusal checks ≡ None
-    → Every (λ (check : Bool × A). check.0 ≡ false) checks
-none_holds [] none = tt
-none_holds {A} (check ∷ checks) none =
-    by_test check.0 refl none (λ later. none_holds checks later)
-  where
-    by_test : (b : Bool) → check.0 ≡ b
-        → (if b then Some check.1 else first_refusal checks) ≡ None
-        → (first_refusal checks ≡ None → Every (λ (c : Bool × A). c.0 ≡ false) checks)
-        → (check.0 ≡ false) × Every (λ (c : Bool × A). c.0 ≡ false) checks
-    by_test true test found later = cc
-    by_test false test found later = (test, later found)
 
 -- what is found passes the test
 abbrev Passes : {X : Type 0} → (X → Type 0) → (X → Bool) → X → Type 0

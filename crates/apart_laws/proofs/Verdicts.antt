@@ -1,43 +1,23 @@
 -- What a verdict accepts: a quote is one of its dealer's day, so its word is the dealer's; and a
 -- request names few dealers.
 use Rattle.std.proofs.Common.{◌≡◌, ◌≤◌, ℕ, ◌+◌, true, false, ◌&&◌, nat_le, nat_lt, List, [], ◌∷◌}
-use Rattle.std.proofs.Common.{filter_map, length, take, Option, Some, None, is_none, refl, ap, ◌∙◌}
+use Rattle.std.proofs.Common.{filter_map, length, take, Option, Some, None, refl, ap, ◌∙◌}
 use Rattle.std.proofs.Common.{arith}
 use Rattle.std.specs.List.{cons_option}
 use Rattle.std.proofs.lemmas.Bool.Decides.{nat_tests}
-use Rattle.std.proofs.lemmas.Bool.{cond_both}
-use Rattle.market_terms.specs.Checks.{first_refusal}
 use Rattle.market_terms.specs.declared.rooms.TheConstants.AskedDealers.{MOST}
-use Rattle.quote_messages.specs.Arrivals.{dealer_arrival, investor_arrival}
+use Rattle.quote_messages.specs.Arrivals.{investor_arrival}
 use Rattle.quote_messages.specs.declared.arrivals.Arrival.{Arrival}
 use Rattle.quote_messages.specs.declared.arrivals.Arrival.TheVariants as arrival
-use Rattle.quote_messages.specs.declared.quotes.Quote.{Quote}
-use Rattle.quote_messages.specs.declared.quotes.CancelScope.{CancelScope}
-use Rattle.quote_messages.specs.declared.quotes.CancelScope.TheVariants as cancels
-use Rattle.quote_messages.specs.declared.quotes.DealerMessage.{DealerMessage}
-use Rattle.quote_messages.specs.declared.quotes.DealerMessage.TheVariants as message
 use Rattle.quote_messages.specs.declared.requests.QuoteHit.{QuoteHit}
 use Rattle.quote_messages.specs.declared.requests.QuoteRequest.{QuoteRequest}
 use Rattle.quote_messages.specs.declared.requests.RequestPass.{RequestPass}
 use Rattle.quote_messages.specs.declared.requests.InvestorMessage.{InvestorMessage}
 use Rattle.quote_messages.specs.declared.requests.InvestorMessage.TheVariants as asked
-use Rattle.quote_messages.specs.declared.reject_reasons.QuoteRejectReason.{QuoteRejectReason}
 use Rattle.quote_messages.specs.declared.reject_reasons.RequestRejectReason.{RequestRejectReason}
-use Rattle.quote_messages.specs.declared.out_messages.OutMessage.TheVariants as out
-use Rattle.quote_messages.specs.declared.out_messages.CancelStatus.TheVariants as status
 use Rattle.venue_rows.specs.Rows.{Configuration, dealer_numbered}
 use Rattle.venue_rows.specs.declared.bond_rows.BondRow.{BondRow}
 use Rattle.venue_rows.specs.declared.dealer_rows.DealerRow.{DealerRow}
-use Rattle.dealer_desk.specs.DealerFacts.{DealerBook, expected_number, request_named, quote_with_id}
-use Rattle.dealer_desk.specs.DealerFacts.{quote_to_drop, quotes_accepted}
-use Rattle.dealer_desk.specs.DealerRules.{quote_checks, quote_refusal, quote_answer, quote_verdict}
-use Rattle.dealer_desk.specs.DealerRules.{cancel_checks, cancel_answer, cancel_of, cancel_verdict}
-use Rattle.dealer_desk.specs.DealerRules.{decline_checks, decline_answer, decline_verdict}
-use Rattle.dealer_desk.specs.DealerRules.{message_verdict, arrival_verdict, dealer_verdict}
-use Rattle.dealer_desk.specs.declared.standing.StandingQuote.{StandingQuote}
-use Rattle.dealer_desk.specs.declared.standing.StandingRequest.{StandingRequest}
-use Rattle.dealer_desk.specs.declared.verdicts.DealerVerdict.{DealerVerdict}
-use Rattle.dealer_desk.specs.declared.verdicts.DealerVerdict.TheVariants as verdict
 use Rattle.investor_desk.specs.InvestorFacts as investor_facts
 use Rattle.investor_desk.specs.InvestorFacts.{InvestorBook, offer_named, request_with_id}
 use Rattle.investor_desk.specs.InvestorRules as investor_rules
@@ -51,84 +31,14 @@ use Rattle.investor_desk.specs.declared.verdicts.InvestorVerdict.TheVariants as 
 use Rattle.venue_steps.specs.Words.{word_of}
 use Rattle.step_replay.specs.Actions.{quote_with_word, quotes_of}
 use Rattle.step_replay.specs.OwnerLemmas.{owner_among, quote_at}
-use Rattle.apart_laws.proofs.ThereFacts.{none_holds}
+use Rattle.day_parts.specs.AcceptedQuotes.{none_holds}
 
--- A dealer's verdict.
-
--- whether a quote is one of the day's
-abbrev pub IsOfDay : DealerRow → ℕ → Type 0
-IsOfDay row quote = (nat_le 1 quote && nat_le quote row.quotes) ≡ true
-
--- an accepted quote is
-abbrev pub AcceptsOfDay : DealerRow → DealerVerdict → Type 0
-AcceptsOfDay row (verdict.QuoteAccepted request id quote replaced) = IsOfDay row quote.number
-AcceptsOfDay row other = Unit {0}
-
-next_of_day : (row : DealerRow) (accepted : ℕ) → nat_le row.quotes accepted ≡ false
-    → IsOfDay row (accepted + 1)
-next_of_day row accepted few = grind (arith, nat_tests)
-
-module _ (row : DealerRow) (book : DealerBook) where
-  quote_of_day : (moment : ℕ) (quote : Quote) (found : Option StandingRequest)
-      (refusal : Option QuoteRejectReason) → quote_refusal row book moment quote found ≡ refusal
-      → AcceptsOfDay row (quote_answer book moment quote found refusal)
-  unfolding quote_refusal
-  quote_of_day moment quote found (Some reason) is = tt
-  quote_of_day moment quote None None is = tt
-  quote_of_day moment quote (Some shown) None is =
-      next_of_day row (quotes_accepted book)
-      (none_holds (quote_checks row book moment quote (Some shown)) is).1.1.1.1.1.1.1.1.1.1.0
-
-  cancel_plain : (id : List ℕ) (own : StandingQuote) (refusal : Option QuoteRejectReason)
-      → AcceptsOfDay row (cancel_answer id own refusal)
-  cancel_plain id own (Some reason) = tt
-  cancel_plain id own None = tt
-
-  cancel_found : (id : List ℕ) (found : Option StandingQuote)
-      → AcceptsOfDay row (cancel_of id found)
-  cancel_found id None = tt
-  cancel_found id (Some own) = cancel_plain id own (first_refusal (cancel_checks own))
-
-  cancel_by : (scope : CancelScope) → AcceptsOfDay row (cancel_verdict book scope)
-  unfolding cancel_verdict
-  cancel_by (cancels.One id) = cancel_found id (quote_with_id book id)
-  cancel_by (cancels.All id) =
-      cond_both (is_none (quote_to_drop book (quotes_accepted book)))
-      (verdict.Refused (out.CancelReport id status.Unknown))
-      (verdict.DropsFollow (quotes_accepted book)) (AcceptsOfDay row) (λ is. tt) (λ isnt. tt)
-  cancel_by (cancels.Other cancel_type id) = tt
-
-  decline_plain : (name : List ℕ) (request : Option StandingRequest)
-      (refusal : Option QuoteRejectReason) → AcceptsOfDay row (decline_answer name request refusal)
-  decline_plain name request (Some reason) = tt
-  decline_plain name None None = tt
-  decline_plain name (Some request) None = tt
-
-  message_of_day : (moment : ℕ) (m : DealerMessage)
-      → AcceptsOfDay row (message_verdict row book moment m)
-  unfolding quote_verdict decline_verdict
-  message_of_day moment (message.Quote quote) =
-      quote_of_day moment quote (request_named book quote.request)
-      (quote_refusal row book moment quote (request_named book quote.request)) refl
-  message_of_day moment (message.Cancel cancel) = cancel_by cancel.scope
-  message_of_day moment (message.Decline decline) =
-      decline_plain decline.request (request_named book decline.request)
-      (first_refusal (decline_checks book (request_named book decline.request)))
-
-  arrival_of_day : (moment : ℕ) (came : Arrival DealerMessage)
-      → AcceptsOfDay row (arrival_verdict row book moment came)
-  arrival_of_day moment (arrival.Taken m) = message_of_day moment m
-  arrival_of_day moment other = tt
-
-  pub verdict_of_day : (date : List ℕ) (moment : ℕ) (bytes : List ℕ)
-      → AcceptsOfDay row (dealer_verdict date row book moment bytes)
-  unfolding dealer_verdict
-  verdict_of_day date moment bytes =
-      arrival_of_day moment (dealer_arrival date row (expected_number book) bytes)
+-- A dealer's word.
 
 -- the word of a quote of the day is its dealer's
 pub owner_is : (config : Configuration) (number : ℕ) (row : DealerRow) (quote : ℕ)
-    → dealer_numbered config number ≡ Some row → IsOfDay row quote
+    → dealer_numbered config number ≡ Some row
+    → (nat_le 1 quote && nat_le quote row.quotes) ≡ true
     → quote_with_word config (word_of (quotes_of (take number config.dealers)) quote)
     ≡ Some (quote_at number quote)
 owner_is config number row quote is within =

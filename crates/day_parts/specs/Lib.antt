@@ -1,3 +1,4 @@
+pub mod AcceptedQuotes
 pub mod ActionCases
 pub mod DayParts
 pub mod KeptItems

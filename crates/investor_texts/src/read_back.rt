@@ -17,8 +17,8 @@ use venue_rows::Name;
 /// lines stand before it. It does nothing.
 ///
 /// Due text can't say every value of the types: a message of no byte, a dealer that is named as the
-/// venue or its clock, and a number of more than nine digits. No day of a venue has such a message
-/// or such a dealer.
+/// venue or its clock, and a number of more than nine digits. No day that lines spell has such a
+/// message or such a dealer (`what_is_due_to_an_investor_can_be_said` of investor_due_laws).
 pub fn what_was_due_to_an_investor_is_read_back(date: &Date, dues: &[InvestorDue])
     ensures { list_all spec.is_sayable dues.now ≡ true → spec.AreReadBack date.now dues.now }
 {

@@ -65,7 +65,8 @@ take_end before after c out err is takes empty form read start stands =
       lines = stands.lines ++ before.line.items ∷ [];
       cut = subst (IsCut (read ++ 10 ∷ []) (stands.lines ++ before.line.items ∷ [])) (sym empty)
           (cut_end read stands.lines before.line.items stands.cut);
-      come = takes form stands.lines start stands.come;
+      come = takes form stands.lines start stands.come stands.short;
+      short = subst (λ (t : List ℕ). length t ≤ MOST_INPUT) (sym empty) (omega arith);
     })
 
 pub take_fails : (before : LiveRun) (c : ℕ) (fault : ProgramFault) (out err : Written) → c ≡ 10 → LineFails before fault out err

@@ -1,5 +1,6 @@
 -- A line of the configuration.
-use Rattle.std.proofs.Common.{◌≡◌, ℕ, true, List, [], ◌∷◌, ◌++◌, Ok, refl, sym, ap, subst, ◌∙◌}
+use Rattle.std.proofs.Common.{◌≡◌, ◌≤◌, ℕ, true, List, [], ◌∷◌, ◌++◌, length, Ok, refl, sym, ap}
+use Rattle.std.proofs.Common.{subst, ◌∙◌}
 use Rattle.venue_rows.specs.Rows.{Configuration, values_of}
 use Rattle.investor_texts.specs.SoughtDays as sought_days
 use Rattle.investor_texts.specs.SoughtDays.{OpensSought, Sought, sought_of}
@@ -7,6 +8,7 @@ use Rattle.venue_text.specs.LiveAnswers.{Goes, Opens}
 use Rattle.venue_text.specs.LiveInput.{configuration_in, taken_in}
 use Rattle.venue_text.specs.LiveLines.{Taken, nothing_taken}
 use Rattle.input_lines.specs.VenueParts.{is_divider, venue_of}
+use Rattle.input_lines.specs.declared.lines.TheConstants.{MOST_INPUT}
 use Rattle.investor_texts.specs.declared.sought_days.SoughtDay.{SoughtDay}
 use Rattle.venue_text.specs.declared.live_form.LiveForm.{LiveForm}
 use Rattle.venue_text.specs.declared.live_lines.LiveDay.{LiveDay}
@@ -33,6 +35,10 @@ module _ (lines : List (List ℕ)) (line text : List ℕ) (out err : Written) (h
   untold_here : (config : Configuration) → GainsFaults (taken_in config (lines ++ line ∷ [])).faults err
   untold_here config = subst (λ (t : Taken). GainsFaults t.faults err) (sym (nothing_taken_here config)) had.nothing.untold
 
+  short_here : length (configuration_in (lines ++ line ∷ [])) ≤ MOST_INPUT
+  short_here =
+      subst (λ (t : List ℕ). length t ≤ MOST_INPUT) (sym (configuration_is lines line had.nothing.undivided here ∙ sym had.text_is)) had.short
+
   pub config_opens : (form : LiveForm) (day : LiveDay) → Opens form text day → DayGoes form (lines ++ line ∷ []) day out err
   config_opens form day opens =
       let config = opens.config in
@@ -47,6 +53,7 @@ module _ (lines : List (List ℕ)) (line text : List ℕ) (out err : Written) (h
           told = untold_here config;
         };
         goes = subst (λ (t : Taken). Goes form config t day) (sym (nothing_taken_here config)) opens.goes;
+        short = short_here;
       }
 
   pub config_keeps : (sought : Sought) (day : SoughtDay) → OpensSought sought text day → KeptGoes sought (lines ++ line ∷ []) day out err
@@ -62,6 +69,7 @@ module _ (lines : List (List ℕ)) (line text : List ℕ) (out err : Written) (h
           told = untold_here config;
         };
         keeps = subst (λ (t : Taken). sought_days.Keeps sought config t day) (sym (nothing_taken_here config)) opens.keeps;
+        short = short_here;
       }
 
   pub stage_opened : (form : LineForm) (next : Stage) → OpensStage form text next → StageIs form (lines ++ line ∷ []) next out err

@@ -1,5 +1,5 @@
 -- A line of steps, of a day that is answered as it goes, and of one of which something is printed at its end.
-use Rattle.std.proofs.Common.{◌≡◌, ℕ, ◌+◌, true, List, [], ◌∷◌, ◌++◌, length, Option, None, Result}
+use Rattle.std.proofs.Common.{◌≡◌, ◌≤◌, ℕ, ◌+◌, true, List, [], ◌∷◌, ◌++◌, length, Option, None, Result}
 use Rattle.std.proofs.Common.{Ok, refl, sym, ap, subst, ◌∙◌, inr, append_assoc}
 use Rattle.std.specs.Io.KnownBytes.{Appends, Keeps}
 use Rattle.std.specs.Option.{option_to_list}
@@ -14,6 +14,7 @@ use Rattle.input_lines.specs.ResultSteps.{◌>>=◌}
 use Rattle.input_lines.specs.StepLines.{asked}
 use Rattle.input_lines.specs.VenueParts.{is_divider, venue_of}
 use Rattle.input_lines.specs.declared.faults.ProgramFault.{ProgramFault}
+use Rattle.input_lines.specs.declared.lines.TheConstants.{MOST_INPUT}
 use Rattle.input_lines.specs.declared.faults.ProgramFault.TheVariants.{Memory, Write}
 use Rattle.venue_text.specs.declared.kept_days.Asked.{Asked}
 use Rattle.investor_texts.specs.declared.sought_days.SoughtDay.{SoughtDay}
@@ -90,6 +91,7 @@ module _ (form : LiveForm) (lines : List (List ℕ)) (number : ℕ) (line output
       told = told_more;
     };
     goes = next.goes;
+    short = subst (λ (t : List ℕ). length t ≤ MOST_INPUT) (sym (configuration_stays lines (line ∷ []) had.answers.divided)) had.short;
   }
 
   -- or a part of it
@@ -178,4 +180,5 @@ module _ (number : ℕ) (line : List ℕ) (fault : Option ProgramFault) (before 
               (faults_more (taken_in config lines).faults (option_to_list fault) start.err err err' had.answers.told tells);
         };
         keeps = subst (λ (t : Taken). sought_days.Keeps sought config t after) (sym same) more.keeps;
+        short = subst (λ (t : List ℕ). length t ≤ MOST_INPUT) (sym (configuration_stays lines (line ∷ []) divided)) had.short;
       }

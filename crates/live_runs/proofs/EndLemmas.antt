@@ -17,8 +17,8 @@ use Rattle.input_lines.specs.declared.faults.ProgramFault.{ProgramFault}
 use Rattle.input_lines.specs.declared.faults.ProgramFault.TheVariants.{Memory, Parts, Write}
 use Rattle.investor_texts.specs.declared.sought_days.SoughtDay.{SoughtDay}
 use Rattle.live_runs.specs.LineForms.{answered, compared_for, kept_for}
-use Rattle.live_runs.specs.LiveRuns.{EndsDay, EndsInAnswers, HasCompared, TakesOne, ended_lines}
-use Rattle.live_runs.specs.LiveRuns.{second_taken}
+use Rattle.live_runs.specs.LiveRuns.{AreWithin, EndsDay, EndsInAnswers, HasCompared, TakesOne}
+use Rattle.live_runs.specs.LiveRuns.{ended_lines, second_taken}
 use Rattle.live_runs.specs.LiveCalls.{err_new, out_new, CloseFails, Closes, EndFails, Ends}
 use Rattle.live_runs.specs.LiveCalls.{LineFails, LineTakes}
 use Rattle.live_runs.specs.LiveStages.{BothGo, IsCut, StageIs, taken_at}
@@ -27,6 +27,7 @@ use Rattle.live_runs.specs.declared.live.LiveRun.{LiveRun}
 use Rattle.live_runs.specs.declared.stages.Stage.{Stage}
 use Rattle.live_runs.specs.declared.stages.Stage.TheVariants as stage
 use Rattle.live_runs.proofs.FeedLemmas.{line_last}
+use Rattle.live_runs.proofs.LimitLemmas.{lines_within}
 use Rattle.live_runs.proofs.StreamLemmas.{appends_both, more_part}
 use Rattle.live_runs.proofs.TwoDayLemmas.{awaiting_taken, both_taken, first_brought, no_day}
 use Rattle.live_runs.proofs.TwoDayLemmas.{not_whole, one_taken, second_brought}
@@ -46,10 +47,13 @@ last_line read lines (c ∷ begun) cut some =
 module _ (before : LiveRun) (o o' e : Option (List ℕ)) (empty : before.line.items ≡ []) (last : Stage) (was : last ≡ before.stage) where
   pub end_here : Closes last (record { before = o; after = o' }) → Ends before (record { before = o; after = o' }) (still e)
   end_here closes form read start stands =
-      subst (λ (l : List (List ℕ)). EndsInAnswers form l (record { before = start.out; after = o' }) (err_new start (still e)))
-      (sym (whole_lines read stands.lines before.line.items stands.cut empty))
-      (closes form stands.lines start.out (err_new start (still e))
-      (subst (λ (s : Stage). StageIs form stands.lines s (record { before = start.out; after = o }) (err_new start (still e))) (sym was) stands.come.stage_is))
+      subst (λ (l : List (List ℕ)). AreWithin form l × EndsInAnswers form l (record { before = start.out; after = o' }) (err_new start (still e)))
+      (sym (whole_lines read stands.lines before.line.items stands.cut empty)) (
+        lines_within form stands.lines before (record { before = start.out; after = o }) (err_new start (still e)) stands.come,
+        closes form stands.lines start.out (err_new start (still e))
+            (subst (λ (s : Stage). StageIs form stands.lines s (record { before = start.out; after = o }) (err_new start (still e))) (sym was)
+            stands.come.stage_is),
+      )
 
   pub end_bare : (fault : ProgramFault) → CloseFails last fault (record { before = o; after = o' })
       → EndFails before fault (record { before = o; after = o' }) (still e)
@@ -65,11 +69,15 @@ module _ (before : LiveRun) (some : (length before.line.items == 0) ≡ false) w
       (last : Stage) (was : last ≡ after.stage) where
     pub end_last : Closes last (record { before = o'; after = o'' }) → Ends before (record { before = o; after = o'' }) (record { before = e; after = e' })
     end_last closes form read start stands =
-        subst (λ (l : List (List ℕ)). EndsInAnswers form l (record { before = start.out; after = o'' }) (record { before = start.err; after = e' }))
-        (sym (last_line read stands.lines before.line.items stands.cut some))
-        (closes form (stands.lines ++ before.line.items ∷ []) start.out (record { before = start.err; after = e' })
-        (subst (λ (s : Stage). StageIs form (stands.lines ++ before.line.items ∷ []) s (record { before = start.out; after = o' })
-        (record { before = start.err; after = e' })) (sym was) (takes form stands.lines start stands.come).stage_is))
+        let come = takes form stands.lines start stands.come stands.short in
+        subst (λ (l : List (List ℕ)). AreWithin form l × EndsInAnswers form l (record { before = start.out; after = o'' })
+        (record { before = start.err; after = e' })) (sym (last_line read stands.lines before.line.items stands.cut some)) (
+          lines_within form (stands.lines ++ before.line.items ∷ []) after (record { before = start.out; after = o' })
+              (record { before = start.err; after = e' }) come,
+          closes form (stands.lines ++ before.line.items ∷ []) start.out (record { before = start.err; after = e' })
+              (subst (λ (s : Stage). StageIs form (stands.lines ++ before.line.items ∷ []) s (record { before = start.out; after = o' })
+              (record { before = start.err; after = e' })) (sym was) come.stage_is),
+        )
 
     pub end_last_bare : (fault : ProgramFault) → CloseFails last fault (record { before = o'; after = o'' })
         → EndFails before fault (record { before = o; after = o'' }) (record { before = e; after = e' })
@@ -78,7 +86,7 @@ module _ (before : LiveRun) (some : (length before.line.items == 0) ≡ false) w
         (sym (last_line read stands.lines before.line.items stands.cut some))
         (fails form (stands.lines ++ before.line.items ∷ []) start.out (record { before = start.err; after = e' })
         (subst (λ (s : Stage). StageIs form (stands.lines ++ before.line.items ∷ []) s (record { before = start.out; after = o' })
-        (record { before = start.err; after = e' })) (sym was) (takes form stands.lines start stands.come).stage_is))
+        (record { before = start.err; after = e' })) (sym was) (takes form stands.lines start stands.come stands.short).stage_is))
 
   pub end_fails : (fault : ProgramFault) (out err : Written) → LineFails before fault out err → EndFails before fault out err
   end_fails fault out err fails form read start stands =

@@ -1,4 +1,5 @@
 pub mod PartLemmas
+pub mod LimitLemmas
 pub mod LineLemmas
 pub mod FeedLemmas
 pub mod StreamLemmas

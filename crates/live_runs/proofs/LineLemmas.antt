@@ -153,6 +153,16 @@ undivided_alone lines undivided = ap (λ l. list_any is_divider (after_first is_
 pub first_alone : (lines : List (List ℕ)) → is_divided (behind_one lines) ≡ false → are_four lines ≡ false
 first_alone lines alone = ap (list_any is_divider) (after_none is_divider (behind_one lines).lines alone)
 
+-- of a configuration that goes on, and where none behind the first day has begun
+pub configuration_whole : (lines : List (List ℕ)) → are_divided lines ≡ false → configuration_in lines ≡ text_of_lines lines
+configuration_whole lines undivided = ap text_of_lines (before_none is_divider lines undivided)
+
+pub alone_undivided : (lines : List (List ℕ)) → are_divided lines ≡ false → is_divided (behind_one lines) ≡ false
+alone_undivided lines undivided = ap (list_any is_divider) (after_none is_divider lines undivided)
+
+pub second_none : (lines : List (List ℕ)) → is_divided (behind_one lines) ≡ false → second_configuration lines ≡ []
+second_none lines alone = ap (λ l. text_of_lines (before_first is_divider l)) (after_none is_divider (behind_one lines).lines alone)
+
 pub first_taken_alone : (config : Configuration) (lines : List (List ℕ)) → is_divided (behind_one lines) ≡ false
     → first_taken config lines ≡ taken_in config lines
 first_taken_alone config lines alone =

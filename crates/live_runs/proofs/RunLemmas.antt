@@ -13,7 +13,8 @@ use Rattle.input_lines.specs.declared.faults.ProgramFault.TheVariants.{Read as N
 use Rattle.input_lines.specs.declared.faults.ProgramFault.TheVariants.{UnknownFirm, UnknownRoom}
 use Rattle.input_lines.specs.declared.faults.ProgramFault.TheVariants.{Weave, Write}
 use Rattle.live_runs.specs.LineForms.{LineForm}
-use Rattle.live_runs.specs.LiveRuns.{EndsWith, EndsDay, EndsInAnswers, EndsInLive, HasAnswered}
+use Rattle.live_runs.specs.LiveRuns.{AreWithin, EndsWith, EndsDay, EndsInAnswers, EndsInLive}
+use Rattle.live_runs.specs.LiveRuns.{HasAnswered}
 use Rattle.live_runs.specs.LiveCalls.{Start, AnswersAll, EndFails, Ends, FailsIn, FeedFails, Feeds}
 use Rattle.live_runs.specs.LiveCalls.{StandsFirst}
 use Rattle.live_runs.specs.Written.{GainsPart, Written}
@@ -50,7 +51,8 @@ module _ (first mid : LiveRun) (bytes : List ℕ) (o o' o'' e e' e'' : Option (L
   all_answered (Some all) None read end ends = absurd read
   all_answered (Some all) (Some ys) read end ends = λ form past start stands.
       let same : past ++ bytes ≡ past ++ all = ap (λ (l : List ℕ). past ++ l) (sym (append-nil bytes) ∙ ap (λ (l : List ℕ). bytes ++ l) (sym end) ∙ sym read) in
-      subst (λ (t : List ℕ). EndsInAnswers form (lines_of t) (record { before = start.out; after = o'' }) (record { before = start.err; after = e'' }))
+      subst (λ (t : List ℕ). AreWithin form (lines_of t)
+      × EndsInAnswers form (lines_of t) (record { before = start.out; after = o'' }) (record { before = start.err; after = e'' }))
       same (ends form (past ++ bytes) start (fed form past start stands))
 
   pub all_ended : (fault : ProgramFault) (known now : Option (List ℕ)) → Consumes known now bytes → IsAtEnd now

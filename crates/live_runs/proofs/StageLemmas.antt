@@ -1,12 +1,13 @@
 -- A line at a stage.
-use Rattle.std.proofs.Common.{◌≡◌, ℕ, false, List, [], ◌∷◌, ◌++◌, Option, Some, sym, subst, inl}
-use Rattle.std.proofs.Common.{inr, append_assoc}
+use Rattle.std.proofs.Common.{◌≡◌, ◌≤◌, ℕ, false, List, [], ◌∷◌, ◌++◌, length, Option, Some, sym}
+use Rattle.std.proofs.Common.{subst, inl, inr, append_assoc}
 use Rattle.std.specs.Option.{option_to_list}
 use Rattle.std.specs.Prelude.{Vec}
 use Rattle.std.specs.declared.alloc.Global.{Global}
 use Rattle.input_lines.specs.VenueParts.{is_divider}
 use Rattle.input_lines.specs.declared.faults.ProgramFault.{ProgramFault}
 use Rattle.input_lines.specs.declared.faults.ProgramFault.TheVariants.{Memory}
+use Rattle.input_lines.specs.declared.lines.TheConstants.{MOST_INPUT}
 use Rattle.investor_texts.specs.declared.sought_days.SoughtDay.{SoughtDay}
 use Rattle.live_runs.specs.LineForms.{LineForm, answered, compared_for, kept_for}
 use Rattle.live_runs.specs.LiveRuns.{EndsDay, GainsFaults, HasAnswered}
@@ -74,11 +75,12 @@ first_goes (compared_for whom) number line d d' out err other takes lines start 
     first_more whom number line d d' out err other takes lines start at had
 
 between_goes : (form : LineForm) (number : ℕ) (line : List ℕ) (d : SoughtDay) (t u : Vec ℕ Global) (o e : Option (List ℕ)) → is_divider line ≡ false
-    → u.items ≡ t.items ++ line ++ 10 ∷ [] → StageTakes form number line (stage.Between d t) (stage.Between d u) (still o) (still e)
-between_goes (answered form) number line d t u o e other is lines start at had = absurd had
-between_goes (kept_for sought) number line d t u o e other is lines start at had = absurd had
-between_goes (compared_for whom) number line d t u o e other is lines start at had =
-    awaiting_more whom lines line t.items u.items d (out_new start (still o)) (err_new start (still e)) other is had
+    → u.items ≡ t.items ++ line ++ 10 ∷ [] → length u.items ≤ MOST_INPUT
+    → StageTakes form number line (stage.Between d t) (stage.Between d u) (still o) (still e)
+between_goes (answered form) number line d t u o e other is fits lines start at had = absurd had
+between_goes (kept_for sought) number line d t u o e other is fits lines start at had = absurd had
+between_goes (compared_for whom) number line d t u o e other is fits lines start at had =
+    awaiting_more whom lines line t.items u.items d (out_new start (still o)) (err_new start (still e)) other is fits had
 
 both_go : (form : LineForm) (number : ℕ) (line : List ℕ) (fault : Option ProgramFault) (one d d' : SoughtDay) (o e e' : Option (List ℕ))
     → KeepsAnywhere number line d d' fault → GainsFaults (option_to_list fault) (record { before = e; after = e' })
@@ -124,12 +126,12 @@ module _ (form : LineForm) (number : ℕ) (line : List ℕ) (before : Stage) whe
 
   pub stage_between : (after : Stage) (d : SoughtDay) (t u : Vec ℕ Global) (o e : Option (List ℕ)) → before ≡ stage.Between d t
       → is_turn before line ≡ false → after ≡ stage.Between d u → u.items ≡ t.items ++ line ++ 10 ∷ []
-      → StageTakes form number line before after (still o) (still e)
-  stage_between after d t u o e was other is text_is =
+      → length u.items ≤ MOST_INPUT → StageTakes form number line before after (still o) (still e)
+  stage_between after d t u o e was other is text_is fits =
       let stays = subst (λ (s : Stage). is_turn s line ≡ false) was other in
       subst (λ (s : Stage). StageTakes form number line s after (still o) (still e)) (sym was)
       (subst (λ (s : Stage). StageTakes form number line (stage.Between d t) s (still o) (still e)) (sym is)
-      (between_goes form number line d t u o e stays text_is))
+      (between_goes form number line d t u o e stays text_is fits))
 
   pub stage_of_both : (after : Stage) (one d d' : SoughtDay) (out err err' : Option (List ℕ)) → before ≡ stage.Both one d
       → after ≡ stage.Both one d' → KeepsStep number line d d' (record { before = err; after = err' })

@@ -1,5 +1,5 @@
 -- Two days, one behind the other.
-use Rattle.std.proofs.Common.{◌≡◌, ℕ, ◌+◌, true, false, List, [], ◌∷◌, ◌++◌, length, Option, Some}
+use Rattle.std.proofs.Common.{◌≡◌, ◌≤◌, ℕ, ◌+◌, true, false, List, [], ◌∷◌, ◌++◌, length, Option, Some}
 use Rattle.std.proofs.Common.{None, Ok, refl, sym, ap, subst, ◌∙◌, arith, inl, inr, append_assoc}
 use Rattle.std.specs.Io.KnownBytes.{Appends, Keeps}
 use Rattle.std.specs.Option.{option_to_list}
@@ -11,6 +11,7 @@ use Rattle.venue_text.specs.LiveInput.{are_divided, configuration_in, taken_in}
 use Rattle.venue_text.specs.LiveLines.{Taken}
 use Rattle.input_lines.specs.VenueParts.{is_divider, venue_of}
 use Rattle.input_lines.specs.declared.faults.ProgramFault.{ProgramFault}
+use Rattle.input_lines.specs.declared.lines.TheConstants.{MOST_INPUT}
 use Rattle.investor_texts.specs.declared.sought_days.SoughtDay.{SoughtDay}
 use Rattle.live_runs.specs.LineForms.{LineForm, answered, compared_for, kept_for}
 use Rattle.live_runs.specs.LiveRuns.{GainsFaults, HasAnswered, AnswersNothing, HasNoDay}
@@ -162,6 +163,7 @@ first_ends whom lines line text day out err here empty had = record {
   goes = had;
   undivided = refl;
   text_is = empty;
+  short = subst (λ (t : List ℕ). length t ≤ MOST_INPUT) (sym empty) (omega arith);
 }
 
 two_more : (lines first : List (List ℕ)) (divider : List ℕ) (behind : List (List ℕ)) (line : List ℕ) → AreTwo lines first divider behind
@@ -173,8 +175,9 @@ two_more lines first divider behind line two = record {
 
 -- a line of the second configuration
 pub awaiting_more : (whom : Whom) (lines : List (List ℕ)) (line text after : List ℕ) (day : SoughtDay) (out err : Written) → is_divider line ≡ false
-    → after ≡ text ++ line ++ 10 ∷ [] → AwaitsSecond whom lines day text out err → AwaitsSecond whom (lines ++ line ∷ []) day after out err
-awaiting_more whom lines line text after day out err other is had = record {
+    → after ≡ text ++ line ++ 10 ∷ [] → length after ≤ MOST_INPUT → AwaitsSecond whom lines day text out err
+    → AwaitsSecond whom (lines ++ line ∷ []) day after out err
+awaiting_more whom lines line text after day out err other is fits had = record {
   first = had.first;
   divider = had.divider;
   behind = had.behind ++ line ∷ [];
@@ -182,6 +185,7 @@ awaiting_more whom lines line text after day out err other is had = record {
   goes = had.goes;
   undivided = still_undivided had.behind line had.undivided other;
   text_is = is ∙ ap (λ (t : List ℕ). t ++ line ++ 10 ∷ []) had.text_is ∙ sym (text_grows had.behind line);
+  short = fits;
 }
 
 -- its end
@@ -202,6 +206,8 @@ second_opens whom lines line text one other out err here opens had =
         spelled = ap venue_of (configuration_is had.behind line had.undivided here ∙ sym had.text_is) ∙ opens.spelled;
         keeps = subst (λ (t : Taken). sought_days.Keeps (sought_of whom) opens.config t other) (sym nothing) opens.keeps;
         told = subst (λ (t : Taken). GainsFaults t.faults (record { before = err.after; after = err.after })) (sym nothing) (keeps_same err.after);
+        short = subst (λ (t : List ℕ). length t ≤ MOST_INPUT)
+            (sym (configuration_is had.behind line had.undivided here ∙ sym had.text_is)) had.short;
       };
     }
 
@@ -236,5 +242,7 @@ both_more whom number line fault one before after keeps o e e' tells lines start
         keeps = subst (λ (t : Taken). sought_days.Keeps (sought_of whom) second.config t after) (sym same) more.keeps;
         told = subst (λ (f : List ProgramFault). GainsFaults f (record { before = had.mid; after = e' })) (sym faults)
             (faults_more (taken_at second.config k had.behind).faults (option_to_list fault) had.mid e e' second.told tells);
+        short = subst (λ (t : List ℕ). length t ≤ MOST_INPUT)
+            (sym (configuration_stays had.behind (line ∷ []) second.divided)) second.short;
       };
     }

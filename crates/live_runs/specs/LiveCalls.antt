@@ -1,7 +1,7 @@
 -- What a call of a run of `live` makes of how far it has come, and how it fails: names for private
 -- functions alone.
-use Rattle.std.specs.Prelude.{◌≡◌, ◌<◌, ◌⊎◌, ℕ, ◌+◌, Bool, true, false, List, [], ◌∷◌, ◌++◌, length}
-use Rattle.std.specs.Prelude.{Option, Some, None, Ok, Err}
+use Rattle.std.specs.Prelude.{◌≡◌, ◌<◌, ◌≤◌, ◌⊎◌, ℕ, ◌+◌, Bool, true, false, List, [], ◌∷◌, ◌++◌}
+use Rattle.std.specs.Prelude.{length, Option, Some, None, Ok, Err}
 use Rattle.std.specs.Option.{option_to_list}
 use Rattle.venue_rows.specs.Rows.{ConfigValues, Configuration}
 use Rattle.investor_texts.specs.SoughtDays.{Keeps, KeepsMore, OpensSought, Sought, sought_of}
@@ -16,7 +16,8 @@ use Rattle.input_lines.specs.declared.lines.TheConstants.{MOST_INPUT}
 use Rattle.venue_text.specs.declared.live_form.LiveForm.{LiveForm}
 use Rattle.venue_text.specs.declared.live_lines.LiveDay.{LiveDay}
 use Rattle.live_runs.specs.LineForms.{LineForm, answered, compared_for, kept_for}
-use Rattle.live_runs.specs.LiveRuns.{EndsWith, EndsDay, EndsInAnswers, GainsFaults, name_fault}
+use Rattle.live_runs.specs.LiveRuns.{AreWithin, EndsWith, EndsDay, EndsInAnswers, GainsFaults}
+use Rattle.live_runs.specs.LiveRuns.{name_fault}
 use Rattle.live_runs.specs.Written.{Written}
 use Rattle.live_runs.specs.declared.live.LiveRun.{LiveRun}
 use Rattle.live_runs.specs.declared.stages.Stage.{Stage}
@@ -94,6 +95,7 @@ StageFails form number line before fault out err = (lines : List (List ℕ)) (st
 abbrev pub LineTakes : LiveRun → LiveRun → Written → Written → Type 0
 LineTakes before after out err = (form : LineForm) (lines : List (List ℕ)) (start : Start)
     → HasCome form lines before (out_old start out) (err_old start err)
+    → length before.line.items ≤ MOST_INPUT
     → HasCome form (lines ++ before.line.items ∷ []) after (out_new start out)
     (err_new start err)
 
@@ -120,7 +122,8 @@ FeedFails bytes before fault out err = (form : LineForm) (read : List ℕ) (star
 abbrev pub Ends : LiveRun → Written → Written → Type 0
 Ends before out err = (form : LineForm) (read : List ℕ) (start : Start)
     → StandsAt form read before (out_old start out) (err_old start err)
-    → EndsInAnswers form (lines_of read) (out_new start out) (err_new start err)
+    → AreWithin form (lines_of read)
+    × EndsInAnswers form (lines_of read) (out_new start out) (err_new start err)
 
 abbrev pub EndFails : LiveRun → ProgramFault → Written → Written → Type 0
 EndFails before fault out err = (form : LineForm) (read : List ℕ) (start : Start)
@@ -142,6 +145,7 @@ OpensNone form text fault = (venue_of text ≡ Err fault)
 abbrev pub IsNext : LineForm → List ℕ → List ℕ → List ℕ → Option Stage → Type 0
 IsNext form line before after None =
     (is_divider line ≡ false) × (after ≡ before ++ line ++ 10 ∷ [])
+    × (length after ≤ MOST_INPUT)
 IsNext form line before after (Some next) =
     (is_divider line ≡ true) × OpensStage form before next
 
@@ -197,7 +201,8 @@ StandsFirst form run = (start : Start)
 abbrev pub AnswersAll : List ℕ → LiveRun → Written → Written → Type 0
 AnswersAll all before out err = (form : LineForm) (read : List ℕ) (start : Start)
     → StandsAt form read before (out_old start out) (err_old start err)
-    → EndsInAnswers form (lines_of (read ++ all)) (out_new start out) (err_new start err)
+    → AreWithin form (lines_of (read ++ all))
+    × EndsInAnswers form (lines_of (read ++ all)) (out_new start out) (err_new start err)
 
 abbrev pub FailsIn : List ℕ → Option (List ℕ) → ProgramFault → LiveRun → Written → Written → Type 0
 FailsIn all left fault before out err = (form : LineForm) (read : List ℕ) (start : Start)

@@ -1,6 +1,6 @@
 -- How a run of `live` ends, by the lines of its input alone: so what it prints does not depend on
 -- how the input comes, in whatever pieces.
-use Rattle.std.specs.Prelude.{◌≡◌, ◌<◌, ◌==◌, ◌⊎◌, ℕ, Bool, true, false, List, [], ◌∷◌, ◌++◌}
+use Rattle.std.specs.Prelude.{◌≡◌, ◌<◌, ◌≤◌, ◌==◌, ◌⊎◌, ℕ, Bool, true, false, List, [], ◌∷◌, ◌++◌}
 use Rattle.std.specs.Prelude.{length, nat_lt, take, Option, Some, None, Result, Ok, Err}
 use Rattle.std.specs.List.{count_by, list_any}
 use Rattle.std.specs.Option.{IfSome}
@@ -185,6 +185,12 @@ ArePastLimits form lines =
     ⊎ (((text : List ℕ) × IsConfigurationIn form lines text × (MOST_INPUT < length text))
     ⊎ (MOST_LINES < length lines))
 
+-- No line is too long, and no configuration, and there are not too many lines.
+pub record AreWithin (form : LineForm) (lines : List (List ℕ)) : Type 0 where
+  pub short : list_any (λ line. nat_lt MOST_INPUT (length line)) lines ≡ false
+  pub texts : (text : List ℕ) → IsConfigurationIn form lines text → length text ≤ MOST_INPUT
+  pub few : length lines ≤ MOST_LINES
+
 -- what a fault of lines that ends the day says of all lines of the input
 abbrev pub IsLiveFault : LineForm → ProgramFault → List (List ℕ) → Type 0
 IsLiveFault form Memory lines = Unit {0}
@@ -259,11 +265,12 @@ EndsInAnswers (compared_for whom) all out err =
 EndsInAnswers form all out err =
     (config : Configuration) × TakesDay form config all (whole_text form config all) out err
 
--- How a run ends over an input: with status 0 and all of its answers, or with status 1 behind some
--- of them.
+-- How a run ends over an input: with status 0 and all of its answers, where no limit is passed, or
+-- with status 1 behind some of them.
 abbrev pub EndsOver : LineForm → List ℕ → List ℕ → ℕ → Streams → Type 0
 EndsOver form argument input status streams =
-    ((status ≡ 0) × EndsInAnswers form (lines_of input) streams.out streams.err)
+    ((status ≡ 0) × AreWithin form (lines_of input)
+    × EndsInAnswers form (lines_of input) streams.out streams.err)
     ⊎ ((status ≡ 1) × EndsInLiveFault form argument input streams)
 
 -- The same where the input is known.

@@ -1,6 +1,6 @@
 -- How far a run of `live` has come: names for private functions alone.
-use Rattle.std.specs.Prelude.{◌≡◌, ℕ, ◌+◌, ◌==◌, true, false, List, [], ◌∷◌, ◌++◌, length, Option}
-use Rattle.std.specs.Prelude.{Ok}
+use Rattle.std.specs.Prelude.{◌≡◌, ◌≤◌, ℕ, ◌+◌, ◌==◌, true, false, List, [], ◌∷◌, ◌++◌, length}
+use Rattle.std.specs.Prelude.{Option, Ok, nat_lt}
 use Rattle.std.specs.List.{count_by, list_any}
 use Rattle.venue_rows.specs.Rows.{Configuration, values_of}
 use Rattle.investor_texts.specs.SoughtDays.{Keeps, Sought, Whom, sought_of}
@@ -13,10 +13,12 @@ use Rattle.input_lines.specs.VenueParts.{text_of_lines, venue_of}
 use Rattle.investor_texts.specs.declared.sought_days.SoughtDay.{SoughtDay}
 use Rattle.venue_text.specs.declared.live_form.LiveForm.{LiveForm}
 use Rattle.venue_text.specs.declared.live_lines.LiveDay.{LiveDay}
+use Rattle.input_lines.specs.declared.lines.TheConstants.{MOST_INPUT}
 use Rattle.live_runs.specs.LineForms.{LineForm, answered, compared_for, kept_for, meant_form}
 use Rattle.live_runs.specs.LiveRuns.{AnswersNothing, GainsFaults, TakesDay, behind_one}
 use Rattle.live_runs.specs.Written.{Written}
 use Rattle.live_runs.specs.declared.live.LiveRun.{LiveRun}
+use Rattle.live_runs.specs.declared.live.TheConstants.{MOST_LINES}
 use Rattle.live_runs.specs.declared.stages.Stage.{Stage}
 use Rattle.live_runs.specs.declared.stages.Stage.TheVariants as stage
 
@@ -24,6 +26,7 @@ use Rattle.live_runs.specs.declared.stages.Stage.TheVariants as stage
 pub record AwaitsDay (lines : List (List ℕ)) (text : List ℕ) (out err : Written) : Type 0 where
   pub nothing : AnswersNothing lines out err
   pub text_is : text ≡ text_of_lines lines
+  pub short : length text ≤ MOST_INPUT
 
 -- the lines so far are those of a day that goes on, and each was answered
 pub record DayGoes (form : LiveForm) (lines : List (List ℕ)) (day : LiveDay)
@@ -31,6 +34,7 @@ pub record DayGoes (form : LiveForm) (lines : List (List ℕ)) (day : LiveDay)
   pub config : Configuration
   pub answers : TakesDay (answered form) config lines (text_in form config lines) out err
   pub goes : Goes form config (taken_in config lines) day
+  pub short : length (configuration_in lines) ≤ MOST_INPUT
 
 -- the same, and what is asked for is printed at the end
 pub record KeptGoes (sought : Sought) (lines : List (List ℕ)) (day : SoughtDay)
@@ -38,6 +42,7 @@ pub record KeptGoes (sought : Sought) (lines : List (List ℕ)) (day : SoughtDay
   pub config : Configuration
   pub answers : TakesDay (kept_for sought) config lines [] out err
   pub keeps : Keeps sought config (taken_in config lines) day
+  pub short : length (configuration_in lines) ≤ MOST_INPUT
 
 -- The stages of two days.
 
@@ -63,6 +68,7 @@ pub record AwaitsSecond (whom : Whom) (lines : List (List ℕ)) (day : SoughtDay
   pub goes : FirstGoes whom first day out err
   pub undivided : are_divided behind ≡ false
   pub text_is : text ≡ text_of_lines behind
+  pub short : length text ≤ MOST_INPUT
 
 -- what lines behind a configuration have brought, where the first line has number k
 abbrev pub taken_at : Configuration → ℕ → List (List ℕ) → Taken
@@ -77,6 +83,7 @@ pub record SecondGoes (whom : Whom) (k : ℕ) (lines : List (List ℕ)) (day : S
   pub spelled : venue_of (configuration_in lines) ≡ Ok (values_of config)
   pub keeps : Keeps (sought_of whom) config (taken_at config k lines) day
   pub told : GainsFaults (taken_at config k lines).faults err
+  pub short : length (configuration_in lines) ≤ MOST_INPUT
 
 pub record BothGo (whom : Whom) (lines : List (List ℕ)) (one other : SoughtDay)
     (out err : Written) : Type 0 where
@@ -106,6 +113,8 @@ pub record HasCome (form : LineForm) (lines : List (List ℕ)) (run : LiveRun)
   pub number_is : run.number ≡ length lines + 1
   pub form_is : meant_form run.form ≡ form
   pub stage_is : StageIs form lines run.stage out err
+  pub short : list_any (λ line. nat_lt MOST_INPUT (length line)) lines ≡ false
+  pub few : length lines ≤ MOST_LINES
 
 -- bytes are these lines, each with its end, and one that has begun
 pub record IsCut (read : List ℕ) (lines : List (List ℕ)) (begun : List ℕ) : Type 0 where
@@ -119,3 +128,4 @@ pub record StandsAt (form : LineForm) (read : List ℕ) (run : LiveRun) (out err
   pub lines : List (List ℕ)
   pub cut : IsCut read lines run.line.items
   pub come : HasCome form lines run out err
+  pub short : length run.line.items ≤ MOST_INPUT

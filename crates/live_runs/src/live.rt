@@ -204,6 +204,7 @@ fn is_bare(line: &Vec<u8>) -> bool
 /// A byte of the line that has begun.
 fn put(line: &mut Vec<u8>, byte: u8) -> Result<(), ProgramFault>
     ensures ok { OnOk result (line.new.items ≡ line.old.items ++ byte ∷ []) }
+    ensures short { OnOk result (length line.new.items ≤ MOST_INPUT) }
     ensures err { IfErr result (λ fault. (fault ≡ ProgramFault.Memory)
         ⊎ ((fault ≡ ProgramFault.Input) × MOST_INPUT ≤ length line.old.items)) }
 {

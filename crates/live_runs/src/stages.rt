@@ -1,5 +1,5 @@
 //! How far a day that comes line by line has come, and what a line does to it.
-ghost use Rattle.std.specs.Prelude.{◌≡◌, ◌≢◌, ◌<◌, ◌++◌, ◌⊎◌, [], ◌∷◌, length};
+ghost use Rattle.std.specs.Prelude.{◌≡◌, ◌≢◌, ◌<◌, ◌≤◌, ◌++◌, ◌⊎◌, [], ◌∷◌, length};
 ghost use Rattle.std.specs.Prelude.{IfOk, IfErr, OnOk, OnErr};
 ghost use Rattle.std.specs.Io.KnownBytes.{Appends};
 ghost use Rattle.std.specs.Option.{option_to_list};
@@ -234,6 +234,7 @@ fn open_stage(alloc: Global, form: LineForm<'_>, text: &[u8]) -> Result<Stage, P
 /// Puts a line behind those of a configuration.
 fn put_line(text: &mut Vec<u8>, line: &[u8]) -> Result<(), ProgramFault>
     ensures ok { OnOk result (text.new.items ≡ text.old.items ++ line.now ++ 10 ∷ []) }
+    ensures short { OnOk result (length text.new.items ≤ MOST_INPUT) }
     ensures err { IfErr result (λ fault. (fault ≡ ProgramFault.Memory)
         ⊎ ((fault ≡ ProgramFault.Input)
         × MOST_INPUT < length (text.old.items ++ line.now ++ 10 ∷ []))) }

@@ -2,6 +2,9 @@
 //! message.
 #![tactic(auto)]
 
+ghost use Rattle.std.specs.Prelude.{◌≡◌, [], ◌∷◌, codes, true, is_some, IfSome};
+ghost use Rattle.quote_messages_c.specs.Checked.{read_code, verdict_code, verdict_of};
+
 use fix_fields::{Date, Frame, read_frame};
 use quote_messages::read_dealer;
 use venue_rows::{DealerRow, Name, Traders};
@@ -11,7 +14,10 @@ use venue_rows::{DealerRow, Name, Traders};
 /// where it meets one, and 4 where it is no frame. With 0 `steps` the row is made alone, with 1 the
 /// frame is read, with 2 its fields are checked.
 #[unsafe(no_mangle)]
-pub extern "C" fn quote_messages_read(bytes: &[u8], steps: u32) -> u32 {
+#[tactic(auto, using(crate::proofs::CheckedLemmas::is_the_day))]
+pub extern "C" fn quote_messages_read(bytes: &[u8], steps: u32) -> u32
+    ensures { result ≡ read_code steps bytes.now }
+{
     let Some(row) = row() else {
         return 4;
     };
@@ -31,7 +37,13 @@ pub extern "C" fn quote_messages_read(bytes: &[u8], steps: u32) -> u32 {
 }
 
 /// What the session checks say.
-fn checked(date: &Date, row: &DealerRow, frame: &Frame) -> u32 {
+#[tactic(auto, using(crate::proofs::CheckedLemmas::is_the_verdict))]
+fn checked(date: &Date, row: &DealerRow, frame: &Frame) -> u32
+    requires date { date.now ≡ codes "20250314" }
+    requires name { row.now.name ≡ codes "DLR1" }
+    requires traders { row.now.traders ≡ codes "T1" ∷ [] }
+    ensures { result ≡ verdict_code (verdict_of frame.now) }
+{
     match read_dealer(date, row, frame) {
         Ok(_) => 2,
         Err(_) => 3,
@@ -39,7 +51,11 @@ fn checked(date: &Date, row: &DealerRow, frame: &Frame) -> u32 {
 }
 
 /// The row of DLR1 with the trader T1.
-fn row() -> Option<DealerRow> {
+fn row() -> Option<DealerRow>
+    ensures some { is_some result ≡ true }
+    ensures name { IfSome result (λ row. row.name ≡ codes "DLR1") }
+    ensures traders { IfSome result (λ row. row.traders ≡ codes "T1" ∷ []) }
+{
     let mut traders = Traders::new();
     let trader = Name::new(b"T1")?;
     let _ = traders.push(&trader);

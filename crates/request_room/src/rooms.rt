@@ -21,9 +21,8 @@ use std::marker::Model;
 /// Some calls require that the room is vacant or opening, or that it hears a dealer. The steps of
 /// the venue, which know for whom they act, test that; no rule of the room does.
 ///
-/// A contract sees the list of what was tried on the room. What became of it is `room_after` that
-/// list: the facts that stand, and from them whether the room is vacant, opening, open or ended,
-/// its book and its end.
+/// A contract sees the list of what was tried on the room; `room_after` that list is what became of
+/// it: whether the room is vacant, opening, open or ended, its book and its end.
 #[derive(Drop)]
 pub struct Room {
     events: Vec<RoomEvent>,

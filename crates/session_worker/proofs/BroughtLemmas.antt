@@ -21,6 +21,7 @@ use Rattle.venue_places.specs.declared.arrivals.ForRoom.{ForRoom}
 use Rattle.venue_places.specs.declared.arrivals.ForRoom.TheVariants as to_room
 use Rattle.venue_steps.specs.InvestorSteps.{replies_to, knows_request}
 use Rattle.session_worker.specs.Locks.{KeepsDealer, KeepsInvestor, KeepsRoom}
+use Rattle.session_worker.specs.declared.left_responses.LeftResponse.{LeftResponse}
 use Rattle.session_worker.proofs.DealerAnswers.{DeskLaws}
 use Rattle.session_worker.proofs.DealerLockLemmas.{notice_keeps, show_keeps_if}
 use Rattle.session_worker.proofs.LockLemmas.{quiet_kept, told_kept}
@@ -41,25 +42,26 @@ dealer_brought laws board config firm first desk after seen (to_dealer.Tell room
     moment keeps)
 
 -- an investor's desk
-pub investor_brought : (config : Configuration) (desk after : InvestorEvents) (what : ForInvestor)
-    → KeepsInvestor config desk → after ≡ investor_with desk what → KeepsInvestor config after
+pub investor_brought : (config : Configuration) (desk after : InvestorEvents)
+    (left : List LeftResponse) (what : ForInvestor) → KeepsInvestor config desk left
+    → after ≡ investor_with desk what → KeepsInvestor config after left
 unfolding investor_with
-investor_brought config desk after (to_investor.Relay request offer moment) keeps is =
-    told_kept config desk after (knows_request desk request)
-    (at_investor.QuoteCame request offer moment) keeps is
-investor_brought config desk after (to_investor.Gone request word moment) keeps is =
-    told_kept config desk after (knows_request desk request)
-    (at_investor.QuoteGone request word moment) keeps is
-investor_brought config desk after (to_investor.Declined request dealer moment) keeps is =
-    told_kept config desk after (knows_request desk request)
-    (at_investor.DealerDeclined request dealer moment) keeps is
-investor_brought config desk after (to_investor.Answer request response reply moment) keeps is =
-    told_kept config desk after
+investor_brought config desk after left (to_investor.Relay request offer moment) keeps is =
+    told_kept config desk after left (knows_request desk request)
+    (at_investor.QuoteCame request offer moment) refl keeps is
+investor_brought config desk after left (to_investor.Gone request word moment) keeps is =
+    told_kept config desk after left (knows_request desk request)
+    (at_investor.QuoteGone request word moment) refl keeps is
+investor_brought config desk after left (to_investor.Declined request dealer moment) keeps is =
+    told_kept config desk after left (knows_request desk request)
+    (at_investor.DealerDeclined request dealer moment) refl keeps is
+investor_brought config desk after left (to_investor.Answer request response reply moment) keeps is =
+    told_kept config desk after left
     (knows (book_at desk) request response.k && replies_to response.k reply)
-    (at_investor.Answered request response reply moment) keeps is
-investor_brought config desk after (to_investor.Close request moment) keeps is =
-    told_kept config desk after (knows_request desk request)
-    (at_investor.Closed request moment) keeps is
+    (at_investor.Answered request response reply moment) refl keeps is
+investor_brought config desk after left (to_investor.Close request moment) keeps is =
+    told_kept config desk after left (knows_request desk request)
+    (at_investor.Closed request moment) refl keeps is
 
 -- a room
 pub room_brought : (board : BoardName) (config : Configuration) (at : RoomRef)

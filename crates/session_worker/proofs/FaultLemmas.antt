@@ -1,29 +1,27 @@
 -- Which firm a fault names, and of what it is true.
-use Rattle.std.proofs.Common.{◌≡◌, ◌≢◌, ◌⊎◌, inl, inr, refl, ◌∙◌, sym, ap, subst, ℕ, suc, ◌+◌, ◌-◌}
-use Rattle.std.proofs.Common.{◌<◌, ◌≤◌, min, Bool, true, false, cond, not, List, [], ◌∷◌, ◌++◌}
-use Rattle.std.proofs.Common.{length, map, take, drop, position, Option, Some, None, Result, Ok}
-use Rattle.std.proofs.Common.{Err, IfErr, IsErrAnd, IsOk, arith, length-drop}
+use Rattle.std.proofs.Common.{◌≡◌, ◌≢◌, ◌⊎◌, inl, inr, refl, ◌∙◌, sym, ap, subst, ℕ, suc, ◌+◌, ◌<◌}
+use Rattle.std.proofs.Common.{◌≤◌, min, Bool, true, false, cond, not, List, [], ◌∷◌, length}
+use Rattle.std.proofs.Common.{position, Option, Some, None, Result, Ok, Err, IfErr, IsErrAnd, IsOk}
+use Rattle.std.proofs.Common.{arith}
 use Rattle.std.proofs.lemmas.Bool.{cases_lt, false≢true}
 use Rattle.std.proofs.lemmas.Iterator.Adapters.{position_from-zero}
-use Rattle.std.proofs.lemmas.List.{length-map, length-take-le}
+use Rattle.std.proofs.lemmas.List.{length-map}
 use Rattle.std.specs.List.{position_from}
 use Rattle.std.specs.Option.{option_map, option_or}
 use Rattle.std.proofs.lemmas.Option.{same_Some}
 use Rattle.venue_rows.specs.Rows.{Configuration}
 use Rattle.recorded_days.specs.Records.{DealerLists, InvestorLists, RecordedDay}
-use Rattle.recorded_days.specs.declared.actions.Action.{Action}
 use Rattle.recorded_days.specs.declared.actions.Inbound.{Inbound}
 use Rattle.recorded_days.specs.declared.actions.Sweep.{Sweep}
 use Rattle.session_worker.specs.DayActions.{first_unleft, is_dealer_left, is_investor_left}
 use Rattle.session_worker.specs.DayActions.{number_at}
 use Rattle.session_worker.specs.DayFaults.{IsFaultOf, IsFirstOf, IsFirstUnleft, IsInboxAmong}
 use Rattle.session_worker.specs.DayFaults.{IsJoinedOf, JoinedDay, record_of}
-use Rattle.session_worker.specs.KeptDays.{DealersKeep, InvestorsKeep, names_by, names_of}
-use Rattle.session_worker.specs.KeptDays.{requests_of, without_rooms}
+use Rattle.session_worker.specs.KeptDays.{without_rooms}
 use Rattle.session_worker.specs.declared.faults.DayFault.{DayFault}
 use Rattle.session_worker.specs.declared.faults.DayFault.TheVariants as fault
+use Rattle.session_worker.specs.declared.left_responses.LeftResponse.{LeftResponse}
 use Rattle.session_worker.proofs.LockLemmas.{some_is_none}
-use Rattle.session_worker.proofs.RoomLemmas.{parts_read}
 
 -- what is said of the fault behind a `?` is said of the fault that it returns
 pub same_fault : {X : Type 0} (P : DayFault → Type 0) (r : Result X DayFault) (e : DayFault)
@@ -48,6 +46,23 @@ same_or_not m n = elim (cases_lt m n) [
     | inr under ↦ inl (omega (arith, above, under))
   ]
 ]
+
+-- faults of the same firm
+same_number : (m n : ℕ) → fault.Inbox m ≡ fault.Inbox n → m ≡ n
+same_number m n is = cc
+
+-- a fault names this firm, or it does not
+named_or_not : (firm : ℕ) (why : DayFault) → (why ≡ fault.Inbox firm) ⊎ (why ≢ fault.Inbox firm)
+named_or_not firm (fault.Inbox named) = elim (same_or_not named firm) [
+  | inl same ↦ inl (ap fault.Inbox same)
+  | inr apart ↦ inr (λ is. apart (same_number named firm is))
+]
+named_or_not firm (fault.Told dealer) = inr (λ is. cc)
+named_or_not firm (fault.Sweep room) = inr (λ is. cc)
+named_or_not firm (fault.Shown dealer) = inr (λ is. cc)
+named_or_not firm (fault.Relayed room) = inr (λ is. cc)
+named_or_not firm (fault.Answered room) = inr (λ is. cc)
+named_or_not firm fault.Memory = inr (λ is. cc)
 
 module _ (X : Type 0) (why : DayFault) where
   -- what fails is not well
@@ -83,20 +98,24 @@ module _ (X : Type 0) (why : DayFault) where
             subst (IsInboxAmong 0 count) (sym is) among
       ]
 
-  -- the same of an investor
-  pub investor_among : (own firm first count : ℕ) (came inbox : List Inbound) → first ≤ firm
-      → firm < first + count
+  -- the same of an investor, to whom may be answered what its messages did not leave
+  pub investor_among : (own firm first count : ℕ) (came inbox : List Inbound)
+      (answered left : List LeftResponse) → first ≤ firm → firm < first + count
       → (own ≢ firm → ◌≡◌ {A = Result X DayFault} (Err why) (Err (fault.Inbox firm)))
       → (came ≢ inbox → ◌≡◌ {A = Result X DayFault} (Err why) (Err (fault.Inbox firm)))
-      → (own ≡ firm → came ≡ inbox → IsOk {T = X} {E = DayFault} (Err why))
+      → (answered ≢ left → ◌≡◌ {A = Result X DayFault} (Err why) (Err (fault.Inbox firm)))
+      → (own ≡ firm → came ≡ inbox → answered ≡ left → IsOk {T = X} {E = DayFault} (Err why))
       → IsInboxAmong first count why
-  investor_among own firm first count came inbox low high other_desk other_inbox given =
+  investor_among own firm first count came inbox answered left low high other_desk other_inbox
+      other_answers given =
       let among : IsInboxAmong first count (fault.Inbox firm) = (low, high) in
-      elim (same_or_not own firm) [
-        | inl same ↦ subst (IsInboxAmong first count) (sym (fault_is (fault.Inbox firm)
-            (other_inbox (λ all. never_ok (given same all))))) among
-        | inr apart ↦ subst (IsInboxAmong first count) (sym (fault_is (fault.Inbox firm)
-            (other_desk apart))) among
+      elim (named_or_not firm why) [
+        | inl named ↦ subst (IsInboxAmong first count) (sym named) among
+        | inr apart ↦
+            let no : ◌≡◌ {A = Result X DayFault} (Err why) (Err (fault.Inbox firm)) → ⊥ =
+            λ is. apart (fault_is (fault.Inbox firm) is) in
+            absurd (no (other_desk (λ same. no (other_inbox (λ all. no (other_answers (λ each.
+            never_ok (given same all each))))))))
       ]
 
   -- a room is another request's
@@ -236,56 +255,3 @@ first_is_of config inboxes sweeps joined of_day (fault.Answered room) e =
 first_is_of config inboxes sweeps joined of_day (fault.Inbox firm) e =
     unleft_is_of config inboxes joined firm of_day e.5
 first_is_of config inboxes sweeps joined of_day fault.Memory e = tt
-
--- What was joined.
-
--- lists that were read are those of the record
-pub day_read : (dealers given : List DealerLists) (whole given_whole : List InvestorLists)
-    (clock given_clock : List Action) → given ≡ dealers → given_whole ≡ whole
-    → given_clock ≡ clock
-    → ◌≡◌ {A = RecordedDay}
-    (record { dealers = given; investors = given_whole; clock = given_clock })
-    (record { dealers = dealers; investors = whole; clock = clock })
-day_read dealers given whole given_whole clock given_clock same same_whole same_clock =
-    ap (λ (own : List DealerLists). let day : RecordedDay =
-    record { dealers = own; investors = given_whole; clock = given_clock } in day) same
-    ∙ ap (λ (own : List InvestorLists). let day : RecordedDay =
-    record { dealers = dealers; investors = own; clock = given_clock } in day) same_whole
-    ∙ ap (λ (own : List Action). let day : RecordedDay =
-    record { dealers = dealers; investors = whole; clock = own } in day) same_clock
-
--- the days of dealers and investors, each with its session's inbox
-pub joined_is_of : {S : Type 0} (inbox_of : S → List Inbound) (config : Configuration)
-    (first from : ℕ) (sessions front behind : List S) (counts : List ℕ) (joined : JoinedDay)
-    → first ≡ length config.dealers → from ≡ first
-    → length sessions ≡ length config.dealers + length config.investors
-    → front ≡ take from sessions → behind ≡ drop from sessions
-    → map (λ (day : DealerLists). day.inbox) joined.dealers ≡ map inbox_of front
-    → map (λ (day : InvestorLists). day.inbox) joined.investors ≡ map inbox_of behind
-    → names_of joined.rooms ≡ names_by first counts → counts ≡ requests_of config.investors
-    → DealersKeep config joined.dealers → InvestorsKeep config joined.investors
-    → IsJoinedOf config (map inbox_of sessions) joined
-joined_is_of inbox_of config first from sessions front behind counts joined first_is from_is all
-    front_is behind_is dealers investors rooms counted dealers_keep investors_keep =
-    let before : length front ≡ from = ap length front_is
-    ∙ length-take-le from sessions (omega (arith, first_is, from_is, all)) in
-    let left : length behind ≡ length sessions - from = ap length behind_is
-    ∙ length-drop from sessions in
-    let dealer_days : length joined.dealers ≡ length front =
-    sym (length-map joined.dealers (λ (day : DealerLists). day.inbox)) ∙ ap length dealers
-    ∙ length-map front inbox_of in
-    let investor_days : length joined.investors ≡ length behind =
-    sym (length-map joined.investors (λ (day : InvestorLists). day.inbox)) ∙ ap length investors
-    ∙ length-map behind inbox_of in
-    record {
-      dealers_are = omega (arith, dealer_days, before, from_is, first_is);
-      investors_are = omega (arith, investor_days, left, from_is, first_is, all);
-      rooms_are = rooms ∙ ap (λ n. names_by n counts) first_is
-          ∙ ap (names_by (length config.dealers)) counted;
-      inboxes_are = ap (λ own. own ++ map (λ (day : InvestorLists). day.inbox) joined.investors)
-          dealers
-          ∙ ap (λ own. map inbox_of front ++ own) investors
-          ∙ parts_read inbox_of from sessions front behind front_is behind_is;
-      dealers_keep = dealers_keep;
-      investors_keep = investors_keep;
-    }

@@ -26,6 +26,7 @@ use Rattle.session_worker.specs.DayChecks.{DayRoom, came_from_dealer, came_from_
 use Rattle.session_worker.specs.KeptDays.{DealerKeeps, DealersKeep, DealerStands, DealersStand}
 use Rattle.session_worker.specs.KeptDays.{InvestorKeeps, InvestorsKeep, RoomStands, RoomsStand}
 use Rattle.session_worker.specs.KeptDays.{answers_to, without_rooms}
+use Rattle.session_worker.specs.LeftResponses.{responses_answered, responses_left}
 use Rattle.session_worker.specs.Locks.{KeepsDealer, StandsIn, answers_at, answers_in}
 use Rattle.session_worker.proofs.DealerAnswers.{SentTheirView}
 use Rattle.session_worker.proofs.DealerLockLemmas.{view_is_seen}
@@ -95,8 +96,9 @@ pub investor_day_keeps : (config : Configuration) (firm : ℕ) (desk : InvestorE
       inbox = inbox;
       actions = actions;
       rooms = rooms;
-    } → came_from_investor desk.events ≡ inbox → InvestorKeeps config firm day
-investor_day_keeps config firm desk order inbox actions rooms day market here is own =
+    } → came_from_investor desk.events ≡ inbox
+    → responses_answered desk.events ≡ responses_left desk → InvestorKeeps config firm day
+investor_day_keeps config firm desk order inbox actions rooms day market here is own answered =
     let keeps : InvestorKeeps config firm (record {
       sent = investor_output desk.market desk.events;
       lines = request_lines (investor_book desk);
@@ -111,6 +113,7 @@ investor_day_keeps config firm desk order inbox actions rooms day market here is
       sent_is = refl;
       lines_is = refl;
       own_is = own;
+      answers_are = answered;
     } in
     subst (InvestorKeeps config firm) (sym is) keeps
 
@@ -138,6 +141,9 @@ keeps_alike config firm x y same keeps =
       lines_is = lines ∙ keeps.lines_is ∙ ap (λ own. request_lines (investor_book
           (record { market = keeps.market; events = own }))) (sym events);
       own_is = ap came_from_investor events ∙ keeps.own_is ∙ sym inbox;
+      answers_are = ap responses_answered events ∙ keeps.answers_are
+          ∙ ap (λ own. responses_left (record { market = keeps.market; events = own }))
+          (sym events);
     }
 
 -- the desk of a dealer

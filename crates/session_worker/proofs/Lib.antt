@@ -9,7 +9,9 @@ pub mod DealerAnswers
 pub mod DealerLockLemmas
 pub mod FaultLemmas
 pub mod InboxLemmas
+pub mod JoinedLemmas
 pub mod KeepLemmas
+pub mod LeftLemmas
 pub mod LockLemmas
 pub mod MovedLists
 pub mod OutputLemmas

@@ -2,7 +2,7 @@
 use Rattle.std.proofs.Common.{◌≡◌, refl, ◌∙◌, sym, ap, subst, ℕ, Bool, true, false, List, [], ◌∷◌}
 use Rattle.std.proofs.Common.{◌++◌, Option, Some, None, All, slice_index_or}
 use Rattle.std.proofs.lemmas.List.Elements.{All-append, All-cons, All-nil, filter_map-append}
-use Rattle.std.specs.Option.{option_map}
+use Rattle.std.specs.Option.{option_map, option_to_list}
 use Rattle.std.proofs.lemmas.Option.{same_Some}
 use Rattle.quote_word.specs.Board.{BoardName, Front, SettlesOnBoard}
 use Rattle.quote_word.specs.BoardLaws.{board_keeps_entries}
@@ -12,12 +12,15 @@ use Rattle.quote_word.specs.declared.settled.Settled.TheVariants.{Lifted}
 use Rattle.quote_word.specs.declared.settled.Settlement.{Settlement}
 use Rattle.venue_rows.specs.Rows.{Configuration, investor_numbered}
 use Rattle.venue_steps.specs.Words.{AsksAtMost, SettlesSo, settlement_in}
-use Rattle.venue_steps.specs.InvestorSteps.{where_so}
+use Rattle.venue_steps.specs.InvestorSteps.{desk_after_own, duties_of_own, where_so}
 use Rattle.venue_steps.specs.RoomSteps.{hit_word, where_done, word_asked_by}
 use Rattle.investor_desk.specs.InvestorDesk.{DeskEvents as InvestorEvents, market_for, market_of}
-use Rattle.investor_desk.specs.InvestorDesk.{no_events}
+use Rattle.investor_desk.specs.InvestorDesk.{no_events, verdict_at}
+use Rattle.investor_desk.specs.InvestorOutput.{verdict_duty}
 use Rattle.investor_desk.specs.declared.events.InvestorEvent.{InvestorEvent}
+use Rattle.investor_desk.specs.declared.events.InvestorEvent.TheVariants as at_investor
 use Rattle.market_terms.specs.declared.closes.HitRefusal.{HitRefusal}
+use Rattle.market_terms.specs.declared.duties.Duty.{Duty}
 use Rattle.market_terms.specs.declared.rooms.RoomRef.{RoomRef}
 use Rattle.request_room.specs.Book.{hit_refusal, room_after, word_or}
 use Rattle.request_room.specs.declared.events.RoomEvent.{RoomEvent}
@@ -25,6 +28,10 @@ use Rattle.request_room.specs.declared.events.RoomEvent.TheVariants as in_room
 use Rattle.venue_rows.specs.declared.investor_rows.InvestorRow.{InvestorRow}
 use Rattle.session_worker.specs.Locks.{Answer, KeepsInvestor, KeepsRoom, StandsIn, answered_hit}
 use Rattle.session_worker.specs.Locks.{answers_in}
+use Rattle.session_worker.specs.LeftResponseWords.{response_in}
+use Rattle.session_worker.specs.LeftResponses.{response_left, responses_left}
+use Rattle.session_worker.specs.declared.left_responses.LeftResponse.{LeftResponse}
+use Rattle.session_worker.proofs.LeftLemmas.{first_left, left_more, left_stays}
 
 -- what a word is, as a token has seen it
 abbrev pub entry_seen : Front → ℕ → Option Settled
@@ -71,14 +78,41 @@ pub market_stays : (may : Bool) (desk : InvestorEvents) (more : InvestorEvent)
 market_stays true desk more = refl
 market_stays false desk more = refl
 
--- a desk that may have one event more
-pub told_kept : (config : Configuration) (desk after : InvestorEvents) (may : Bool)
-    (more : InvestorEvent) → KeepsInvestor config desk → after ≡ where_so may desk more
-    → KeepsInvestor config after
-told_kept config desk after may more keeps is =
-    let same : after.market ≡ desk.market =
-    ap (λ (d : InvestorEvents). d.market) is ∙ market_stays may desk more in
+-- the same desk, of the configuration
+market_kept : (config : Configuration) (desk after : InvestorEvents)
+    → after.market ≡ desk.market → market_for config desk.market.firm ≡ Some desk.market
+    → market_for config after.market.firm ≡ Some after.market
+market_kept config desk after same keeps =
     subst (λ m. market_for config m.firm ≡ Some m) (sym same) keeps
+
+-- a desk that may have one event more, by which no response is left
+pub told_kept : (config : Configuration) (desk after : InvestorEvents) (left : List LeftResponse)
+    (may : Bool) (more : InvestorEvent) → response_left desk more ≡ None
+    → KeepsInvestor config desk left → after ≡ where_so may desk more
+    → KeepsInvestor config after left
+told_kept config desk after left may more none keeps is = record {
+  market_is = market_kept config desk after
+      (ap (λ (d : InvestorEvents). d.market) is ∙ market_stays may desk more) keeps.market_is;
+  left_is = keeps.left_is ∙ sym (ap responses_left is ∙ left_stays desk may more none);
+}
+
+-- a desk to which a message of the investor's own came, with the responses that it left
+pub own_kept : (config : Configuration) (desk after : InvestorEvents) (left : List LeftResponse)
+    (moment : ℕ) (bytes : List ℕ) (duties : List Duty) (one : Option LeftResponse)
+    → KeepsInvestor config desk left → after ≡ desk_after_own desk moment bytes
+    → duties ≡ duties_of_own desk moment bytes → one ≡ response_in duties
+    → KeepsInvestor config after (left ++ option_to_list one)
+own_kept config desk after left moment bytes duties one keeps is from found =
+    let more = at_investor.Received moment bytes in
+    let here : one ≡ response_left desk more = found ∙ ap response_in from
+    ∙ first_left (verdict_duty desk.market moment (verdict_at desk moment bytes)) in
+    record {
+      market_is = market_kept config desk after (ap (λ (d : InvestorEvents). d.market) is)
+          keeps.market_is;
+      left_is = ap (λ own. own ++ option_to_list one) keeps.left_is
+          ∙ ap (λ own. responses_left desk ++ option_to_list own) here
+          ∙ sym (ap responses_left is ∙ left_more desk more);
+    }
 
 -- what is there is not none
 pub some_is_none : {X : Type 0} (x : X) → Some x ≡ None → ⊥
@@ -88,16 +122,20 @@ some_is_none x is = cc
 pub opened_with : (config : Configuration) (firm : ℕ) (desk : InvestorEvents)
     (row : Option InvestorRow) → investor_numbered config firm ≡ row
     → Some desk ≡ option_map no_events (option_map (market_of config firm) row)
-    → KeepsInvestor config desk
+    → KeepsInvestor config desk []
 opened_with config firm desk None found is = absurd (some_is_none desk is)
 opened_with config firm desk (Some row) found is =
     let desk_is : desk ≡ no_events (market_of config firm row) = same_Some _ _ is in
-    subst (KeepsInvestor config) (sym desk_is) (ap (option_map (market_of config firm)) found)
+    let keeps : KeepsInvestor config (no_events (market_of config firm row)) [] = record {
+      market_is = ap (option_map (market_of config firm)) found;
+      left_is = refl;
+    } in
+    subst (λ own. KeepsInvestor config own []) (sym desk_is) keeps
 
 -- a desk without an event
 pub opened_keeps : (config given : Configuration) (firm : ℕ) (desk : InvestorEvents)
     → given ≡ config → Some desk ≡ option_map no_events (market_for given firm)
-    → KeepsInvestor config desk
+    → KeepsInvestor config desk []
 opened_keeps config given firm desk same is =
     let here : Some desk ≡ option_map no_events (market_for config firm) = rw (← same) is in
     opened_with config firm desk (investor_numbered config firm) refl here

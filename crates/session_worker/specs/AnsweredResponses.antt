@@ -1,14 +1,17 @@
 -- What investors are answered, however the threads of a day ran: the hits and passes in a room, in
 -- their order, have the replies that its investor's desk was answered for that request, each at the
--- moment of its response, and there are no others.
+-- moment of its response, and there are no others. Where a sweep ended the room, that desk was told
+-- so once, at the moment of that sweep, and else it was not told so.
 --
 -- One session alone makes the hits and passes of a room, that of its investor, and it brings the
 -- reply to each to its own desk before it takes the next message. So they come in the room's order,
--- also where they were refused, and where the room has ended.
+-- also where they were refused, and where the room has ended. That it ended by a sweep comes from
+-- the clock in its own time, so a reply to a later response may have come before.
 use Rattle.std.specs.Prelude.{ℕ, Bool, true, false, ◌&&◌, ◌==◌, not, List, [], ◌∷◌, Option, Some}
 use Rattle.std.specs.Prelude.{None, if◌then◌else◌}
 use Rattle.std.specs.Cmp.Lexicographic.{pointwise}
 use Rattle.std.specs.List.{filter_map}
+use Rattle.std.specs.Str.{bytes_eq}
 use Rattle.market_terms.specs.declared.closes.HitRefusal.{HitRefusal}
 use Rattle.market_terms.specs.declared.closes.HitRefusal.TheVariants as refusal
 use Rattle.market_terms.specs.declared.closes.Reply.{Reply}
@@ -56,25 +59,51 @@ same_reply one other =
 abbrev pub reply_left : RoomOutput → Option RoomReply
 reply_left (output.Quote quote) = None
 reply_left (output.Reply reply) = Some reply
+reply_left (output.Expired moment) = None
 
 -- the reply that came
 abbrev pub reply_arrived : Arrival → Option RoomReply
 reply_arrived (arrival.Quote offer) = None
 reply_arrived (arrival.Reply reply) = Some reply
+reply_arrived (arrival.Expired moment) = None
+
+-- Expiries.
+
+-- the moment at which a room left that its request expired
+abbrev pub expiry_left : RoomOutput → Option ℕ
+expiry_left (output.Quote quote) = None
+expiry_left (output.Reply reply) = None
+expiry_left (output.Expired moment) = Some moment
+
+-- the moment of an expiry that came
+abbrev pub expiry_arrived : Arrival → Option ℕ
+expiry_arrived (arrival.Quote offer) = None
+expiry_arrived (arrival.Reply reply) = None
+expiry_arrived (arrival.Expired moment) = Some moment
 
 -- Rooms.
 
 -- whether the replies that a room left are, one by one, those that came
-abbrev pub are_answered : List RoomOutput → List Arrival → Bool
-are_answered outputs arrivals =
+abbrev pub have_replies : List RoomOutput → List Arrival → Bool
+have_replies outputs arrivals =
     pointwise same_reply (filter_map reply_left outputs) (filter_map reply_arrived arrivals)
+
+-- whether the expiries that a room left are, one by one, those that came
+abbrev pub have_expiries : List RoomOutput → List Arrival → Bool
+have_expiries outputs arrivals =
+    bytes_eq (filter_map expiry_left outputs) (filter_map expiry_arrived arrivals)
+
+-- whether the replies and the expiry that a room left are those that came
+abbrev pub are_answered : List RoomOutput → List Arrival → Bool
+are_answered outputs arrivals = have_replies outputs arrivals && have_expiries outputs arrivals
 
 -- the same of a room with these outputs, where it has any
 abbrev pub are_answered_where : Option (List RoomOutput) → List Arrival → Bool
 are_answered_where None arrivals = false
 are_answered_where (Some outputs) arrivals = are_answered outputs arrivals
 
--- whether the hits and passes of a room were answered, where this came from the room
+-- whether the hits and passes of a room were answered, and its expiry told, where this came from
+-- the room
 abbrev pub is_answered : List Arrival → DayRoom → Bool
 is_answered arrivals room = are_answered_where (outputs_of room.day.events) arrivals
 

@@ -1,5 +1,6 @@
--- What came to the desks of investors from the rooms of their requests: quotes, and the replies to
--- hits and passes. (What comes to a desk for a request that was not accepted there has no effect.)
+-- What came to the desks of investors from the rooms of their requests: quotes, the replies to hits
+-- and passes, and that a request expired. (What comes to a desk for a request that was not accepted
+-- there has no effect.)
 use Rattle.std.specs.Prelude.{ℕ, ◌+◌, List, [], ◌∷◌, ◌++◌, Option, Some, None, is_some}
 use Rattle.std.specs.Prelude.{if◌then◌else◌}
 use Rattle.std.specs.List.{filter_map}
@@ -26,6 +27,8 @@ arrival_from room investor (at_investor.QuoteCame request offer moment) =
 arrival_from room investor (at_investor.Answered request response reply moment) =
     where_same room (room_named investor request)
     (arrival.Reply (record { to_hit = is_some response.k; moment = moment; reply = reply }))
+arrival_from room investor (at_investor.Closed request moment) =
+    where_same room (room_named investor request) (arrival.Expired moment)
 arrival_from room investor other = None
 
 -- all that came from it by these events, in their order

@@ -8,7 +8,7 @@ abbrev pub fault_text : DayFault → List ℕ
 fault_text fault.Memory = codes "out of memory"
 fault_text (fault.Inbox firm) =
     codes "the desk of firm " ++ decimal firm
-    ++ codes " does not have the messages that came to it, or its actions"
+    ++ codes " does not have its messages, their answers or its actions"
 fault_text (fault.Told dealer) =
     codes "dealer " ++ decimal dealer ++ codes " was not told how its requests ended"
 fault_text (fault.Sweep room) =

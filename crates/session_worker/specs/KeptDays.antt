@@ -31,6 +31,7 @@ use Rattle.session_worker.specs.AnsweredResponses.{first_unanswered}
 use Rattle.session_worker.specs.DayActions.{EventsAreOfActions}
 use Rattle.session_worker.specs.DayChecks.{DayRoom, came_from_dealer, came_from_investor}
 use Rattle.session_worker.specs.DayChecks.{first_unswept, first_untold}
+use Rattle.session_worker.specs.LeftResponses.{responses_answered, responses_left}
 use Rattle.session_worker.specs.Locks.{Answer, StandsIn, answers_at, answers_in}
 use Rattle.session_worker.specs.RelayedQuotes.{first_unrelayed}
 use Rattle.session_worker.specs.ShownRequests.{first_unshown}
@@ -102,8 +103,9 @@ DealersKeep config dealers = (firm : ℕ) (dealer : DealerLists)
     → slice_get dealers firm ≡ Some dealer → DealerKeeps config firm dealer
 
 -- What is recorded of an investor: what it was sent, and its blotter, follow from what the venue
--- has for it and from the events at its desk, and the messages that came from it, by these events,
--- are its inbox in order and each once.
+-- has for it and from the events at its desk; the messages that came from it, by these events, are
+-- its inbox in order and each once; and the hits and passes that they left are, in order and each
+-- once, what was answered at its desk.
 pub record InvestorKeeps (config : Configuration) (firm : ℕ) (investor : InvestorLists) : Type 0
   where
     pub market : InvestorMarket
@@ -112,6 +114,8 @@ pub record InvestorKeeps (config : Configuration) (firm : ℕ) (investor : Inves
     pub lines_is : investor.lines ≡ request.lines_of
         (at_investor.book_at (record { market = market; events = investor.events }))
     pub own_is : came_from_investor investor.events ≡ investor.inbox
+    pub answers_are : responses_answered investor.events
+        ≡ responses_left (record { market = market; events = investor.events })
 
 -- what is recorded of all investors: their numbers as firms go on behind those of the dealers
 abbrev pub InvestorsKeep : Configuration → List InvestorLists → Type 0
@@ -172,8 +176,8 @@ pub record AnswersAgree (config : Configuration) (day : RecordedDay) : Type 0 wh
 -- swept as the clock was told; each dealer was shown once the request of each room that names it,
 -- as it was asked, and nothing else; the quotes that took effect in each room came to its investor,
 -- each dealer's in order and as they were posted, and no others; so did, in order, the replies to
--- its hits and passes; all settlements of one word agree; and each event is that of an action at
--- its desk or in its room.
+-- its hits and passes, and that it expired, where it did; all settlements of one word agree; and
+-- each event is that of an action at its desk or in its room.
 pub record KeepsDay (config : Configuration) (inboxes : List (List Inbound)) (sweeps : List Sweep)
     (day : RecordedDay) : Type 0 where
   pub dealers_are : length day.dealers ≡ length config.dealers

@@ -6,6 +6,8 @@ pub mod DayFaults
 pub mod FaultTexts
 pub mod Inbox
 pub mod KeptDays
+pub mod LeftResponseWords
+pub mod LeftResponses
 pub mod Locks
 pub mod NextItems
 pub mod RelayedQuotes

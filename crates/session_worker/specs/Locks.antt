@@ -20,6 +20,8 @@ use Rattle.recorded_days.specs.DayDues.{AreAnswered}
 use Rattle.recorded_days.specs.Records.{ActionRef}
 use Rattle.venue_rows.specs.Rows.{Configuration, dealer_numbered, has_room}
 use Rattle.venue_steps.specs.Words.{word_of}
+use Rattle.session_worker.specs.LeftResponses.{responses_left}
+use Rattle.session_worker.specs.declared.left_responses.LeftResponse.{LeftResponse}
 
 -- Answers.
 
@@ -85,9 +87,12 @@ pub record KeepsDealer (board : BoardName) (config : Configuration) (firm first 
   pub answered : AreAnswered desk
   pub answers_stand : All (StandsIn seen.log) (answers_at first desk)
 
--- under the lock of an investor lies the desk of an investor of the configuration
-abbrev pub KeepsInvestor : Configuration → investor.DeskEvents → Type 0
-KeepsInvestor config desk = market_for config desk.market.firm ≡ Some desk.market
+-- Under the lock of an investor lies the desk of an investor of the configuration, and beside it
+-- the responses that the investor's messages left, of which no view tells.
+pub record KeepsInvestor (config : Configuration) (desk : investor.DeskEvents)
+    (left : List LeftResponse) : Type 0 where
+  pub market_is : market_for config desk.market.firm ≡ Some desk.market
+  pub left_is : left ≡ responses_left desk
 
 -- Under the lock of a room lies a room of the configuration. The token is one of the venue's board,
 -- and each word that was hit in the room is in its log as it was settled.

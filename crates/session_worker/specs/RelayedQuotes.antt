@@ -52,11 +52,13 @@ abbrev pub quote_by : ℕ → RoomOutput → Option PostedQuote
 quote_by dealer (output.Quote quote) =
     if quote.posted.dealer == dealer then Some quote.posted else None
 quote_by dealer (output.Reply reply) = None
+quote_by dealer (output.Expired moment) = None
 
 -- a quote that came under this name
 abbrev pub offer_under : List ℕ → Arrival → Option Offer
 offer_under name (arrival.Quote offer) = if bytes_eq offer.dealer name then Some offer else None
 offer_under name (arrival.Reply reply) = None
+offer_under name (arrival.Expired moment) = None
 
 -- whether quotes are shown as they were posted, one by one
 abbrev pub are_as_posted : List PostedQuote → List Offer → Bool
@@ -79,11 +81,13 @@ came_as_posted dealer (Some row) outputs arrivals =
 abbrev pub is_quote_left : RoomOutput → Bool
 is_quote_left (output.Quote quote) = true
 is_quote_left (output.Reply reply) = false
+is_quote_left (output.Expired moment) = false
 
 -- whether it is a quote that came
 abbrev pub is_quote_arrived : Arrival → Bool
 is_quote_arrived (arrival.Quote offer) = true
 is_quote_arrived (arrival.Reply reply) = false
+is_quote_arrived (arrival.Expired moment) = false
 
 -- whether the quotes of these dealers that a room left came as they were posted, and no others
 abbrev pub are_relayed : Configuration → List ℕ → List RoomOutput → List Arrival → Bool

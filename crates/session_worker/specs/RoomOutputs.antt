@@ -1,13 +1,14 @@
 -- What the events in a room leave for the desk of its investor: each quote that took effect there,
--- and each reply to a hit or a pass. (That a quote is gone, that a dealer declined and that the
--- room ended come to that desk, too, and are not among these.)
+-- each reply to a hit or a pass, and that the request expired. (That a quote is gone and that a
+-- dealer declined come to that desk, too, and are not among these.)
 use Rattle.std.specs.Prelude.{ℕ, Bool, true, false, List, [], ◌∷◌, Option, Some, None, is_some}
 use Rattle.std.specs.Prelude.{is_none, Result, is_ok, if◌then◌else◌}
 use Rattle.std.specs.Option.{option_map}
 use Rattle.market_terms.specs.declared.closes.HitRefusal.{HitRefusal}
 use Rattle.market_terms.specs.declared.closes.Reply.{Reply}
 use Rattle.quote_word.specs.declared.settled.Settled.{Settled}
-use Rattle.request_room.specs.Book.{after_event, hit_outcome, hit_question, quote_posted, reply_of}
+use Rattle.request_room.specs.Book.{after_event, hit_outcome, hit_question, may_expire}
+use Rattle.request_room.specs.Book.{quote_posted, reply_of}
 use Rattle.request_room.specs.RoomFacts.{RoomFact, hears, is_open, is_opening, is_vacant}
 use Rattle.request_room.specs.RoomFacts.{takes_quotes}
 use Rattle.request_room.specs.declared.events.RoomEvent.{RoomEvent}
@@ -41,8 +42,8 @@ abbrev pub replied : Bool → ℕ → Reply → Option RoomOutput
 replied to_hit moment reply =
     Some (output.Reply (record { to_hit = to_hit; moment = moment; reply = reply }))
 
--- What an event leaves for the investor in a room with these facts: a quote that takes effect, or
--- the reply to a hit or a pass.
+-- What an event leaves for the investor in a room with these facts: a quote that takes effect, the
+-- reply to a hit or a pass, or that the request expired, by a sweep that ends the room.
 abbrev pub output_of : List RoomFact → RoomEvent → Option RoomOutput
 output_of facts (in_room.Post dealer word price valid_until) =
     if takes_quotes facts
@@ -51,6 +52,8 @@ output_of facts (in_room.Post dealer word price valid_until) =
 output_of facts (in_room.Hit word moment settlement) =
     replied true moment (reply_of (hit_outcome facts word moment settlement))
 output_of facts (in_room.Pass moment) = replied false moment (reply_to_pass (is_open facts))
+output_of facts (in_room.Expire moment) =
+    if may_expire facts moment then Some (output.Expired moment) else None
 output_of facts other = None
 
 -- what is left, and what else is behind it

@@ -1,4 +1,5 @@
-//! Whether the hits and passes of each room were answered as the room replied.
+//! Whether the hits and passes of each room were answered as the room replied, and its investor was
+//! told where it expired.
 ghost use Rattle.std.specs.Prelude.{◌≡◌, ◌∷◌, [], length, IfOk, IfNone, IfSome};
 ghost use Rattle.std.specs.List.{filter_map};
 ghost use Rattle.session_worker.specs.AnsweredResponses as spec;
@@ -7,16 +8,17 @@ ghost use Rattle.session_worker.specs.SweptRooms.{list_of};
 use crate::arrivals::{Arrival, arrivals_by_room, arrivals_of, firms_are_few};
 use crate::day_rooms::DayRoom;
 use crate::room_outputs::{RoomOutput, RoomReply, outputs_of};
-use fix_fields::Memory;
+use fix_fields::{Memory, Moment};
 use market_terms::{HitRefusal, Reply, RoomRef};
 use recorded_days::InvestorDay;
 use std::alloc::Global;
 use std::collections::BTreeMap;
 use venue_rows::VenueConfig;
 
-/// The first room whose hits and passes were not answered as the room replied: each in its order,
-/// with that reply at its moment, and nothing else. The rooms are those of the day, each once, and
-/// the investors those of the venue. It fails for memory alone.
+/// The first room whose hits and passes were not answered as the room replied, each in its order
+/// and with that reply at its moment, and nothing else, or whose investor was not told once that it
+/// expired, where a sweep ended it. The rooms are those of the day, each once, and the investors
+/// those of the venue. It fails for memory alone.
 pub(crate) fn answer_fault(
     alloc: Global,
     config: &VenueConfig,
@@ -39,7 +41,7 @@ pub(crate) fn answer_fault(
     Ok(None)
 }
 
-/// Whether the hits and passes of a room were answered as the room replied.
+/// Whether the hits and passes of a room were answered as the room replied, and its expiry told.
 fn is_answered(
     alloc: Global,
     by_room: &BTreeMap<RoomRef, Vec<Arrival>>,
@@ -55,9 +57,19 @@ fn is_answered(
     Ok(answered)
 }
 
-/// Whether the replies that a room left are, one by one, those that came.
+/// Whether the replies and the expiry that a room left are those that came.
 fn are_answered(outputs: &[RoomOutput], arrivals: &[Arrival]) -> bool
     ensures { result ≡ spec.are_answered outputs.now arrivals.now }
+{
+    if !have_replies(outputs, arrivals) {
+        return false;
+    }
+    have_expiries(outputs, arrivals)
+}
+
+/// Whether the replies that a room left are, one by one, those that came.
+fn have_replies(outputs: &[RoomOutput], arrivals: &[Arrival]) -> bool
+    ensures { result ≡ spec.have_replies outputs.now arrivals.now }
 {
     let mut outputs = outputs;
     let mut arrivals = arrivals;
@@ -90,6 +102,45 @@ fn next_reply<'a>(arrivals: &'a [Arrival]) -> Option<(RoomReply, &'a [Arrival])>
             continue;
         };
         return Some((*reply, later));
+    }
+    None
+}
+
+/// Whether the expiries that a room left are, one by one, those that came.
+fn have_expiries(outputs: &[RoomOutput], arrivals: &[Arrival]) -> bool
+    ensures { result ≡ spec.have_expiries outputs.now arrivals.now }
+{
+    let mut outputs = outputs;
+    let mut arrivals = arrivals;
+    while let Some((output, later)) = outputs.split_first() {
+        outputs = later;
+        let RoomOutput::Expired(moment) = output else {
+            continue;
+        };
+        let Some((own, behind)) = next_expiry(arrivals) else {
+            return false;
+        };
+        if *moment != own {
+            return false;
+        }
+        arrivals = behind;
+    }
+    next_expiry(arrivals).is_none()
+}
+
+/// The moment of the next expiry that came, and what came behind it.
+fn next_expiry<'a>(arrivals: &'a [Arrival]) -> Option<(Moment, &'a [Arrival])>
+    ensures none { IfNone result (filter_map spec.expiry_arrived arrivals.entry.now ≡ []) }
+    ensures next { IfSome result (λ next. filter_map spec.expiry_arrived arrivals.entry.now
+        ≡ next.0 ∷ filter_map spec.expiry_arrived next.1.now) }
+{
+    let mut rest = arrivals;
+    while let Some((arrival, later)) = rest.split_first() {
+        rest = later;
+        let Arrival::Expired(moment) = arrival else {
+            continue;
+        };
+        return Some((*moment, later));
     }
     None
 }

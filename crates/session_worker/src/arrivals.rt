@@ -5,7 +5,7 @@ ghost use Rattle.session_worker.specs.NextItems.{with_next};
 ghost use Rattle.session_worker.specs.SweptRooms.{list_of};
 
 use crate::room_outputs::RoomReply;
-use fix_fields::Memory;
+use fix_fields::{Memory, Moment};
 use investor_desk::InvestorEvent;
 use market_terms::{Offer, RoomRef};
 use recorded_days::InvestorDay;
@@ -20,6 +20,8 @@ pub(crate) enum Arrival {
     Quote(Offer),
     /// The reply to a hit or a pass.
     Reply(RoomReply),
+    /// That the request expired, by a sweep at this moment.
+    Expired(Moment),
 }
 
 /// A law: the firms of a venue are few enough for their numbers. It does nothing.
@@ -95,6 +97,10 @@ fn put_event(
                 moment: *moment,
                 reply: *reply,
             });
+            put(alloc, by_room, room_named(firm, *request), what)
+        }
+        InvestorEvent::Closed { request, moment } => {
+            let what = Arrival::Expired(*moment);
             put(alloc, by_room, room_named(firm, *request), what)
         }
         _ => Ok(()),

@@ -15,7 +15,8 @@ pub enum DayFault {
     /// Memory was refused.
     Memory,
     /// The desk of the firm with this number is another firm's, a room of its requests is another
-    /// request's, or its own events are not its inbox. Of several such firms it is the first. Also,
+    /// request's, its own events are not its inbox, or, of an investor, what its desk was answered
+    /// are not the responses that its messages left. Of several such firms it is the first. Also,
     /// looked at last: an event at its desk, or in a room of its requests, is not that of an action
     /// there.
     Inbox(u16),
@@ -31,7 +32,7 @@ pub enum DayFault {
     /// dealer's in order and as they were posted.
     Relayed(RoomRef),
     /// The replies to the hits and passes in this room are not those that its investor was
-    /// answered, in their order.
+    /// answered, in their order, or it was not told once that the request expired, where it did.
     Answered(RoomRef),
 }
 
@@ -45,7 +46,7 @@ impl fmt::Display for DayFault {
             DayFault::Memory => write!(f, "out of memory"),
             DayFault::Inbox(firm) => write!(
                 f,
-                "the desk of firm {firm} does not have the messages that came to it, or its actions"
+                "the desk of firm {firm} does not have its messages, their answers or its actions"
             ),
             DayFault::Told(dealer) => {
                 write!(f, "dealer {dealer} was not told how its requests ended")

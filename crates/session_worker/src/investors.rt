@@ -6,6 +6,7 @@ ghost use Rattle.investor_desk.specs.InvestorOutput.{investor_output};
 ghost use Rattle.investor_desk.specs.RequestLines.{lines_of};
 ghost use Rattle.session_worker.specs.DayChecks.{came_from_investor};
 ghost use Rattle.session_worker.specs.KeptDays.{InvestorKeeps};
+ghost use Rattle.session_worker.specs.LeftResponses.{responses_answered, responses_left};
 ghost use Rattle.session_worker.specs.Locks.{with_action};
 ghost use Rattle.session_worker.specs.declared.faults.DayFault.TheVariants as fault;
 ghost use Rattle.venue_rows.specs.Rows.{investor_numbered};
@@ -17,6 +18,7 @@ use crate::day_checks::is_inbox_of_investor;
 use crate::done::Done;
 use crate::faults::DayFault;
 use crate::joined::Session;
+use crate::left_responses::{LeftResponse, are_answered, response_in};
 use crate::naming::Naming;
 use fix_fields::{Memory, Moment};
 use investor_desk::InvestorDesk;
@@ -28,11 +30,12 @@ use venue_places::{ForInvestor, bring_to_investor};
 use venue_rows::VenueConfig;
 use venue_steps::own_investor;
 
-/// An investor's desk, and the order of the actions on it. No action there asks a word, so no token
-/// lies beside it.
+/// An investor's desk, the responses that the investor's messages left, and the order of the
+/// actions on the desk. No action there asks a word, so no token lies beside it.
 #[derive(Drop)]
 pub(crate) struct LockedInvestor<J: Naming> {
     desk: InvestorDesk,
+    left: Vec<LeftResponse>,
     order: Vec<(Actor, u64)>,
     of: PhantomData<J>,
 }
@@ -44,7 +47,7 @@ impl<J: Naming> Model for LockedInvestor<J> {
 
     ghost view = { λ locked. record { desk = locked.desk; order = locked.order.items } };
 
-    ghost invariant = { λ locked. KeepsInvestor J.config locked.desk };
+    ghost invariant = { λ locked. KeepsInvestor J.config locked.desk locked.left.items };
 }
 
 impl<J: Naming> LockedInvestor<J> {
@@ -56,6 +59,7 @@ impl<J: Naming> LockedInvestor<J> {
         let desk = InvestorDesk::new(alloc, config, firm)?;
         Ok(LockedInvestor {
             desk,
+            left: Vec::new(alloc),
             order: Vec::new(alloc),
             of: PhantomData,
         })
@@ -85,8 +89,13 @@ impl<J: Naming> LockedInvestor<J> {
         ensures err { OnErr result (self.new ≡ self.old) }
     {
         self.order.reserve(1)?;
+        self.left.reserve(1)?;
         let duties = own_investor(&mut self.desk, moment, bytes)?;
         self.order.push(action)?;
+        let Some(response) = response_in(&duties) else {
+            return Ok(Done::unasked(duties));
+        };
+        self.left.push(response)?;
         Ok(Done::unasked(duties))
     }
 
@@ -113,7 +122,8 @@ impl<J: Naming> LockedInvestor<J> {
 
     /// The day of the investor with this number among the firms, of whose session this is left,
     /// still without its rooms. The fault is that the desk is another investor's, or else that its
-    /// own events are not its inbox.
+    /// own events are not its inbox, or that what it was answered are not the responses that its
+    /// messages left.
     pub(crate) fn day_at(
         self,
         alloc: Global,
@@ -125,13 +135,19 @@ impl<J: Naming> LockedInvestor<J> {
         ensures other_desk { self.desk.market.firm ≢ firm → result ≡ Err (fault.Inbox firm) }
         ensures other_inbox { came_from_investor self.desk.events ≢ session.inbox.items
             → result ≡ Err (fault.Inbox firm) }
+        ensures other_answers { responses_answered self.desk.events ≢ responses_left self.desk
+            → result ≡ Err (fault.Inbox firm) }
         ensures given { self.desk.market.firm ≡ firm
-            → came_from_investor self.desk.events ≡ session.inbox.items → IsOk result }
+            → came_from_investor self.desk.events ≡ session.inbox.items
+            → responses_answered self.desk.events ≡ responses_left self.desk → IsOk result }
     {
         if self.desk.firm() != firm {
             return Err(DayFault::Inbox(firm));
         }
         if !is_inbox_of_investor(self.desk.events(), session.inbox.as_slice()) {
+            return Err(DayFault::Inbox(firm));
+        }
+        if !are_answered(self.desk.events(), self.left.as_slice()) {
             return Err(DayFault::Inbox(firm));
         }
         let day = self.into_day(session, Vec::new(alloc));

@@ -73,7 +73,8 @@ pub(crate) fn dealer_days<J: Naming>(
 
 /// The days of the investors, still without their rooms, which stand in a list of all rooms; and a
 /// token that is later than those of all rooms. The fault is the first investor whose desk is
-/// another's, whose own events are not its inbox, or with a room that is another request's.
+/// another's, whose own events are not its inbox, which was answered what its messages did not
+/// leave, or with a room that is another request's.
 pub(crate) fn investor_days<J: Naming>(
     alloc: Global,
     board: &Board,

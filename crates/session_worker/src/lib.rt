@@ -11,11 +11,11 @@
 //!   ran: it has the venue's firms and rooms, and the inboxes that came; what each firm was sent
 //!   follows from the events at its desk, and each of these is that of an action; each dealer was
 //!   shown the requests that name it, as they were asked, and told how they ended; the quotes that
-//!   took effect in a room came to its investor as they were posted, and so did the room's replies;
-//!   each room was swept as the clock was told, and all settlements of one word agree. With more or
-//!   fewer inboxes than firms there is no day. Else an `Inbox` names a firm of the venue, and any
-//!   other fault but `Memory` is the first of a day of the venue to which these messages came
-//!   (`IsFaultOf` of `specs/DayFaults`).
+//!   took effect in a room came to its investor as they were posted, and so did the room's replies,
+//!   each for the response of its message; each room was swept as the clock was told, and all
+//!   settlements of one word agree. With more or fewer inboxes than firms there is no day. Else an
+//!   `Inbox` names a firm of the venue, and any other fault but `Memory` is the first of a day of the
+//!   venue to which these messages came (`IsFaultOf` of `specs/DayFaults`).
 //! - [`dealers_of_a_day_are_sent_their_view`] and [`dealers_are_isolated_on_threads`]: so a dealer
 //!   is sent what follows from its own row and what was due to it, whatever else the other firms
 //!   did.
@@ -43,6 +43,7 @@ mod inbox;
 mod investors;
 mod joined;
 mod laws;
+mod left_responses;
 mod naming;
 mod notices;
 mod place_events;

@@ -93,6 +93,7 @@ fn is_quote_left(output: &RoomOutput) -> bool
     match output {
         RoomOutput::Quote(_) => true,
         RoomOutput::Reply(_) => false,
+        RoomOutput::Expired(_) => false,
     }
 }
 
@@ -113,6 +114,7 @@ fn is_quote_arrived(arrival: &Arrival) -> bool
     match arrival {
         Arrival::Quote(_) => true,
         Arrival::Reply(_) => false,
+        Arrival::Expired(_) => false,
     }
 }
 

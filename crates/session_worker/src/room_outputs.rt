@@ -1,13 +1,14 @@
-//! What quotes and replies a room leaves for the desk of its investor. A room keeps no list of
-//! them, so what was tried in it is tried in a room once more.
+//! What quotes and replies a room leaves for the desk of its investor, and whether it expired. A
+//! room keeps no list of that, so what was tried in it is tried in a room once more.
 ghost use Rattle.std.specs.Prelude.{◌≡◌, [], ◌∷◌, ◌++◌, IfOk, IsTrue, OnOk};
 ghost use Rattle.std.specs.Option.{option_map};
-ghost use Rattle.request_room.specs.Book.{hit_question, room_after};
+ghost use Rattle.request_room.specs.Book.{hit_question, quote_posted, room_after};
 ghost use Rattle.request_room.specs.RoomFacts as facts;
 ghost use Rattle.session_worker.specs.NextItems.{with_next};
 ghost use Rattle.session_worker.specs.RoomOutputs as spec;
 ghost use Rattle.venue_steps.specs.RoomSteps.{reply_to_pass};
 
+use bond_prices::Ticks;
 use fix_fields::{Memory, Moment};
 use market_terms::{HitRefusal, Reply};
 use quote_word::Settled;
@@ -32,13 +33,15 @@ pub(crate) struct RoomReply {
     pub(crate) reply: Reply,
 }
 
-/// A quote or a reply that an event in a room leaves for the desk of its investor.
+/// What an event in a room leaves for the desk of its investor.
 #[derive(Clone, Copy)]
 pub(crate) enum RoomOutput {
     /// A quote took effect.
     Quote(RoomQuote),
     /// A hit or a pass was decided.
     Reply(RoomReply),
+    /// A sweep at this moment ended the room.
+    Expired(Moment),
 }
 
 /// What these events in a room leave for its investor, in their order: none where one of them may
@@ -127,12 +130,7 @@ fn try_event(
             if !takes_effect {
                 return Ok(());
             }
-            let posted = PostedQuote {
-                dealer: *dealer,
-                word: *word,
-                price: *price,
-                valid_until: *valid_until,
-            };
+            let posted = quote_posted(*dealer, *word, *price, *valid_until);
             push_behind(outputs, RoomOutput::Quote(RoomQuote { posted }))
         }
         RoomEvent::Unpost { dealer, word } => try_unpost(room, *dealer, *word),
@@ -149,7 +147,13 @@ fn try_event(
             let reply = pass_reply(room.pass(*moment)?);
             push_behind(outputs, RoomOutput::Reply(reply_at(false, *moment, reply)))
         }
-        RoomEvent::Expire { moment } => try_expire(room, *moment),
+        RoomEvent::Expire { moment } => {
+            let ended = room.expire(*moment)?;
+            if !ended {
+                return Ok(());
+            }
+            push_behind(outputs, RoomOutput::Expired(*moment))
+        }
     }
 }
 
@@ -162,7 +166,7 @@ fn try_open(room: &mut Room, request: &RoomRequest) -> Result<(), Memory>
     Ok(())
 }
 
-/// Tries an unpost, which leaves no quote and no reply.
+/// Tries an unpost, which leaves nothing here.
 fn try_unpost(room: &mut Room, dealer: u16, word: u32) -> Result<(), Memory>
     requires { IsTrue (facts.hears (room_after room.old) dealer) }
     ensures { OnOk result (room.new ≡ room.old ++ RoomEvent.Unpost dealer word ∷ []) }
@@ -171,7 +175,7 @@ fn try_unpost(room: &mut Room, dealer: u16, word: u32) -> Result<(), Memory>
     Ok(())
 }
 
-/// Tries a decline, which leaves no quote and no reply.
+/// Tries a decline, which leaves nothing here.
 fn try_decline(room: &mut Room, dealer: u16) -> Result<(), Memory>
     requires { IsTrue (facts.hears (room_after room.old) dealer) }
     ensures { OnOk result (room.new ≡ room.old ++ RoomEvent.Decline dealer ∷ []) }
@@ -180,12 +184,16 @@ fn try_decline(room: &mut Room, dealer: u16) -> Result<(), Memory>
     Ok(())
 }
 
-/// Tries a sweep, which leaves no quote and no reply.
-fn try_expire(room: &mut Room, moment: Moment) -> Result<(), Memory>
-    ensures { OnOk result (room.new ≡ room.old ++ RoomEvent.Expire moment ∷ []) }
+/// A quote as it stands once it is posted.
+fn quote_posted(dealer: u16, word: u32, price: Ticks, valid_until: Option<Moment>) -> PostedQuote
+    ensures { result ≡ quote_posted dealer word price valid_until }
 {
-    room.expire(moment)?;
-    Ok(())
+    PostedQuote {
+        dealer,
+        word,
+        price,
+        valid_until,
+    }
 }
 
 /// A reply at the moment of its response.

@@ -1,105 +1,125 @@
 -- What comes to a dealer's desk of a replay does what it should: a request that is shown, and a
--- closing notice.
-use Rattle.std.proofs.Common.{◌≡◌, ℕ, Bool, true, false, if◌then◌else◌, List, [], ◌∷◌, filter_map}
-use Rattle.std.proofs.Common.{Option, Some, None, is_some, refl, ap, ◌∙◌}
-use Rattle.std.specs.Prelude.{slice_get}
-use Rattle.std.specs.List.{list_any}
-use Rattle.std.specs.Vec.{with_item}
-use Rattle.venue_rows.specs.Rows.{Configuration}
-use Rattle.market_terms.specs.declared.closes.Close.{Close}
-use Rattle.market_terms.specs.declared.rooms.RoomRef.{RoomRef}
-use Rattle.dealer_desk.specs.DealerFacts.{DealerBook, Told}
-use Rattle.dealer_desk.specs.DealerDesk.{DeskEvents, rooms_at, with_event, with_notice_in}
-use Rattle.dealer_desk.specs.DealerOutput.{event_facts, number_in, closable}
-use Rattle.dealer_desk.specs.DeskLaws.{withdraws}
+-- closing notice. Such an event asks no word.
+use Rattle.step_replay.proofs.Common.{◌≡◌, ℕ, Bool, true, false, ◌||◌, if◌then◌else◌, List, []}
+use Rattle.step_replay.proofs.Common.{◌++◌, refl, sym, ap, ◌∙◌, subst, ◌∷◌, filter_map, Option}
+use Rattle.step_replay.proofs.Common.{Some, None, is_some, list_any, with_item, append-nil}
+use Rattle.step_replay.proofs.Common.{or-false, Configuration, DeskEvents, with_event, event_facts}
+use Rattle.step_replay.proofs.Common.{withdraws, DealerEvent, Ask, Close, RoomRef, DealerBook}
+use Rattle.step_replay.proofs.Common.{DealerEntry, book_by, was_lifted, was_withdrawn, entries_of}
+use Rattle.step_replay.proofs.Common.{rooms_by, Fact, of_dealer, dealer_of, at_dealer, nothing}
+use Rattle.step_replay.proofs.Common.{told_of, word_if, DealerStands, Does, Stands, WordsStand}
+use Rattle.step_replay.proofs.Common.{word_is, DealerPlace, Floor, due_by_fact, dealer_gets}
+use Rattle.dealer_desk.specs.DealerDesk.{with_notice_in}
+use Rattle.dealer_desk.specs.DealerOutput.{number_in, closable}
+use Rattle.dealer_desk.specs.DealerFacts.{Told}
 use Rattle.dealer_desk.specs.declared.events.DealerEvent.TheVariants as event
-use Rattle.step_replay.specs.DealerTrail.{book_by, rooms_by}
-use Rattle.step_replay.specs.DueList.{due_by_fact}
-use Rattle.step_replay.specs.VenueFacts.{Fact, of_dealer}
-use Rattle.step_replay.specs.Actions.{dealer_of, dealer_at, done_by, at_dealer, nothing, told_to}
-use Rattle.step_replay.specs.Actions.{told_of}
-use Rattle.step_replay.specs.Coming.{dealer_gets}
 use Rattle.venue_places.specs.Brought.{dealer_with}
 use Rattle.venue_places.specs.declared.arrivals.ForDealer.{ForDealer}
 use Rattle.venue_places.specs.declared.arrivals.ForDealer.TheVariants as to_dealer
-use Rattle.step_replay.specs.Standing.{Stands, Does}
-use Rattle.step_replay.specs.declared.floor.DealerPlace.{DealerPlace}
-use Rattle.step_replay.specs.declared.floor.Floor.{Floor}
-use Rattle.step_replay.proofs.FoundDealers.{Found, dealer_found, by_found, book_is}
-use Rattle.step_replay.proofs.UnaskedEvents.{idle_stands, unasked_stands, show_does}
+use Rattle.step_replay.proofs.AskedWords.{word_grown}
+use Rattle.step_replay.proofs.FloorLemmas.{event_stands, at_dealer_stands, with_dealers}
+use Rattle.step_replay.proofs.FloorLemmas.{all_dealers}
+use Rattle.step_replay.proofs.FoundDealers.{Found, book_is}
+use Rattle.step_replay.proofs.LiftingLemmas.{IsDueSo}
 
--- A closing notice.
+module _ {config : Configuration} {facts : List Fact} {floor : Floor} {number : ℕ}
+    {place : DealerPlace} (before : Stands config facts floor)
+    (found : Found config facts number place) where
+  abbrev trail : List DealerEntry
+  trail = of_dealer number facts
 
-module _ (config : Configuration) (facts : List Fact) (floor : Floor) (number : ℕ)
-    (place : DealerPlace) (close : Close) (moment : ℕ) (before : Stands config facts floor)
-    (found : Found config facts number place)
-    (stood : slice_get floor.dealers.items number ≡ Some place) where
-  abbrev told_floor : DeskEvents → Floor
-  told_floor desk =
-      record floor { dealers = with_item floor.dealers number (record place { desk = desk }) }
+  -- it withdraws no quote, and what is due by its facts is due by the event
+  pub record AsksNone (more : DealerEvent) : Type 0 where
+    pub withdraws_none : (quote : ℕ) → list_any (withdraws quote)
+        (event_facts config.date found.row (book_by trail) more) ≡ false
+    pub due_so : IsDueSo config.date found.row trail more
 
-  idle_does : (desk : DeskEvents) → desk ≡ place.desk
-      → Does config facts nothing (told_floor desk) []
-  idle_does desk is = record {
-    stands = idle_stands config facts floor number place desk before found stood is;
-    leaves = refl;
-  }
+  module _ (desk : DeskEvents) where
+    -- the floor with this desk at the dealer's place
+    abbrev after : Floor
+    after = record floor { dealers = with_item floor.dealers number (record place { desk = desk }) }
 
-  told_if : (request : ℕ) (desk : DeskEvents) (b : Bool)
-      → is_some (closable (book_by (of_dealer number facts)) request) ≡ b
-      → desk ≡ (if b then with_event place.desk (event.Told request close moment) else place.desk)
-      → Does config facts
-      (if b then at_dealer config facts (dealer_of number found.row)
-      (event.Told request close moment) [] else nothing)
-      (told_floor desk) []
-  unfolding event_facts
-  told_if request desk true may is = record {
-    stands = unasked_stands config facts floor number place desk (event.Told request close moment)
-        before found stood
-        (λ quote. ap (λ (b : Bool). list_any (withdraws quote)
-        (if b then Told request close moment ∷ [] else [])) may) is
-        (ap (λ (b : Bool). filter_map due_by_fact (if b then Told request close moment ∷ [] else []))
-        may);
-    leaves = refl;
-  }
-  told_if request desk false may is = idle_does desk is
+    -- one event that asks no word
+    pub unasked_stands : (more : DealerEvent) → AsksNone more → desk ≡ with_event place.desk more
+        → Stands config (with_dealers facts number (entries_of config.date found.row trail more))
+        after
+    unasked_stands more asks is =
+        let added = entries_of config.date found.row trail more in
+        let same : (quote : ℕ) → word_is (trail ++ added) quote ≡ word_is trail quote = λ quote.
+        word_grown config.date found.row trail more quote
+        ∙ ap (λ b. word_if (was_lifted trail quote) (was_withdrawn trail quote || b))
+        (asks.withdraws_none quote)
+        ∙ ap (word_if (was_lifted trail quote)) (or-false (was_withdrawn trail quote)) in
+        at_dealer_stands added floor.words before found.row_is
+        (event_stands config number found.row trail place desk more found.stands is asks.due_so) refl
+        (λ n r q known within. before.words_are n r q known within
+        ∙ sym (all_dealers facts number added (λ l. word_is l q) (same q) n))
 
-  told_by : (request : Option ℕ) (desk : DeskEvents)
-      → desk ≡ with_notice_in place.desk request close moment
-      → Does config facts (told_of config facts (dealer_of number found.row) close moment request)
-      (told_floor desk) []
-  told_by None desk is = idle_does desk is
-  told_by (Some request) desk is =
-      told_if request desk (is_some (closable (book_by (of_dealer number facts)) request)) refl
-      (is ∙ ap (λ (b : DealerBook). if is_some (closable b request)
-      then with_event place.desk (event.Told request close moment) else place.desk)
-      (book_is config number found.row (of_dealer number facts) place found.stands))
+    -- where nothing happens at the desk
+    pub idle_stands : desk ≡ place.desk → Stands config (facts ++ []) after
+    idle_stands same =
+        at_dealer_stands [] floor.words before found.row_is
+        (subst (λ (d : DeskEvents). DealerStands config number found.row (trail ++ [])
+        (record place { desk = d })) (sym same)
+        (subst (λ l. DealerStands config number found.row l place) (sym (append-nil trail))
+        found.stands))
+        refl
+        (subst (λ (l : List Fact). WordsStand config l floor.words) (sym (append-nil facts))
+        before.words_are)
 
-pub tell_does : (config : Configuration) (facts : List Fact) (floor : Floor) (number : ℕ)
-    (place : DealerPlace) (desk : DeskEvents) (room : RoomRef) (close : Close) (moment : ℕ)
-    → Stands config facts floor → slice_get floor.dealers.items number ≡ Some place
-    → desk ≡ with_notice_in place.desk (number_in (rooms_at place.desk) room) close moment
-    → Does config facts
-    (done_by (dealer_at config number) (told_to config facts room close moment))
-    (record floor { dealers = with_item floor.dealers number (record place { desk = desk }) })
-    []
-tell_does config facts floor number place desk room close moment before stood is =
-    let found = dealer_found config facts floor number place before stood in
-    by_found config facts number place found (told_to config facts room close moment) _ []
-    (told_by config facts floor number place close moment before found stood
-    (number_in (rooms_by (of_dealer number facts)) room) desk
-    (is ∙ ap (λ (l : List RoomRef). with_notice_in place.desk (number_in l room) close moment)
-    found.stands.rooms_are))
+    -- A dealer is shown a request.
+    shown_by : (known : Bool) (room : RoomRef) (ask : Ask) (moment : ℕ)
+        → desk ≡ (if known then place.desk else with_event place.desk (event.Shown room ask moment))
+        → Does config facts (if known then nothing
+        else at_dealer config facts (dealer_of number found.row) (event.Shown room ask moment) [])
+        after []
+    unfolding event_facts
+    shown_by true room ask moment is = record { stands = idle_stands is; leaves = refl }
+    shown_by false room ask moment is = record {
+      stands = unasked_stands (event.Shown room ask moment)
+          (record { withdraws_none = λ quote. refl; due_so = refl }) is;
+      leaves = refl;
+    }
 
--- What comes to a dealer's desk does what it should.
-pub dealer_does : (config : Configuration) (facts : List Fact) (floor : Floor) (number : ℕ)
-    (place : DealerPlace) (desk : DeskEvents) (what : ForDealer) → Stands config facts floor
-    → slice_get floor.dealers.items number ≡ Some place → desk ≡ dealer_with place.desk what
-    → Does config facts (done_by (dealer_at config number) (dealer_gets config facts what))
-    (record floor { dealers = with_item floor.dealers number (record place { desk = desk }) })
-    []
-unfolding dealer_with dealer_gets
-dealer_does config facts floor number place desk (to_dealer.Show room ask moment) before stood is =
-    show_does config facts floor number place desk room ask moment before stood is
-dealer_does config facts floor number place desk (to_dealer.Tell room close moment) before stood is =
-    tell_does config facts floor number place desk room close moment before stood is
+    -- A dealer is told of a request's end, where it may be.
+    told_if : (may : Bool) (request : ℕ) (close : Close) (moment : ℕ)
+        → is_some (closable (book_by trail) request) ≡ may
+        → desk ≡ (if may then with_event place.desk (event.Told request close moment) else place.desk)
+        → Does config facts (if may
+        then at_dealer config facts (dealer_of number found.row) (event.Told request close moment) []
+        else nothing) after []
+    unfolding event_facts
+    told_if false request close moment so is = record { stands = idle_stands is; leaves = refl }
+    told_if true request close moment so is = record {
+      stands = unasked_stands (event.Told request close moment) (record {
+        withdraws_none = λ quote. ap (λ (b : Bool). list_any (withdraws quote)
+            (if b then Told request close moment ∷ [] else [])) so;
+        due_so = ap (λ (b : Bool). filter_map due_by_fact
+            (if b then Told request close moment ∷ [] else [])) so;
+      }) is;
+      leaves = refl;
+    }
+
+    told_by : (request : Option ℕ) (close : Close) (moment : ℕ)
+        → desk ≡ with_notice_in place.desk request close moment
+        → Does config facts (told_of config facts (dealer_of number found.row) close moment request)
+        after []
+    told_by None close moment is = record { stands = idle_stands is; leaves = refl }
+    told_by (Some request) close moment is =
+        told_if (is_some (closable (book_by trail) request)) request close moment refl
+        (is ∙ ap (λ (b : DealerBook). if is_some (closable b request)
+        then with_event place.desk (event.Told request close moment) else place.desk)
+        (book_is config number found.row trail place found.stands))
+
+    -- What comes to its desk does what it should.
+    pub gets : (what : ForDealer) → desk ≡ dealer_with place.desk what
+        → Does config facts (dealer_gets config facts what (dealer_of number found.row)) after []
+    unfolding dealer_with dealer_gets
+    gets (to_dealer.Show room ask moment) is =
+        shown_by (is_some (number_in (rooms_by trail) room)) room ask moment
+        (is ∙ ap (λ (l : List RoomRef). if is_some (number_in l room) then place.desk
+        else with_event place.desk (event.Shown room ask moment)) found.stands.rooms_are)
+    gets (to_dealer.Tell room close moment) is =
+        told_by (number_in (rooms_by trail) room) close moment
+        (is ∙ ap (λ (l : List RoomRef). with_notice_in place.desk (number_in l room) close moment)
+        found.stands.rooms_are)

@@ -1,13 +1,8 @@
 -- The due list of a dealer, run by run.
-use Rattle.std.proofs.Common.{◌≡◌, ◌<◌, ◌≤◌, ℕ, suc, ◌+◌, ◌-◌}
-use Rattle.std.proofs.Common.{List, [], ◌∷◌, ◌++◌, map, length, take, drop, get_or}
-use Rattle.std.proofs.Common.{sym, ap, ◌∙◌, arith}
-use Rattle.std.proofs.Math.Seq.{take-suc}
-use Rattle.std.proofs.lemmas.List.{append_assoc, map-append, get_or-drop}
-use Rattle.std.proofs.lemmas.List.{length-drop}
-use Rattle.dealer_desk.specs.declared.events.DealerEvent.{DealerEvent}
-use Rattle.step_replay.specs.Liftings.{due_by_event}
-use Rattle.step_replay.specs.declared.dues.Due.{Due}
+use Rattle.step_replay.proofs.Common.{◌≡◌, ◌<◌, ◌≤◌, ℕ, ◌+◌, ◌-◌, List, [], ◌∷◌, ◌++◌, map, length}
+use Rattle.step_replay.proofs.Common.{take, drop, get_or, refl, sym, ap, ◌∙◌, arith, common_steps}
+use Rattle.step_replay.proofs.Common.{append_assoc, map-append, length-drop, take_more, DealerEvent}
+use Rattle.step_replay.proofs.Common.{due_by_event, Due}
 
 -- A run of events.
 
@@ -20,21 +15,13 @@ run_grown : (dues : List Due) (events : List DealerEvent) (from index : ℕ) (ev
     → run_behind dues events from index ++ due_by_event event ∷ []
     ≡ run_behind dues events from (index + 1)
 run_grown dues events from index event since inside is =
-    let size : length (drop from events) ≡ length events - from = length-drop from events in
-    let within : index - from < length (drop from events) = omega arith in
-    let place : from + (index - from) ≡ index = omega arith in
-    let next : index + 1 - from ≡ suc (index - from) = omega arith in
+    let next : index + 1 - from ≡ index - from + 1 = omega arith in
+    let within : index - from < length (drop from events) =
+    omega (arith, length-drop from events) in
     let here : get_or (drop from events) (index - from) event ≡ event =
-    get_or-drop from events (index - from) event
-    ∙ ap (λ n. get_or events n event) place ∙ is in
-    append_assoc dues (map due_by_event (take (index - from) (drop from events)))
-    (due_by_event event ∷ [])
-    ∙ ap (λ (l : List Due). dues ++ l)
-    (sym (map-append due_by_event (take (index - from) (drop from events)) (event ∷ [])))
-    ∙ ap (λ (l : List DealerEvent). dues ++ map due_by_event l)
-    (sym (ap (λ (n : ℕ). take n (drop from events)) next
-    ∙ take-suc (drop from events) (index - from) event within
-    ∙ ap (λ (e : DealerEvent). take (index - from) (drop from events) ++ e ∷ []) here))
+    grind (arith, common_steps) in
+    let more = take_more (drop from events) (index - from) event within in
+    rw (next, more, here, map-append, append_assoc) refl
 
 -- what was due by one event more is put behind them
 pub run_pushed : (dues before now : List Due) (events : List DealerEvent) (from index : ℕ)

@@ -1,98 +1,148 @@
 -- A replay follows a day, turn by turn.
-use Rattle.std.proofs.Common.{nat_lt, nat_le, ◌<◌, ◌-◌}
-use Rattle.std.proofs.Common.{◌≡◌, ℕ, ◌+◌, true, List, [], ◌∷◌, ◌++◌, map, length, slice_set}
-use Rattle.std.proofs.Common.{Some, None, drop, refl, sym, ap, ◌∙◌, subst, arith}
-use Rattle.std.specs.Prelude.{slice_get}
-use Rattle.market_terms.specs.declared.duties.Duty.{Duty}
-use Rattle.venue_rows.specs.Rows.{Configuration}
-use Rattle.step_replay.specs.VenueFacts.{Fact}
-use Rattle.step_replay.specs.Actions.{Effect, nothing}
-use Rattle.step_replay.specs.DutyEffects.{duty_effect, message_effect, sweep_effect}
-use Rattle.market_terms.specs.declared.rooms.RoomRef.{RoomRef}
-use Rattle.std.proofs.lemmas.Bool.Decides.{nat_tests}
-use Rattle.venue_places.specs.declared.actors.Actor.TheVariants as actor
-use Rattle.step_replay.specs.AuditTrail.{AuditTrail, after_turn, pending, with_effect}
-use Rattle.step_replay.specs.Standing.{Stands, AreOneOf, ActsOnce, Does}
-use Rattle.step_replay.specs.Queues.{QueuesStand, is_known}
-use Rattle.step_replay.specs.StepFaults.{firms_of}
-use Rattle.step_replay.specs.Following.{ReplayStands, duties_in, index_in}
-use Rattle.step_replay.specs.declared.floor.Floor.{Floor}
-use Rattle.step_replay.specs.declared.replay.Replay.{Replay}
-use Rattle.venue_places.specs.declared.actors.Actor.{Actor}
-use Rattle.step_replay.specs.StepLemmas.{duty_keeps, message_keeps, sweep_keeps}
+use Rattle.step_replay.proofs.Common.{◌≡◌, ℕ, true, List, [], ◌∷◌, ◌++◌, length, slice_set, Option}
+use Rattle.step_replay.proofs.Common.{Some, drop, refl, sym, ap, ◌∙◌, arith, ◌≡◌, ◌≢◌, ◌≤◌, ◌<◌, ℕ}
+use Rattle.step_replay.proofs.Common.{◌+◌, ◌-◌, Bool, true, false, option_map, List, ◌∷◌, ◌++◌, map}
+use Rattle.step_replay.proofs.Common.{filter_map, length, count_by, slice_set, Some, get_or, nat_lt}
+use Rattle.step_replay.proofs.Common.{nat_le, refl, sym, ap, ◌∙◌, subst, arith, slice_get}
+use Rattle.step_replay.proofs.Common.{slice_get, length-map, same_Some, slice_get_within, Duty}
+use Rattle.step_replay.proofs.Common.{Duty, RoomRef, Configuration, Configuration, Actor, Actor}
+use Rattle.step_replay.proofs.Common.{IsAction, duty_action, Fact, Effect, Effect, duty_effect}
+use Rattle.step_replay.proofs.Common.{AuditTrail, after_turn, pending, with_effect, AuditTrail}
+use Rattle.step_replay.proofs.Common.{is_same_actor, duty_of, pending, with_effect, AreOneOf}
+use Rattle.step_replay.proofs.Common.{ActsOnce, Does, is_known, queue_of, QueuesStand, QueueHas}
+use Rattle.step_replay.proofs.Common.{is_known, queue_of, ReplayStands, duties_in, Replay}
+use Rattle.step_replay.proofs.Common.{nat_tests, firms_of, get_set_same, lent, own_turned}
+use Rattle.step_replay.proofs.Common.{other_turned, own_pending, other_pending, same_either}
+use Rattle.std.proofs.lemmas.List.{length-set}
+use Rattle.std.proofs.lemmas.Option.{slice_get-map}
+use Rattle.step_replay.specs.Following.{index_in, index_in}
+use Rattle.step_replay.specs.StepLemmas.{action_keeps}
 use Rattle.step_replay.specs.WordLemmas.{IsOneOf, one_is_kept}
-use Rattle.std.proofs.lemmas.List.{length-map}
 use Rattle.step_replay.proofs.LiftLemmas.{set_same}
-use Rattle.step_replay.specs.QueueLemmas.{turned}
-use Rattle.step_replay.proofs.TurnLemmas.{index_is, queue_pending, turn_queues, step_queues}
+use Rattle.venue_places.specs.declared.actors.Actor.TheVariants as actor
+use Rattle.step_replay.specs.PlaceLemmas.{get_set_other}
+use Rattle.step_replay.specs.QueueLemmas.{turned, own_within, other_within, grown_within, one_actor}
 
--- no duty lifts a quote that is withdrawn, nor withdraws one that is lifted
-pub duty_one : (config : Configuration) (facts : List Fact) (by : Actor) (duty : Duty)
-    → AreOneOf config facts → AreOneOf config (facts ++ (duty_effect config facts by duty).facts)
-duty_one config facts by duty one number row quote is =
-    duty_keeps config number row is IsOneOf (one_is_kept config.date row) facts by duty
+-- Actors and their queues.
+
+-- an actor's queue is found where the code looks
+index_of : (config : Configuration) (count : ℕ) (by : Actor) → is_known config by ≡ true
+    → count ≡ firms_of config + 1 → index_in count by ≡ Some (queue_of config by)
+index_of config count (actor.Firm number) known are =
+    let low : number < firms_of config = grind (arith, nat_tests, known) in
+    let inside : nat_lt (number + 1) count ≡ true = grind (arith, nat_tests, low, are) in
+    rw inside refl
+index_of config count actor.Clock known are =
+    let inside : nat_le 1 count ≡ true = grind (arith, nat_tests, are) in
+    let last : count - 1 ≡ firms_of config = omega arith in
+    rw (inside, last) refl
+
+-- two actors of the venue have two queues
+queues_apart : (config : Configuration) (by other : Actor) → is_known config by ≡ true
+    → is_known config other ≡ true → is_same_actor by other ≡ false
+    → queue_of config other ≢ queue_of config by
+queues_apart config (actor.Firm one) (actor.Firm two) known known_too differs =
+    grind (arith, nat_tests)
+queues_apart config (actor.Firm one) actor.Clock known known_too differs = grind (arith, nat_tests)
+queues_apart config actor.Clock (actor.Firm two) known known_too differs = grind (arith, nat_tests)
+queues_apart config actor.Clock actor.Clock known known_too differs = cc
+
+-- what a list of queues holds at a place that the code has read
+pub queue_at : {Q : Type 0} (items : Q → List Duty) (queues : List Q) (index : ℕ) (queue : Q)
+    → index < length queues → queue ≡ get_or queues index queue
+    → slice_get (map items queues) index ≡ Some (items queue)
+queue_at items queues index queue within is =
+    slice_get-map items queues index ∙ ap (option_map items) (lent queues index queue within is)
+
+-- The queues after one of them changes.
+
+module _ {config : Configuration} {trail : AuditTrail} {queues : List (List Duty)} {index : ℕ}
+    {queue : List Duty} (by : Actor) (known : is_known config by ≡ true)
+    (before : QueuesStand config trail queues) (is : index ≡ queue_of config by)
+    (there : slice_get queues index ≡ Some queue) where
+  -- the queue of the actor has what is pending
+  queue_pending : pending by trail ≡ queue
+  queue_pending =
+      sym (subst (QueueHas (pending by trail))
+      (ap (slice_get queues) (sym is) ∙ there) (before.queues_are by known))
+
+  -- it has what is pending then, and all others what they had
+  queues_stand : (after : AuditTrail) (now : List Duty) → now ≡ pending by after
+      → ((other : Actor) → is_same_actor by other ≡ false
+      → pending other after ≡ pending other trail)
+      → ((other : Actor) → count_by (is_same_actor other) after.done
+      ≤ length (filter_map (duty_of other) after.caused))
+      → QueuesStand config after (slice_set queues index now)
+  queues_stand after now has others within = record {
+    count = length-set queues index now ∙ before.count;
+    queues_are = λ other known_too. by_actor other known_too (is_same_actor by other) refl;
+    done_within = within;
+  }
+    where
+      by_actor : (other : Actor) → is_known config other ≡ true → (same : Bool)
+          → is_same_actor by other ≡ same
+          → QueueHas (pending other after)
+          (slice_get (slice_set queues index now) (queue_of config other))
+      by_actor other known_too true test =
+          subst (λ (a : Actor). QueueHas (pending a after)
+          (slice_get (slice_set queues index now) (queue_of config a)))
+          (one_actor by other test)
+          (subst (QueueHas (pending by after))
+          (sym (ap (slice_get (slice_set queues index now)) (sym is)
+          ∙ get_set_same queues index now (slice_get_within queues index queue there)))
+          has)
+      by_actor other known_too false test =
+          let apart = queues_apart config by other known known_too test in
+          let differs : queue_of config other ≢ index = λ same. apart (same ∙ is) in
+          subst (λ (d : List Duty). QueueHas d
+          (slice_get (slice_set queues index now) (queue_of config other)))
+          (sym (others other test))
+          (subst (QueueHas (pending other trail))
+          (sym (get_set_other queues index (queue_of config other) now differs))
+          (before.queues_are other known_too))
+
+  -- after a turn
+  turn_queues : (effect : Effect) (rest now : List Duty) (duty : Duty)
+      → queue ≡ duty ∷ rest → now ≡ rest ++ effect.duties
+      → QueuesStand config (turned by trail effect) (slice_set queues index now)
+  turn_queues effect rest now duty is_queue is_now =
+      queues_stand (turned by trail effect) now (is_now ∙ sym (own_turned by trail effect duty rest had))
+      (λ other differs. other_turned by other trail effect differs (same_either by other differs))
+      (λ other. done_by other (is_same_actor by other) refl)
+    where
+      had : pending by trail ≡ duty ∷ rest
+      had = queue_pending ∙ is_queue
+
+      done_by : (other : Actor) (same : Bool) → is_same_actor by other ≡ same
+          → count_by (is_same_actor other) (turned by trail effect).done
+          ≤ length (filter_map (duty_of other) (turned by trail effect).caused)
+      done_by other true test =
+          subst (λ (a : Actor). count_by (is_same_actor a) (turned by trail effect).done
+          ≤ length (filter_map (duty_of a) (turned by trail effect).caused))
+          (one_actor by other test) (own_within by trail effect duty rest had)
+      done_by other false test =
+          other_within by other trail effect test (same_either by other test)
+          (before.done_within other)
+
+  -- after a step that is no turn
+  step_queues : (effect : Effect) (now : List Duty) → now ≡ queue ++ effect.duties
+      → QueuesStand config (with_effect by trail effect) (slice_set queues index now)
+  step_queues effect now is_now =
+      queues_stand (with_effect by trail effect) now
+      (is_now ∙ sym (own_pending by trail effect (before.done_within by)
+      ∙ ap (λ (l : List Duty). l ++ effect.duties) queue_pending))
+      (λ other differs. other_pending by other trail effect differs)
+      (λ other. grown_within by other trail effect (before.done_within other))
+
+-- A day, step by step.
+
+-- no action lifts a quote that is withdrawn, nor withdraws one that is lifted
+still_one : {config : Configuration} {facts : List Fact} {desk : Option ℕ} {room : Option RoomRef}
+    {effect : Effect} → IsAction config facts desk room effect → AreOneOf config facts
+    → AreOneOf config (facts ++ effect.facts)
+still_one {config} {facts} action one number row quote is =
+    action_keeps config number row is IsOneOf (one_is_kept config.date row) facts _ _ _ action
     (λ other. one number row other is) quote
-
--- A turn that does a duty.
-pub full_turn : (config : Configuration) (by : Actor) (trail : AuditTrail) (replay after : Replay)
-    (floor : Floor) (index : ℕ) (duty : Duty) (queue rest left : List Duty)
-    → is_known config by ≡ true → ReplayStands config trail replay
-    → index_in (length (duties_in replay)) by ≡ Some index
-    → slice_get (duties_in replay) index ≡ Some queue → queue ≡ duty ∷ rest
-    → ActsOnce (λ config facts. duty_effect config facts by duty) replay.floor floor left
-    → after.floor ≡ floor → duties_in after ≡ slice_set (duties_in replay) index (rest ++ left)
-    → ReplayStands config (after_turn config by trail (pending by trail)) after
-full_turn config by trail replay after floor index duty queue rest left known before found there
-    is_queue acts floor_is queues_are =
-    let effect = duty_effect config trail.facts by duty in
-    let does = acts config trail.facts before.floor_stands before.are_one_of in
-    let stand = before.queues_stand in
-    let is = index_is config (length (duties_in replay)) by index stand.count found in
-    let had : pending by trail ≡ duty ∷ rest =
-    queue_pending config by trail effect (duties_in replay) known stand index queue is there
-    ∙ is_queue in
-    subst (λ (d : List Duty). ReplayStands config (after_turn config by trail d) after) (sym had)
-    (record {
-      floor_stands = subst (λ (f : Floor). Stands config (trail.facts ++ effect.facts) f)
-          (sym floor_is) does.stands;
-      are_one_of = duty_one config trail.facts by duty before.are_one_of;
-      queues_stand = subst (QueuesStand config (turned by trail effect)) (sym queues_are)
-          (turn_queues config by trail effect (duties_in replay) known stand index queue rest
-          (rest ++ left) duty is there is_queue
-          (ap (λ (l : List Duty). rest ++ l) does.leaves));
-    })
-
--- A turn of an actor that has nothing to do.
-pub idle_turn : (config : Configuration) (by : Actor) (trail : AuditTrail) (replay after : Replay)
-    (index : ℕ) (queue : List Duty)
-    → is_known config by ≡ true → ReplayStands config trail replay
-    → index_in (length (duties_in replay)) by ≡ Some index
-    → slice_get (duties_in replay) index ≡ Some queue → queue ≡ []
-    → after.floor ≡ replay.floor → duties_in after ≡ slice_set (duties_in replay) index []
-    → ReplayStands config (after_turn config by trail (pending by trail)) after
-idle_turn config by trail replay after index queue known before found there is_queue floor_is
-    queues_are =
-    let stand = before.queues_stand in
-    let is = index_is config (length (duties_in replay)) by index stand.count found in
-    let had : pending by trail ≡ [] =
-    queue_pending config by trail nothing (duties_in replay) known stand index queue is there
-    ∙ is_queue in
-    let same : duties_in after ≡ duties_in replay =
-    queues_are ∙ set_same (duties_in replay) index [] (there ∙ ap (λ (l : List Duty). Some l) is_queue) in
-    subst (λ (d : List Duty). ReplayStands config (after_turn config by trail d) after) (sym had)
-    (record {
-      floor_stands = subst (λ (f : Floor). Stands config trail.facts f) (sym floor_is)
-          before.floor_stands;
-      are_one_of = before.are_one_of;
-      queues_stand = subst (QueuesStand config trail) (sym same) stand;
-    })
-
--- the queues are as many as what they hold
-pub found_here : (replay : Replay) (by : Actor) (index : ℕ)
-    → Some index ≡ index_in (length replay.queues.items) by
-    → index_in (length (duties_in replay)) by ≡ Some index
-found_here replay by index is =
-    ap (λ (n : ℕ). index_in n by) (length-map replay.queues.items (λ queue. queue.items)) ∙ sym is
 
 -- a list that is what is left without its first is empty
 pub none_left : {X : Type 0} (xs : List X) → xs ≡ drop 1 xs → xs ≡ []
@@ -101,67 +151,68 @@ none_left (x ∷ xs) same =
     let lengths : length (x ∷ xs) ≡ length xs = ap length same in
     absurd (omega arith)
 
--- A step that is no turn.
-pub step_follows : (config : Configuration) (by : Actor) (trail : AuditTrail)
-    (replay after : Replay) (floor : Floor) (effect : Effect) (index : ℕ)
-    (queue left : List Duty)
-    → is_known config by ≡ true → ReplayStands config trail replay
-    → index_in (length (duties_in replay)) by ≡ Some index
-    → slice_get (duties_in replay) index ≡ Some queue
-    → Does config trail.facts effect floor left → AreOneOf config (trail.facts ++ effect.facts)
-    → after.floor ≡ floor → duties_in after ≡ slice_set (duties_in replay) index (queue ++ left)
-    → ReplayStands config (with_effect by trail effect) after
-step_follows config by trail replay after floor effect index queue left known before found there does
-    one floor_is queues_are =
-    let stand = before.queues_stand in
-    let is = index_is config (length (duties_in replay)) by index stand.count found in
-    record {
-      floor_stands = subst (λ (f : Floor). Stands config (trail.facts ++ effect.facts) f)
-          (sym floor_is) does.stands;
-      are_one_of = one;
-      queues_stand = subst (QueuesStand config (with_effect by trail effect)) (sym queues_are)
-          (step_queues config by trail effect (duties_in replay) known stand index queue
-          (queue ++ left) is there (ap (λ (l : List Duty). queue ++ l) does.leaves));
-    }
-
-pub message_one : (config : Configuration) (facts : List Fact) (firm moment : ℕ) (bytes : List ℕ)
-    → AreOneOf config facts
-    → AreOneOf config (facts ++ (message_effect config facts firm moment bytes).facts)
-message_one config facts firm moment bytes one number row quote is =
-    message_keeps config number row is IsOneOf (one_is_kept config.date row) facts firm moment bytes
-    (λ other. one number row other is) quote
-
-pub sweep_one : (config : Configuration) (facts : List Fact) (room : RoomRef) (moment : ℕ)
-    → AreOneOf config facts
-    → AreOneOf config (facts ++ (sweep_effect config facts room moment).facts)
-sweep_one config facts room moment one number row quote is =
-    sweep_keeps config number row is IsOneOf (one_is_kept config.date row) facts room moment
-    (λ other. one number row other is) quote
-
--- an actor of the venue has a queue
+-- an actor of the venue has a queue, which is found where the code looks
 pub has_queue : (config : Configuration) (by : Actor) (trail : AuditTrail) (replay : Replay)
     → is_known config by ≡ true → ReplayStands config trail replay
-    → index_in (length replay.queues.items) by ≡ None → ⊥
-has_queue config by trail replay known before none =
-    let count : length (map (λ queue. queue.items) replay.queues.items) ≡ firms_of config + 1 =
-    before.queues_stand.count in
-    let same : length (map (λ queue. queue.items) replay.queues.items)
-    ≡ length replay.queues.items =
-    length-map replay.queues.items (λ queue. queue.items) in
-    by_actor by known none (sym same ∙ count)
-  where
-    by_actor : (a : Actor) → is_known config a ≡ true
-        → index_in (length replay.queues.items) a ≡ None
-        → length replay.queues.items ≡ firms_of config + 1 → ⊥
-    by_actor (actor.Firm number) low missing are =
-        let small : number < firms_of config = grind (arith, nat_tests) in
-        let inside : nat_lt (number + 1) (length replay.queues.items) ≡ true =
-        grind (arith, nat_tests) in
-        let found : index_in (length replay.queues.items) (actor.Firm number) ≡ Some number =
-        rw inside refl in
-        cc
-    by_actor actor.Clock low missing are =
-        let inside : nat_le 1 (length replay.queues.items) ≡ true = grind (arith, nat_tests) in
-        let found : index_in (length replay.queues.items) actor.Clock
-        ≡ Some (length replay.queues.items - 1) = rw inside refl in
-        cc
+    → index_in (length replay.queues.items) by ≡ Some (queue_of config by)
+has_queue config by trail replay known stands =
+    index_of config (length replay.queues.items) by known
+    (sym (length-map replay.queues.items (λ queue. queue.items)) ∙ stands.queues_stand.count)
+
+module _ {config : Configuration} {trail : AuditTrail} {replay : Replay} {index : ℕ}
+    {queue : List Duty} (by : Actor) (known : is_known config by ≡ true)
+    (before : ReplayStands config trail replay)
+    (found : Some index ≡ index_in (length replay.queues.items) by)
+    (there : slice_get (duties_in replay) index ≡ Some queue) where
+  is : index ≡ queue_of config by
+  is = same_Some index (queue_of config by)
+      (found ∙ has_queue config by trail replay known before)
+
+  had : pending by trail ≡ queue
+  had = queue_pending by known before.queues_stand is there
+
+  -- a turn that does a duty
+  pub full_turn : {after : Replay} {duty : Duty} {rest : List Duty} (left : List Duty)
+      → queue ≡ duty ∷ rest
+      → ActsOnce (λ config facts. duty_effect config facts by duty) replay.floor after.floor left
+      → duties_in after ≡ slice_set (duties_in replay) index (rest ++ left)
+      → ReplayStands config (after_turn config by trail (pending by trail)) after
+  full_turn {duty} {rest} left is_queue acts queues_are =
+      let effect = duty_effect config trail.facts by duty in
+      let does = acts config trail.facts before.floor_stands before.are_one_of in
+      let was : pending by trail ≡ duty ∷ rest = had ∙ is_queue in
+      rw was (record {
+        floor_stands = does.stands;
+        are_one_of = still_one (duty_action config trail.facts by duty) before.are_one_of;
+        queues_stand = rw queues_are
+            (turn_queues by known before.queues_stand is there effect rest (rest ++ left) duty
+            is_queue (ap (λ (l : List Duty). rest ++ l) does.leaves));
+      })
+
+  -- a turn of an actor that has nothing to do
+  pub idle_turn : {after : Replay} → queue ≡ [] → after.floor ≡ replay.floor
+      → duties_in after ≡ slice_set (duties_in replay) index []
+      → ReplayStands config (after_turn config by trail (pending by trail)) after
+  idle_turn {after} is_queue floor_is queues_are =
+      let was : pending by trail ≡ [] = had ∙ is_queue in
+      let same : duties_in after ≡ duties_in replay = queues_are
+      ∙ set_same (duties_in replay) index [] (there ∙ ap (λ (l : List Duty). Some l) is_queue) in
+      rw was (record {
+        floor_stands = rw floor_is before.floor_stands;
+        are_one_of = before.are_one_of;
+        queues_stand = rw same before.queues_stand;
+      })
+
+  -- a step that is no turn
+  pub step_follows : {after : Replay} {effect : Effect} {left : List Duty} {desk : Option ℕ}
+      {room : Option RoomRef} → IsAction config trail.facts desk room effect
+      → Does config trail.facts effect after.floor left
+      → duties_in after ≡ slice_set (duties_in replay) index (queue ++ left)
+      → ReplayStands config (with_effect by trail effect) after
+  step_follows {effect} {left} action does queues_are = record {
+    floor_stands = does.stands;
+    are_one_of = still_one action before.are_one_of;
+    queues_stand = rw queues_are
+        (step_queues by known before.queues_stand is there effect (queue ++ left)
+        (ap (λ (l : List Duty). queue ++ l) does.leaves));
+  }

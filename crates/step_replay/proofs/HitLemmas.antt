@@ -1,257 +1,265 @@
--- A hit in a room of a replay: the word, the dealer's trail and the room.
-use Rattle.std.proofs.Common.{◌≡◌, ℕ, nat_lt, Bool, true, false, ◌&&◌, if◌then◌else◌, List, []}
-use Rattle.std.proofs.Common.{◌++◌, map, length, get_or, Option, Some, None, option_map, Result}
-use Rattle.std.proofs.Common.{Err, refl, sym, ap, ◌∙◌, subst}
-use Rattle.std.specs.Vec.{with_item}
-use Rattle.std.proofs.lemmas.List.{append-nil}
-use Rattle.quote_word.specs.PlainWords.{entry_in, Exchanges}
-use Rattle.quote_word.specs.declared.settled.Settled.{Settled}
+-- A hit in a room of a replay does what it should: the word, the dealer's trail and the room.
+use Rattle.step_replay.proofs.Common.{◌≡◌, ◌<◌, ◌≤◌, ℕ, ◌+◌, ◌-◌, nat_le, nat_lt, Bool, true, false}
+use Rattle.step_replay.proofs.Common.{◌&&◌, if◌then◌else◌, List, [], ◌∷◌, ◌++◌, map, length, Option}
+use Rattle.step_replay.proofs.Common.{Some, None, option_map, refl, sym, ap, ◌∙◌, subst, arith}
+use Rattle.step_replay.proofs.Common.{with_item, nat_tests, append_assoc, entry_in, settlement_of}
+use Rattle.step_replay.proofs.Common.{Exchanges, exchange_keeps_count, Settled, Configuration}
+use Rattle.step_replay.proofs.Common.{has_room, HitRefusal, Duty, RoomRef, RoomFact, room_after}
+use Rattle.step_replay.proofs.Common.{End, RoomEvent, where_done, AsksAtMost, SettlesSo}
+use Rattle.step_replay.proofs.Common.{settlement_in, has_word, word_to_ask, DealerEntry, Lifted}
+use Rattle.step_replay.proofs.Common.{was_lifted, was_withdrawn, room_at_dealer, room_stays, Fact}
+use Rattle.step_replay.proofs.Common.{AtDealer, InRoom, of_dealer, of_room, Effect, QuoteRef}
+use Rattle.step_replay.proofs.Common.{nothing, dealer_of, first_word, words_of, quote_with_word}
+use Rattle.step_replay.proofs.Common.{lifting, hit_in, quote_at, Noted, NotedAt, WordsStand, Stands}
+use Rattle.step_replay.proofs.Common.{Does, AreOneOf, InvestorPlace, Floor}
+use Rattle.std.proofs.Common.{Result, Err}
 use Rattle.quote_word.specs.declared.settled.Settled.TheVariants as settled
-use Rattle.venue_rows.specs.Rows.{Configuration, has_room}
-use Rattle.market_terms.specs.declared.closes.HitRefusal.{HitRefusal}
-use Rattle.market_terms.specs.declared.duties.Duty.{Duty}
+use Rattle.market_terms.specs.declared.closes.HitRefusal.TheVariants as refusal
 use Rattle.market_terms.specs.declared.rooms.ResponseRef.{ResponseRef}
-use Rattle.market_terms.specs.declared.rooms.RoomRef.{RoomRef}
-use Rattle.request_room.specs.RoomFacts.{RoomFact}
-use Rattle.request_room.specs.Book.{room_after, event_facts, hit_refusal, hit_settled, award_of}
-use Rattle.request_room.specs.Book.{word_or, end_by}
-use Rattle.request_room.specs.declared.ends.End.{End}
-use Rattle.request_room.specs.declared.events.RoomEvent.{RoomEvent}
+use Rattle.request_room.specs.Book.{event_facts, hit_refusal, hit_settled, award_of, word_or}
+use Rattle.request_room.specs.Book.{end_by}
 use Rattle.request_room.specs.declared.events.RoomEvent.TheVariants as at_room
-use Rattle.venue_steps.specs.RoomSteps.{hit_word, word_asked_by, where_done, duties_of_hit}
-use Rattle.venue_steps.specs.RoomSteps.{hit_duties}
-use Rattle.venue_steps.specs.Words.{AsksAtMost, SettlesSo, settlement_in, has_word, word_to_ask}
-use Rattle.step_replay.specs.VenueFacts.{Fact, InRoom, of_room}
-use Rattle.step_replay.specs.Actions.{Effect, nothing, words_of, quote_with_word, quote_asked}
-use Rattle.step_replay.specs.Actions.{answer_to_hit, lifting, hit_in}
-use Rattle.step_replay.specs.Liftings.{Notes, NotesWhere, awards}
-use Rattle.step_replay.specs.Standing.{WordsStand, Stands, Does, AreOneOf}
-use Rattle.step_replay.specs.RoomPlaces.{room_place}
-use Rattle.step_replay.specs.declared.floor.InvestorPlace.{InvestorPlace}
-use Rattle.step_replay.specs.declared.floor.Floor.{Floor}
-use Rattle.step_replay.proofs.FoundDealers.{leaving}
-use Rattle.step_replay.proofs.RoomPlaceLemmas.{found_by_code, no_room}
-use Rattle.step_replay.proofs.RoomFloor.{in_room_stands}
-use Rattle.step_replay.proofs.HitRefused.{refused_does}
-use Rattle.step_replay.proofs.HitSettled.{settled_does}
-use Rattle.venue_steps.proofs.EndLemmas.{after_more}
+use Rattle.venue_steps.specs.RoomSteps.{hit_word, word_asked_by, duties_of_hit, hit_duties}
+use Rattle.step_replay.specs.DealerTrail.{answer_to_investor}
+use Rattle.step_replay.specs.Actions.{quote_asked, answer_to_hit}
+use Rattle.step_replay.specs.Liftings.{NotesWhere, awards}
+use Rattle.step_replay.proofs.AskedWords.{WordOwner, word_owner}
+use Rattle.step_replay.proofs.FloorLemmas.{at_dealer_stands, with_dealers}
+use Rattle.step_replay.proofs.FoundDealers.{PlaceOf, place_of}
+use Rattle.step_replay.proofs.LiftLemmas.{lift_answer, lift_stands, lifted_place, refused_stands}
+use Rattle.step_replay.proofs.RoomActionLemmas.{pushed}
+use Rattle.step_replay.proofs.RoomPlaceLemmas.{FoundRoom, RoomAt, floor_with, in_room_stands}
+use Rattle.step_replay.proofs.RoomPlaceLemmas.{room_found}
 
--- the room after an event, where it takes place
-pushed : (events new : List RoomEvent) (event : RoomEvent) (b : Bool)
-    → new ≡ where_done b events event
-    → room_after new
-    ≡ room_after events ++ (if b then event_facts (room_after events) event else [])
-pushed events new event true is = ap room_after is ∙ after_more events event
-pushed events new event false is = ap room_after is ∙ sym (append-nil (room_after events))
+-- nothing is lifted where a hit does not award
+no_lifting : (found : Option QuoteRef) (why : HitRefusal) → lifting found (Err why) ≡ []
+no_lifting found why = grind arith
 
-module _ (config : Configuration) (facts : List Fact) (floor : Floor) (at : RoomRef)
-    (investor index : ℕ) (old : InvestorPlace) (events : List RoomEvent)
+module _ {config : Configuration} {facts : List Fact} {floor : Floor} {at : RoomRef}
+    {investor index : ℕ} {old : InvestorPlace} {events : List RoomEvent}
     (before : Stands config facts floor) (one : AreOneOf config facts)
-    (is : Some (investor, index) ≡ room_place floor at)
-    (value : old ≡ get_or floor.investors.items investor old)
-    (events_value : events ≡ get_or old.rooms.items index events)
+    (place : RoomAt config floor.investors.items at investor index old events)
     (response : ResponseRef) (word moment : ℕ) (words : List (Option Settled))
-    (new : List RoomEvent) where
-  -- the facts of the room, and the floor afterwards
+    (new : List RoomEvent) (after : Floor) where
+  -- the facts of the room, and the floor with its new events, before a lifting is noted
   abbrev known : List RoomFact
   known = of_room at facts
 
-  abbrev hit_floor : Floor → Floor
-  hit_floor base = record base {
-    investors = with_item base.investors investor
-        (record old { rooms = with_item old.rooms index new });
-  }
-
   abbrev floor_hit : Floor
-  floor_hit = hit_floor (record floor { words = words })
+  floor_hit = floor_with (record floor { words = words }) investor index old new
 
-  -- the word that is asked and what becomes of the hit, by the check that refuses it
-  abbrev asked_by : Option HitRefusal → Option ℕ
-  asked_by refused = word_asked_by (word_or word refused)
+  found : FoundRoom config facts at investor index old events
+  found = room_found before place
 
-  abbrev outcome_by : Option HitRefusal → Option Settled → Result End HitRefusal
-  outcome_by refused settlement = hit_settled refused settlement (award_of known word)
+  -- what a hit leaves and adds with this outcome, by the quote whose word it asks
+  abbrev left_by : Result End HitRefusal → List Duty
+  left_by outcome = hit_duties known at response moment outcome
 
-  -- what a hit adds and leaves with this outcome
-  abbrev effect_with : Result End HitRefusal → Effect
-  effect_with outcome = record {
-    facts = lifting (quote_with_word config word) outcome
-        ++ map (InRoom at) (end_by outcome moment);
-    duties = hit_duties known at response moment outcome;
+  abbrev effect_of : Option QuoteRef → Result End HitRefusal → Effect
+  effect_of quote outcome = record {
+    facts = lifting quote outcome ++ map (InRoom at) (end_by outcome moment);
+    duties = left_by outcome;
   }
 
-  -- what a hit adds and leaves, by the check that refuses it
-  abbrev effect_by : Option HitRefusal → Effect
-  effect_by refused =
-      if has_room config at.investor at.n && has_word (words_of config) (asked_by refused)
-      then effect_with (outcome_by refused
-      (option_map (answer_to_hit facts) (quote_asked config (asked_by refused))))
-      else nothing
-
-  has_said : (asked : Option ℕ)
-      → has_word (length floor.words) asked ≡ has_word (words_of config) asked
-  has_said None = refl
-  has_said (Some w) = ap (λ n. nat_lt w n) before.word_count
-
-  -- the room is one of the venue
-  room_there : has_room config at.investor at.n ≡ true
-  room_there =
-      (found_by_code config facts floor at investor index old events before is value events_value).has
-
-  -- where the venue does not have the word
-  idle_hit : WordsStand config facts words → length words ≡ length floor.words
-      → room_after new ≡ known ++ [] → Stands config (facts ++ []) floor_hit
-  idle_hit stand count same =
-      let floor_too : Floor = record floor { words = words } in
-      let stands : Stands config facts floor_too = record {
+  -- A hit that lifts nothing: the words stand as they did.
+  quiet : (duties : List Duty) → WordsStand config facts words → length words ≡ length floor.words
+      → room_after new ≡ known ++ [] → after ≡ floor_hit
+      → Does config facts (record { facts = []; duties = duties }) after duties
+  quiet duties stand count same is =
+      let base : Stands config facts (record floor { words = words }) = record {
         config_is = before.config_is;
-        dealer_count = before.dealer_count;
         dealers_are = before.dealers_are;
-        investor_count = before.investor_count;
         investors_are = before.investors_are;
         word_count = count ∙ before.word_count;
         words_are = stand;
         owners_are = before.owners_are;
       } in
-      in_room_stands config facts floor_too at investor index old events stands
-      (found_by_code config facts floor_too at investor index old events stands is value
-      events_value) [] new same
+      record {
+        stands = subst (Stands config (facts ++ [])) (sym is) (in_room_stands base found [] new same);
+        leaves = refl;
+      }
 
-  -- a hit, by the check that refuses it
-  hit_by : (after : Floor) (refused : Option HitRefusal) (duties : List Duty)
-      → AsksAtMost Exchanges entry_in floor.words
-      (word_to_ask (length floor.words) (asked_by refused)) settled.Lifted words
-      → room_after new ≡ known ++ (if has_word (length floor.words) (asked_by refused)
-      then end_by (outcome_by refused (settlement_in (entry_in words) (asked_by refused))) moment
-      else [])
-      → duties ≡ (if has_word (length floor.words) (asked_by refused)
-      then hit_duties known at response moment
-      (outcome_by refused (settlement_in (entry_in words) (asked_by refused)))
-      else [])
-      → NotesWhere (awards duties) word floor_hit after
-      → Does config facts (effect_by refused) after duties
-  hit_by after (Some why) duties exchange grown leaves notes =
-      let stand : WordsStand config facts words =
-      subst (WordsStand config facts) (sym exchange) before.words_are in
-      let plain : Does config facts (effect_with (Err why)) after duties =
-      leaving config facts _ after duties _ leaves
-      (refused_does config facts floor at investor index old events before one is value events_value
-      response word moment words new after why
-      (subst (λ (d : List Duty). NotesWhere (awards d) word floor_hit after) leaves notes)
-      stand (ap length exchange) grown) in
-      rw room_there plain
-  hit_by after None duties exchange grown leaves notes =
-      by_test (nat_lt word (length floor.words)) refl exchange grown leaves
+  -- the same where it asks no word
+  unasked : (duties : List Duty) → words ≡ floor.words → room_after new ≡ known ++ []
+      → after ≡ floor_hit → Does config facts (record { facts = []; duties = duties }) after duties
+  unasked duties same =
+      quiet duties (subst (WordsStand config facts) (sym same) before.words_are) (ap length same)
+
+  -- A hit that asks a word, whose entry is this then.
+
+  -- its outcome, where no check of the room refuses it
+  abbrev by_word : Option Settled → Result End HitRefusal
+  by_word entry = hit_settled None entry (award_of known word)
+
+  pub record Asked (entry : Option Settled) : Type 0 where
+    pub exchange : SettlesSo Exchanges floor.words word settled.Lifted entry words
+    pub grown : room_after new ≡ known ++ end_by (by_word entry) moment
+    pub notes : NotesWhere (awards (left_by (by_word entry))) word floor_hit after
+
+  asked_does : nat_lt word (words_of config) ≡ true → (entry : Option Settled) → Asked entry
+      → Does config facts (effect_of (quote_with_word config word)
+      (by_word (option_map (answer_to_hit facts) (quote_with_word config word)))) after
+      (left_by (by_word entry))
+  asked_does inside None asked = absurd asked.exchange
+  asked_does inside (Some settlement) asked =
+      subst (λ (q : Option QuoteRef). Does config facts
+      (effect_of q (by_word (option_map (answer_to_hit facts) q))) after
+      (left_by (by_word (Some settlement)))) (sym owner.found)
+      (subst (λ (s : Settled). Asked (Some s) → Does config facts
+      (effect_of (Some (quote_at owner.number owner.quote))
+      (by_word (Some (answer_to_investor trail owner.quote)))) after (left_by (by_word (Some s))))
+      (sym answer_is) (by_answer (was_withdrawn trail owner.quote) refl) asked)
     where
-      by_test : (b : Bool) → nat_lt word (length floor.words) ≡ b
-          → AsksAtMost Exchanges entry_in floor.words (if b then Some word else None)
-          settled.Lifted words
-          → room_after new ≡ known ++ (if b
-          then end_by (outcome_by None (entry_in words word)) moment else [])
-          → duties ≡ (if b then hit_duties known at response moment
-          (outcome_by None (entry_in words word)) else [])
-          → Does config facts (effect_by None) after duties
-      by_test false test exchanged now_is left_is =
-          let none : nat_lt word (words_of config) ≡ false = sym (has_said (Some word)) ∙ test in
-          let stand : WordsStand config facts words =
-          subst (WordsStand config facts) (sym exchanged) before.words_are in
-          let same : after ≡ floor_hit =
-          subst (λ (d : List Duty). NotesWhere (awards d) word floor_hit after) left_is notes in
-          let idle : Does config facts nothing after duties = record {
-            stands = subst (Stands config (facts ++ [])) (sym same)
-                (idle_hit stand (ap length exchanged) now_is);
-            leaves = left_is;
-          } in
-          rw (room_there, none) idle
-      by_test true test exchanged now_is left_is =
-          let there : nat_lt word (words_of config) ≡ true = sym (has_said (Some word)) ∙ test in
-          rw (room_there, there) (by_entry (entry_in words word) exchanged now_is left_is)
-        where
-          by_entry : (entry : Option Settled)
-              → SettlesSo Exchanges floor.words word settled.Lifted entry words
-              → room_after new ≡ known ++ end_by (outcome_by None entry) moment
-              → duties ≡ hit_duties known at response moment (outcome_by None entry)
-              → Does config facts
-              (effect_with (outcome_by None
-              (option_map (answer_to_hit facts) (quote_with_word config word))))
-              after duties
-          by_entry None settles grown_so left_so = absurd settles
-          by_entry (Some settlement) settles grown_so left_so =
-              leaving config facts _ after duties _ left_so
-              (settled_does config facts floor at investor index old events before one is value
-              events_value response word moment words new after settlement settles there_too
-              grown_so
-              (subst (λ (d : List Duty). NotesWhere (awards d) word floor_hit after) left_so
-              notes))
-            where
-              there_too : nat_lt word (words_of config) ≡ true
-              there_too = sym (has_said (Some word)) ∙ test
+      owner : WordOwner config word
+      owner = word_owner config word inside
 
-  -- a hit does what it should
-  hit_does : (after : Floor) (duties : List Duty)
-      → AsksAtMost Exchanges entry_in floor.words
-      (word_to_ask (length floor.words) (hit_word (room_after events) word moment))
-      settled.Lifted words
-      → new ≡ where_done (has_word (length floor.words) (hit_word (room_after events) word moment))
-      events (at_room.Hit word moment
-      (settlement_in (entry_in words) (hit_word (room_after events) word moment)))
-      → duties ≡ duties_of_hit (room_after events) at response word moment
-      (has_word (length floor.words) (hit_word (room_after events) word moment))
-      (settlement_in (entry_in words) (hit_word (room_after events) word moment))
-      → NotesWhere (awards duties) word floor_hit after
+      trail : List DealerEntry
+      trail = of_dealer owner.number facts
+
+      both_not : (was_lifted trail owner.quote && was_withdrawn trail owner.quote) ≡ false
+      both_not = one owner.number owner.row owner.quote owner.of.is
+
+      in_row : word < length floor.words
+      in_row =
+          let count : length floor.words ≡ words_of config = before.word_count in
+          grind (arith, nat_tests)
+
+      answer_is : settlement ≡ answer_to_investor trail owner.quote
+      answer_is =
+          asked.exchange.answered
+          ∙ ap (λ e. settlement_of e settled.Lifted)
+          (ap (entry_in floor.words) owner.of.word_is
+          ∙ before.words_are owner.number owner.row owner.quote owner.of.is owner.of.within)
+          ∙ lift_answer (was_lifted trail owner.quote) (was_withdrawn trail owner.quote) both_not
+
+      by_answer : (withdrawn : Bool) → was_withdrawn trail owner.quote ≡ withdrawn
+          → Asked (Some (if withdrawn then settled.Withdrawn else settled.Lifted))
+          → Does config facts (effect_of (Some (quote_at owner.number owner.quote))
+          (by_word (Some (if withdrawn then settled.Withdrawn else settled.Lifted)))) after
+          (left_by (by_word (Some (if withdrawn then settled.Withdrawn else settled.Lifted))))
+      by_answer true test did =
+          quiet (left_by (Err refusal.Withdrawn))
+          (refused_stands facts floor.words owner.of before.words_are in_row did.exchange test both_not)
+          (exchange_keeps_count floor.words words word settled.Lifted settled.Withdrawn did.exchange)
+          did.grown did.notes
+      by_answer false test did =
+          let count = exchange_keeps_count floor.words words word settled.Lifted settled.Lifted
+          did.exchange in
+          let there : PlaceOf config facts floor owner.number owner.row =
+          place_of config facts floor owner.number owner.row before owner.of.is in
+          let noted : NotedAt owner.number (word - there.place.first_word + 1) there.place floor_hit
+          after = did.notes owner.number there.place
+          (subst (λ (n : ℕ). word < n) (sym count) in_row)
+          (before.owners_are word ∙ ap (option_map (λ (q : QuoteRef). q.dealer)) owner.found)
+          there.there in
+          let first : there.place.first_word ≡ first_word config (dealer_of owner.number owner.row) =
+          there.stands.first_is in
+          let is_word : word ≡ first_word config (dealer_of owner.number owner.row)
+          + (owner.quote - 1) = owner.of.word_is in
+          let in_day : (nat_le 1 owner.quote && nat_le owner.quote owner.row.quotes) ≡ true =
+          owner.of.within in
+          let least : 1 ≤ owner.quote = grind (arith, nat_tests, in_day) in
+          let quote_is : word - there.place.first_word + 1 ≡ owner.quote = omega arith in
+          let now : List Fact = with_dealers facts owner.number (Lifted owner.quote ∷ []) in
+          let ended : List RoomFact = end_by (by_word (Some settled.Lifted)) moment in
+          let effect = effect_of (Some (quote_at owner.number owner.quote))
+          (by_word (Some settled.Lifted)) in
+          let base : Floor = record floor {
+            dealers = with_item floor.dealers owner.number noted.now;
+            words = words;
+          } in
+          let stands : Stands config now base = at_dealer_stands (Lifted owner.quote ∷ []) words before owner.of.is
+          (lifted_place config owner.number owner.row trail owner.quote there.place noted.now
+          there.stands
+          (subst (λ (q : ℕ). Noted q there.place noted.now) quote_is noted.is_noted))
+          count
+          (lift_stands facts floor.words owner.of before.words_are in_row did.exchange) in
+          record {
+            stands = subst (Stands config (facts ++ effect.facts)) (sym noted.after_is)
+                (subst (λ (l : List Fact). Stands config l (floor_with base investor index old new))
+                (append_assoc facts (lifting (Some (quote_at owner.number owner.quote))
+                (by_word (Some settled.Lifted))) (map (InRoom at) ended))
+                (in_room_stands stands (room_found stands place) ended new
+                (did.grown ∙ ap (λ l. l ++ ended)
+                (sym (room_stays at facts (AtDealer owner.number (Lifted owner.quote) ∷ [])
+                (room_at_dealer at owner.number (Lifted owner.quote ∷ [])))))));
+            leaves = refl;
+          }
+
+  -- A hit, by the check of the room that refuses it, if one does.
+
+  -- the word that is asked, whether the row has it, and what becomes of the hit then
+  abbrev asks : Option HitRefusal → Option ℕ
+  asks refused = word_asked_by (word_or word refused)
+
+  abbrev has : Option HitRefusal → Bool
+  has refused = has_word (length floor.words) (asks refused)
+
+  abbrev outcome_by : Option HitRefusal → Result End HitRefusal
+  outcome_by refused =
+      hit_settled refused (settlement_in (entry_in words) (asks refused)) (award_of known word)
+
+  abbrev left_after : Option HitRefusal → List Duty
+  left_after refused = if has refused then left_by (outcome_by refused) else []
+
+  -- a hit that no check refuses, by whether the row has the word
+  unrefused : (b : Bool) → nat_lt word (length floor.words) ≡ b
+      → AsksAtMost Exchanges entry_in floor.words (if b then Some word else None) settled.Lifted words
+      → room_after new
+      ≡ known ++ (if b then end_by (by_word (entry_in words word)) moment else [])
+      → NotesWhere (awards (if b then left_by (by_word (entry_in words word)) else [])) word floor_hit
+      after
+      → Does config facts
+      (if nat_lt word (words_of config) then effect_of (quote_with_word config word)
+      (by_word (option_map (answer_to_hit facts) (quote_with_word config word))) else nothing) after
+      (if b then left_by (by_word (entry_in words word)) else [])
+  unrefused false test same grown notes =
+      let none : nat_lt word (words_of config) ≡ false =
+      ap (nat_lt word) (sym before.word_count) ∙ test in
+      rw none (unasked [] same grown notes)
+  unrefused true test exchange grown notes =
+      let there : nat_lt word (words_of config) ≡ true =
+      ap (nat_lt word) (sym before.word_count) ∙ test in
+      rw there (asked_does there (entry_in words word)
+      (record { exchange = exchange; grown = grown; notes = notes }))
+
+  -- what the code has done in a room with these facts
+  pub record Done (room : List RoomFact) (duties : List Duty) : Type 0 where
+    pub exchange : AsksAtMost Exchanges entry_in floor.words
+        (word_to_ask (length floor.words) (hit_word room word moment)) settled.Lifted words
+    pub grown : new ≡ where_done (has_word (length floor.words) (hit_word room word moment)) events
+        (at_room.Hit word moment (settlement_in (entry_in words) (hit_word room word moment)))
+    pub leaves : duties ≡ duties_of_hit room at response word moment
+        (has_word (length floor.words) (hit_word room word moment))
+        (settlement_in (entry_in words) (hit_word room word moment))
+    pub notes : NotesWhere (awards duties) word floor_hit after
+
+  pub hit_does : (duties : List Duty) → Done (room_after events) duties
       → Does config facts (hit_in config facts at response word moment) after duties
   unfolding event_facts
-  hit_does after duties exchange grown leaves notes =
-      let found = found_by_code config facts floor at investor index old events before is value
-      events_value in
-      hit_by after (hit_refusal known word moment) duties
-      (subst (λ (k : List RoomFact). AsksAtMost Exchanges entry_in floor.words
-      (word_to_ask (length floor.words) (hit_word k word moment)) settled.Lifted words)
-      found.known exchange)
-      (pushed events new _ _ grown
-      ∙ ap (λ (k : List RoomFact). k ++ (if has_word (length floor.words) (hit_word k word moment)
-      then end_by (hit_settled (hit_refusal k word moment)
-      (settlement_in (entry_in words) (hit_word k word moment)) (award_of k word)) moment
+  hit_does duties did =
+      let done = subst (λ (room : List RoomFact). Done room duties) found.known did in
+      subst (Does config facts _ after) (sym done.leaves)
+      (by_check (hit_refusal known word moment) done.exchange
+      (pushed events new _ _ done.grown
+      ∙ ap (λ room. room ++ (if has (hit_refusal known word moment) then event_facts room
+      (at_room.Hit word moment (settlement_in (entry_in words) (hit_word known word moment)))
       else [])) found.known)
-      (leaves ∙ ap (λ (k : List RoomFact). duties_of_hit k at response word moment
-      (has_word (length floor.words) (hit_word k word moment))
-      (settlement_in (entry_in words) (hit_word k word moment))) found.known)
-      notes
-
-  -- what the code does: by whether it found an award
-  module _ (after : Floor) (duties : List Duty) (awarded : Bool)
-      (exchange : AsksAtMost Exchanges entry_in floor.words
-      (word_to_ask (length floor.words) (hit_word (room_after events) word moment))
-      settled.Lifted words)
-      (grown : new ≡ where_done (has_word (length floor.words)
-      (hit_word (room_after events) word moment))
-      events (at_room.Hit word moment
-      (settlement_in (entry_in words) (hit_word (room_after events) word moment))))
-      (leaves : duties ≡ duties_of_hit (room_after events) at response word moment
-      (has_word (length floor.words) (hit_word (room_after events) word moment))
-      (settlement_in (entry_in words) (hit_word (room_after events) word moment)))
-      (is_awarded : awarded ≡ awards duties) where
-    pub noted_hit_does : awarded ≡ true → Notes word floor_hit after
-        → Does config facts (hit_in config facts at response word moment) after duties
-    noted_hit_does so notes =
-        hit_does after duties exchange grown leaves
-        (subst (λ (b : Bool). NotesWhere b word floor_hit after) (sym so ∙ is_awarded) notes)
-
-    pub other_hit_does : awarded ≡ false → after ≡ floor_hit
-        → Does config facts (hit_in config facts at response word moment) after duties
-    other_hit_does so same =
-        hit_does after duties exchange grown leaves
-        (subst (λ (b : Bool). NotesWhere b word floor_hit after) (sym so ∙ is_awarded) same)
-
--- a hit in a room that the venue does not have
-pub no_room_hit : (config : Configuration) (facts : List Fact) (floor : Floor) (at : RoomRef)
-    (response : ResponseRef) (word moment : ℕ) (duties : List Duty) → Stands config facts floor
-    → room_place floor at ≡ None → duties ≡ []
-    → Does config facts (hit_in config facts at response word moment) floor duties
-no_room_hit config facts floor at response word moment duties before none leaves =
-    let missing = no_room config facts floor at before none in
-    let idle : Does config facts nothing floor duties = record {
-      stands = subst (λ (l : List Fact). Stands config l floor) (sym (append-nil facts)) before;
-      leaves = leaves;
-    } in
-    rw missing idle
+      (subst (λ (d : List Duty). NotesWhere (awards d) word floor_hit after) done.leaves done.notes))
+    where
+      by_check : (refused : Option HitRefusal) → AsksAtMost Exchanges entry_in floor.words
+          (word_to_ask (length floor.words) (asks refused)) settled.Lifted words
+          → room_after new
+          ≡ known ++ (if has refused then end_by (outcome_by refused) moment else [])
+          → NotesWhere (awards (left_after refused)) word floor_hit after
+          → Does config facts
+          (if has_room config at.investor at.n && has_word (words_of config) (asks refused)
+          then effect_of (quote_with_word config word) (hit_settled refused
+          (option_map (answer_to_hit facts) (quote_asked config (asks refused)))
+          (award_of known word)) else nothing)
+          after (left_after refused)
+      by_check (Some why) same grown notes =
+          rw (found.has, no_lifting (quote_with_word config word) why)
+          (unasked (left_by (Err why)) same grown notes)
+      by_check None exchange grown notes =
+          rw found.has (unrefused (nat_lt word (length floor.words)) refl exchange grown notes)

@@ -1,205 +1,237 @@
--- An investor's place stands where the facts have come, after what happens at its desk; its rooms
--- and all other places stay.
-use Rattle.std.proofs.Common.{◌≡◌, ◌≢◌, ◌<◌, ◌≤◌, ℕ, ◌-◌, ◌==◌, Bool, true, false, List, ◌++◌, map}
-use Rattle.std.proofs.Common.{length, slice_set, Option, Some, None, refl, sym, ap, ◌∙◌, subst}
-use Rattle.std.proofs.Common.{arith}
-use Rattle.std.specs.Prelude.{slice_get}
-use Rattle.std.specs.Vec.{with_item}
-use Rattle.std.proofs.lemmas.Bool.Decides.{nat_tests}
-use Rattle.std.proofs.lemmas.List.{length-set}
-use Rattle.std.proofs.lemmas.Option.{same_Some, slice_get_within}
-use Rattle.market_terms.specs.declared.rooms.RoomRef.{RoomRef}
-use Rattle.venue_rows.specs.Rows.{Configuration, investor_numbered}
-use Rattle.venue_rows.specs.declared.investor_rows.InvestorRow.{InvestorRow}
-use Rattle.investor_desk.specs.InvestorDesk.{DeskEvents, with_event, market_of}
-use Rattle.investor_desk.specs.InvestorOutput.{DeskState, desk_after, after_event}
-use Rattle.investor_desk.specs.declared.events.InvestorEvent.{InvestorEvent}
-use Rattle.step_replay.specs.InvestorTrail.{InvestorEntry, entries_of}
-use Rattle.step_replay.specs.VenueFacts.{Fact, AtInvestor, of_dealer, of_room, of_investor}
-use Rattle.step_replay.specs.Standing.{DealerStandsIn, InvestorStands, InvestorStandsIn, Stands}
-use Rattle.step_replay.specs.Standing.{word_is}
-use Rattle.step_replay.specs.declared.floor.InvestorPlace.{InvestorPlace}
-use Rattle.step_replay.specs.declared.floor.Floor.{Floor}
-use Rattle.step_replay.specs.PlaceLemmas.{get_set_same, get_set_other, get_beyond, investor_grown}
-use Rattle.step_replay.specs.PlaceLemmas.{own_investor, other_investor, trail_at_investor}
-use Rattle.step_replay.specs.PlaceLemmas.{room_at_investor, dealer_stays, investor_stays}
-use Rattle.step_replay.specs.PlaceLemmas.{room_stays, behind_dealers, numbered_at}
-use Rattle.step_replay.proofs.FloorLemmas.{room_kept, investor_kept, words_kept}
-use Rattle.step_replay.specs.InvestorGrowth.{desk_of, desk_push, trail_push}
+-- Looking an investor of a replay up, and what happens at its desk: it does what it should, wherever
+-- the places stood, and the rooms and all other places stay.
+use Rattle.step_replay.proofs.Common.{◌≡◌, ◌≤◌, ◌<◌, ℕ, ◌+◌, ◌-◌, Bool, List, length, nat_le, Some}
+use Rattle.step_replay.proofs.Common.{None, sym, ap, ◌∙◌, subst, arith, if◌then◌else◌, false, ◌≡◌}
+use Rattle.step_replay.proofs.Common.{ℕ, ◌+◌, Bool, true, false, ◌&&◌, List, [], ◌++◌, length, map}
+use Rattle.step_replay.proofs.Common.{Some, None, option_map, if◌then◌else◌, refl, sym, ap, ◌∙◌}
+use Rattle.step_replay.proofs.Common.{subst, slice_get, slice_get, nat_tests, slice_get_past}
+use Rattle.step_replay.proofs.Common.{Configuration, investor_numbered, Configuration}
+use Rattle.step_replay.proofs.Common.{investor_numbered, InvestorRow, Fact, Fact, AtInvestor}
+use Rattle.step_replay.proofs.Common.{of_investor, InvestorStands, Stands, RoomIs, Stands, Does}
+use Rattle.step_replay.proofs.Common.{slots, InvestorPlace, InvestorPlace, Floor, Floor}
+use Rattle.step_replay.proofs.Common.{numbered_at, own_investor, room_stays, room_at_investor}
+use Rattle.step_replay.proofs.Common.{option_to_list, with_item, append-nil, Duty, InvestorMarket}
+use Rattle.step_replay.proofs.Common.{market_of, market_for, InvestorEvent, InvestorEntry, Effect}
+use Rattle.step_replay.proofs.Common.{nothing, done_for, at_market, received_by_investor}
+use Rattle.step_replay.proofs.Common.{where_known, investor_gets, desk_of}
+use Rattle.step_replay.specs.PlaceLemmas.{investor_grown, other_investor, trail_at_investor}
+use Rattle.step_replay.proofs.FloorLemmas.{dealer_count, at_investor_stands}
+use Rattle.step_replay.proofs.MatchLemmas.{found, missing, kept}
+use Rattle.investor_desk.specs.InvestorFacts.{InvestorBook, book_of, knows}
+use Rattle.investor_desk.specs.InvestorRules.{investor_verdict}
+use Rattle.investor_desk.specs.InvestorDesk.{DeskEvents, with_event, book_at}
+use Rattle.investor_desk.specs.InvestorOutput.{DeskState, after_event, desk_after, verdict_duty}
+use Rattle.investor_desk.specs.declared.events.InvestorEvent.TheVariants as event
+use Rattle.venue_steps.specs.InvestorSteps.{desk_after_own, duties_of_own, where_so, replies_to}
+use Rattle.venue_places.specs.Brought.{investor_with}
+use Rattle.venue_places.specs.declared.arrivals.ForInvestor.{ForInvestor}
+use Rattle.venue_places.specs.declared.arrivals.ForInvestor.TheVariants as to_investor
+use Rattle.step_replay.specs.InvestorTrail.{book_by, entries_of}
+use Rattle.step_replay.specs.InvestorGrowth.{desk_push, trail_push}
+use Rattle.step_replay.proofs.FoundDealers.{idle_does}
 
--- The facts with what is added at an investor.
-
-module _ (facts : List Fact) (number : ℕ) (added : List InvestorEntry) where
-  -- the facts with it
-  abbrev now : List Fact
-  now = facts ++ map (AtInvestor number) added
-
-  own_now : of_investor number now ≡ of_investor number facts ++ added
-  own_now =
-      investor_grown number facts (map (AtInvestor number) added)
-      ∙ ap (λ l. of_investor number facts ++ l) (own_investor number added)
-
-  other_now : (other : ℕ) → (number == other) ≡ false
-      → of_investor other now ≡ of_investor other facts
-  other_now other differs =
-      investor_stays other facts (map (AtInvestor number) added)
-      (other_investor other number differs added)
-
-  room_now : (room : RoomRef) → of_room room now ≡ of_room room facts
-  room_now room =
-      room_stays room facts (map (AtInvestor number) added) (room_at_investor room number added)
-
-  dealer_now : (other : ℕ) → of_dealer other now ≡ of_dealer other facts
-  dealer_now other =
-      dealer_stays other facts (map (AtInvestor number) added)
-      (trail_at_investor other number added)
-
--- An investor's place after one event more.
-
--- what an event at the investor's desk adds
-abbrev pub added_by : Configuration → List Fact → ℕ → InvestorRow → InvestorEvent
-    → List InvestorEntry
-added_by config facts number row more =
-    entries_of (market_of config number row) (of_investor number facts) more
-
-pub investor_event_stands : (config : Configuration) (number : ℕ) (row : InvestorRow)
-    (facts : List Fact) (place : InvestorPlace) (desk : DeskEvents) (more : InvestorEvent)
-    → InvestorStands config number row facts place → desk ≡ with_event place.desk more
-    → InvestorStands config number row
-    (facts ++ map (AtInvestor number) (added_by config facts number row more))
-    (record place { desk = desk })
-investor_event_stands config number row facts place desk more before is = record {
-  market_is = ap (λ (d : DeskEvents). d.market) is ∙ before.market_is;
-  state_is = ap (λ (d : DeskEvents). desk_after (market_of config number row) d.events) is
-      ∙ desk_push (market_of config number row) place.desk.events more
-      ∙ ap (λ (state : DeskState). after_event (market_of config number row) state more)
-      before.state_is
-      ∙ trail_push (market_of config number row) (of_investor number facts) more
-      ∙ ap (λ (l : List InvestorEntry). desk_of l)
-      (sym (own_now facts number (added_by config facts number row more)));
-  room_count = before.room_count;
-  rooms_are = λ n within.
-      room_kept (of_room (record { investor = number; n = n }) facts) _
-      (slice_get place.rooms.items (n - 1))
-      (room_now facts number (added_by config facts number row more)
-      (record { investor = number; n = n }))
-      (before.rooms_are n within);
-}
-
--- Looking an investor up.
+-- the row of an investor, by its place behind the dealers
+pub numbered_as : (config : Configuration) (number index : ℕ)
+    → number ≡ length config.dealers + index
+    → investor_numbered config number ≡ slice_get config.investors index
+numbered_as config number index is =
+    let behind : length config.dealers ≤ number = omega arith in
+    let place : number - length config.dealers ≡ index = omega arith in
+    numbered_at config number behind ∙ ap (slice_get config.investors) place
 
 -- an investor that stands has a place and a row
-pub record InvestorFound (config : Configuration) (facts : List Fact) (number : ℕ)
+pub record InvestorFound (config : Configuration) (facts : List Fact) (number index : ℕ)
     (place : InvestorPlace) : Type 0 where
   pub row : InvestorRow
+  pub there : slice_get config.investors index ≡ Some row
   pub row_is : investor_numbered config number ≡ Some row
-  pub stands : InvestorStands config number row facts place
+  pub stands : InvestorStands config facts number row place
 
-pub investor_found : (config : Configuration) (facts : List Fact) (floor : Floor) (number : ℕ)
-    (place : InvestorPlace) → Stands config facts floor → length config.dealers ≤ number
-    → slice_get floor.investors.items (number - length config.dealers) ≡ Some place
-    → InvestorFound config facts number place
-investor_found config facts floor number place stands behind is =
-    by_row (investor_numbered config number) refl
-  where
-    by_row : (found : Option InvestorRow) → investor_numbered config number ≡ found
-        → InvestorFound config facts number place
-    by_row None none =
-        let beyond : length config.investors ≤ number - length config.dealers =
-        get_beyond config.investors (number - length config.dealers)
-        (sym (numbered_at config number behind) ∙ none) in
-        let within : number - length config.dealers < length floor.investors.items =
-        slice_get_within floor.investors.items (number - length config.dealers) place is in
-        let count : length floor.investors.items ≡ length config.investors =
-        stands.investor_count in
-        absurd (omega arith)
-    by_row (Some row) some = record {
-      row = row;
-      row_is = some;
-      stands = subst (InvestorStandsIn config number row facts) is
-          (stands.investors_are number row some);
+module _ {config : Configuration} {facts : List Fact} {floor : Floor}
+    (before : Stands config facts floor) where
+  pub investor_found : {number : ℕ} {place : InvestorPlace} (index : ℕ)
+      → number ≡ length config.dealers + index
+      → slice_get floor.investors.items index ≡ Some place
+      → InvestorFound config facts number index place
+  investor_found {number} {place} index at is =
+      let there = found (InvestorStands config facts) (length config.dealers) config.investors
+      floor.investors.items index place before.investors_are is in
+      record {
+        row = there.item;
+        there = there.there;
+        row_is = numbered_as config number index at ∙ there.there;
+        stands = subst (λ (n : ℕ). InvestorStands config facts n there.item place) (sym at) there.so;
+      }
+
+  -- the number of an investor, by the dealers' places
+  pub behind_places : {number : ℕ} (index : ℕ) → number ≡ length floor.dealers.items + index
+      → number ≡ length config.dealers + index
+  behind_places index at = at ∙ ap (λ (n : ℕ). n + index) (dealer_count config facts floor before)
+
+  -- there is no investor where there is no place, nor by the number of a dealer
+  pub no_investor : (number index : ℕ) → number ≡ length floor.dealers.items + index
+      → length floor.investors.items ≤ index → investor_numbered config number ≡ None
+  no_investor number index at past =
+      numbered_as config number index (behind_places index at)
+      ∙ missing (InvestorStands config facts) (length config.dealers) config.investors
+      floor.investors.items index before.investors_are
+      (slice_get_past floor.investors.items index past)
+
+  pub dealers_number : (number : ℕ) → number < length floor.dealers.items
+      → investor_numbered config number ≡ None
+  dealers_number number below =
+      let count : length floor.dealers.items ≡ length config.dealers =
+      dealer_count config facts floor before in
+      let test : nat_le (length config.dealers) number ≡ false = grind (arith, nat_tests) in
+      ap (λ (b : Bool). if b then slice_get config.investors (number - length config.dealers)
+      else None) test
+
+-- where there is no such investor
+pub no_investor_does : {config : Configuration} {facts : List Fact} {floor : Floor}
+    {duties : List Duty} (number : ℕ) (action : InvestorMarket → Effect)
+    → Stands config facts floor → investor_numbered config number ≡ None → duties ≡ []
+    → Does config facts (done_for (market_for config number) action) floor duties
+no_investor_does {config} {facts} {floor} {duties} number action before none leaves =
+    idle_does config facts floor _ duties before leaves
+    (ap (λ row. done_for (option_map (market_of config number) row) action) none)
+
+module _ {config : Configuration} {facts : List Fact} {floor : Floor} {number : ℕ}
+    {place : InvestorPlace} (at : ℕ) (before : Stands config facts floor)
+    (is : number ≡ length config.dealers + at)
+    (stood : slice_get floor.investors.items at ≡ Some place) where
+  own : InvestorFound config facts number at place
+  own = investor_found before at is stood
+
+  -- its market and its trail
+  abbrev market : InvestorMarket
+  market = market_of config number own.row
+
+  abbrev trail : List InvestorEntry
+  trail = of_investor number facts
+
+  module _ (desk : DeskEvents) where
+    -- the floor with this desk at the investor's place
+    abbrev after : Floor
+    after = record floor { investors = with_item floor.investors at (record place { desk = desk }) }
+
+    -- an action of the investor that was own
+    by_market : (action : InvestorMarket → Effect) (duties : List Duty)
+        → Does config facts (action market) after duties
+        → Does config facts (done_for (market_for config number) action) after duties
+    by_market action duties does = rw own.row_is does
+
+    -- where its desk has come as far as its trail
+    desk_stands : (added : List InvestorEntry) → desk.market ≡ place.desk.market
+        → desk_after market desk.events ≡ desk_of (trail ++ added)
+        → Stands config (facts ++ map (AtInvestor number) added) after
+    desk_stands added same state =
+        let more : List Fact = map (AtInvestor number) added in
+        at_investor_stands more at (record place { desk = desk }) is own.there before
+        (λ n. trail_at_investor n number added)
+        (λ n differs. record {
+          trail = other_investor n number differs added;
+          rooms = λ k. room_at_investor (record { investor = n; n = k }) number added;
+        })
+        (record {
+          market_is = same ∙ own.stands.market_is;
+          state_is = state ∙ ap (λ (l : List InvestorEntry). desk_of l)
+              (sym (investor_grown number facts more
+              ∙ ap (λ l. trail ++ l) (own_investor number added)));
+          rooms_are = kept (RoomIs facts number) (RoomIs (facts ++ more) number) 1 (slots own.row)
+              place.rooms.items
+              (λ n slot events least known. known
+              ∙ sym (room_stays (record { investor = number; n = n }) facts more
+              (room_at_investor (record { investor = number; n = n }) number added)))
+              own.stands.rooms_are;
+        })
+
+    -- one event at its desk
+    event_stands : (more : InvestorEvent) → desk ≡ with_event place.desk more
+        → Stands config (facts ++ map (AtInvestor number) (entries_of market trail more)) after
+    event_stands more same =
+        desk_stands (entries_of market trail more) (ap (λ (d : DeskEvents). d.market) same)
+        (ap (λ (d : DeskEvents). desk_after market d.events) same
+        ∙ desk_push market place.desk.events more
+        ∙ ap (λ (state : DeskState). after_event market state more) own.stands.state_is
+        ∙ trail_push market trail more)
+
+    -- one event at its desk, where it may come
+    event_if : (may : Bool) (more : InvestorEvent) → desk ≡ where_so may place.desk more
+        → Does config facts (if may then at_market facts market more [] else nothing) after []
+    event_if true more same = record { stands = event_stands more same; leaves = refl }
+    event_if false more same = record {
+      stands = desk_stands [] (ap (λ (d : DeskEvents). d.market) same)
+          (ap (λ (d : DeskEvents). desk_after market d.events) same ∙ own.stands.state_is
+          ∙ ap (λ (l : List InvestorEntry). desk_of l) (sym (append-nil trail)));
+      leaves = refl;
     }
 
-pub no_investor : (config : Configuration) (facts : List Fact) (floor : Floor) (number : ℕ)
-    → Stands config facts floor
-    → slice_get floor.investors.items (number - length config.dealers) ≡ None
-    → investor_numbered config number ≡ None
-no_investor config facts floor number stands is = by_row (investor_numbered config number) refl
-  where
-    by_row : (found : Option InvestorRow) → investor_numbered config number ≡ found
-        → investor_numbered config number ≡ None
-    by_row None none = none
-    by_row (Some row) some =
-        absurd (subst (InvestorStandsIn config number row facts) is
-        (stands.investors_are number row some))
+    -- the book of the desk is that of the trail
+    book_is : book_at place.desk ≡ book_by trail
+    book_is =
+        ap (λ (m : InvestorMarket). book_of (desk_after m place.desk.events).facts)
+        own.stands.market_is
+        ∙ ap (λ (state : DeskState). book_of state.facts) own.stands.state_is
 
--- The floor after something at an investor's desk: its own rooms, and all other places, stay.
+    -- what a message leaves, by the book
+    abbrev left_by : ℕ → List ℕ → InvestorMarket → InvestorBook → List Duty
+    left_by moment bytes m b =
+        option_to_list (verdict_duty m moment (investor_verdict m b moment bytes))
 
-module _ (config : Configuration) (facts : List Fact) (floor : Floor) (number : ℕ)
-    (row : InvestorRow) (is : investor_numbered config number ≡ Some row)
-    (before : Stands config facts floor) (added : List InvestorEntry)
-    (old place : InvestorPlace)
-    (stood : slice_get floor.investors.items (number - length config.dealers) ≡ Some old)
-    (stands : InvestorStands config number row (now facts number added) place) where
-  -- the investor's place among those of the investors
-  abbrev index : ℕ
-  index = number - length config.dealers
+    -- The actions.
 
-  investor_now : (other : ℕ) (row_too : InvestorRow)
-      → investor_numbered config other ≡ Some row_too
-      → InvestorStandsIn config other row_too (now facts number added)
-      (slice_get (slice_set floor.investors.items index place)
-      (other - length config.dealers))
-  investor_now other row_too is_too = by_test (number == other) refl
-    where
-      by_test : (same : Bool) → (number == other) ≡ same
-          → InvestorStandsIn config other row_too (now facts number added)
-          (slice_get (slice_set floor.investors.items index place)
-          (other - length config.dealers))
-      by_test true test =
-          let equal : number ≡ other = grind (arith, nat_tests) in
-          let rows : row ≡ row_too = same_Some row row_too
-          (sym is ∙ ap (investor_numbered config) equal ∙ is_too) in
-          let within = slice_get_within floor.investors.items index old stood in
-          let Own : ℕ → InvestorRow → Type 0 = λ n r.
-          InvestorStandsIn config n r (now facts number added)
-          (slice_get (slice_set floor.investors.items index place)
-          (n - length config.dealers)) in
-          let own : Own number row =
-          subst (InvestorStandsIn config number row (now facts number added))
-          (sym (get_set_same floor.investors.items index place within)) stands in
-          subst (λ n. Own n row_too) equal (subst (Own number) rows own)
-      by_test false test =
-          let behind : length config.dealers ≤ number = behind_dealers config number row is in
-          let behind_too : length config.dealers ≤ other =
-          behind_dealers config other row_too is_too in
-          let unlike : number ≢ other = grind (arith, nat_tests) in
-          let differs : (other - length config.dealers) ≢ (number - length config.dealers) =
-          λ same. unlike (omega arith) in
-          subst (InvestorStandsIn config other row_too (now facts number added))
-          (sym (get_set_other floor.investors.items index (other - length config.dealers)
-          place differs))
-          (investor_kept config other row_too facts (now facts number added)
-          (slice_get floor.investors.items (other - length config.dealers))
-          (other_now facts number added other test)
-          (λ n. room_now facts number added (record { investor = other; n = n }))
-          (before.investors_are other row_too is_too))
+    pub said_does : (moment : ℕ) (bytes : List ℕ)
+        → desk ≡ desk_after_own place.desk moment bytes
+        → Does config facts
+        (done_for (market_for config number) (received_by_investor facts moment bytes))
+        after (duties_of_own place.desk moment bytes)
+    said_does moment bytes same =
+        by_market (received_by_investor facts moment bytes) _
+        (record {
+          stands = event_stands (event.Received moment bytes) same;
+          leaves = ap (left_by moment bytes place.desk.market) book_is
+              ∙ ap (λ (m : InvestorMarket). left_by moment bytes m (book_by trail))
+              own.stands.market_is;
+        })
 
-  pub at_investor_stands : Stands config (now facts number added)
-      (record floor { investors = with_item floor.investors index place })
-  at_investor_stands = record {
-    config_is = before.config_is;
-    dealer_count = before.dealer_count;
-    dealers_are = λ other row_too is_too.
-        subst (λ l. DealerStandsIn config other row_too l
-        (slice_get floor.dealers.items other))
-        (sym (dealer_now facts number added other))
-        (before.dealers_are other row_too is_too);
-    investor_count = length-set floor.investors.items index place ∙ before.investor_count;
-    investors_are = investor_now;
-    word_count = before.word_count;
-    words_are = words_kept config facts (now facts number added) floor.words
-        (λ other quote. ap (λ l. word_is l quote) (dealer_now facts number added other))
-        before.words_are;
-    owners_are = before.owners_are;
-  }
+    known_does : (request : ℕ) (more : InvestorEvent) (action : InvestorMarket → Effect)
+        → action market ≡ where_known facts request None more market
+        → desk ≡ where_so (knows (book_at place.desk) request None) place.desk more
+        → Does config facts (done_for (market_for config number) action) after []
+    known_does request more action is same =
+        by_market action []
+        (subst (λ (e : Effect). Does config facts e after []) (sym is)
+        (event_if (knows (book_by trail) request None) more
+        (same ∙ ap (λ (b : InvestorBook).
+        where_so (knows b request None) place.desk more) book_is)))
+
+    -- where an answer is known, and answers such a response
+    answer_if : (known fits : Bool) (more : InvestorEvent)
+        → desk ≡ where_so (known && fits) place.desk more
+        → Does config facts
+        (if fits then (if known then at_market facts market more [] else nothing) else nothing)
+        after []
+    answer_if true true more same = event_if true more same
+    answer_if true false more same = event_if false more same
+    answer_if false true more same = event_if false more same
+    answer_if false false more same = event_if false more same
+
+    -- what comes to its desk does what it should
+    pub investor_does : (what : ForInvestor) → desk ≡ investor_with place.desk what
+        → Does config facts (done_for (market_for config number) (investor_gets facts what)) after []
+    unfolding investor_with investor_gets
+    investor_does (to_investor.Relay request offer moment) same =
+        known_does request (event.QuoteCame request offer moment) _ refl same
+    investor_does (to_investor.Gone request word moment) same =
+        known_does request (event.QuoteGone request word moment) _ refl same
+    investor_does (to_investor.Declined request dealer moment) same =
+        known_does request (event.DealerDeclined request dealer moment) _ refl same
+    investor_does (to_investor.Answer request response reply moment) same =
+        by_market (investor_gets facts (to_investor.Answer request response reply moment)) []
+        (answer_if (knows (book_by trail) request response.k)
+        (replies_to response.k reply) (event.Answered request response reply moment)
+        (same ∙ ap (λ (b : InvestorBook).
+        where_so (knows b request response.k && replies_to response.k reply) place.desk
+        (event.Answered request response reply moment)) book_is))
+    investor_does (to_investor.Close request moment) same =
+        known_does request (event.Closed request moment) _ refl same

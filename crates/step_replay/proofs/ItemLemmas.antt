@@ -1,34 +1,23 @@
 -- A desk and a row of words go on standing for a view, item by item.
-use Rattle.std.proofs.Common.{◌≡◌, ◌≤◌, ◌<◌, ℕ, ◌+◌, ◌-◌, nat_le}
-use Rattle.std.proofs.Common.{Bool, true, false, ◌&&◌, not, if◌then◌else◌}
-use Rattle.std.proofs.Common.{List, [], ◌∷◌, ◌++◌, length, get_or, replicate, take}
-use Rattle.std.proofs.Common.{Option, None, IfSome, option_map}
-use Rattle.std.proofs.Common.{refl, sym, ap, ◌∙◌, subst, arith}
-use Rattle.std.proofs.lemmas.List.{get_or-replicate, take_all, take_more}
-use Rattle.std.proofs.lemmas.List.Sums.{fold-append}
-use Rattle.quote_word.specs.PlainWords.{entry_in}
-use Rattle.quote_word.specs.declared.settled.Settled.{Settled}
+use Rattle.step_replay.proofs.Common.{◌≡◌, ◌≤◌, ◌<◌, ℕ, ◌+◌, ◌-◌, nat_le, Bool, true, false, ◌&&◌}
+use Rattle.step_replay.proofs.Common.{not, if◌then◌else◌, List, [], ◌∷◌, ◌++◌, length, get_or}
+use Rattle.step_replay.proofs.Common.{replicate, take, Option, None, IfSome, option_map, refl, sym}
+use Rattle.step_replay.proofs.Common.{ap, ◌∙◌, subst, arith, take_all, take_more, common_steps}
+use Rattle.step_replay.proofs.Common.{fold-append, entry_in, Settled, DealerRow, Ask, Close}
+use Rattle.step_replay.proofs.Common.{DeskEvents, with_event, desk_after, asked_word, DealerEvent}
+use Rattle.step_replay.proofs.Common.{Due, DealerView, after_due, answer_to, dealer_view}
+use Rattle.step_replay.proofs.Common.{is_withdrawn_at, no_room, view_after, with_event_at_desk}
+use Rattle.step_replay.proofs.Common.{AreWordsOf, GrowsByEvents, IsOfRow, Row, StandsFor}
+use Rattle.step_replay.proofs.Common.{with_asked, with_wish}
+use Rattle.std.proofs.lemmas.List.{get_or-replicate}
 use Rattle.quote_word.specs.declared.settled.Settled.TheVariants.{Lifted}
-use Rattle.venue_rows.specs.declared.dealer_rows.DealerRow.{DealerRow}
-use Rattle.market_terms.specs.declared.asks.Ask.{Ask}
-use Rattle.market_terms.specs.declared.closes.Close.{Close}
-use Rattle.dealer_desk.specs.DealerFacts.{number_to_drop}
-use Rattle.dealer_desk.specs.DealerDesk.{DeskEvents, book_at, may_close, verdict_at, with_event}
-use Rattle.dealer_desk.specs.DealerDesk.{with_notice}
-use Rattle.dealer_desk.specs.DealerOutput.{desk_after, word_asked}
-use Rattle.dealer_desk.specs.SettledWords.{asked_word}
-use Rattle.dealer_desk.specs.declared.events.DealerEvent.{DealerEvent}
+use Rattle.dealer_desk.specs.DealerDesk.{may_close, with_notice}
 use Rattle.dealer_desk.specs.declared.events.DealerEvent.TheVariants as event
-use Rattle.step_replay.specs.declared.dues.Due.{Due}
 use Rattle.step_replay.specs.declared.dues.Due.TheVariants as due
-use Rattle.step_replay.specs.DealerView.{DealerView, after_due, answer_to, dealer_view}
-use Rattle.step_replay.specs.DealerView.{is_withdrawn_at, no_room, sent_at}
-use Rattle.step_replay.specs.DealerView.{view_after, view_at_start, with_event_at_desk}
-use Rattle.step_replay.specs.RowOfWords.{AreWordsOf, GrowsByEvents, Happens, IsOfRow, Row}
-use Rattle.step_replay.specs.RowOfWords.{StandsFor}
-use Rattle.step_replay.specs.RowOfWords.{settlement_in, with_asked, with_lifting, with_wish}
-use Rattle.step_replay.proofs.RowLemmas.{asked_stands, asks_at, unasked}
-use Rattle.step_replay.proofs.RowLiftings.{lifting_desk, lifting_words}
+use Rattle.step_replay.specs.DealerView.{sent_at, view_at_start}
+use Rattle.step_replay.specs.RowOfWords.{Happens, settlement_in, with_lifting}
+use Rattle.step_replay.proofs.RowLemmas.{asked_stands, asks_at, unasked, lifting_desk}
+use Rattle.step_replay.proofs.RowLemmas.{lifting_words}
 
 -- Items.
 
@@ -41,7 +30,7 @@ module _ (grows : GrowsByEvents) (asked : DeskEvents → Option ℕ)
     (within : IfSome (asked desk) (IsOfRow desk.row.quotes))
     (after_is : after ≡ with_event desk (more (option_map (settlement_in words) (asked desk))))
     (words_are : words_after ≡ with_asked words (asked desk)) where
-  asking_stands : (view : DealerView) → StandsFor view desk words
+  pub asking_stands : (view : DealerView) → StandsFor view desk words
       → StandsFor (with_event_at_desk view (more (option_map (answer_to view) (asked view.desk))))
       after words_after
   asking_stands view stands =
@@ -60,38 +49,6 @@ module _ (grows : GrowsByEvents) (asked : DeskEvents → Option ℕ)
             (sym (words_are ∙ ap (λ (d : DeskEvents). with_asked words (asked d)) same))
             now.words_are;
       }
-
--- a message of the dealer's own, with the settlement of the row
-pub own_happens : GrowsByEvents → (desk after : DeskEvents) (words words_after : Row)
-    → (moment : ℕ) (bytes : List ℕ)
-    → length words ≡ desk.row.quotes
-    → IfSome (word_asked (verdict_at desk moment bytes)) (IsOfRow desk.row.quotes)
-    → after ≡ with_event desk (event.Received moment bytes
-    (option_map (settlement_in words) (word_asked (verdict_at desk moment bytes))))
-    → words_after ≡ with_asked words (word_asked (verdict_at desk moment bytes))
-    → Happens (due.Own moment bytes) (record { desk = desk; words = words })
-    (record { desk = after; words = words_after })
-unfolding after_due
-own_happens grows desk after words words_after moment bytes count within after_is words_are =
-    asking_stands grows (λ d. word_asked (verdict_at d moment bytes))
-    (λ settlement. event.Received moment bytes settlement) (λ d settlement. refl)
-    desk after words words_after count within after_is words_are
-
--- a drop, with the settlement of the row
-pub drop_happens : GrowsByEvents → (desk after : DeskEvents) (words words_after : Row)
-    → (last moment : ℕ)
-    → length words ≡ desk.row.quotes
-    → IfSome (number_to_drop (book_at desk) last) (IsOfRow desk.row.quotes)
-    → after ≡ with_event desk (event.Drop last moment
-    (option_map (settlement_in words) (number_to_drop (book_at desk) last)))
-    → words_after ≡ with_asked words (number_to_drop (book_at desk) last)
-    → Happens (due.Drop last moment) (record { desk = desk; words = words })
-    (record { desk = after; words = words_after })
-unfolding after_due
-drop_happens grows desk after words words_after last moment count within after_is words_are =
-    asking_stands grows (λ d. number_to_drop (book_at d) last)
-    (λ settlement. event.Drop last moment settlement) (λ d settlement. refl)
-    desk after words words_after count within after_is words_are
 
 -- a request that is shown
 pub shown_happens : GrowsByEvents → (desk after : DeskEvents) (words : Row) (ask : Ask) (moment : ℕ)
@@ -168,12 +125,8 @@ pub item_stands : (date : List ℕ) (row : DealerRow) (dues : List Due) (place :
     → StandsFor (after_due (view_after date row (take place dues)) item) desk words
     → StandsFor (view_after date row (take (place + 1) dues)) desk words
 item_stands date row dues place item desk words within is stands =
-    let front : List Due = take place dues in
-    let more : take (place + 1) dues ≡ front ++ item ∷ [] =
-    take_more dues place item within ∙ ap (λ (found : Due). front ++ found ∷ []) (sym is) in
-    let start = view_at_start date row in
-    let view = ap (view_after date row) more ∙ fold-append after_due start front (item ∷ []) in
-    subst (λ (after : DealerView). StandsFor after desk words) (sym view) stands
+    let more : take (place + 1) dues ≡ take place dues ++ item ∷ [] = grind (arith, common_steps) in
+    rw (more, fold-append) stands
 
 -- the whole list
 pub all_sent : (date : List ℕ) (row : DealerRow) (dues : List Due) (place : ℕ)

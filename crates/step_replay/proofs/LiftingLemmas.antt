@@ -1,58 +1,20 @@
 -- The due list that the code keeps, from the events of a desk and the liftings, grows as that of the
 -- dealer's trail does.
-use Rattle.std.proofs.Common.{◌≡◌, ◌≤◌, ℕ, ◌+◌, ◌-◌, nat_lt, Bool, false, List, [], ◌∷◌, ◌++◌, map}
-use Rattle.std.proofs.Common.{filter_map, length, take, drop, get_or, Some, subst, refl, sym, ap}
-use Rattle.std.proofs.Common.{◌∙◌, arith}
-use Rattle.std.specs.Prelude.{slice_get}
-use Rattle.std.specs.Vec.{with_item}
-use Rattle.std.proofs.lemmas.Option.{get_or_from_slice_get}
-use Rattle.std.specs.List.{list_any}
+use Rattle.step_replay.proofs.Common.{◌≡◌, ◌≤◌, ℕ, ◌+◌, ◌-◌, List, [], ◌∷◌, ◌++◌, map, filter_map}
+use Rattle.step_replay.proofs.Common.{length, take, drop, get_or, Some, refl, subst, sym, ap, ◌∙◌}
+use Rattle.step_replay.proofs.Common.{arith, slice_get, with_item, get_or_from_slice_get}
+use Rattle.step_replay.proofs.Common.{append_assoc, map-append, length-drop, length-append}
+use Rattle.step_replay.proofs.Common.{filter_map-append, DealerRow, DeskEvents, event_facts}
+use Rattle.step_replay.proofs.Common.{DealerEvent, DealerEntry, Lifted, book_by, entries_of}
+use Rattle.step_replay.proofs.Common.{due_by_fact, due_by_event, dues_behind, AreWithin, Noted}
+use Rattle.step_replay.proofs.Common.{NotedAt, Due, DealerPlace, Floor, Lifting}
 use Rattle.std.proofs.Math.Seq.{take-length, drop-length}
-use Rattle.std.proofs.lemmas.Bool.Decides.{nat_tests}
-use Rattle.std.proofs.lemmas.List.{append_assoc, map-append, drop-append-le, take-append-le}
-use Rattle.std.proofs.lemmas.List.{length-drop, length-append}
-use Rattle.std.proofs.lemmas.List.Elements.{filter_map-append}
-use Rattle.std.proofs.lemmas.List.Folds.{list_any-append}
-use Rattle.std.proofs.lemmas.Bool.{or_parts}
-use Rattle.venue_rows.specs.declared.dealer_rows.DealerRow.{DealerRow}
-use Rattle.dealer_desk.specs.DealerDesk.{DeskEvents, with_event}
-use Rattle.dealer_desk.specs.DealerOutput.{event_facts}
-use Rattle.dealer_desk.specs.declared.events.DealerEvent.{DealerEvent}
-use Rattle.step_replay.specs.DealerTrail.{DealerEntry, Lifted, book_by, entries_of}
-use Rattle.step_replay.specs.DueList.{due_by, due_by_fact, due_list}
-use Rattle.step_replay.specs.Liftings.{due_by_event, dues_behind, AreWithin, Noted, NotedAt}
+use Rattle.std.proofs.lemmas.List.{drop-append-le, take-append-le}
+use Rattle.step_replay.specs.DueList.{due_by, due_list}
 use Rattle.step_replay.specs.Liftings.{lifting_at}
-use Rattle.step_replay.specs.declared.dues.Due.{Due}
 use Rattle.step_replay.specs.declared.dues.Due.TheVariants as due
-use Rattle.step_replay.specs.declared.floor.DealerPlace.{DealerPlace}
-use Rattle.step_replay.specs.declared.floor.Floor.{Floor}
-use Rattle.step_replay.specs.declared.floor.Lifting.{Lifting}
 use Rattle.step_replay.specs.DealerGrowth.{due_grown}
-
--- Liftings that stand behind no more events than came.
-
--- whether a lifting stands behind more events
-abbrev is_beyond : ℕ → Lifting → Bool
-is_beyond count lifting = nat_lt count lifting.after
-
--- the first and the others
-within_parts : (count : ℕ) (lifting : Lifting) (later : List Lifting)
-    → AreWithin count (lifting ∷ later) → (lifting.after ≤ count) × AreWithin count later
-within_parts count lifting later within =
-    let parts = or_parts (nat_lt count lifting.after) (list_any (is_beyond count) later) within in
-    let here : nat_lt count lifting.after ≡ false = parts.0 in
-    let least : lifting.after ≤ count = grind (arith, nat_tests) in
-    (least, parts.1)
-
--- where more events came
-within_more : (count more : ℕ) (liftings : List Lifting) → count ≤ more
-    → AreWithin count liftings → AreWithin more liftings
-within_more count more [] least within = refl
-within_more count more (lifting ∷ later) least within =
-    let parts = within_parts count lifting later within in
-    let here : lifting.after ≤ count = parts.0 in
-    let test : nat_lt more lifting.after ≡ false = grind (arith, nat_tests) in
-    rw test (within_more count more later least parts.1)
+use Rattle.step_replay.specs.EachLemmas.{every_both, every_weaker}
 
 -- One event more.
 
@@ -64,21 +26,11 @@ events_push count events more [] least within =
     ap (map due_by_event) (drop-append-le count events (more ∷ []) least)
     ∙ map-append due_by_event (drop count events) (more ∷ [])
 events_push count events more (lifting ∷ later) least within =
-    let parts = within_parts (length events) lifting later within in
-    let here : lifting.after ≤ length events = parts.0 in
+    let here : lifting.after ≤ length events = within.0 in
     let size : length (drop count events) ≡ length events - count = length-drop count events in
     let fits : lifting.after - count ≤ length (drop count events) = omega arith in
-    let shown : List DealerEvent = take (lifting.after - count) (drop count events) in
-    let behind : List Due = dues_behind lifting.after (events ++ more ∷ []) later in
-    ap (λ (l : List DealerEvent). map due_by_event (take (lifting.after - count) l)
-    ++ due.Lifted lifting.quote ∷ behind) (drop-append-le count events (more ∷ []) least)
-    ∙ ap (λ (l : List DealerEvent). map due_by_event l ++ due.Lifted lifting.quote ∷ behind)
-    (take-append-le (lifting.after - count) (drop count events) (more ∷ []) fits)
-    ∙ ap (λ (l : List Due). map due_by_event shown ++ due.Lifted lifting.quote ∷ l)
-    (events_push lifting.after events more later here parts.1)
-    ∙ sym (append_assoc (map due_by_event shown)
-    (due.Lifted lifting.quote ∷ dues_behind lifting.after events later)
-    (due_by_event more ∷ []))
+    let behind = events_push lifting.after events more later here within.1 in
+    rw (drop-append-le, take-append-le, behind, append_assoc) refl
 
 -- One lifting more.
 
@@ -88,22 +40,10 @@ liftings_push : (count : ℕ) (events : List DealerEvent) (liftings : List Lifti
     (liftings ++ record { quote = quote; after = length events } ∷ [])
     ≡ dues_behind count events liftings ++ due.Lifted quote ∷ []
 liftings_push count events [] quote =
-    ap (λ (l : List DealerEvent). map due_by_event l
-    ++ due.Lifted quote ∷ map due_by_event (drop (length events) events))
-    (ap (λ (n : ℕ). take n (drop count events)) (sym (length-drop count events))
-    ∙ take-length (drop count events))
-    ∙ ap (λ (l : List DealerEvent). map due_by_event (drop count events)
-    ++ due.Lifted quote ∷ map due_by_event l) (drop-length events)
+    rw (← length-drop count events, take-length (drop count events), drop-length events) refl
 liftings_push count events (lifting ∷ later) quote =
-    let shown : List Due = map due_by_event (take (lifting.after - count) (drop count events)) in
-    ap (λ (l : List Due). shown ++ due.Lifted lifting.quote ∷ l)
-    (liftings_push lifting.after events later quote)
-    ∙ sym (append_assoc shown
-    (due.Lifted lifting.quote ∷ dues_behind lifting.after events later)
-    (due.Lifted quote ∷ []))
-
-not_beyond : (count : ℕ) → nat_lt count count ≡ false
-not_beyond count = grind (arith, nat_tests)
+    let behind = liftings_push lifting.after events later quote in
+    rw (behind, append_assoc) refl
 
 -- At a dealer's place.
 
@@ -115,45 +55,37 @@ IsDueSo date row trail more =
 module _ (date : List ℕ) (row : DealerRow) (trail : List DealerEntry) (place : DealerPlace)
     (dues_are : dues_behind 0 place.desk.events place.liftings.items ≡ due_list trail)
     (within : AreWithin (length place.desk.events) place.liftings.items) where
-  module _ (more : DealerEvent) (desk : DeskEvents) (is : desk ≡ with_event place.desk more) where
+  module _ (more : DealerEvent) where
     pub dues_after_event : IsDueSo date row trail more
-        → dues_behind 0 desk.events place.liftings.items
+        → dues_behind 0 (place.desk.events ++ more ∷ []) place.liftings.items
         ≡ due_list (trail ++ entries_of date row trail more)
     dues_after_event so =
         let least : 0 ≤ length place.desk.events = omega arith in
-        ap (λ (d : DeskEvents). dues_behind 0 d.events place.liftings.items) is
-        ∙ events_push 0 place.desk.events more place.liftings.items least within
+        events_push 0 place.desk.events more place.liftings.items least within
         ∙ ap (λ (l : List Due). l ++ due_by_event more ∷ []) dues_are
         ∙ sym (due_grown date row trail more (due_by_event more) so)
 
-    pub within_after_event : AreWithin (length desk.events) place.liftings.items
-    within_after_event =
-        let size : length (place.desk.events ++ more ∷ []) ≡ length place.desk.events + 1 =
-        length-append place.desk.events (more ∷ []) in
-        let least : length place.desk.events ≤ length (place.desk.events ++ more ∷ []) =
-        omega arith in
-        ap (λ (d : DeskEvents). list_any (is_beyond (length d.events)) place.liftings.items) is
-        ∙ within_more (length place.desk.events) (length (place.desk.events ++ more ∷ []))
-        place.liftings.items least within
+    pub within_after_event : AreWithin (length (place.desk.events ++ more ∷ [])) place.liftings.items
+    within_after_event = every_weaker (λ (lifting : Lifting). lifting.after ≤ length place.desk.events)
+        (λ (lifting : Lifting). lifting.after ≤ length (place.desk.events ++ more ∷ []))
+        (λ lifting least. omega (arith, length-append place.desk.events (more ∷ [])))
+        place.liftings.items within
 
   module _ (quote : ℕ) (now : DealerPlace) (noted : Noted quote place now) where
     pub dues_after_lifting : dues_behind 0 now.desk.events now.liftings.items
         ≡ due_list (trail ++ Lifted quote ∷ [])
     dues_after_lifting =
-        ap (λ (d : DeskEvents). dues_behind 0 d.events now.liftings.items) noted.desk_is
-        ∙ ap (dues_behind 0 place.desk.events) noted.liftings_are
-        ∙ liftings_push 0 place.desk.events place.liftings.items quote
-        ∙ ap (λ (l : List Due). l ++ due.Lifted quote ∷ []) dues_are
-        ∙ sym (filter_map-append due_by trail (Lifted quote ∷ []))
+        let pushed = liftings_push 0 place.desk.events place.liftings.items quote in
+        rw (noted.desk_is, noted.liftings_are, pushed, dues_are)
+        (sym (filter_map-append due_by trail (Lifted quote ∷ [])))
 
     pub within_after_lifting : AreWithin (length now.desk.events) now.liftings.items
     within_after_lifting =
-        ap (λ (d : DeskEvents). list_any (is_beyond (length d.events)) now.liftings.items)
-        noted.desk_is
-        ∙ ap (list_any (is_beyond (length place.desk.events))) noted.liftings_are
-        ∙ list_any-append (is_beyond (length place.desk.events)) place.liftings.items
-        (lifting_at place quote ∷ [])
-        ∙ rw (within, not_beyond (length place.desk.events)) refl
+        let least : length place.desk.events ≤ length place.desk.events = omega arith in
+        subst (λ (d : DeskEvents). AreWithin (length d.events) now.liftings.items) (sym noted.desk_is)
+        (subst (AreWithin (length place.desk.events)) (sym noted.liftings_are)
+        (every_both (λ (lifting : Lifting). lifting.after ≤ length place.desk.events)
+        place.liftings.items (lifting_at place quote ∷ []) within (least, tt)))
 
 -- What the code notes, by the owner and the place that it found.
 pub noted_at : (floor : Floor) (word : ℕ) (owner : ℕ) (found now : DealerPlace) (before : ℕ)

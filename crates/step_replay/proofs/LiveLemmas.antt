@@ -1,39 +1,30 @@
--- A venue that answers as steps come: what is told, and where it stands.
-use Rattle.std.proofs.Common.{◌≡◌, ◌<◌, ◌≤◌, ℕ, zero, suc, ◌+◌, ◌-◌, true, false, List, [], ◌∷◌}
-use Rattle.std.proofs.Common.{◌++◌, length, fold, replicate, Option, Some, None, refl, sym, ap}
-use Rattle.std.proofs.Common.{◌∙◌, subst, arith}
-use Rattle.std.specs.Prelude.{nat_lt, slice_get}
-use Rattle.std.proofs.lemmas.Bool.Decides.{nat_tests}
-use Rattle.std.proofs.lemmas.List.{append-nil, append_assoc, length-map, replicate-append-replicate}
+-- A venue that answers as steps come: what is told, each step with the duties behind it, and where it
+-- stands.
+use Rattle.step_replay.proofs.Common.{◌≡◌, ◌≤◌, ℕ, ◌+◌, ◌-◌, true, false, List, [], ◌∷◌, ◌++◌}
+use Rattle.step_replay.proofs.Common.{length, fold, Option, Some, None, refl, sym, ap, ◌∙◌, arith}
+use Rattle.step_replay.proofs.Common.{slice_get, nat_tests, append-nil, append_assoc, length-map}
+use Rattle.step_replay.proofs.Common.{fold-append, Duty, Configuration, Actor, RoomRef, AuditTrail}
+use Rattle.step_replay.proofs.Common.{after_step, after_turn, audit_trail, no_steps, is_same_actor}
+use Rattle.step_replay.proofs.Common.{pending, ReplayStands, duties_in, Sent, actor_of, live_steps}
+use Rattle.step_replay.proofs.Common.{live_trail, messages_in, SendsAllOf, VenueSends, after_turns}
+use Rattle.step_replay.proofs.Common.{count_at, desk_of_step, first_in, sent_behind, IsAt}
+use Rattle.step_replay.proofs.Common.{VenueStands, room_of_step, QueueHas, is_known, queue_of}
+use Rattle.step_replay.proofs.Common.{Stands, fault_of, firms_of, Fact, LiveVenue, Replay, Step}
+use Rattle.step_replay.proofs.Common.{MOST_TURNS_BEHIND, duty_effect, message_effect, sweep_effect}
+use Rattle.step_replay.proofs.Common.{IsEmpty, Notes, deadline_in, other_pending, other_turned}
+use Rattle.step_replay.proofs.Common.{same_either}
+use Rattle.std.specs.Prelude.{nat_lt}
+use Rattle.std.specs.Option.{option_and_then}
 use Rattle.std.proofs.lemmas.List.Concat.{flat_map-append}
-use Rattle.std.proofs.lemmas.List.Sums.{fold-append}
-use Rattle.market_terms.specs.declared.duties.Duty.{Duty}
-use Rattle.venue_rows.specs.Rows.{Configuration}
-use Rattle.step_replay.specs.Actions.{nothing}
-use Rattle.step_replay.specs.AuditTrail.{AuditTrail, after_step, after_turn, audit_trail, no_steps}
-use Rattle.step_replay.specs.AuditTrail.{pending}
-use Rattle.step_replay.specs.Following.{ReplayStands, duties_in, index_in}
-use Rattle.step_replay.specs.LiveDays.{Sent, actor_of, live_steps, live_trail, messages_in}
-use Rattle.step_replay.specs.LiveDays.{with_turns}
-use Rattle.step_replay.specs.LiveStanding.{SendsAllOf, SendsOf, VenueSends, after_turns, count_at}
-use Rattle.step_replay.specs.LiveStanding.{desk_of_step, first_in, next_duty, sent_behind}
-use Rattle.step_replay.specs.Queues.{is_known, queue_of}
-use Rattle.step_replay.specs.Standing.{Stands}
-use Rattle.step_replay.specs.StepFaults.{fault_of, firms_of}
-use Rattle.step_replay.specs.VenueFacts.{Fact}
-use Rattle.step_replay.specs.declared.live.LiveVenue.{LiveVenue}
-use Rattle.step_replay.specs.declared.replay.Replay.{Replay}
-use Rattle.venue_places.specs.declared.actors.Actor.{Actor}
 use Rattle.venue_places.specs.declared.actors.Actor.TheVariants as actor
-use Rattle.step_replay.specs.declared.steps.Step.{Step}
+use Rattle.step_replay.specs.LiveDays.{with_turns}
+use Rattle.step_replay.specs.LiveStanding.{next_duty, Answers}
 use Rattle.step_replay.specs.declared.steps.Step.TheVariants as step
-use Rattle.step_replay.specs.declared.steps.TheConstants.{MOST_TURNS_BEHIND}
 use Rattle.step_replay.proofs.FollowLemmas.{has_queue}
-use Rattle.step_replay.proofs.LiveEffects.{SendAt, messages_both, step_adds}
-use Rattle.step_replay.specs.PlaceLemmas.{get_beyond}
-use Rattle.step_replay.proofs.StartLemmas.{known_actor}
-use Rattle.step_replay.proofs.TurnLemmas.{index_is, queue_pending}
+use Rattle.step_replay.proofs.StepEffects.{messages_both, step_adds}
+use Rattle.step_replay.proofs.StartLemmas.{known_actor, idle_turns, turns_both, turns_keep}
 use Rattle.step_replay.proofs.FirmSent.{behind_is}
+use Rattle.step_replay.proofs.OpenRoomLemmas.{rooms_begin, rooms_noted}
 
 -- The duty that comes next.
 
@@ -41,41 +32,16 @@ pub next_is : (config : Configuration) (by : Actor) (trail : AuditTrail) (replay
     → is_known config by ≡ true → ReplayStands config trail replay
     → next_duty replay by ≡ first_in (pending by trail)
 next_is config by trail replay known stands =
-    by_index (index_in (length replay.queues.items) by) refl
+    ap (λ (index : Option ℕ). option_and_then first_in
+    (option_and_then (slice_get (duties_in replay)) index))
+    (has_queue config by trail replay known stands)
+    ∙ by_queue (slice_get (duties_in replay) (queue_of config by))
+    (stands.queues_stand.queues_are by known)
   where
-    by_index : (found : Option ℕ) → index_in (length replay.queues.items) by ≡ found
-        → next_duty replay by ≡ first_in (pending by trail)
-    by_index None none = absurd (has_queue config by trail replay known stands none)
-    by_index (Some index) is = by_queue (slice_get (duties_in replay) index) refl
-      where
-        count : length (duties_in replay) ≡ length replay.queues.items
-        count = length-map replay.queues.items (λ queue. queue.items)
-
-        place : index ≡ queue_of config by
-        place = index_is config (length (duties_in replay)) by index stands.queues_stand.count
-            (ap (λ (n : ℕ). index_in n by) count ∙ is)
-
-        too_far : (a : Actor) → is_known config a ≡ true → index ≡ queue_of config a
-            → length (duties_in replay) ≤ index → ⊥
-        too_far (actor.Firm number) low at beyond =
-            let small : number < firms_of config = grind (arith, nat_tests) in
-            let many : length (duties_in replay) ≡ firms_of config + 1 = stands.queues_stand.count in
-            omega arith
-        too_far actor.Clock low at beyond =
-            let many : length (duties_in replay) ≡ firms_of config + 1 = stands.queues_stand.count in
-            omega arith
-
-        by_queue : (queue : Option (List Duty)) → slice_get (duties_in replay) index ≡ queue
-            → next_duty replay by ≡ first_in (pending by trail)
-        by_queue (Some queue) there =
-            let had : pending by trail ≡ queue =
-            queue_pending config by trail nothing (duties_in replay) known stands.queues_stand
-            index queue place there in
-            rw (is, there) (ap first_in (sym had))
-        by_queue None none =
-            let beyond : length (duties_in replay) ≤ index =
-            get_beyond (duties_in replay) index none in
-            absurd (too_far by known place beyond)
+    by_queue : (queue : Option (List Duty)) → QueueHas (pending by trail) queue
+        → option_and_then first_in queue ≡ first_in (pending by trail)
+    by_queue None has = absurd has
+    by_queue (Some queue) has = ap first_in has
 
 -- an actor that the venue does not have has no queue
 pub next_unknown : (config : Configuration) (by : Actor) (trail : AuditTrail) (replay : Replay)
@@ -87,77 +53,11 @@ next_unknown config (actor.Firm number) trail replay unknown stands =
     let far : nat_lt (number + 1) (length replay.queues.items) ≡ false = grind (arith, nat_tests) in
     rw far refl
 
--- A step is told.
-pub tells_step : (config : Configuration) (trail : AuditTrail) (next : Step) (before after : Replay)
-    (start old : List Sent) (desk : Option ℕ) → is_known config (actor_of next) ≡ true
-    → ReplayStands config trail before → ReplayStands config (after_step config trail next) after
-    → desk ≡ desk_of_step next (next_duty before (actor_of next))
-    → messages_in config trail.facts ≡ start ++ old
-    → SendsOf config (after_step config trail next) after
-    (start ++ (old ++ sent_behind after.floor desk (count_at before.floor desk)))
-tells_step config trail next before after start old desk known stood stands is told =
-    let adds = step_adds config trail next in
-    let desk_is : desk ≡ desk_of_step next (first_in (pending (actor_of next) trail)) =
-    is ∙ ap (desk_of_step next) (next_is config (actor_of next) trail before known stood) in
-    let sent : SendAt config desk adds.more =
-    subst (λ (d : Option ℕ). SendAt config d adds.more) (sym desk_is) adds.sent in
-    let grown : Stands config (trail.facts ++ adds.more) after.floor =
-    subst (λ (f : List Fact). Stands config f after.floor) adds.grown stands.floor_stands in
-    record {
-      stands = stands;
-      told_is = ap (messages_in config) adds.grown ∙ messages_both config trail.facts adds.more
-          ∙ ap (λ (l : List Sent). l ++ messages_in config adds.more) told
-          ∙ append_assoc start old (messages_in config adds.more)
-          ∙ ap (λ (l : List Sent). start ++ (old ++ l))
-          (behind_is config trail.facts adds.more before.floor after.floor desk stood.floor_stands
-          grown sent);
-    }
-
 pub actor_known : (config : Configuration) (next : Step) → fault_of config 0 next ≡ None
     → is_known config (actor_of next) ≡ true
 actor_known config (step.In firm moment message) none = known_actor config 0 (actor.Firm firm) none
 actor_known config (step.Turn by) none = known_actor config 0 by none
 actor_known config (step.Expire room moment) none = refl
-
--- Turns.
-
-pub no_turn : (config : Configuration) (by : Actor) (trail : AuditTrail)
-    → after_turns config by 0 trail ≡ trail
-unfolding after_turns
-no_turn config by trail = refl
-
-pub turns_both : (config : Configuration) (by : Actor) (n m : ℕ) (trail : AuditTrail)
-    → after_turns config by (n + m) trail ≡ after_turns config by m (after_turns config by n trail)
-unfolding after_turns
-turns_both config by n m trail =
-    ap (fold (after_step config) trail) (sym (replicate-append-replicate n m (step.Turn by)))
-    ∙ fold-append (after_step config) trail (replicate n (step.Turn by)) (replicate m (step.Turn by))
-
-pub one_turn : (config : Configuration) (by : Actor) (trail : AuditTrail)
-    → after_turns config by 1 trail ≡ after_step config trail (step.Turn by)
-unfolding after_turns
-one_turn config by trail = refl
-
-pub turns_more : (config : Configuration) (by : Actor) (n : ℕ) (trail : AuditTrail)
-    → after_turns config by (n + 1) trail
-    ≡ after_step config (after_turns config by n trail) (step.Turn by)
-turns_more config by n trail =
-    turns_both config by n 1 trail ∙ one_turn config by (after_turns config by n trail)
-
-idle_step : (config : Configuration) (by : Actor) (trail : AuditTrail) → pending by trail ≡ []
-    → after_step config trail (step.Turn by) ≡ trail
-unfolding after_step
-idle_step config by trail none = ap (after_turn config by trail) none
-
-pub idle_turns : (config : Configuration) (by : Actor) (n : ℕ) (trail : AuditTrail)
-    → pending by trail ≡ [] → after_turns config by n trail ≡ trail
-idle_turns config by zero trail none = no_turn config by trail
-idle_turns config by (suc n) trail none =
-    let same : suc n ≡ 1 + n = omega arith in
-    ap (λ (k : ℕ). after_turns config by k trail) same
-    ∙ turns_both config by 1 n trail
-    ∙ ap (after_turns config by n) (one_turn config by trail ∙ idle_step config by trail none)
-    ∙ idle_turns config by n trail none
 
 first_none : (duties : List Duty) → first_in duties ≡ None → duties ≡ []
 first_none [] is = refl
@@ -178,8 +78,8 @@ tells_all config by trail count live told within known tells none =
     ∙ turns_both config by count (MOST_TURNS_BEHIND - count) trail
     ∙ idle_turns config by (MOST_TURNS_BEHIND - count) (after_turns config by count trail) left in
     record {
-      tells = subst (λ (t : AuditTrail). VenueSends config t live told) (sym same) tells;
-      none_left = subst (λ (t : AuditTrail). pending by t ≡ []) (sym same) left;
+      tells = rw same tells;
+      none_left = rw same left;
     }
 
 pub turn_known : (config : Configuration) (by : Actor) → is_known config by ≡ true
@@ -202,3 +102,101 @@ live_more config steps next =
     ap (fold (after_step config) no_steps) (flat_map-append with_turns steps (next ∷ []))
     ∙ fold-append (after_step config) no_steps (live_steps steps) (with_turns next ++ [])
     ∙ ap (fold (after_step config) (live_trail config steps)) (append-nil (with_turns next))
+
+-- A step is done: what it sent is told, and where it takes place in a room its deadline is noted.
+pub step_told : (config : Configuration) (trail : AuditTrail) (next : Step)
+    (before after : LiveVenue) (start old : List Sent) (room : Option RoomRef)
+    (desk had now : Option ℕ) → is_known config (actor_of next) ≡ true
+    → VenueStands config trail before → messages_in config trail.facts ≡ start ++ old
+    → room ≡ room_of_step next (next_duty before.replay (actor_of next))
+    → desk ≡ desk_of_step next (next_duty before.replay (actor_of next))
+    → ReplayStands config (after_step config trail next) after.replay
+    → ((c : Configuration) (facts : List Fact) → Stands c facts before.replay.floor
+    → had ≡ deadline_in c facts room)
+    → ((c : Configuration) (facts : List Fact) → Stands c facts after.replay.floor
+    → now ≡ deadline_in c facts room)
+    → Notes room had now before.open_rooms after.open_rooms
+    → VenueSends config (after_step config trail next) after
+    (start ++ (old ++ sent_behind after.replay.floor desk (count_at before.replay.floor desk)))
+step_told config trail next before after start old room desk had now known stood told room_is desk_is
+    stands had_is now_is notes =
+    let adds = step_adds config trail next in
+    let floor_stood = stood.replay_stands.floor_stands in
+    let grown : Stands config (trail.facts ++ adds.more) after.replay.floor =
+    rw adds.grown at stands.floor_stands in
+    let comes = next_is config (actor_of next) trail before.replay known stood.replay_stands in
+    let behind = behind_is config trail.facts adds.more before.replay.floor after.replay.floor
+    floor_stood grown desk (rw (desk_is ∙ ap (desk_of_step next) comes) adds.sent) in
+    record {
+      stands = record {
+        replay_stands = stands;
+        rooms_stand = rw adds.grown (rooms_noted config trail.facts adds.more room had now
+            before.open_rooms after.open_rooms stood.rooms_stand
+            (rw (room_is ∙ ap (room_of_step next) comes) adds.inside)
+            (had_is config trail.facts floor_stood) (now_is config (trail.facts ++ adds.more) grown) notes);
+      };
+      told_is = rw (adds.grown, messages_both, told, append_assoc, behind) refl;
+    }
+
+-- The clock has no duty but behind its own steps.
+
+others_wait : (config : Configuration) (s : Step) (trail : AuditTrail) (other : Actor)
+    → is_same_actor (actor_of s) other ≡ false
+    → pending other (after_step config trail s) ≡ pending other trail
+unfolding after_step
+others_wait config (step.In firm moment message) trail other differs =
+    other_pending (actor.Firm firm) other trail (message_effect config trail.facts firm moment message)
+    differs
+others_wait config (step.Expire room moment) trail other differs =
+    other_pending actor.Clock other trail (sweep_effect config trail.facts room moment) differs
+others_wait config (step.Turn by) trail other differs = by_duties (pending by trail)
+  where
+    by_duties : (duties : List Duty)
+        → pending other (after_turn config by trail duties) ≡ pending other trail
+    by_duties [] = refl
+    by_duties (duty ∷ later) = other_turned by other trail (duty_effect config trail.facts by duty)
+        differs (same_either by other differs)
+
+clock_rests : (config : Configuration) (next : Step) (trail : AuditTrail) (by : Actor)
+    → actor_of next ≡ by → pending actor.Clock trail ≡ []
+    → pending by (after_turns config by MOST_TURNS_BEHIND (after_step config trail next)) ≡ []
+    → pending actor.Clock (after_turns config by MOST_TURNS_BEHIND (after_step config trail next))
+    ≡ []
+clock_rests config next trail (actor.Firm firm) is idle left =
+    turns_keep config (actor.Firm firm) (λ t. pending actor.Clock t ≡ [])
+    (λ t had. others_wait config (step.Turn (actor.Firm firm)) t actor.Clock refl ∙ had)
+    MOST_TURNS_BEHIND (after_step config trail next) (others_wait config next trail actor.Clock
+    (ap (λ (a : Actor). is_same_actor a actor.Clock) is) ∙ idle)
+clock_rests config next trail actor.Clock is idle left = left
+
+-- Where a venue is.
+
+pub is_at_start : (config : Configuration) (live : LiveVenue)
+    → ReplayStands config no_steps live.replay
+    → IsEmpty live.open_rooms → IsAt config [] live
+is_at_start config live stands empty =
+    let start = live_begins config in
+    record {
+      stands = rw start (record {
+        replay_stands = stands;
+        rooms_stand = rooms_begin config live.open_rooms empty;
+      });
+      clock_idle = ap (pending actor.Clock) start;
+    }
+
+pub answered : (config : Configuration) (steps : List Step) (next : Step) (after : LiveVenue)
+    (told : List Sent) → pending actor.Clock (live_trail config steps) ≡ []
+    → SendsAllOf config (actor_of next) (after_step config (live_trail config steps) next)
+    after (messages_in config (live_trail config steps).facts ++ told)
+    → Answers config steps next after told
+answered config steps next after told idle all =
+    let more = live_more config steps next in
+    record {
+      stands = record {
+        stands = rw more all.tells.stands;
+        clock_idle = rw more (clock_rests config next (live_trail config steps) (actor_of next) refl
+            idle all.none_left);
+      };
+      told_is = rw more all.tells.told_is;
+      none_left = rw more all.none_left;
+    }

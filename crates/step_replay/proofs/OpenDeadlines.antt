@@ -1,234 +1,110 @@
--- The deadlines of the rooms that are opening or open: the earliest, and those that have come.
-use Rattle.std.proofs.Common.{◌≡◌, ◌≤◌, ℕ, ◌==◌, Bool, true, false, ◌&&◌, ◌||◌, nat_le, nat_lt}
-use Rattle.std.proofs.Common.{List, [], ◌∷◌, map, fold, Option, Some, None, if◌then◌else◌, refl}
-use Rattle.std.proofs.Common.{sym, ap, ◌∙◌, arith, eq-eqb}
-use Rattle.std.proofs.lemmas.Bool.Decides.{nat_tests}
-use Rattle.market_terms.specs.declared.rooms.RoomRef.{RoomRef}
-use Rattle.dealer_desk.specs.DealerOutput.{is_same_room}
-use Rattle.venue_rows.specs.Rows.{Configuration, has_room}
-use Rattle.step_replay.specs.Deadlines.{deadline_of, earlier, next_deadline}
-use Rattle.step_replay.specs.OpenRooms.{IsEarliest, RoomsStand, any_due, deadline_by, holds}
-use Rattle.step_replay.specs.OpenRooms.{is_deadline}
-use Rattle.step_replay.specs.VenueFacts.{Fact, of_room}
-use Rattle.step_replay.specs.VenueRooms.{rooms_of}
-use Rattle.step_replay.specs.declared.open_rooms.OpenRooms.{OpenRooms}
-use Rattle.step_replay.specs.GrowthLemmas.{same_room}
-use Rattle.step_replay.proofs.OpenRoomLemmas.{due_found, found_due, own_room}
+-- The earliest deadline of the rooms that are opening or open, told by the moments at which it has come.
+use Rattle.step_replay.proofs.Common.{◌≡◌, ◌≤◌, ℕ, Bool, true, false, ◌||◌, nat_le, nat_lt, List}
+use Rattle.step_replay.proofs.Common.{[], ◌∷◌, map, fold, Option, Some, None, if◌then◌else◌, refl}
+use Rattle.step_replay.proofs.Common.{sym, ap, ◌∙◌, subst, arith, list_any, is_eq, or-false}
+use Rattle.step_replay.proofs.Common.{nat_tests, same_from_decides, RoomRef, Configuration}
+use Rattle.step_replay.proofs.Common.{has_room, deadline_of, RoomsStand, has_come, room_cmp, Fact}
+use Rattle.step_replay.proofs.Common.{of_room, rooms_of, OpenRooms}
+use Rattle.std.proofs.Math.Bool.{or_assoc}
+use Rattle.step_replay.specs.Deadlines.{earlier, next_deadline}
+use Rattle.step_replay.specs.OpenRooms.{IsEarliest}
+use Rattle.step_replay.proofs.OpenRoomLemmas.{held, held_is, one_room, own_room, passing, with_room}
 use Rattle.step_replay.proofs.RoomOrder.{is_among, rooms_are}
-use Rattle.step_replay.proofs.OpenRoomStands.{with_room, no_deadline}
 
--- whether a deadline, where there is one, has come
-abbrev pub has_come : ℕ → Option ℕ → Bool
-has_come moment None = false
-has_come moment (Some deadline) = nat_le deadline moment
+-- Deadlines that have come at the same moments are one.
+same_come : (one other : Option ℕ) → ((moment : ℕ) → has_come moment one ≡ has_come moment other)
+    → one ≡ other
+same_come None None each = refl
+same_come None (Some other) each =
+    let never : false ≡ nat_le other other = each other in
+    grind (arith, nat_tests, never)
+same_come (Some one) None each =
+    let never : nat_le one one ≡ false = each one in
+    grind (arith, nat_tests, never)
+same_come (Some one) (Some other) each =
+    let here : nat_le one one ≡ nat_le other one = each one in
+    let there : nat_le one other ≡ nat_le other other = each other in
+    let same : one ≡ other = grind (arith, nat_tests, here, there) in
+    ap (λ (d : ℕ). Some d) same
 
-module _ (config : Configuration) (facts : List Fact) where
-  -- The earliest deadline.
+module _ (moment : ℕ) where
+  -- the earlier of two has come where one of them has
+  come_earlier : (one other : Option ℕ)
+      → has_come moment (earlier one other) ≡ (has_come moment one || has_come moment other)
+  come_earlier None other = refl
+  come_earlier (Some one) None = sym (or-false (nat_le one moment))
+  come_earlier (Some one) (Some other) = by_test (nat_lt other one) refl
+    where
+      by_test : (b : Bool) → nat_lt other one ≡ b → has_come moment (if b then Some other else Some one)
+          ≡ (nat_le one moment || nat_le other moment)
+      by_test true low = grind (arith, nat_tests, low)
+      by_test false high = grind (arith, nat_tests, high)
 
+  come_among : (before : Option ℕ) (deadline : RoomRef → Option ℕ) (rooms : List RoomRef)
+      → has_come moment (fold earlier before (map deadline rooms))
+      ≡ (has_come moment before || list_any (λ room. has_come moment (deadline room)) rooms)
+  come_among before deadline [] = sym (or-false (has_come moment before))
+  come_among before deadline (room ∷ rooms) =
+      come_among (earlier before (deadline room)) deadline rooms
+      ∙ ap (λ (b : Bool). b || list_any (λ room. has_come moment (deadline room)) rooms)
+      (come_earlier before (deadline room))
+      ∙ or_assoc (has_come moment before) (has_come moment (deadline room)) _
+
+module _ (config : Configuration) (facts : List Fact) (rooms : OpenRooms)
+    (stands : RoomsStand config facts rooms) where
   -- the deadline of a room that the venue has
   abbrev of_facts : RoomRef → Option ℕ
   of_facts room = deadline_of (of_room room facts)
 
-  found_among : (found : Option ℕ) (deadline : ℕ) → is_deadline found deadline ≡ true
-      → found ≡ Some deadline
-  found_among None deadline is = cc
-  found_among (Some other) deadline is =
-      let test : (other == deadline) ≡ true = is in
-      let same : other ≡ deadline = grind (arith, nat_tests, test) in
-      ap (λ (d : ℕ). Some d) same
+  has_deadline : (b : Bool) (deadline : Option ℕ) (moment : ℕ)
+      → (if b then deadline else None) ≡ Some moment → b ≡ true
+  has_deadline true deadline moment is = refl
+  has_deadline false deadline moment is = cc
 
-  own_deadline : (deadline : ℕ) → is_deadline (Some deadline) deadline ≡ true
-  own_deadline deadline = eq-eqb deadline deadline refl
+  module _ (moment : ℕ) where
+    -- the earliest that is kept has come only where that of a room has
+    there : (found : Option ℕ) → IsEarliest rooms found → has_come moment found ≡ true
+        → list_any (λ room. has_come moment (of_facts room)) (rooms_of config) ≡ true
+    there None empty come = cc
+    there (Some deadline) first come =
+        let room : RoomRef = first.room in
+        let is = held_is config facts rooms stands room deadline first.held in
+        let has : has_room config room.investor room.n ≡ true = has_deadline _ (of_facts room) _ is in
+        let own : of_facts room ≡ Some deadline = sym (with_room config facts true room has) ∙ is in
+        let passed = passing (λ other. is_eq (room_cmp room other)) (rooms_of config)
+        (rooms_are config room ∙ has) in
+        passed.there (λ other. has_come moment (of_facts other))
+        (subst (λ (r : RoomRef). has_come moment (of_facts r) ≡ true)
+        (one_room room passed.item passed.passes) (ap (has_come moment) own ∙ come))
 
-  -- a room of the venue with a deadline is held
-  held : (rooms : OpenRooms) → RoomsStand config facts rooms → (room : RoomRef) (deadline : ℕ)
-      → has_room config room.investor room.n ≡ true → of_facts room ≡ Some deadline
-      → holds rooms (deadline, room) ≡ true
-  held rooms stands room deadline has is =
-      stands (deadline, room)
-      ∙ ap (λ (d : Option ℕ). is_deadline d deadline) (with_room config facts true room has ∙ is)
-      ∙ own_deadline deadline
+    -- and has where that of a room has
+    by_deadline : (room : RoomRef) → has_room config room.investor room.n ≡ true
+        → (own : Option ℕ) → of_facts room ≡ own → has_come moment own ≡ true
+        → (found : Option ℕ) → IsEarliest rooms found → has_come moment found ≡ true
+    by_deadline room has None is come found first = cc
+    by_deadline room has (Some own) is come None empty =
+        let never = sym (empty (own, room))
+        ∙ held config facts rooms stands room own (with_room config facts true room has ∙ is) in
+        cc
+    by_deadline room has (Some own) is come (Some deadline) first =
+        let least : deadline ≤ own = first.least (own, room)
+        (held config facts rooms stands room own (with_room config facts true room has ∙ is)) in
+        grind (arith, nat_tests, least, come)
 
-  -- one that is held is a room of the venue with that deadline
-  pub held_has : (rooms : OpenRooms) → RoomsStand config facts rooms → (room : RoomRef)
-      (deadline : ℕ) → holds rooms (deadline, room) ≡ true
-      → (has_room config room.investor room.n ≡ true) × (of_facts room ≡ Some deadline)
-  held_has rooms stands room deadline held =
-      by_room (has_room config room.investor room.n) refl
-    where
-      found : deadline_by config facts room ≡ Some deadline
-      found = found_among (deadline_by config facts room) deadline
-          (sym (stands (deadline, room)) ∙ held)
-
-      by_room : (b : Bool) → has_room config room.investor room.n ≡ b
-          → (has_room config room.investor room.n ≡ true) × (of_facts room ≡ Some deadline)
-      by_room true has = (has, sym (with_room config facts true room has) ∙ found)
-      by_room false none =
-          let clash : None ≡ Some deadline = no_deadline config facts room none ∙ found in
-          cc
-
-  -- no deadline among these rooms
-  none_among : (rooms : List RoomRef)
-      → ((room : RoomRef) → is_among room rooms ≡ true → of_facts room ≡ None)
-      → fold earlier None (map of_facts rooms) ≡ None
-  none_among [] none = refl
-  none_among (room ∷ rooms) none =
-      let here : of_facts room ≡ None = none room (rw (own_room room) refl) in
-      ap (λ (d : Option ℕ). fold earlier d (map of_facts rooms)) here
-      ∙ none_among rooms (λ other among. none other (behind (is_same_room other room) _ among))
-    where
-      behind : (a b : Bool) → b ≡ true → (a || b) ≡ true
-      behind true b is = refl
-      behind false b is = is
-
-  -- a deadline that is no later than another, where there is another
-  abbrev IsNoLater : ℕ → Option ℕ → Type 0
-  IsNoLater deadline None = Unit {0}
-  IsNoLater deadline (Some other) = deadline ≤ other
-
-  takes_it : (deadline : ℕ) (before : Option ℕ) → IsNoLater deadline before
-      → earlier before (Some deadline) ≡ Some deadline
-  takes_it deadline None least = refl
-  takes_it deadline (Some other) least = by_test (nat_lt deadline other) refl
-    where
-      low : deadline ≤ other
-      low = least
-
-      by_test : (b : Bool) → nat_lt deadline other ≡ b
-          → (if b then Some deadline else Some other) ≡ Some deadline
-      by_test true low = refl
-      by_test false high =
-          let same : other ≡ deadline = grind (arith, nat_tests, high, low) in
-          ap (λ (d : ℕ). Some d) same
-
-  stays_least : (deadline : ℕ) (before next : Option ℕ) → IsNoLater deadline before
-      → IsNoLater deadline next → IsNoLater deadline (earlier before next)
-  stays_least deadline None next least other = other
-  stays_least deadline (Some one) None least other = least
-  stays_least deadline (Some one) (Some two) least other = by_test (nat_lt two one)
-    where
-      by_test : (b : Bool) → IsNoLater deadline (if b then Some two else Some one)
-      by_test true = other
-      by_test false = least
-
-  it_stays : (deadline : ℕ) (rooms : List RoomRef)
-      → ((room : RoomRef) → is_among room rooms ≡ true → IsNoLater deadline (of_facts room))
-      → fold earlier (Some deadline) (map of_facts rooms) ≡ Some deadline
-  it_stays deadline [] least = refl
-  it_stays deadline (room ∷ rooms) least =
-      ap (λ (d : Option ℕ). fold earlier d (map of_facts rooms))
-      (kept (of_facts room) (least room (rw (own_room room) refl)))
-      ∙ it_stays deadline rooms (λ other among. least other
-      (behind (is_same_room other room) _ among))
-    where
-      behind : (a b : Bool) → b ≡ true → (a || b) ≡ true
-      behind true b is = refl
-      behind false b is = is
-
-      kept : (next : Option ℕ) → IsNoLater deadline next → earlier (Some deadline) next
-          ≡ Some deadline
-      kept None later = refl
-      kept (Some other) later =
-          let low : deadline ≤ other = later in
-          let test : nat_lt other deadline ≡ false = grind (arith, nat_tests, low) in
-          rw test refl
-
-  least_among : (deadline : ℕ) (first : RoomRef) → of_facts first ≡ Some deadline
-      → (rooms : List RoomRef) (before : Option ℕ) → IsNoLater deadline before
-      → is_among first rooms ≡ true
-      → ((room : RoomRef) → is_among room rooms ≡ true → IsNoLater deadline (of_facts room))
-      → fold earlier before (map of_facts rooms) ≡ Some deadline
-  least_among deadline first is [] before low among least = cc
-  least_among deadline first is (room ∷ rooms) before low among least =
-      here_or_later deadline first is room rooms before low (least room (rw (own_room room) refl))
-      (λ other there. least other (behind (is_same_room other room) _ there))
-      (λ next low_next there. least_among deadline first is rooms next low_next there
-      (λ other there_too. least other (behind (is_same_room other room) _ there_too)))
-      (is_same_room first room) refl among
-    where
-      behind : (a b : Bool) → b ≡ true → (a || b) ≡ true
-      behind true b is = refl
-      behind false b is = is
-
-      here_or_later : (deadline : ℕ) (first : RoomRef) → of_facts first ≡ Some deadline
-          → (room : RoomRef) (rooms : List RoomRef) (before : Option ℕ)
-          → IsNoLater deadline before → IsNoLater deadline (of_facts room)
-          → ((other : RoomRef) → is_among other rooms ≡ true → IsNoLater deadline (of_facts other))
-          → ((next : Option ℕ) → IsNoLater deadline next → is_among first rooms ≡ true
-          → fold earlier next (map of_facts rooms) ≡ Some deadline)
-          → (b : Bool) → is_same_room first room ≡ b → (b || is_among first rooms) ≡ true
-          → fold earlier (earlier before (of_facts room)) (map of_facts rooms) ≡ Some deadline
-      here_or_later deadline first is room rooms before low own least later true same among =
-          let here : of_facts room ≡ Some deadline = ap of_facts (sym (same_room first room same))
-          ∙ is in
-          ap (λ (d : Option ℕ). fold earlier d (map of_facts rooms))
-          (ap (earlier before) here ∙ takes_it deadline before low)
-          ∙ it_stays deadline rooms least
-      here_or_later deadline first is room rooms before low own least later false other among =
-          later (earlier before (of_facts room)) (stays_least deadline before
-          (of_facts room) low own) among
+    back : (found : Option ℕ) → IsEarliest rooms found
+        → list_any (λ room. has_come moment (of_facts room)) (rooms_of config) ≡ true
+        → has_come moment found ≡ true
+    back found first any =
+        let passed = passing (λ room. has_come moment (of_facts room)) (rooms_of config) any in
+        let room : RoomRef = passed.item in
+        by_deadline room
+        (sym (rooms_are config room) ∙ passed.there (λ other. is_eq (room_cmp room other)) (own_room room))
+        (of_facts room) refl passed.passes found first
 
   -- the earliest by the facts
-  pub earliest_is : (rooms : OpenRooms) (found : Option ℕ) → RoomsStand config facts rooms
-      → IsEarliest rooms found → found ≡ next_deadline config facts
+  pub earliest_is : (found : Option ℕ) → IsEarliest rooms found → found ≡ next_deadline config facts
   unfolding next_deadline
-  earliest_is rooms None stands empty =
-      sym (none_among (rooms_of config) (λ room among. nothing room
-      (sym (rooms_are config room) ∙ among)
-      (of_facts room) refl))
-    where
-      nothing : (room : RoomRef) → has_room config room.investor room.n ≡ true → (found : Option ℕ)
-          → of_facts room ≡ found → found ≡ None
-      nothing room has None is = refl
-      nothing room has (Some deadline) is =
-          let clash : false ≡ true =
-          sym (empty (deadline, room)) ∙ held rooms stands room deadline has is in
-          cc
-  earliest_is rooms (Some deadline) stands first =
-      let there = held_has rooms stands first.room deadline first.held in
-      sym (least_among deadline first.room there.1 (rooms_of config) None tt
-      (rooms_are config first.room ∙ there.0)
-      (λ room among. least room (sym (rooms_are config room) ∙ among) (of_facts room) refl))
-    where
-      least : (room : RoomRef) → has_room config room.investor room.n ≡ true → (found : Option ℕ)
-          → of_facts room ≡ found → IsNoLater deadline found
-      least room has None is = tt
-      least room has (Some other) is = first.least (other, room)
-          (held rooms stands room other has is)
-
-  -- The rooms whose deadline has come.
-
-  pub due_is : (rooms : OpenRooms) (moment : ℕ) (room : RoomRef) → RoomsStand config facts rooms
-      → any_due moment room rooms.by_deadline.keys
-      ≡ (has_come moment (of_facts room) && has_room config room.investor room.n)
-  due_is rooms moment room stands = by_any (any_due moment room rooms.by_deadline.keys) refl
-    where
-      by_any : (b : Bool) → any_due moment room rooms.by_deadline.keys ≡ b
-          → b ≡ (has_come moment (of_facts room) && has_room config room.investor room.n)
-      by_any true any =
-          let found = found_due moment room rooms.by_deadline.keys any in
-          let there = held_has rooms stands room found.deadline found.there in
-          let come : nat_le found.deadline moment ≡ true = grind (arith, nat_tests, found.come) in
-          sym (both (ap (has_come moment) there.1 ∙ come) there.0)
-        where
-          both : {a b : Bool} → a ≡ true → b ≡ true → (a && b) ≡ true
-          both one two = rw (one, two) refl
-      by_any false any =
-          by_found (of_facts room) refl (has_room config room.investor room.n) refl
-        where
-          by_found : (found : Option ℕ) → of_facts room ≡ found → (b : Bool)
-              → has_room config room.investor room.n ≡ b → false ≡ (has_come moment found && b)
-          by_found None is b has = refl
-          by_found (Some deadline) is true has = by_come (nat_le deadline moment) refl
-            where
-              by_come : (c : Bool) → nat_le deadline moment ≡ c → false ≡ (c && true)
-              by_come true come =
-                  let clash : false ≡ true = sym any ∙ due_found moment room deadline
-                  rooms.by_deadline.keys come (held rooms stands room deadline has is) in
-                  cc
-              by_come false come = refl
-          by_found (Some deadline) is false has = by_come (nat_le deadline moment)
-            where
-              by_come : (c : Bool) → false ≡ (c && false)
-              by_come true = refl
-              by_come false = refl
+  earliest_is found first = same_come found _ (λ moment.
+      same_from_decides {P = list_any (λ room. has_come moment (of_facts room)) (rooms_of config) ≡ true}
+      _ _ (there moment found first, back moment found first) (λ is. is, λ is. is)
+      ∙ sym (come_among moment None of_facts (rooms_of config)))

@@ -1,228 +1,232 @@
--- The rooms that are opening or open, by their deadlines, as the code keeps them.
-use Rattle.std.proofs.Common.{◌≡◌, ◌<◌, ◌≤◌, ℕ, ◌==◌, Bool, true, false, ◌&&◌, ◌||◌, cond, nat_le}
-use Rattle.std.proofs.Common.{List, [], ◌∷◌, refl, sym, ap, ◌∙◌, subst, arith, eq-eqb}
-use Rattle.std.specs.BTreeSet.{BTreeSet, contains}
-use Rattle.std.specs.List.{AllByRecursion, list_any}
-use Rattle.std.specs.List.Sorted.{IsStrictlySortedBy}
-use Rattle.std.specs.Cmp.{IsTotalOrder, unsigned_tied}
-use Rattle.std.specs.Ordering.{MatchOrdering, is_eq, is_gt, nat_cmp, ordering_then}
+-- The rooms that are opening or open, by their deadlines, as the code keeps them and by the facts.
+use Rattle.step_replay.proofs.Common.{◌≡◌, ◌<◌, ◌≤◌, ℕ, Bool, true, false, ◌&&◌, ◌||◌, cond, nat_le}
+use Rattle.step_replay.proofs.Common.{List, [], ◌∷◌, ◌++◌, ◌==◌, Option, Some, None, if◌then◌else◌}
+use Rattle.step_replay.proofs.Common.{refl, sym, ap, ◌∙◌, subst, arith, eq-eqb, AllByRecursion}
+use Rattle.step_replay.proofs.Common.{list_any, IsStrictlySortedBy, deref, is_eq, Less, or-false}
+use Rattle.step_replay.proofs.Common.{nat_tests, same_from_decides, rest_more, RoomRef}
+use Rattle.step_replay.proofs.Common.{is_same_room, RoomFact, room_after, RoomEvent, Configuration}
+use Rattle.step_replay.proofs.Common.{has_room, any_due, entry_cmp, is_due, room_cmp, has_come}
+use Rattle.step_replay.proofs.Common.{IsEmpty, Notes, RoomsStand, deadline_by, deadline_in}
+use Rattle.step_replay.proofs.Common.{OpenRooms, same_room, deadline_of, Fact, of_room, room_stays}
+use denote.Ref.{Bor}
+use Rattle.std.specs.Map.Iter.{TakesFirst}
+use Rattle.std.specs.Cmp.{IsTotalOrder}
+use Rattle.std.specs.Ordering.{is_gt, nat_cmp, ordering_then}
 use Rattle.std.specs.declared.cmp.Ordering.{Ordering}
-use Rattle.std.specs.declared.cmp.Ordering.TheVariants.{Less, Equal, Greater}
-use Rattle.std.proofs.lemmas.Bool.Decides.{nat_tests}
-use Rattle.std.proofs.lemmas.Cmp.{nat_cmp_total, on_total, ranked, then_total}
-use Rattle.std.proofs.lemmas.Map.Keys.{sorted_head, sorted_tail}
-use Rattle.std.proofs.lemmas.Bool.{or_right}
-use Rattle.market_terms.specs.declared.rooms.RoomRef.{RoomRef}
-use Rattle.dealer_desk.specs.DealerOutput.{is_same_room}
-use Rattle.step_replay.specs.OpenRooms.{AreDue, Entry, IsFirst, any_due, entry_cmp, holds}
-use Rattle.step_replay.specs.OpenRooms.{is_due_in, room_cmp}
-use Rattle.step_replay.specs.declared.open_rooms.OpenRooms.{OpenRooms}
-use Rattle.step_replay.specs.GrowthLemmas.{same_room}
+use Rattle.std.specs.declared.cmp.Ordering.TheVariants.{Equal, Greater}
+use Rattle.std.proofs.lemmas.Bool.{and_from, and_parts}
+use Rattle.std.proofs.lemmas.Cmp.{nat_cmp_total, on_total, then_total, tied_itself}
+use Rattle.std.proofs.lemmas.List.Folds.{Any-from_list_any, list_any_at}
+use Rattle.std.proofs.lemmas.Map.Keys.{le_from_not_gt, sorted_head, sorted_tail}
+use Rattle.std.proofs.lemmas.Map.Lookups.{CmpEqualImpliesEq, exact_pairs, exact_unsigned}
+use Rattle.step_replay.specs.OpenRooms.{Entry, holds, is_due_in, is_deadline}
+use Rattle.step_replay.proofs.StepEffects.{AreOf, is_there}
+
+-- An item of a list that passes a test, so that what it passes some item passes.
+pub record Passing {X : Type 0} (test : X → Bool) (xs : List X) : Type 0 where
+  pub item : X
+  pub passes : test item ≡ true
+  pub there : (other : X → Bool) → other item ≡ true → list_any other xs ≡ true
+
+pub passing : {X : Type 0} (test : X → Bool) (xs : List X) → list_any test xs ≡ true → Passing test xs
+passing test xs any =
+    let found = Any-from_list_any test xs any in
+    record {
+      item = found.1;
+      passes = found.4;
+      there = λ other so. list_any_at other xs found.0 found.1 found.2 (rw found.3 so);
+    }
 
 -- Orders.
+
+equal : (o : Ordering) → is_eq o ≡ true → o ≡ Equal
+equal Less is = cc
+equal Equal is = refl
+equal Greater is = cc
 
 pub room_total : IsTotalOrder room_cmp
 room_total = then_total (on_total (λ (room : RoomRef). room.investor) nat_cmp_total)
     (on_total (λ (room : RoomRef). room.n) nat_cmp_total)
 
-tied_then : (one other : Ordering) → is_eq (ordering_then one other) ≡ (is_eq one && is_eq other)
-tied_then Less other = refl
-tied_then Equal other = refl
-tied_then Greater other = refl
+entry_total : IsTotalOrder entry_cmp
+entry_total = then_total (on_total (λ (entry : Entry). entry.0) nat_cmp_total)
+    (on_total (λ (entry : Entry). entry.1) room_total)
 
-both : (a b c d : Bool) → a ≡ b → c ≡ d → (a && c) ≡ (b && d)
-both a b c d one other = rw (one, other) refl
+pub rooms_exact : CmpEqualImpliesEq room_cmp
+rooms_exact one other is = ap room_at (exact_pairs nat_cmp nat_cmp exact_unsigned exact_unsigned
+    (one.investor, one.n) (other.investor, other.n) is)
+  where
+    room_at : ℕ × ℕ → RoomRef
+    room_at pair = record { investor = pair.0; n = pair.1 }
+
+pub one_room : (one other : RoomRef) → is_eq (room_cmp one other) ≡ true → one ≡ other
+one_room one other is = rooms_exact one other (equal (room_cmp one other) is)
+
+one_entry : (one other : Entry) → is_eq (entry_cmp one other) ≡ true → one ≡ other
+one_entry one other is =
+    exact_pairs nat_cmp room_cmp exact_unsigned rooms_exact one other (equal (entry_cmp one other) is)
+
+pub own_room : (room : RoomRef) → is_eq (room_cmp room room) ≡ true
+own_room room = ap is_eq (tied_itself room_total room)
 
 pub tied_rooms : (one other : RoomRef) → is_eq (room_cmp one other) ≡ is_same_room one other
-tied_rooms one other =
-    tied_then (nat_cmp one.investor other.investor) (nat_cmp one.n other.n)
-    ∙ both _ _ _ _ (unsigned_tied one.investor other.investor) (unsigned_tied one.n other.n)
-
-pub tied_entries : (one other : Entry)
-    → is_eq (entry_cmp one other) ≡ ((one.0 == other.0) && is_same_room one.1 other.1)
-tied_entries one other =
-    tied_then (nat_cmp one.0 other.0) (room_cmp one.1 other.1)
-    ∙ both _ _ _ _ (unsigned_tied one.0 other.0) (tied_rooms one.1 other.1)
-
--- a room is itself
-pub own_room : (room : RoomRef) → is_same_room room room ≡ true
-own_room room = rw (eq-eqb room.investor room.investor refl, eq-eqb room.n room.n refl) refl
-
--- no later entry has an earlier deadline
-no_earlier : (one other : ℕ) (o p : Ordering) → MatchOrdering o (one < other) (one ≡ other)
-    (other < one)
-    → is_gt (ordering_then o p) ≡ false → one ≤ other
-no_earlier one other Less p ranks is = omega arith
-no_earlier one other Equal p ranks is = omega arith
-no_earlier one other Greater p ranks is = cc
-
-pub not_earlier : (one other : Entry) → is_gt (entry_cmp one other) ≡ false → one.0 ≤ other.0
-not_earlier one other is =
-    no_earlier one.0 other.0 (nat_cmp one.0 other.0) (room_cmp one.1 other.1)
-    (ranked one.0 other.0 _ refl) is
-
-pub later : (one other : Entry) → entry_cmp one other ≡ Less → one.0 ≤ other.0
-later one other is = not_earlier one other (ap is_gt is)
+tied_rooms one other = same_from_decides {P = is_same_room one other ≡ true} _ _ (
+  λ is. subst (λ (r : RoomRef). is_same_room one r ≡ true) (one_room one other is) itself,
+  λ same. subst (λ (r : RoomRef). is_eq (room_cmp one r) ≡ true) (same_room one other same)
+      (own_room one),
+)
+    (λ is. is, λ is. is)
+  where
+    itself : is_same_room one one ≡ true
+    itself = rw (eq-eqb one.investor one.investor refl, eq-eqb one.n one.n refl) refl
 
 -- The rooms whose deadline has come.
 
-pub none_due : (moment : ℕ) (room : RoomRef) (first : Entry) (entries : List Entry)
-    → moment < first.0 → AllByRecursion (λ entry. entry_cmp first entry ≡ Less) entries
-    → any_due moment room entries ≡ false
-none_due moment room first [] after all = refl
-none_due moment room first (entry ∷ entries) after all =
-    let from : first.0 ≤ entry.0 = later first entry all.0 in
-    let past : nat_le entry.0 moment ≡ false = grind (arith, nat_tests, from, after) in
-    rw past (none_due moment room first entries after all.1)
-
--- a room more
-pub due_more : (moment : ℕ) (room : RoomRef) (entry : Entry) (entries : List Entry)
-    (before after : Bool)
-    → nat_le entry.0 moment ≡ true → after ≡ cond (is_eq (room_cmp entry.1 room)) true before
-    → (after || any_due moment room entries) ≡ (before || any_due moment room (entry ∷ entries))
-due_more moment room entry entries before after come is =
-    ap (λ (b : Bool). b || any_due moment room entries)
-    (is ∙ ap (λ (b : Bool). cond b true before) (tied_rooms entry.1 room))
-    ∙ by_test (is_same_room entry.1 room) (any_due moment room entries) before
-    ∙ ap (λ (b : Bool). before || ((b && is_same_room entry.1 room) || any_due moment room entries))
-    (sym come)
+-- no later entry has an earlier deadline
+pub not_earlier : (one other : Entry) → is_gt (entry_cmp one other) ≡ false → one.0 ≤ other.0
+not_earlier one other is =
+    le_from_not_gt one.0 other.0 (by_deadline (nat_cmp one.0 other.0) (room_cmp one.1 other.1) is)
   where
-    by_test : (s a b : Bool) → (cond s true b || a) ≡ (b || ((true && s) || a))
-    by_test true a true = refl
-    by_test true a false = refl
-    by_test false a true = refl
-    by_test false a false = refl
+    by_deadline : (o p : Ordering) → is_gt (ordering_then o p) ≡ false → is_gt o ≡ false
+    by_deadline Less p is = refl
+    by_deadline Equal p is = refl
+    by_deadline Greater p is = is
 
--- the loop over the entries: it goes on, or stops at one that is not due
-pub left_sorted : (left : List Entry) (entry : Entry) (rest : List Entry) → left ≡ entry ∷ rest
-    → IsStrictlySortedBy entry_cmp left → IsStrictlySortedBy entry_cmp rest
-left_sorted left entry rest is sorted =
-    sorted_tail entry_cmp entry rest (subst (IsStrictlySortedBy entry_cmp) is sorted)
+-- an entry that is not due stands before none that is
+none_due : (moment : ℕ) (room : RoomRef) (first : Entry) (entries : List Entry)
+    → nat_le first.0 moment ≡ false → AllByRecursion (λ entry. entry_cmp first entry ≡ Less) entries
+    → any_due moment room (first ∷ entries) ≡ false
+none_due moment room first [] late all = rw late refl
+none_due moment room first (entry ∷ entries) late all =
+    let from : first.0 ≤ entry.0 = not_earlier first entry (ap is_gt all.0) in
+    let past : nat_le entry.0 moment ≡ false = grind (arith, nat_tests, from, late) in
+    rw (late, past) (rw late at (none_due moment room first entries late all.1))
 
-pub due_next : (moment : ℕ) (room : RoomRef) (entry : Entry) (left rest : List Entry)
-    (before after all : Bool) → left ≡ entry ∷ rest → entry.0 ≤ moment
-    → after ≡ cond (is_eq (room_cmp entry.1 room)) true before
-    → (before || any_due moment room left) ≡ all → (after || any_due moment room rest) ≡ all
-due_next moment room entry left rest before after all is come now was =
-    let test : nat_le entry.0 moment ≡ true = grind (arith, nat_tests, come) in
-    due_more moment room entry rest before after test now
-    ∙ ap (λ (l : List Entry). before || any_due moment room l) (sym is) ∙ was
+module _ (moment : ℕ) (x : Bor Entry) (left rest : List Entry) (next : Option (Bor Entry))
+    (is : next ≡ Some x) (takes : TakesFirst deref left next rest)
+    (sorted : IsStrictlySortedBy entry_cmp left) where
+  left_is : left ≡ x.now ∷ rest
+  left_is = rest_more deref left rest next x is takes
 
-pub due_stops : (rooms : OpenRooms) (moment : ℕ) (due : BTreeSet RoomRef) (entry : Entry)
-    (left rest : List Entry) → left ≡ entry ∷ rest → moment < entry.0
-    → IsStrictlySortedBy room_cmp due.keys → IsStrictlySortedBy entry_cmp left
-    → ((room : RoomRef) → (contains room_cmp due room || any_due moment room left)
-    ≡ any_due moment room rooms.by_deadline.keys)
-    → AreDue rooms moment due
-due_stops rooms moment due entry left rest is after ordered sorted each = record {
-  ordered = ordered;
-  each = λ room.
-      let past : nat_le entry.0 moment ≡ false = grind (arith, nat_tests, after) in
-      let others = none_due moment room entry rest after
-      (sorted_head entry_cmp entry rest (subst (IsStrictlySortedBy entry_cmp) is sorted)) in
-      let none : any_due moment room left ≡ false =
-      ap (any_due moment room) is ∙ nobody _ _ _ past others in
-      sym (or_false _ _ none) ∙ each room;
-}
+  pub rest_sorted : IsStrictlySortedBy entry_cmp rest
+  rest_sorted = sorted_tail entry_cmp x.now rest (subst (IsStrictlySortedBy entry_cmp) left_is sorted)
+
+  module _ (room : RoomRef) (before all : Bool)
+      (was : (before || any_due moment room left) ≡ all) where
+    -- it is due, and its room is one of them then
+    pub due_next : (after : Bool) → nat_le x.now.0 moment ≡ true
+        → after ≡ cond (is_eq (room_cmp x.now.1 room)) true before
+        → (after || any_due moment room rest) ≡ all
+    due_next after come now =
+        ap (λ (b : Bool). b || any_due moment room rest) now
+        ∙ moved (is_eq (room_cmp x.now.1 room)) _ before (any_due moment room rest) come
+        ∙ ap (λ (l : List Entry). before || any_due moment room l) (sym left_is) ∙ was
+      where
+        moved : (here due b a : Bool) → due ≡ true → (cond here true b || a) ≡ (b || ((due && here) || a))
+        moved here due b a is = grind (arith, nat_tests)
+
+    -- it is not due, and none behind it is
+    pub due_stops : nat_le x.now.0 moment ≡ false → before ≡ all
+    due_stops late =
+        let none = none_due moment room x.now rest late
+        (sorted_head entry_cmp x.now rest (subst (IsStrictlySortedBy entry_cmp) left_is sorted)) in
+        let nothing : any_due moment room left ≡ false = ap (any_due moment room) left_is ∙ none in
+        sym (ap (λ (b : Bool). before || b) nothing ∙ or-false before) ∙ was
+
+-- before the first fact no room is opening or open
+pub rooms_begin : (config : Configuration) (rooms : OpenRooms) → IsEmpty rooms
+    → RoomsStand config [] rooms
+unfolding of_room
+rooms_begin config rooms empty entry =
+    empty entry ∙ by_room (has_room config entry.1.investor entry.1.n)
   where
-    nobody : (a b c : Bool) → a ≡ false → c ≡ false → ((a && b) || c) ≡ false
-    nobody a b c first last = rw (first, last) refl
+    by_room : (b : Bool)
+        → false ≡ is_deadline (if b then deadline_of (of_room entry.1 []) else None) entry.0
+    by_room true = refl
+    by_room false = refl
 
-    or_false : (a b : Bool) → b ≡ false → (a || b) ≡ a
-    or_false true b is = refl
-    or_false false b is = is
+module _ (config : Configuration) (facts : List Fact) where
+  -- The deadline of a room, by the facts.
 
--- an entry of a room that is due
-pub record Found (moment : ℕ) (room : RoomRef) (entries : List Entry) : Type 0 where
-  pub deadline : ℕ
-  pub come : deadline ≤ moment
-  pub there : list_any (λ entry. is_eq (entry_cmp (deadline, room) entry)) entries ≡ true
+  pub with_room : (b : Bool) (room : RoomRef) → has_room config room.investor room.n ≡ b
+      → deadline_by config facts room ≡ (if b then deadline_of (of_room room facts) else None)
+  with_room b room is =
+      ap (λ (c : Bool). if c then deadline_of (of_room room facts) else None) is
 
-same_back : (one other : RoomRef) → is_same_room one other ≡ true → is_same_room other one ≡ true
-same_back one other same =
-    subst (λ (r : RoomRef). is_same_room r one ≡ true) (same_room one other same) (own_room one)
+  -- what is kept is a deadline, and a deadline is kept
 
-second : (a b : Bool) → (a && b) ≡ true → b ≡ true
-second true b is = is
-second false b is = cc
+  found_among : (found : Option ℕ) (deadline : ℕ) → is_deadline found deadline ≡ true
+      → found ≡ Some deadline
+  found_among None deadline is = cc
+  found_among (Some other) deadline is =
+      let test : (other == deadline) ≡ true = is in
+      let same : other ≡ deadline = grind (arith, nat_tests, test) in
+      ap (λ (d : ℕ). Some d) same
 
-found_later : (moment : ℕ) (room : RoomRef) (entry : Entry) (entries : List Entry)
-    → Found moment room entries → Found moment room (entry ∷ entries)
-found_later moment room entry entries found = record {
-  deadline = found.deadline;
-  come = found.come;
-  there = or_right (is_eq (entry_cmp (found.deadline, room) entry)) _ found.there;
-}
+  module _ (rooms : OpenRooms) (stands : RoomsStand config facts rooms) (room : RoomRef) where
+    pub held : (deadline : ℕ) → deadline_by config facts room ≡ Some deadline
+        → holds rooms (deadline, room) ≡ true
+    held deadline is =
+        stands (deadline, room) ∙ ap (λ (d : Option ℕ). is_deadline d deadline) is
+        ∙ eq-eqb deadline deadline refl
 
-found_first : (moment : ℕ) (room : RoomRef) (entry : Entry) (entries : List Entry)
-    → nat_le entry.0 moment ≡ true → is_same_room entry.1 room ≡ true
-    → Found moment room (entry ∷ entries)
-found_first moment room entry entries come same =
-    let here : is_eq (entry_cmp (entry.0, room) entry) ≡ true =
-    tied_entries (entry.0, room) entry
-    ∙ both _ _ _ _ (eq-eqb entry.0 entry.0 refl) (same_back entry.1 room same) in
-    record {
-      deadline = entry.0;
-      come = grind (arith, nat_tests, come);
-      there = rw here refl;
-    }
+    pub held_is : (deadline : ℕ) → holds rooms (deadline, room) ≡ true
+        → deadline_by config facts room ≡ Some deadline
+    held_is deadline held = found_among _ deadline (sym (stands (deadline, room)) ∙ held)
 
-found_in : (moment : ℕ) (room : RoomRef) (entry : Entry) (entries : List Entry)
-    → (any_due moment room entries ≡ true → Found moment room entries)
-    → (a : Bool) → nat_le entry.0 moment ≡ a → (b : Bool) → is_same_room entry.1 room ≡ b
-    → ((a && b) || any_due moment room entries) ≡ true → Found moment room (entry ∷ entries)
-found_in moment room entry entries rest true come true same is =
-    found_first moment room entry entries come same
-found_in moment room entry entries rest true come false same is =
-    found_later moment room entry entries (rest is)
-found_in moment room entry entries rest false come b same is =
-    found_later moment room entry entries (rest is)
+    -- the rooms that are due
+    pub due_is : (moment : ℕ)
+        → any_due moment room rooms.by_deadline.keys ≡ is_due config moment facts room
+    due_is moment = same_from_decides {P = is_due config moment facts room ≡ true} _ _ (there, λ come. back (deadline_by config facts room) refl come)
+        (λ is. is, λ is. is)
+      where
+        there : any_due moment room rooms.by_deadline.keys ≡ true → is_due config moment facts room ≡ true
+        there any =
+            let passed = passing (is_due_in moment room) rooms.by_deadline.keys any in
+            let entry : Entry = passed.item in
+            let parts = and_parts (nat_le entry.0 moment) _ passed.passes in
+            let same : entry.1 ≡ room = one_room entry.1 room parts.1 in
+            let own : holds rooms entry ≡ true = passed.there (λ other. is_eq (entry_cmp entry other))
+            (ap is_eq (tied_itself entry_total entry)) in
+            ap (has_come moment) (held_is entry.0
+            (subst (λ (r : RoomRef). holds rooms (entry.0, r) ≡ true) same own)) ∙ parts.0
 
-pub found_due : (moment : ℕ) (room : RoomRef) (entries : List Entry)
-    → any_due moment room entries ≡ true → Found moment room entries
-found_due moment room [] any = cc
-found_due moment room (entry ∷ entries) any =
-    found_in moment room entry entries (found_due moment room entries) (nat_le entry.0 moment) refl
-    (is_same_room entry.1 room) refl any
+        back : (found : Option ℕ) → deadline_by config facts room ≡ found
+            → has_come moment found ≡ true → any_due moment room rooms.by_deadline.keys ≡ true
+        back None is come = cc
+        back (Some deadline) is come =
+            let passed = passing (λ (entry : Entry). is_eq (entry_cmp (deadline, room) entry))
+            rooms.by_deadline.keys (held deadline is) in
+            passed.there (is_due_in moment room)
+            (subst (λ (entry : Entry). is_due_in moment room entry ≡ true)
+            (one_entry (deadline, room) passed.item passed.passes) (and_from _ _ come (own_room room)))
 
-due_here : (moment : ℕ) (room : RoomRef) (deadline : ℕ) (entry : Entry)
-    → nat_le deadline moment ≡ true → is_eq (entry_cmp (deadline, room) entry) ≡ true
-    → is_due_in moment room entry ≡ true
-due_here moment room deadline entry come is =
-    let parts = sym (tied_entries (deadline, room) entry) ∙ is in
-    let same : deadline ≡ entry.0 = grind (arith, nat_tests, parts) in
-    both _ _ _ _ (subst (λ (d : ℕ). nat_le d moment ≡ true) same come)
-    (same_back room entry.1 (second _ _ parts))
+  -- After facts more.
 
-due_in : (moment : ℕ) (room : RoomRef) (deadline : ℕ) (entry : Entry) (entries : List Entry)
-    → nat_le deadline moment ≡ true
-    → (list_any (λ entry. is_eq (entry_cmp (deadline, room) entry)) entries ≡ true
-    → any_due moment room entries ≡ true)
-    → (b : Bool) → is_eq (entry_cmp (deadline, room) entry) ≡ b
-    → (b || list_any (λ entry. is_eq (entry_cmp (deadline, room) entry)) entries) ≡ true
-    → (is_due_in moment room entry || any_due moment room entries) ≡ true
-due_in moment room deadline entry entries come rest true is any =
-    rw (due_here moment room deadline entry come is) refl
-due_in moment room deadline entry entries come rest false is any =
-    or_right (is_due_in moment room entry) _ (rest any)
+  pub deadline_kept : (more : List Fact) (at : Option RoomRef) (room : RoomRef) → AreOf at more
+      → is_there at room ≡ false
+      → deadline_by config (facts ++ more) room ≡ deadline_by config facts room
+  deadline_kept more at room are other =
+      ap (λ (l : List RoomFact). if has_room config room.investor room.n then deadline_of l else None)
+      (room_stays room facts more (are.elsewhere room other))
 
-pub due_found : (moment : ℕ) (room : RoomRef) (deadline : ℕ) (entries : List Entry)
-    → nat_le deadline moment ≡ true
-    → list_any (λ entry. is_eq (entry_cmp (deadline, room) entry)) entries ≡ true
-    → any_due moment room entries ≡ true
-due_found moment room deadline [] come any = any
-due_found moment room deadline (entry ∷ entries) come any =
-    due_in moment room deadline entry entries come
-    (due_found moment room deadline entries come)
-    (is_eq (entry_cmp (deadline, room) entry)) refl any
-
--- The earliest.
-
-pub is_first : (rooms : OpenRooms) (first : Entry) → holds rooms first ≡ true
-    → ((entry : Entry) → holds rooms entry ≡ true → is_gt (entry_cmp first entry) ≡ false)
-    → IsFirst rooms first.0
-is_first rooms first held least = record {
-  room = first.1;
-  held = held;
-  least = λ entry there. not_earlier first entry (least entry there);
-}
+  pub rooms_noted : (more : List Fact) (at : Option RoomRef) (had now : Option ℕ)
+      (before after : OpenRooms) → RoomsStand config facts before → AreOf at more
+      → had ≡ deadline_in config facts at → now ≡ deadline_in config (facts ++ more) at
+      → Notes at had now before after → RoomsStand config (facts ++ more) after
+  rooms_noted more None had now before after stands are had_is now_is notes entry =
+      ap (λ (rooms : OpenRooms). holds rooms entry) notes ∙ stands entry
+      ∙ ap (λ (d : Option ℕ). is_deadline d entry.0) (sym (deadline_kept more None entry.1 are refl))
+  rooms_noted more (Some room) had now before after stands are had_is now_is notes entry =
+      notes (λ e same. rw (had_is ∙ ap (deadline_by config facts) (same_room room e.1 same)) (stands e))
+      entry ∙ by_test (is_same_room room entry.1) refl
+    where
+      by_test : (b : Bool) → is_same_room room entry.1 ≡ b
+          → (if b then is_deadline now entry.0 else holds before entry)
+          ≡ is_deadline (deadline_by config (facts ++ more) entry.1) entry.0
+      by_test true same =
+          ap (λ (d : Option ℕ). is_deadline d entry.0)
+          (now_is ∙ ap (deadline_by config (facts ++ more)) (same_room room entry.1 same))
+      by_test false other =
+          stands entry ∙ ap (λ (d : Option ℕ). is_deadline d entry.0)
+          (sym (deadline_kept more (Some room) entry.1 are other))

@@ -1,178 +1,116 @@
 -- What comes to a room of a replay does what it should.
-use Rattle.std.proofs.Common.{◌≡◌, ℕ, Bool, true, false, ◌&&◌, List, [], ◌++◌, map, None}
-use Rattle.std.proofs.Common.{if◌then◌else◌, refl, sym, ap, ◌∙◌, subst}
-use Rattle.std.specs.Vec.{with_item}
-use Rattle.std.proofs.lemmas.List.{append-nil}
-use Rattle.venue_rows.specs.Rows.{Configuration}
-use Rattle.market_terms.specs.declared.duties.Duty.{Duty}
+use Rattle.step_replay.proofs.Common.{◌≡◌, ℕ, Bool, true, false, ◌&&◌, List, [], ◌++◌}
+use Rattle.step_replay.proofs.Common.{if◌then◌else◌, refl, sym, ap, ◌∙◌, arith, append-nil}
+use Rattle.step_replay.proofs.Common.{Configuration, has_room, Duty, RoomRef, RoomFact, room_after}
+use Rattle.step_replay.proofs.Common.{RoomEvent, where_done, Fact, of_room, nothing, room_gets}
+use Rattle.step_replay.proofs.Common.{Stands, Does, InvestorPlace, Floor}
 use Rattle.market_terms.specs.declared.duties.Duty.TheVariants as duty
-use Rattle.market_terms.specs.declared.rooms.RoomRef.{RoomRef}
 use Rattle.request_room.specs.RoomFacts.{Opened, Readied, is_vacant, is_opening, hears}
 use Rattle.request_room.specs.RoomFacts.{takes_quotes}
-use Rattle.request_room.specs.Book.{room_after, event_facts, where_so, may_unpost}
-use Rattle.request_room.specs.declared.events.RoomEvent.{RoomEvent}
+use Rattle.request_room.specs.Book.{event_facts, where_so, may_unpost}
 use Rattle.request_room.specs.declared.events.RoomEvent.TheVariants as at_room
 use Rattle.venue_places.specs.Brought.{room_with, duties_in_room}
 use Rattle.venue_places.specs.declared.arrivals.ForRoom.{ForRoom}
 use Rattle.venue_places.specs.declared.arrivals.ForRoom.TheVariants as to_room
-use Rattle.venue_steps.specs.RoomSteps.{where_done, where_follows, duties_of_open, duties_of_pass}
+use Rattle.venue_steps.specs.RoomSteps.{where_follows, duties_of_open, duties_of_pass}
 use Rattle.venue_steps.specs.RoomSteps.{duties_of_expire, duties_of_decline, duties_of_unpost}
 use Rattle.venue_steps.specs.RoomSteps.{duties_of_post}
-use Rattle.step_replay.specs.VenueFacts.{Fact, InRoom, of_room}
-use Rattle.step_replay.specs.Actions.{in_room, nothing}
-use Rattle.step_replay.specs.Coming.{room_gets}
-use Rattle.step_replay.specs.RoomPlaces.{room_place}
-use Rattle.step_replay.specs.Standing.{Stands, Does}
-use Rattle.step_replay.specs.declared.floor.InvestorPlace.{InvestorPlace}
-use Rattle.step_replay.specs.declared.floor.Floor.{Floor}
-use Rattle.step_replay.proofs.FoundDealers.{idle_does}
-use Rattle.step_replay.proofs.RoomPlaceLemmas.{FoundRoom, no_room}
-use Rattle.step_replay.proofs.RoomFloor.{in_room_stands}
 use Rattle.venue_steps.proofs.EndLemmas.{after_more}
+use Rattle.step_replay.specs.Actions.{in_room}
+use Rattle.step_replay.proofs.RoomPlaceLemmas.{FoundRoom, floor_with, in_room_stands}
 
--- The room after one event more.
+-- the room after an event, where it takes place
+pub pushed : (events new : List RoomEvent) (event : RoomEvent) (b : Bool)
+    → new ≡ where_done b events event
+    → room_after new
+    ≡ room_after events ++ (if b then event_facts (room_after events) event else [])
+pushed events new event true is = ap room_after is ∙ after_more events event
+pushed events new event false is = ap room_after is ∙ sym (append-nil (room_after events))
 
--- an event that is left out where it would add nothing
-pub push_where : (events : List RoomEvent) (event : RoomEvent) (b : Bool)
-    → (b ≡ false → event_facts (room_after events) event ≡ [])
-    → room_after (where_done b events event)
-    ≡ room_after events ++ event_facts (room_after events) event
-push_where events event true none = after_more events event
-push_where events event false none =
-    sym (append-nil (room_after events)) ∙ ap (λ l. room_after events ++ l) (sym (none refl))
+-- a fact that an event adds where it is so
+once : (b : Bool) (fact : RoomFact) → (if b then where_so b fact else []) ≡ where_so b fact
+once b fact = grind arith
 
-module _ (config : Configuration) (facts : List Fact) (floor : Floor) (at : RoomRef)
-    (investor index : ℕ) (old : InvestorPlace) (events : List RoomEvent)
+never : {A : Type 0} → true ≡ false → A
+never clash = cc
+
+module _ {config : Configuration} {facts : List Fact} {floor : Floor} {at : RoomRef}
+    {investor index : ℕ} {old : InvestorPlace} {events : List RoomEvent}
     (before : Stands config facts floor)
-    (found : FoundRoom config facts floor at investor index old events) where
-  -- the floor with new events in the room
-  abbrev floor_with : List RoomEvent → Floor
-  floor_with new = record floor {
-    investors = with_item floor.investors investor
-        (record old { rooms = with_item old.rooms index new });
-  }
+    (found : FoundRoom config facts at investor index old events) where
+  -- the facts of the room, and the floor with new events in it
+  abbrev known : List RoomFact
+  known = of_room at facts
 
-  -- What a step does in the room.
+  abbrev after : List RoomEvent → Floor
+  after new = floor_with floor investor index old new
 
-  -- a step that takes place there
-  step_done : (event : RoomEvent) (new : List RoomEvent) (duties left : List Duty)
-      → room_after new ≡ room_after events ++ event_facts (room_after events) event
-      → left ≡ duties
-      → Does config facts (in_room config facts at true event duties) (floor_with new) left
-  step_done event new duties left grown leaves =
-      subst (λ (b : Bool). Does config facts
-      (if b && true then record {
-        facts = map (InRoom at) (event_facts (of_room at facts) event);
-        duties = duties;
-      } else nothing) (floor_with new) left) (sym found.has)
-      (record {
-        stands = in_room_stands config facts floor at investor index old events before found
-            (event_facts (of_room at facts) event) new
-            (grown ∙ ap (λ l. l ++ event_facts l event) found.known);
-        leaves = leaves;
+  -- A step that takes place there where it may, with an event that is tried where it fits.
+  step : (may : Bool) (fits : List RoomFact → Bool) (event : RoomEvent)
+      (duties : List RoomFact → List Duty) (new : List RoomEvent) (left : List Duty)
+      → new ≡ where_done (fits (room_after events)) events event → left ≡ duties (room_after events)
+      → (if fits known then event_facts known event else [])
+      ≡ (if may then event_facts known event else [])
+      → (may ≡ false → duties known ≡ [])
+      → Does config facts (in_room config facts at may event (duties known)) (after new) left
+  step may fits event duties new left grown leaves same none = by_test may same none
+    where
+      came : room_after new ≡ known ++ (if fits known then event_facts known event else [])
+      came = pushed events new event (fits (room_after events)) grown
+          ∙ ap (λ k. k ++ (if fits k then event_facts k event else [])) found.known
+
+      left_is : left ≡ duties known
+      left_is = leaves ∙ ap duties found.known
+
+      by_test : (b : Bool) → (if fits known then event_facts known event else [])
+          ≡ (if b then event_facts known event else []) → (b ≡ false → duties known ≡ [])
+          → Does config facts (in_room config facts at b event (duties known)) (after new) left
+      by_test true same none = rw found.has (record {
+        stands = in_room_stands before found (event_facts known event) new
+            (came ∙ ap (λ l. known ++ l) same);
+        leaves = left_is;
       })
-
-  -- a step that does not
-  step_not_done : (event : RoomEvent) (new : List RoomEvent) (duties left : List Duty)
-      → new ≡ events → left ≡ []
-      → Does config facts (in_room config facts at false event duties) (floor_with new) left
-  step_not_done event new duties left same leaves =
-      subst (λ (b : Bool). Does config facts
-      (if b && false then record {
-        facts = map (InRoom at) (event_facts (of_room at facts) event);
-        duties = duties;
-      } else nothing) (floor_with new) left) (sym found.has)
-      (record {
-        stands = in_room_stands config facts floor at investor index old events before found [] new
-            (ap room_after same ∙ found.known ∙ sym (append-nil (of_room at facts)));
-        leaves = leaves;
+      by_test false same none = rw found.has (record {
+        stands = in_room_stands before found [] new (came ∙ ap (λ l. known ++ l) same);
+        leaves = left_is ∙ none refl;
       })
-
-  -- a step that takes place where this holds
-  step_where : (may : Bool) (event : RoomEvent) (new : List RoomEvent) (duties left : List Duty)
-      → new ≡ where_done may events event
-      → (may ≡ true → left ≡ duties) → (may ≡ false → left ≡ [])
-      → Does config facts (in_room config facts at may event duties) (floor_with new) left
-  step_where true event new duties left grown done not_done =
-      step_done event new duties left (ap room_after grown ∙ after_more events event) (done refl)
-  step_where false event new duties left grown done not_done =
-      step_not_done event new duties left grown (not_done refl)
-
-  -- a step of a dealer that the room hears
-  heard : (dealer : ℕ) (event : RoomEvent) (new : List RoomEvent) (duties left : List Duty)
-      → new ≡ where_done (hears (room_after events) dealer) events event → left ≡ duties
-      → (hears (of_room at facts) dealer ≡ false → duties ≡ [])
-      → Does config facts (in_room config facts at (hears (of_room at facts) dealer) event duties)
-      (floor_with new) left
-  heard dealer event new duties left grown leaves none =
-      step_where (hears (of_room at facts) dealer) event new duties left
-      (grown ∙ ap (λ l. where_done (hears l dealer) events event) found.known)
-      (λ yes. leaves) (λ no. leaves ∙ none no)
 
   -- what comes there does what it should
   pub room_does : (what : ForRoom) (new : List RoomEvent) (left : List Duty)
       → new ≡ room_with events what → left ≡ duties_in_room at events what
-      → Does config facts (room_gets config facts at what) (floor_with new) left
+      → Does config facts (room_gets config facts at what) (after new) left
   unfolding event_facts room_with duties_in_room room_gets
   room_does (to_room.Open ask dealers moment) new left grown leaves =
-      step_done (at_room.Open (record { ask = ask; dealers = dealers })) new _ left
-      (ap room_after grown
-      ∙ push_where events (at_room.Open (record { ask = ask; dealers = dealers }))
-      (is_vacant (room_after events))
-      (λ no. ap (λ b. where_so b (Opened (record { ask = ask; dealers = dealers }))) no))
-      (leaves ∙ ap (λ l. duties_of_open l at ask dealers moment) found.known)
+      step true is_vacant (at_room.Open (record { ask = ask; dealers = dealers }))
+      (λ k. duties_of_open k at ask dealers moment) new left grown leaves
+      (once (is_vacant known) (Opened (record { ask = ask; dealers = dealers }))) never
   room_does (to_room.Ready moment) new left grown leaves =
-      step_done at_room.Ready new [] left
-      (ap room_after grown
-      ∙ push_where events at_room.Ready (is_opening (room_after events))
-      (λ no. ap (λ b. where_so b Readied) no))
-      leaves
+      step true is_opening at_room.Ready (λ k. []) new left grown leaves
+      (once (is_opening known) Readied) never
   room_does (to_room.Post dealer offer moment) new left grown leaves =
-      heard dealer (at_room.Post dealer offer.word offer.price offer.valid_until) new _ left grown
-      (leaves ∙ ap (λ l. duties_of_post l at dealer offer moment) found.known)
-      (λ no. ap (λ b. where_follows (b && takes_quotes (of_room at facts))
-      (duty.Relay at offer moment)) no)
+      step (hears known dealer) (λ k. hears k dealer)
+      (at_room.Post dealer offer.word offer.price offer.valid_until)
+      (λ k. duties_of_post k at dealer offer moment) new left grown leaves refl
+      (λ no. ap (λ b. where_follows (b && takes_quotes known) (duty.Relay at offer moment)) no)
   room_does (to_room.Unpost dealer word moment) new left grown leaves =
-      heard dealer (at_room.Unpost dealer word) new _ left grown
-      (leaves ∙ ap (λ l. duties_of_unpost l at dealer word moment) found.known)
-      (λ no. ap (λ b. where_follows (b && may_unpost (of_room at facts) dealer word)
-      (duty.Gone at word moment)) no)
+      step (hears known dealer) (λ k. hears k dealer) (at_room.Unpost dealer word)
+      (λ k. duties_of_unpost k at dealer word moment) new left grown leaves refl
+      (λ no. ap (λ b. where_follows (b && may_unpost known dealer word) (duty.Gone at word moment)) no)
   room_does (to_room.Decline dealer moment) new left grown leaves =
-      heard dealer (at_room.Decline dealer) new _ left grown
-      (leaves ∙ ap (λ l. duties_of_decline l at dealer moment) found.known)
-      (λ no. ap (λ b. where_follows (b && takes_quotes (of_room at facts))
-      (duty.Declined at moment)) no)
+      step (hears known dealer) (λ k. hears k dealer) (at_room.Decline dealer)
+      (λ k. duties_of_decline k at dealer moment) new left grown leaves refl
+      (λ no. ap (λ b. where_follows (b && takes_quotes known) (duty.Declined at moment)) no)
   room_does (to_room.Pass response moment) new left grown leaves =
-      step_done (at_room.Pass moment) new _ left
-      (ap room_after grown ∙ after_more events (at_room.Pass moment))
-      (leaves ∙ ap (λ l. duties_of_pass l at response moment) found.known)
+      step true (λ k. true) (at_room.Pass moment) (λ k. duties_of_pass k at response moment) new left
+      grown leaves refl never
   room_does (to_room.Expire moment) new left grown leaves =
-      step_done (at_room.Expire moment) new _ left
-      (ap room_after grown ∙ after_more events (at_room.Expire moment))
-      (leaves ∙ ap (λ l. duties_of_expire l at moment) found.known)
+      step true (λ k. true) (at_room.Expire moment) (λ k. duties_of_expire k at moment) new left
+      grown leaves refl never
 
 -- Where the venue has no such room.
 
-pub no_room_does : (config : Configuration) (facts : List Fact) (floor : Floor) (at : RoomRef)
-    (what : ForRoom) (left : List Duty) → Stands config facts floor → room_place floor at ≡ None
-    → left ≡ [] → Does config facts (room_gets config facts at what) floor left
+pub none_gets : (config : Configuration) (facts : List Fact) (at : RoomRef)
+    → has_room config at.investor at.n ≡ false → (what : ForRoom)
+    → room_gets config facts at what ≡ nothing
 unfolding room_gets
-no_room_does config facts floor at what left before none leaves = by_kind what
-  where
-    idle : (may : Bool) (event : RoomEvent) (duties : List Duty)
-        → Does config facts (in_room config facts at may event duties) floor left
-    idle may event duties =
-        idle_does config facts floor _ left before leaves
-        (ap (λ b. if b && may then record {
-          facts = map (InRoom at) (event_facts (of_room at facts) event);
-          duties = duties;
-        } else nothing) (no_room config facts floor at before none))
-
-    by_kind : (w : ForRoom) → Does config facts (room_gets config facts at w) floor left
-    by_kind (to_room.Open ask dealers moment) = idle _ _ _
-    by_kind (to_room.Ready moment) = idle _ _ _
-    by_kind (to_room.Post dealer offer moment) = idle _ _ _
-    by_kind (to_room.Unpost dealer word moment) = idle _ _ _
-    by_kind (to_room.Decline dealer moment) = idle _ _ _
-    by_kind (to_room.Pass response moment) = idle _ _ _
-    by_kind (to_room.Expire moment) = idle _ _ _
+none_gets config facts at missing what = grind arith

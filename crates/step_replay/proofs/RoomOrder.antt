@@ -1,200 +1,168 @@
 -- Every room of a venue: in order, and none is left out.
-use Rattle.std.proofs.Common.{◌≡◌, ◌<◌, ◌≤◌, ℕ, zero, suc, ◌+◌, ◌-◌, ◌==◌, Bool, true, false, ◌&&◌}
-use Rattle.std.proofs.Common.{◌||◌, List, [], ◌∷◌, ◌++◌, length, Option, None, if◌then◌else◌}
-use Rattle.std.proofs.Common.{nat_le, nat_lt, refl, sym, ap, ◌∙◌, arith}
-use Rattle.std.specs.Prelude.{slice_get}
-use Rattle.std.specs.List.{AllByRecursion, list_any}
-use Rattle.std.specs.List.Sorted.{IsStrictlySortedBy}
-use Rattle.std.specs.Ordering.{nat_cmp, ordering_then}
-use Rattle.std.specs.declared.cmp.Ordering.{Ordering}
-use Rattle.std.specs.declared.cmp.Ordering.TheVariants.{Less, Equal}
-use Rattle.std.proofs.lemmas.Bool.Decides.{nat_tests}
-use Rattle.std.proofs.lemmas.List.Folds.{list_any-append}
-use Rattle.market_terms.specs.declared.rooms.RoomRef.{RoomRef}
-use Rattle.dealer_desk.specs.DealerOutput.{is_same_room}
-use Rattle.venue_rows.specs.Rows.{Configuration, has_room, may_request}
-use Rattle.venue_rows.specs.declared.investor_rows.InvestorRow.{InvestorRow}
-use Rattle.step_replay.specs.OpenRooms.{room_cmp}
-use Rattle.step_replay.specs.VenueRooms.{requests_of, rooms_behind, rooms_from, rooms_of}
+use Rattle.step_replay.proofs.Common.{◌≡◌, ◌<◌, ◌≤◌, ℕ, zero, suc, ◌+◌, ◌-◌, ◌==◌, Bool, true}
+use Rattle.step_replay.proofs.Common.{false, ◌&&◌, ◌||◌, List, [], ◌∷◌, ◌++◌, length, Option, Some}
+use Rattle.step_replay.proofs.Common.{None, if◌then◌else◌, nat_le, nat_lt, refl, sym, ap, ◌∙◌}
+use Rattle.step_replay.proofs.Common.{arith, eq-eqb, ◌⊎◌, inl, inr, slice_get, AllByRecursion}
+use Rattle.step_replay.proofs.Common.{list_any, IsStrictlySortedBy, is_eq, Less, and_left}
+use Rattle.step_replay.proofs.Common.{both_ways, cases_lt, nat_tests, list_any-append, RoomRef}
+use Rattle.step_replay.proofs.Common.{Configuration, has_room, may_request, InvestorRow, room_cmp}
+use Rattle.step_replay.proofs.Common.{rooms_of}
+use Rattle.std.proofs.lemmas.Bool.{le-ltb, lt-ltb, or_cases, or_from, or_left, or_right}
+use Rattle.step_replay.specs.VenueRooms.{requests_of, rooms_behind, rooms_from}
+use Rattle.step_replay.proofs.OpenRoomLemmas.{own_room, tied_rooms}
+
+abbrev is_room : RoomRef → RoomRef → Bool
+is_room room other = is_eq (room_cmp room other)
+
+abbrev pub is_among : RoomRef → List RoomRef → Bool
+is_among room rooms = list_any (is_room room) rooms
+
+-- the rooms of one investor
+behind_is : (room : RoomRef) (investor first more : ℕ)
+    → is_among room (rooms_behind investor first more)
+    ≡ ((room.investor == investor) && (nat_le (first + 1) room.n && nat_le room.n (first + more)))
+behind_is room investor first zero = none (room.investor == investor) room.n first
+  where
+    none : (b : Bool) (n first : ℕ) → false ≡ (b && (nat_le (first + 1) n && nat_le n (first + 0)))
+    none b n first = grind (arith, nat_tests)
+behind_is room investor first (suc more) =
+    let here = tied_rooms room (record { investor = investor; n = first + 1 }) in
+    let later = behind_is room investor (first + 1) more in
+    rw (here, later) (one_more room.investor room.n)
+  where
+    one_more : (i n : ℕ) → (((i == investor) && (n == first + 1))
+        || ((i == investor) && (nat_le (first + 1 + 1) n && nat_le n (first + 1 + more))))
+        ≡ ((i == investor) && (nat_le (first + 1) n && nat_le n (first + suc more)))
+    one_more i n = grind (arith, nat_tests)
+
+not_behind : (room : RoomRef) (investor first more : ℕ) → (room.investor == investor) ≡ false
+    → is_among room (rooms_behind investor first more) ≡ false
+not_behind room investor first more other =
+    behind_is room investor first more ∙ and_left _ _ other
+
+-- earlier investors have none of these rooms
+none_before : (room : RoomRef) (investor : ℕ) (requests : List ℕ) → room.investor < investor
+    → is_among room (rooms_from investor requests) ≡ false
+none_before room investor [] low = refl
+none_before room investor (more ∷ requests) low =
+    let other : (room.investor == investor) ≡ false = grind (arith, nat_tests, low) in
+    let next : room.investor < investor + 1 = omega arith in
+    list_any-append (is_room room) (rooms_behind investor 0 more) (rooms_from (investor + 1) requests)
+    ∙ or_from _ _ (not_behind room investor 0 more other)
+    (none_before room (investor + 1) requests next)
+
+-- the rooms of the investor at a place of the list
+from_has : (investor k n : ℕ) (rows : List InvestorRow) (room : RoomRef)
+    → room ≡ record { investor = investor + k; n = n }
+    → is_among room (rooms_from investor (requests_of rows)) ≡ may_request (slice_get rows k) n
+from_has investor k n [] room is = refl
+from_has investor zero n (row ∷ rows) room is =
+    let here : room.investor ≡ investor = ap (λ (r : RoomRef). r.investor) is ∙ omega arith in
+    let own : (room.investor == investor) ≡ true = eq-eqb _ _ here in
+    let next : room.investor < investor + 1 = omega arith in
+    let behind = behind_is room investor 0 row.requests in
+    let none = none_before room (investor + 1) (requests_of rows) next in
+    let number = ap (λ (r : RoomRef). r.n) is in
+    list_any-append (is_room room) (rooms_behind investor 0 row.requests)
+    (rooms_from (investor + 1) (requests_of rows))
+    ∙ rw (behind, own, none, number) (in_range n row.requests)
+  where
+    in_range : (n requests : ℕ) → ((nat_le 1 n && nat_le n (0 + requests)) || false)
+        ≡ (nat_le 1 n && nat_le n requests)
+    in_range n requests = grind (arith, nat_tests)
+from_has investor (suc k) n (row ∷ rows) room is =
+    let there : room.investor ≡ investor + suc k = ap (λ (r : RoomRef). r.investor) is in
+    let other : (room.investor == investor) ≡ false = grind (arith, nat_tests, there) in
+    let next : investor + suc k ≡ investor + 1 + k = omega arith in
+    list_any-append (is_room room) (rooms_behind investor 0 row.requests) (rooms_from (investor + 1) (requests_of rows))
+    ∙ rw (not_behind room investor 0 row.requests other)
+    (from_has (investor + 1) k n rows room
+    (is ∙ ap (λ (i : ℕ). record { investor = i; n = n }) next))
+
+pub rooms_are : (config : Configuration) (room : RoomRef)
+    → is_among room (rooms_of config) ≡ has_room config room.investor room.n
+rooms_are config room = by_test (nat_le (length config.dealers) room.investor) refl
+  where
+    first : ℕ
+    first = length config.dealers
+
+    by_test : (b : Bool) → nat_le first room.investor ≡ b → is_among room (rooms_of config)
+        ≡ may_request (if b then slice_get config.investors (room.investor - first) else None) room.n
+    by_test true behind =
+        let place : room.investor ≡ first + (room.investor - first) = grind (arith, nat_tests, behind) in
+        from_has first (room.investor - first) room.n config.investors room
+        (ap (λ (i : ℕ). record { investor = i; n = room.n }) place)
+    by_test false before =
+        let low : room.investor < first = grind (arith, nat_tests, before) in
+        none_before room first (requests_of config.investors) low
 
 -- Order.
 
-before_cmp : (one other : ℕ) → one < other → nat_cmp one other ≡ Less
-before_cmp one other low =
-    let test : nat_lt one other ≡ true = grind (arith, nat_tests, low) in
-    rw test refl
-
-equal_cmp : (one : ℕ) → nat_cmp one one ≡ Equal
-equal_cmp one =
-    let not_low : nat_lt one one ≡ false = grind (arith, nat_tests) in
-    let same : (one == one) ≡ true = grind (arith, nat_tests) in
-    rw (not_low, same) refl
-
--- an earlier request of the same investor, and a request of an earlier investor
-next_request : (investor one other : ℕ) → one < other
-    → room_cmp (record { investor = investor; n = one })
-    (record { investor = investor; n = other }) ≡ Less
-next_request investor one other low =
-    ap (λ (o : Ordering). ordering_then o (nat_cmp one other)) (equal_cmp investor)
-    ∙ before_cmp one other low
-
-next_investor : (one other : RoomRef) → one.investor < other.investor → room_cmp one other ≡ Less
-next_investor one other low =
-    ap (λ (o : Ordering). ordering_then o (nat_cmp one.n other.n))
-    (before_cmp one.investor other.investor low)
-
-abbrev IsBefore : RoomRef → List RoomRef → Type 0
-IsBefore room rooms = AllByRecursion (λ other. room_cmp room other ≡ Less) rooms
-
-before_behind : (investor one first more : ℕ) → one ≤ first
-    → IsBefore (record { investor = investor; n = one }) (rooms_behind investor first more)
-before_behind investor one first zero low = tt
-before_behind investor one first (suc more) low =
-    let here : one < first + 1 = omega arith in
-    let rest : one ≤ first + 1 = omega arith in
-    (next_request investor one (first + 1) here, before_behind investor one (first + 1) more rest)
-
-before_both : (room : RoomRef) (one other : List RoomRef) → IsBefore room one → IsBefore room other
-    → IsBefore room (one ++ other)
-before_both room [] other first second = second
-before_both room (r ∷ one) other first second = (first.0, before_both room one other first.1 second)
-
--- rooms of later investors are behind those of one
-before_behind_of : (room : RoomRef) (investor first more : ℕ) → room.investor < investor
-    → IsBefore room (rooms_behind investor first more)
-before_behind_of room investor first zero low = tt
-before_behind_of room investor first (suc more) low = (
-  next_investor room (record { investor = investor; n = first + 1 }) low,
-  before_behind_of room investor (first + 1) more low,
+-- what holds of each room that is among some holds of all of them
+all_among : (P : RoomRef → Type 0) (rooms : List RoomRef)
+    → ((room : RoomRef) → is_among room rooms ≡ true → P room) → AllByRecursion P rooms
+all_among P [] each = tt
+all_among P (room ∷ rooms) each = (
+  each room (or_left _ _ (own_room room)),
+  all_among P rooms (λ other among. each other (or_right _ _ among)),
 )
 
-before_from : (room : RoomRef) (investor : ℕ) (requests : List ℕ) → room.investor < investor
-    → IsBefore room (rooms_from investor requests)
-before_from room investor [] low = tt
-before_from room investor (more ∷ requests) low =
-    let next : room.investor < investor + 1 = omega arith in
-    before_both room (rooms_behind investor 0 more) (rooms_from (investor + 1) requests)
-    (before_behind_of room investor 0 more low) (before_from room (investor + 1) requests next)
+-- a room of a later investor, or a later one of the same
+comes_later : (one other : RoomRef)
+    → (one.investor < other.investor) ⊎ ((one.investor ≡ other.investor) × (one.n < other.n))
+    → room_cmp one other ≡ Less
+comes_later one other (inl low) = rw (lt-ltb one.investor other.investor low) refl
+comes_later one other (inr later) =
+    let least : other.investor ≤ one.investor = omega arith in
+    let not_less = le-ltb one.investor other.investor least in
+    let same = eq-eqb one.investor other.investor later.0 in
+    rw (not_less, same, lt-ltb one.n other.n later.1) refl
 
-both_sorted : (investor first more : ℕ) (later : List RoomRef)
-    → ((n : ℕ) → IsBefore (record { investor = investor; n = n }) later)
-    → IsStrictlySortedBy room_cmp later
-    → IsStrictlySortedBy room_cmp (rooms_behind investor first more ++ later)
+-- the rooms of one investor, and behind them those of later ones
+both_sorted : (investor first more : ℕ) (requests : List ℕ)
+    → IsStrictlySortedBy room_cmp (rooms_from (investor + 1) requests)
+    → IsStrictlySortedBy room_cmp
+    (rooms_behind investor first more ++ rooms_from (investor + 1) requests)
 unfolding IsStrictlySortedBy
-both_sorted investor first zero later before sorted = sorted
-both_sorted investor first (suc more) later before sorted = (
-  before_both (record { investor = investor; n = first + 1 })
-      (rooms_behind investor (first + 1) more) later
-      (before_behind investor (first + 1) (first + 1) more (omega arith)) (before (first + 1)),
-  both_sorted investor (first + 1) more later before sorted,
+both_sorted investor first zero requests sorted = sorted
+both_sorted investor first (suc more) requests sorted = (
+  all_among (λ other. room_cmp here other ≡ Less) (own ++ others) (λ other among.
+      comes_later here other (by_side other (or_cases (is_among other own) (is_among other others)
+      (sym (list_any-append (is_room other) own others) ∙ among)))),
+  both_sorted investor (first + 1) more requests sorted,
 )
+  where
+    here : RoomRef
+    here = record { investor = investor; n = first + 1 }
+
+    own : List RoomRef
+    own = rooms_behind investor (first + 1) more
+
+    others : List RoomRef
+    others = rooms_from (investor + 1) requests
+
+    by_side : (other : RoomRef) → (is_among other own ≡ true) ⊎ (is_among other others ≡ true)
+        → (investor < other.investor) ⊎ ((investor ≡ other.investor) × (first + 1 < other.n))
+    by_side other (inl among) =
+        let tests = sym (behind_is other investor (first + 1) more) ∙ among in
+        let same : investor ≡ other.investor = grind (arith, nat_tests, tests) in
+        let later : first + 1 < other.n = grind (arith, nat_tests, tests) in
+        inr (same, later)
+    by_side other (inr among) = by_order (cases_lt investor other.investor)
+      where
+        by_order : (investor < other.investor) ⊎ (other.investor ≤ investor)
+            → (investor < other.investor) ⊎ ((investor ≡ other.investor) × (first + 1 < other.n))
+        by_order (inl later) = inl later
+        by_order (inr early) =
+            let low : other.investor < investor + 1 = omega arith in
+            absurd (both_ways _ (none_before other (investor + 1) requests low) among)
 
 from_sorted : (investor : ℕ) (requests : List ℕ)
     → IsStrictlySortedBy room_cmp (rooms_from investor requests)
 unfolding IsStrictlySortedBy
 from_sorted investor [] = tt
 from_sorted investor (more ∷ requests) =
-    both_sorted investor 0 more (rooms_from (investor + 1) requests)
-    (λ n. before_from (record { investor = investor; n = n }) (investor + 1) requests (omega arith))
-    (from_sorted (investor + 1) requests)
+    both_sorted investor 0 more requests (from_sorted (investor + 1) requests)
 
 pub rooms_sorted : (config : Configuration) → IsStrictlySortedBy room_cmp (rooms_of config)
 rooms_sorted config = from_sorted (length config.dealers) (requests_of config.investors)
-
--- Members.
-
-abbrev pub is_among : RoomRef → List RoomRef → Bool
-is_among room rooms = list_any (is_same_room room) rooms
-
--- the rooms of one investor
-behind_other : (room : RoomRef) (investor first more : ℕ) → (room.investor == investor) ≡ false
-    → is_among room (rooms_behind investor first more) ≡ false
-behind_other room investor first zero differs = refl
-behind_other room investor first (suc more) differs =
-    rw differs (behind_other room investor (first + 1) more differs)
-
-behind_has : (room : RoomRef) (investor first more : ℕ) → (room.investor == investor) ≡ true
-    → is_among room (rooms_behind investor first more)
-    ≡ (nat_le (first + 1) room.n && nat_le room.n (first + more))
-behind_has room investor first zero same = grind (arith, nat_tests)
-behind_has room investor first (suc more) same =
-    rw same (ap (λ (b : Bool). (room.n == first + 1) || b)
-    (behind_has room investor (first + 1) more same) ∙ by_number room.n first more)
-  where
-    by_number : (n first more : ℕ)
-        → ((n == first + 1) || (nat_le (first + 1 + 1) n && nat_le n (first + 1 + more)))
-        ≡ (nat_le (first + 1) n && nat_le n (first + suc more))
-    by_number n first more = grind (arith, nat_tests)
-
--- an investor's row, where the first has this number
-abbrev row_at : ℕ → List InvestorRow → ℕ → Option InvestorRow
-row_at number rows investor =
-    if nat_le number investor then slice_get rows (investor - number) else None
-
-no_rows : (number investor : ℕ) (n : ℕ) → may_request (row_at number [] investor) n ≡ false
-no_rows number investor n = by_test (nat_le number investor)
-  where
-    by_test : (b : Bool) → may_request (if b then None else None) n ≡ false
-    by_test true = refl
-    by_test false = refl
-
-from_has : (room : RoomRef) (number : ℕ) (rows : List InvestorRow)
-    → is_among room (rooms_from number (requests_of rows))
-    ≡ may_request (row_at number rows room.investor) room.n
-from_has room number [] = sym (no_rows number room.investor room.n)
-from_has room number (row ∷ rows) =
-    list_any-append (is_same_room room) (rooms_behind number 0 row.requests)
-    (rooms_from (number + 1) (requests_of rows))
-    ∙ ap (λ (b : Bool). is_among room (rooms_behind number 0 row.requests) || b)
-    (from_has room (number + 1) rows)
-    ∙ by_test (room.investor == number) refl
-  where
-    own : room.investor ≡ number
-        → ((nat_le (0 + 1) room.n && nat_le room.n (0 + row.requests))
-        || may_request (row_at (number + 1) rows room.investor) room.n)
-        ≡ may_request (row_at number (row ∷ rows) room.investor) room.n
-    own same =
-        let beyond : nat_le (number + 1) room.investor ≡ false = grind (arith, nat_tests, same) in
-        let here : nat_le number room.investor ≡ true = grind (arith, nat_tests, same) in
-        let first : room.investor - number ≡ 0 = omega arith in
-        rw (beyond, here, first) (or_none (nat_le 1 room.n) (nat_le room.n row.requests)
-        (ap (λ (k : ℕ). nat_le room.n k) (plain row.requests)))
-      where
-        plain : (k : ℕ) → 0 + k ≡ k
-        plain k = omega arith
-
-        or_none : (a b : Bool) → {c : Bool} → c ≡ b → ((a && c) || false) ≡ (a && b)
-        or_none true true is = rw is refl
-        or_none true false is = rw is refl
-        or_none false b is = refl
-
-    later : (b : Bool) → nat_lt number room.investor ≡ b → (room.investor == number) ≡ false
-        → may_request (row_at (number + 1) rows room.investor) room.n
-        ≡ may_request (row_at number (row ∷ rows) room.investor) room.n
-    later true behind differs =
-        let one : nat_le (number + 1) room.investor ≡ true = grind (arith, nat_tests, behind) in
-        let two : nat_le number room.investor ≡ true = grind (arith, nat_tests, behind) in
-        let low : number < room.investor = grind (arith, nat_tests, behind) in
-        let next : room.investor - number ≡ suc (room.investor - (number + 1)) = omega arith in
-        rw (one, two, next) refl
-    later false before differs =
-        let one : nat_le (number + 1) room.investor ≡ false = grind (arith, nat_tests, before) in
-        let two : nat_le number room.investor ≡ false = grind (arith, nat_tests, before, differs) in
-        rw (one, two) refl
-
-    by_test : (b : Bool) → (room.investor == number) ≡ b
-        → (is_among room (rooms_behind number 0 row.requests)
-        || may_request (row_at (number + 1) rows room.investor) room.n)
-        ≡ may_request (row_at number (row ∷ rows) room.investor) room.n
-    by_test true test =
-        let same : room.investor ≡ number = grind (arith, nat_tests, test) in
-        ap (λ (b : Bool). b || may_request (row_at (number + 1) rows room.investor) room.n)
-        (behind_has room number 0 row.requests test) ∙ own same
-    by_test false test =
-        ap (λ (b : Bool). b || may_request (row_at (number + 1) rows room.investor) room.n)
-        (behind_other room number 0 row.requests test)
-        ∙ later (nat_lt number room.investor) refl test
-
-pub rooms_are : (config : Configuration) (room : RoomRef)
-    → is_among room (rooms_of config) ≡ has_room config room.investor room.n
-rooms_are config room = from_has room (length config.dealers) config.investors

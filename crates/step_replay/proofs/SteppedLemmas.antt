@@ -1,9 +1,6 @@
 -- A day that goes step by step.
-use Rattle.std.proofs.Common.{◌≡◌, List, [], ◌∷◌, ◌++◌, refl}
-use Rattle.std.proofs.lemmas.List.Sums.{fold-append}
-use Rattle.venue_rows.specs.Rows.{Configuration}
-use Rattle.step_replay.specs.AuditTrail.{after_step, audit_trail, no_steps}
-use Rattle.step_replay.specs.declared.steps.Step.{Step}
+use Rattle.step_replay.proofs.Common.{◌≡◌, List, [], ◌∷◌, ◌++◌, refl, fold-append, Configuration}
+use Rattle.step_replay.proofs.Common.{after_step, audit_trail, no_steps, Step}
 
 pub steps_begin : (config : Configuration) → audit_trail config [] ≡ no_steps
 unfolding audit_trail

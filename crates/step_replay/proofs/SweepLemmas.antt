@@ -1,230 +1,159 @@
 -- A sweep of a room: where the room is not due nothing happens, and else nothing in another room.
-use Rattle.std.proofs.Common.{◌≡◌, ◌≤◌, ℕ, zero, suc, Bool, true, false, ◌&&◌, List, [], ◌∷◌, ◌++◌}
-use Rattle.std.proofs.Common.{map, length, filter_map, count_by, Option, Some, None, if◌then◌else◌}
-use Rattle.std.proofs.Common.{refl, sym, ap, ◌∙◌, subst}
-use Rattle.std.specs.List.{AllByRecursion}
-use Rattle.std.proofs.lemmas.List.{append-nil}
-use Rattle.market_terms.specs.declared.closes.Close.{Close}
-use Rattle.market_terms.specs.declared.duties.Duty.{Duty}
+use Rattle.step_replay.proofs.Common.{◌≡◌, ◌≤◌, ℕ, Bool, true, false, ◌&&◌, not, List, [], ◌∷◌}
+use Rattle.step_replay.proofs.Common.{◌++◌, map, length, filter_map, count_by, Option, Some, None}
+use Rattle.step_replay.proofs.Common.{if◌then◌else◌, refl, sym, ap, ◌∙◌, subst, is_some, option_map}
+use Rattle.step_replay.proofs.Common.{AllByRecursion, append-nil, Duty, RoomRef, is_same_room}
+use Rattle.step_replay.proofs.Common.{InvestorMarket, may_expire, RoomFact, End, Configuration}
+use Rattle.step_replay.proofs.Common.{has_room, Actor, Dealer, Effect, at_dealer, at_market}
+use Rattle.step_replay.proofs.Common.{dealer_at, done_by, done_for, nothing, told_of, where_known}
+use Rattle.step_replay.proofs.Common.{duty_effect, sweep_effect, AuditTrail, after_step, after_turn}
+use Rattle.step_replay.proofs.Common.{duty_of, is_same_actor, pending, with_effect, after_turns}
+use Rattle.step_replay.proofs.Common.{deadline_by, has_come, is_due, Fact, of_room}
+use Rattle.step_replay.proofs.Common.{MOST_TURNS_BEHIND, own_pending, own_turned, duty_action}
+use Rattle.step_replay.proofs.Common.{sweep_action, room_stays}
 use Rattle.market_terms.specs.declared.duties.Duty.TheVariants as duty
-use Rattle.market_terms.specs.declared.rooms.RoomRef.{RoomRef}
-use Rattle.dealer_desk.specs.DealerOutput.{is_same_room}
 use Rattle.dealer_desk.specs.declared.events.DealerEvent.TheVariants as at_desk
 use Rattle.investor_desk.specs.InvestorDesk as investor_desk
-use Rattle.investor_desk.specs.InvestorRules.{InvestorMarket}
 use Rattle.investor_desk.specs.declared.events.InvestorEvent.TheVariants as at_investor
-use Rattle.request_room.specs.Book.{event_facts, expired, may_expire, where_so}
-use Rattle.request_room.specs.RoomFacts.{RoomFact, Ended, request_of}
-use Rattle.request_room.specs.declared.ends.End.{End}
-use Rattle.venue_rows.specs.Rows.{Configuration, has_room}
-use Rattle.venue_steps.specs.RoomSteps.{close_for, dealers_of, duties_of_expire, told_in}
-use Rattle.step_replay.specs.Actions.{Dealer, Effect, at_dealer, at_market, dealer_at, done_by}
-use Rattle.step_replay.specs.Actions.{done_for, nothing, told_of, told_to}
-use Rattle.step_replay.specs.DutyEffects.{duty_effect, sweep_effect}
-use Rattle.step_replay.specs.AuditTrail.{AuditTrail, Caused, after_step, after_turn, duty_of}
-use Rattle.step_replay.specs.AuditTrail.{is_same_actor, pending, with_effect}
-use Rattle.step_replay.specs.LiveStanding.{after_turns, room_of_duty}
-use Rattle.step_replay.specs.VenueFacts.{Fact, InRoom, of_room}
-use Rattle.venue_places.specs.declared.actors.Actor.{Actor}
+use Rattle.request_room.specs.Book.{event_facts, expired, is_past_deadline}
+use Rattle.request_room.specs.RoomFacts.{is_ended, is_ready, request_of}
+use Rattle.request_room.specs.declared.requests.RoomRequest.{RoomRequest}
+use Rattle.venue_steps.specs.RoomSteps.{close_for, dealers_of, told_in}
 use Rattle.venue_places.specs.declared.actors.Actor.TheVariants as actor
+use Rattle.step_replay.specs.Actions.{told_to}
+use Rattle.step_replay.specs.LiveStanding.{room_of_duty}
 use Rattle.step_replay.specs.declared.steps.Step.TheVariants as step
-use Rattle.step_replay.specs.declared.steps.TheConstants.{MOST_TURNS_BEHIND}
-use Rattle.step_replay.specs.GrowthLemmas.{same_room}
-use Rattle.step_replay.proofs.LiveLemmas.{idle_turns, no_turn}
-use Rattle.step_replay.specs.QueueLemmas.{own_pending, own_turned}
-use Rattle.step_replay.specs.ActionKinds.{duty_action, sweep_action}
-use Rattle.step_replay.proofs.RoomEffects.{AreOf, action_there}
-use Rattle.step_replay.proofs.StartLemmas.{swept, turned}
-use Rattle.step_replay.specs.PlaceLemmas.{room_stays}
+use Rattle.step_replay.proofs.StartLemmas.{idle_step, idle_turns, swept, turned, turns_keep}
+use Rattle.step_replay.proofs.StepEffects.{AreOf, action_there}
 
 -- A room that is not due.
 
-effect_none : (room : RoomRef) (happened : List RoomFact) (duties : List Duty) → happened ≡ []
-    → duties ≡ [] → (b : Bool) → ◌≡◌ {A = Effect}
-    (if b then record { facts = map (InRoom room) happened; duties = duties } else nothing) nothing
-effect_none room happened duties no_facts no_duties true = rw (no_facts, no_duties) refl
-effect_none room happened duties no_facts no_duties false = refl
+no_effect : (b : Bool) → ◌≡◌ {A = Effect} (if b then nothing else nothing) nothing
+no_effect true = refl
+no_effect false = refl
 
 nothing_swept : (config : Configuration) (facts : List Fact) (room : RoomRef) (moment : ℕ)
     → may_expire (of_room room facts) moment ≡ false
     → sweep_effect config facts room moment ≡ nothing
 unfolding sweep_effect event_facts
 nothing_swept config facts room moment none =
-    effect_none room (where_so (may_expire (of_room room facts) moment) (Ended expired moment))
-    (duties_of_expire (of_room room facts) room moment)
-    (ap (λ (b : Bool). where_so b (Ended expired moment)) none)
-    (ap (λ (b : Bool). if b
-    then duty.Close room moment ∷ told_in (of_room room facts) room expired moment else []) none)
-    (has_room config room.investor room.n && true)
+    rw none (no_effect (has_room config room.investor room.n && true))
 
-same_parts : (facts more : List Fact) (caused left : List Caused) (done : List Actor) → more ≡ facts
-    → left ≡ caused → ◌≡◌ {A = AuditTrail} (record { facts = more; caused = left; done = done })
-    (record { facts = facts; caused = caused; done = done })
-same_parts facts more caused left done one two = rw (one, two) refl
+no_room_swept : (config : Configuration) (facts : List Fact) (room : RoomRef) (moment : ℕ)
+    → has_room config room.investor room.n ≡ false
+    → sweep_effect config facts room moment ≡ nothing
+unfolding sweep_effect
+no_room_swept config facts room moment none = rw none refl
 
-nothing_done : (by : Actor) (trail : AuditTrail) → with_effect by trail nothing ≡ trail
-nothing_done by trail =
-    same_parts trail.facts (trail.facts ++ []) trail.caused (trail.caused ++ []) trail.done
-    (append-nil trail.facts) (append-nil trail.caused)
+swept_nothing : (config : Configuration) (trail : AuditTrail) (room : RoomRef) (moment : ℕ)
+    → sweep_effect config trail.facts room moment ≡ nothing
+    → after_step config trail (step.Expire room moment) ≡ trail
+swept_nothing config trail room moment none =
+    swept config trail room moment ∙ ap (with_effect actor.Clock trail) none
+    ∙ rw (append-nil trail.facts, append-nil trail.caused) refl
 
 -- a sweep of a room that is not due changes nothing
 pub sweep_not_due : (config : Configuration) (trail : AuditTrail) (room : RoomRef) (moment : ℕ)
     → may_expire (of_room room trail.facts) moment ≡ false
     → after_step config trail (step.Expire room moment) ≡ trail
 sweep_not_due config trail room moment none =
-    swept config trail room moment
-    ∙ ap (with_effect actor.Clock trail) (nothing_swept config trail.facts room moment none)
-    ∙ nothing_done actor.Clock trail
+    swept_nothing config trail room moment (nothing_swept config trail.facts room moment none)
 
--- The duties of the clock: that of telling how a request ended. They are done in no room, and leave
--- no other.
+-- the same by its deadline
+may_not : (moment : ℕ) (ready ended : Bool) (found : Option RoomRequest)
+    → has_come moment (if is_some found && not ended
+    then option_map (λ (request : RoomRequest). request.ask.deadline) found else None) ≡ false
+    → ((ready && not ended) && is_past_deadline found moment) ≡ false
+may_not moment false ended found none = refl
+may_not moment true true found none = refl
+may_not moment true false None none = refl
+may_not moment true false (Some request) none = none
 
-pub data IsTelling (d : Duty) : Type 0 where
-  closing : (room : RoomRef) (moment : ℕ) → d ≡ duty.Close room moment → IsTelling d
-  telling : (dealer : ℕ) (room : RoomRef) (close : Close) (moment : ℕ)
-      → d ≡ duty.Tell dealer room close moment → IsTelling d
+late_not_due : (config : Configuration) (trail : AuditTrail) (room : RoomRef) (moment : ℕ)
+    → is_due config moment trail.facts room ≡ false
+    → after_step config trail (step.Expire room moment) ≡ trail
+late_not_due config trail room moment none =
+    swept_nothing config trail room moment (by_room (has_room config room.investor room.n) refl)
+  where
+    known : List RoomFact
+    known = of_room room trail.facts
+
+    by_room : (b : Bool) → has_room config room.investor room.n ≡ b
+        → sweep_effect config trail.facts room moment ≡ nothing
+    by_room false has = no_room_swept config trail.facts room moment has
+    by_room true has = nothing_swept config trail.facts room moment
+        (may_not moment (is_ready known) (is_ended known) (request_of known) (rw has at none))
+
+-- The duties of the clock: it tells how a request ended. That happens in no room, and leaves nothing.
+
+abbrev is_telling : Duty → Bool
+is_telling (duty.Close room moment) = true
+is_telling (duty.Tell dealer room close moment) = true
+is_telling other = false
 
 abbrev AreTellings : List Duty → Type 0
-AreTellings duties = AllByRecursion IsTelling duties
+AreTellings duties = AllByRecursion (λ d. is_telling d ≡ true) duties
 
-in_no_room : (d : Duty) → IsTelling d → room_of_duty d ≡ None
-in_no_room d (closing room moment is) = ap room_of_duty is
-in_no_room d (telling dealer room close moment is) = ap room_of_duty is
-
-none_by_investor : (found : Option InvestorMarket) (action : InvestorMarket → Effect)
-    → ((market : InvestorMarket) → (action market).duties ≡ [])
-    → (done_for found action).duties ≡ []
-none_by_investor None action none = refl
-none_by_investor (Some market) action none = none market
-
-none_by_dealer : (found : Option Dealer) (action : Dealer → Effect)
-    → ((dealer : Dealer) → (action dealer).duties ≡ []) → (done_by found action).duties ≡ []
-none_by_dealer None action none = refl
-none_by_dealer (Some dealer) action none = none dealer
+nowhere : (d : Duty) → is_telling d ≡ true → room_of_duty d ≡ None
+nowhere (duty.Close room moment) tells = refl
+nowhere (duty.Tell dealer room close moment) tells = refl
+nowhere other tells = cc
 
 none_if : (b : Bool) (effect : Effect) → effect.duties ≡ []
     → (if b then effect else nothing).duties ≡ []
 none_if true effect none = none
 none_if false effect none = refl
 
-module _ (config : Configuration) (facts : List Fact) (by : Actor) where
-  none_by_close : (room : RoomRef) (moment : ℕ)
-      → (duty_effect config facts by (duty.Close room moment)).duties ≡ []
-  unfolding duty_effect
-  none_by_close room moment =
-      none_by_investor (investor_desk.market_for config room.investor) _
-      (λ market. none_if _
-      (at_market facts market (at_investor.Closed room.n moment) []) refl)
+leaves_none : (config : Configuration) (facts : List Fact) (by : Actor) (d : Duty)
+    → is_telling d ≡ true → (duty_effect config facts by d).duties ≡ []
+unfolding duty_effect
+leaves_none config facts by (duty.Close room moment) tells =
+    by_market (investor_desk.market_for config room.investor)
+  where
+    by_market : (found : Option InvestorMarket) → (done_for found
+        (where_known facts room.n None (at_investor.Closed room.n moment))).duties ≡ []
+    by_market None = refl
+    by_market (Some market) =
+        none_if _ (at_market facts market (at_investor.Closed room.n moment) []) refl
+leaves_none config facts by (duty.Tell dealer room close moment) tells =
+    by_dealer (dealer_at config dealer)
+  where
+    told_none : (who : Dealer) (request : Option ℕ)
+        → (told_of config facts who close moment request).duties ≡ []
+    told_none who None = refl
+    told_none who (Some request) =
+        none_if _ (at_dealer config facts who (at_desk.Told request close moment) []) refl
 
-  told_none : (dealer : Dealer) (close : Close) (moment : ℕ) (request : Option ℕ)
-      → (told_of config facts dealer close moment request).duties ≡ []
-  told_none dealer close moment None = refl
-  told_none dealer close moment (Some request) =
-      none_if _ (at_dealer config facts dealer (at_desk.Told request close moment) []) refl
-
-  none_by_tell : (dealer : ℕ) (room : RoomRef) (close : Close) (moment : ℕ)
-      → (duty_effect config facts by (duty.Tell dealer room close moment)).duties ≡ []
-  unfolding duty_effect
-  none_by_tell dealer room close moment =
-      none_by_dealer (dealer_at config dealer) (told_to config facts room close moment)
-      (λ who. told_none who close moment _)
-
-  none_by_telling : (d : Duty) → IsTelling d → (duty_effect config facts by d).duties ≡ []
-  none_by_telling d (closing room moment is) =
-      ap (λ (e : Duty). (duty_effect config facts by e).duties) is ∙ none_by_close room moment
-  none_by_telling d (telling dealer room close moment is) =
-      ap (λ (e : Duty). (duty_effect config facts by e).duties) is
-      ∙ none_by_tell dealer room close moment
-
-  in_no_room_by : (d : Duty) → IsTelling d → (room : RoomRef)
-      → of_room room (duty_effect config facts by d).facts ≡ []
-  in_no_room_by d tells room =
-      let there : AreOf None (duty_effect config facts by d).facts =
-      subst (λ (r : Option RoomRef). AreOf r (duty_effect config facts by d).facts)
-      (in_no_room d tells) (action_there config facts _ _ _ (duty_action config facts by d)) in
-      there.elsewhere room refl
+    by_dealer : (found : Option Dealer)
+        → (done_by found (told_to config facts room close moment)).duties ≡ []
+    by_dealer None = refl
+    by_dealer (Some who) = told_none who _
+leaves_none config facts by other tells = cc
 
 -- what a sweep leaves
 tellings_to : (room : RoomRef) (end : End) (dealers : List ℕ) (moment : ℕ)
     → AreTellings (map (λ dealer. duty.Tell dealer room (close_for end dealer) moment) dealers)
 tellings_to room end [] moment = tt
-tellings_to room end (dealer ∷ dealers) moment =
-    (telling dealer room (close_for end dealer) moment refl, tellings_to room end dealers moment)
-
-tellings_if : (b : Bool) (room : RoomRef) (facts : List RoomFact) (moment : ℕ)
-    → AreTellings (if b then duty.Close room moment ∷ told_in facts room expired moment else [])
-tellings_if true room facts moment =
-    (closing room moment refl, tellings_to room expired (dealers_of (request_of facts)) moment)
-tellings_if false room facts moment = tt
-
-tellings_of : (b : Bool) (effect : Effect) → AreTellings effect.duties
-    → AreTellings (if b then effect else nothing).duties
-tellings_of true effect tells = tells
-tellings_of false effect tells = tt
+tellings_to room end (dealer ∷ dealers) moment = (refl, tellings_to room end dealers moment)
 
 sweep_tells : (config : Configuration) (facts : List Fact) (room : RoomRef) (moment : ℕ)
     → AreTellings (sweep_effect config facts room moment).duties
 unfolding sweep_effect
 sweep_tells config facts room moment =
-    tellings_of (has_room config room.investor room.n && true) _
-    (tellings_if (may_expire (of_room room facts) moment) room (of_room room facts) moment)
+    by_tests (has_room config room.investor room.n && true) _
+    (by_end (may_expire (of_room room facts) moment))
+  where
+    by_end : (b : Bool) → AreTellings
+        (if b then duty.Close room moment ∷ told_in (of_room room facts) room expired moment else [])
+    by_end true = (refl, tellings_to room expired (dealers_of (request_of (of_room room facts))) moment)
+    by_end false = tt
 
--- The rooms behind turns of the clock that tell.
-
--- what one turn keeps
-record TellsNext (config : Configuration) (room : RoomRef) (trail : AuditTrail) : Type 0 where
-  kept : of_room room (after_step config trail (step.Turn actor.Clock)).facts
-      ≡ of_room room trail.facts
-  tells : AreTellings (pending actor.Clock (after_step config trail (step.Turn actor.Clock)))
-
-turn_tells : (config : Configuration) (room : RoomRef) (trail : AuditTrail) (duties : List Duty)
-    → pending actor.Clock trail ≡ duties → AreTellings duties → TellsNext config room trail
-turn_tells config room trail [] is all =
-    let same : after_step config trail (step.Turn actor.Clock) ≡ trail =
-    turned config trail actor.Clock ∙ ap (after_turn config actor.Clock trail) is in
-    record {
-      kept = ap (λ (t : AuditTrail). of_room room t.facts) same;
-      tells = subst AreTellings (sym (ap (pending actor.Clock) same ∙ is)) tt;
-    }
-turn_tells config room trail (first ∷ later) is all =
-    let effect = duty_effect config trail.facts actor.Clock first in
-    let same = turned config trail actor.Clock ∙ ap (after_turn config actor.Clock trail) is in
-    let none = none_by_telling config trail.facts actor.Clock first all.0 in
-    let left : pending actor.Clock (after_step config trail (step.Turn actor.Clock)) ≡ later =
-    ap (pending actor.Clock) same
-    ∙ own_turned actor.Clock trail effect first later is
-    ∙ ap (λ (l : List Duty). later ++ l) none ∙ append-nil later in
-    record {
-      kept = ap (λ (t : AuditTrail). of_room room t.facts) same
-          ∙ room_stays room trail.facts effect.facts
-          (in_no_room_by config trail.facts actor.Clock first all.0 room);
-      tells = subst AreTellings (sym left) all.1;
-    }
-
-turn_first : (config : Configuration) (by : Actor) (count : ℕ) (trail : AuditTrail)
-    → after_turns config by (suc count) trail
-    ≡ after_turns config by count (after_step config trail (step.Turn by))
-unfolding after_turns
-turn_first config by count trail = refl
-
-turns_tell : (config : Configuration) (room : RoomRef) (count : ℕ) (trail : AuditTrail)
-    → AreTellings (pending actor.Clock trail)
-    → of_room room (after_turns config actor.Clock count trail).facts ≡ of_room room trail.facts
-turns_tell config room zero trail all =
-    ap (λ (t : AuditTrail). of_room room t.facts) (no_turn config actor.Clock trail)
-turns_tell config room (suc count) trail all =
-    let next = turn_tells config room trail (pending actor.Clock trail) refl all in
-    ap (λ (t : AuditTrail). of_room room t.facts) (turn_first config actor.Clock count trail)
-    ∙ turns_tell config room count (after_step config trail (step.Turn actor.Clock)) next.tells
-    ∙ next.kept
+    by_tests : (b : Bool) (effect : Effect) → AreTellings effect.duties
+        → AreTellings (if b then effect else nothing).duties
+    by_tests true effect tells = tells
+    by_tests false effect tells = tt
 
 -- A sweep, and the turns of the clock behind it.
-
--- the clock has nothing to do, and did no more than it was left
-pub record ClockRests (trail : AuditTrail) : Type 0 where
-  pub idle : pending actor.Clock trail ≡ []
-  pub within : count_by (is_same_actor actor.Clock) trail.done
-      ≤ length (filter_map (duty_of actor.Clock) trail.caused)
 
 unfoldable pub after_sweep : Configuration → ℕ → AuditTrail → RoomRef → AuditTrail
 after_sweep config moment trail room =
@@ -232,50 +161,66 @@ after_sweep config moment trail room =
     (step.Expire room moment))
 
 pub sweep_idle : (config : Configuration) (moment : ℕ) (trail : AuditTrail) (room : RoomRef)
-    → pending actor.Clock trail ≡ [] → may_expire (of_room room trail.facts) moment ≡ false
+    → pending actor.Clock trail ≡ [] → after_step config trail (step.Expire room moment) ≡ trail
     → after_sweep config moment trail room ≡ trail
 unfolding after_sweep
-sweep_idle config moment trail room idle none =
-    ap (after_turns config actor.Clock MOST_TURNS_BEHIND)
-    (sweep_not_due config trail room moment none)
+sweep_idle config moment trail room idle same =
+    ap (after_turns config actor.Clock MOST_TURNS_BEHIND) same
     ∙ idle_turns config actor.Clock MOST_TURNS_BEHIND trail idle
 
-other_kept : (config : Configuration) (moment : ℕ) (trail : AuditTrail) (at room : RoomRef)
-    → ClockRests trail → is_same_room at room ≡ false
+pub idle_not_due : (config : Configuration) (moment : ℕ) (trail : AuditTrail) (room : RoomRef)
+    → pending actor.Clock trail ≡ [] → is_due config moment trail.facts room ≡ false
+    → after_sweep config moment trail room ≡ trail
+idle_not_due config moment trail room idle none =
+    sweep_idle config moment trail room idle (late_not_due config trail room moment none)
+
+-- the clock only tells, and nothing came to a room
+record OnlyTells (room : RoomRef) (known : List RoomFact) (trail : AuditTrail) : Type 0 where
+  kept : of_room room trail.facts ≡ known
+  tells : AreTellings (pending actor.Clock trail)
+
+turn_tells : (config : Configuration) (room : RoomRef) (known : List RoomFact) (trail : AuditTrail)
+    → OnlyTells room known trail
+    → OnlyTells room known (after_step config trail (step.Turn actor.Clock))
+turn_tells config room known trail had = by_duties (pending actor.Clock trail) refl had.tells
+  where
+    by_duties : (duties : List Duty) → pending actor.Clock trail ≡ duties → AreTellings duties
+        → OnlyTells room known (after_step config trail (step.Turn actor.Clock))
+    by_duties [] is all = rw (idle_step config actor.Clock trail is) had
+    by_duties (first ∷ later) is all =
+        let effect = duty_effect config trail.facts actor.Clock first in
+        let there : AreOf None effect.facts =
+        subst (λ (r : Option RoomRef). AreOf r effect.facts) (nowhere first all.0)
+        (action_there config trail.facts _ _ _ (duty_action config trail.facts actor.Clock first)) in
+        let left = own_turned actor.Clock trail effect first later is
+        ∙ ap (λ (l : List Duty). later ++ l) (leaves_none config trail.facts actor.Clock first all.0)
+        ∙ append-nil later in
+        rw (turned config trail actor.Clock ∙ ap (after_turn config actor.Clock trail) is) (record {
+          kept = room_stays room trail.facts effect.facts (there.elsewhere room refl) ∙ had.kept;
+          tells = subst AreTellings (sym left) all.1;
+        })
+
+-- nothing came to another room
+pub other_kept : (config : Configuration) (moment : ℕ) (trail : AuditTrail) (at room : RoomRef)
+    → pending actor.Clock trail ≡ []
+    → count_by (is_same_actor actor.Clock) trail.done
+    ≤ length (filter_map (duty_of actor.Clock) trail.caused)
+    → is_same_room at room ≡ false
     → of_room room (after_sweep config moment trail at).facts ≡ of_room room trail.facts
 unfolding after_sweep
-other_kept config moment trail at room rests other =
-    let effect = sweep_effect config trail.facts at moment in
-    let same = swept config trail at moment in
-    let left : pending actor.Clock (after_step config trail (step.Expire at moment))
-    ≡ effect.duties =
-    ap (pending actor.Clock) same ∙ own_pending actor.Clock trail effect rests.within
-    ∙ ap (λ (l : List Duty). l ++ effect.duties) rests.idle in
-    turns_tell config room MOST_TURNS_BEHIND (after_step config trail (step.Expire at moment))
-    (subst AreTellings (sym left) (sweep_tells config trail.facts at moment))
-    ∙ ap (λ (t : AuditTrail). of_room room t.facts) same
-    ∙ room_stays room trail.facts effect.facts
-    ((action_there config trail.facts _ _ _ (sweep_action config trail.facts at moment)).elsewhere
-    room other)
-
--- a room that is due behind a sweep of any room was due before it
-pub due_before : (config : Configuration) (moment : ℕ) (trail : AuditTrail) (at room : RoomRef)
-    → ClockRests trail
-    → may_expire (of_room room (after_sweep config moment trail at).facts) moment ≡ true
-    → may_expire (of_room room trail.facts) moment ≡ true
-due_before config moment trail at room rests due =
-    by_room (is_same_room at room) refl (may_expire (of_room at trail.facts) moment) refl
+other_kept config moment trail at room idle within other =
+    (turns_keep config actor.Clock (OnlyTells room known) (turn_tells config room known)
+    MOST_TURNS_BEHIND (after_step config trail (step.Expire at moment)) (rw (swept config trail at moment) (record {
+      kept = room_stays room trail.facts effect.facts
+          ((action_there config trail.facts _ _ _ (sweep_action config trail.facts at moment)).elsewhere
+          room other);
+      tells = subst AreTellings (sym (own_pending actor.Clock trail effect within
+          ∙ ap (λ (l : List Duty). l ++ effect.duties) idle))
+          (sweep_tells config trail.facts at moment);
+    }))).kept
   where
-    by_room : (b : Bool) → is_same_room at room ≡ b → (c : Bool)
-        → may_expire (of_room at trail.facts) moment ≡ c
-        → may_expire (of_room room trail.facts) moment ≡ true
-    by_room true same true was =
-        subst (λ (r : RoomRef). may_expire (of_room r trail.facts) moment ≡ true)
-        (same_room at room same) was
-    by_room true same false none =
-        subst (λ (t : AuditTrail). may_expire (of_room room t.facts) moment ≡ true)
-        (sweep_idle config moment trail at rests.idle none) due
-    by_room false other c was =
-        ap (λ (l : List RoomFact). may_expire l moment)
-        (sym (other_kept config moment trail at room rests other))
-        ∙ due
+    known : List RoomFact
+    known = of_room room trail.facts
+
+    effect : Effect
+    effect = sweep_effect config trail.facts at moment

@@ -1,6 +1,6 @@
 -- What an action adds and leaves, by what it brings to which place: a line of the market's table and
 -- then a line of its place say what a duty does.
-use Rattle.std.specs.Prelude.{ℕ, true, List, [], Option, Some, None, if◌then◌else◌}
+use Rattle.std.specs.Prelude.{true, List, [], Option, Some, None, if◌then◌else◌}
 use Rattle.market_terms.specs.declared.rooms.RoomRef.{RoomRef}
 use Rattle.venue_rows.specs.Rows.{Configuration}
 use Rattle.investor_desk.specs.InvestorDesk.{market_for}

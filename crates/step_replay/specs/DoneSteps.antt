@@ -1,5 +1,5 @@
 -- A day that is done a part at a time: names for private functions alone.
-use Rattle.std.specs.Prelude.{◌≡◌, ◌++◌, List, None, fold, All}
+use Rattle.std.specs.Prelude.{◌≡◌, List, None, fold, All}
 use Rattle.venue_rows.specs.Rows.{Configuration}
 use Rattle.step_replay.specs.AuditTrail.{AuditTrail, after_step, audit_trail}
 use Rattle.step_replay.specs.Following.{ReplayStands}
@@ -15,9 +15,9 @@ AreKnown steps config = All (λ step. fault_of config 0 step ≡ None) steps
 abbrev pub after_steps : List Step → Configuration → AuditTrail → AuditTrail
 after_steps steps config trail = fold (after_step config) trail steps
 
--- a replay stands where a front of a day ends, and these steps of it are left
+-- a replay stands where a day has come of which these steps are left
 pub record IsLeft (config : Configuration) (day left : List Step) (replay : Replay) : Type 0 where
-  pub done : List Step
-  pub is : day ≡ done ++ left
+  pub trail : AuditTrail
+  pub whole : after_steps left config trail ≡ audit_trail config day
   pub known : AreKnown left config
-  pub stands : ReplayStands config (audit_trail config done) replay
+  pub stands : ReplayStands config trail replay

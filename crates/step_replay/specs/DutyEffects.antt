@@ -10,7 +10,6 @@ use Rattle.request_room.specs.declared.events.RoomEvent.TheVariants as at_room
 use Rattle.venue_steps.specs.RoomSteps.{duties_of_pass, duties_of_expire}
 use Rattle.venue_places.specs.Dealers.{dealer_at, acting_dealer}
 use Rattle.venue_places.specs.declared.actors.Actor.{Actor}
-use Rattle.venue_places.specs.declared.actors.Actor.TheVariants as actor
 use Rattle.step_replay.specs.VenueFacts.{Fact, of_room}
 use Rattle.step_replay.specs.Actions.{Effect, done_by, received_by_dealer, dropped_by, shown_to}
 use Rattle.step_replay.specs.Actions.{told_to, in_room, opened, posted_by, unposted_by, declined_by}

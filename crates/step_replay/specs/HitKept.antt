@@ -23,7 +23,8 @@ use Rattle.step_replay.specs.OwnerLemmas.{quote_of_day}
 use Rattle.step_replay.specs.VenueFacts.{Fact, InRoom, of_dealer, of_room, entry_at_dealer}
 use Rattle.step_replay.specs.Actions.{Effect, QuoteRef, quote_with_word, quote_asked, answer_to_hit}
 use Rattle.step_replay.specs.Actions.{lifting, hit_with}
-use Rattle.step_replay.specs.TrailKept.{IsKept, keeps_by, room_none}
+use Rattle.step_replay.specs.PlaceLemmas.{trail_in_room}
+use Rattle.step_replay.specs.TrailKept.{IsKept, keeps_by}
 
 module _ (config : Configuration) (own : ℕ) (row : DealerRow)
     (is_dealer : dealer_numbered config own ≡ Some row) (P : List DealerEntry → Type 0)
@@ -119,8 +120,7 @@ module _ (config : Configuration) (own : ℕ) (row : DealerRow)
       (trail (lifts (quote_asked config asked)))
       (filter_map-append (entry_at_dealer own) (lifts (quote_asked config asked))
       (map (InRoom room) happened)
-      ∙ ap (λ l. trail (lifts (quote_asked config asked)) ++ l) (room_none config own row is_dealer
-      P kept room happened)
+      ∙ ap (λ l. trail (lifts (quote_asked config asked)) ++ l) (trail_in_room own room happened)
       ∙ append-nil (trail (lifts (quote_asked config asked))))
       (λ before. subst
       (λ (q : Option QuoteRef). P (trail facts ++ trail (lifts q)))

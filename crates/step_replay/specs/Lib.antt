@@ -21,6 +21,7 @@ pub mod IsolationLemmas
 pub mod Liftings
 pub mod LiveDays
 pub mod LiveStanding
+pub mod Matching
 pub mod OpenRooms
 pub mod Openings
 pub mod OwnerLemmas

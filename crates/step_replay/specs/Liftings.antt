@@ -1,9 +1,8 @@
 -- How the code keeps the liftings of a dealer's quotes, beside the events that came to its desk:
 -- names for private functions alone.
-use Rattle.std.specs.Prelude.{◌≡◌, ◌<◌, ℕ, ◌+◌, ◌-◌, nat_lt, Bool, true, false, List, [], ◌∷◌, ◌++◌}
+use Rattle.std.specs.Prelude.{◌≡◌, ◌<◌, ◌≤◌, ℕ, ◌+◌, ◌-◌, Bool, true, false, List, [], ◌∷◌, ◌++◌}
 use Rattle.std.specs.Prelude.{map, take, drop, length, slice_get, Option, Some}
 use Rattle.std.specs.Option.{option_map}
-use Rattle.std.specs.List.{list_any}
 use Rattle.std.specs.Vec.{with_item}
 use Rattle.market_terms.specs.declared.duties.Duty.{Duty}
 use Rattle.market_terms.specs.declared.duties.Duty.TheVariants as duty
@@ -12,6 +11,7 @@ use Rattle.dealer_desk.specs.declared.events.DealerEvent.{DealerEvent}
 use Rattle.dealer_desk.specs.declared.events.DealerEvent.TheVariants as at_desk
 use Rattle.venue_steps.specs.RoomSteps.{is_award}
 use Rattle.step_replay.specs.Actions.{QuoteRef, quote_with_word}
+use Rattle.step_replay.specs.EachLemmas.{Every}
 use Rattle.step_replay.specs.declared.dues.Due.{Due}
 use Rattle.step_replay.specs.declared.dues.Due.TheVariants as due
 use Rattle.step_replay.specs.declared.floor.DealerPlace.{DealerPlace}
@@ -34,8 +34,7 @@ dues_behind count events (lifting ∷ later) =
 
 -- no lifting stands behind more events than came
 abbrev pub AreWithin : ℕ → List Lifting → Type 0
-AreWithin count liftings =
-    list_any (λ (lifting : Lifting). nat_lt count lifting.after) liftings ≡ false
+AreWithin count liftings = Every (λ (lifting : Lifting). lifting.after ≤ count) liftings
 
 -- the number of the dealer whose quote has a word
 abbrev pub owner_of : Configuration → ℕ → Option ℕ

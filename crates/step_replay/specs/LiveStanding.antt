@@ -145,19 +145,6 @@ count_at floor None = 0
 count_at floor (Some firm) = length (sent_on_floor floor firm)
 
 -- A step is done and what it sent is told, wherever the day stood and whatever was told before.
-pub record SendsOf (config : Configuration) (trail : AuditTrail) (after : Replay)
-    (told : List Sent) : Type 0 where
-  pub stands : ReplayStands config trail after
-  pub told_is : messages_in config trail.facts ≡ told
-
-abbrev pub Sends : (Configuration → Type 0) → (Configuration → AuditTrail → AuditTrail) → Replay
-    → Replay → List Sent → List Sent → Type 0
-Sends may next before after old new = (config : Configuration) (trail : AuditTrail)
-    (start : List Sent) → may config → ReplayStands config trail before
-    → messages_in config trail.facts ≡ start ++ old
-    → SendsOf config (next config trail) after (start ++ new)
-
--- the same, and the venue stands with the rooms that are opening or open
 pub record VenueSends (config : Configuration) (trail : AuditTrail) (after : LiveVenue)
     (told : List Sent) : Type 0 where
   pub stands : VenueStands config trail after

@@ -2,7 +2,7 @@
 use Rattle.std.specs.Prelude.{◌≡◌, ◌≤◌, ℕ, ◌==◌, Bool, true, false, ◌&&◌, ◌||◌, not, nat_le, List}
 use Rattle.std.specs.Prelude.{Option, Some, None, if◌then◌else◌}
 use Rattle.std.specs.List.{list_any}
-use Rattle.std.specs.Ordering.{nat_cmp, ordering_then}
+use Rattle.std.specs.Ordering.{is_eq, nat_cmp, ordering_then}
 use Rattle.std.specs.declared.cmp.Ordering.{Ordering}
 use Rattle.std.specs.BTreeSet.{BTreeSet, IsOrdered, contains}
 pub use Rattle.market_terms.specs.Rooms.{room_cmp}
@@ -50,7 +50,7 @@ IsEarliest rooms (Some deadline) = IsFirst rooms deadline
 
 -- whether an entry is that of this room, with a deadline that has come
 abbrev pub is_due_in : ℕ → RoomRef → Entry → Bool
-is_due_in moment room entry = nat_le entry.0 moment && is_same_room entry.1 room
+is_due_in moment room entry = nat_le entry.0 moment && is_eq (room_cmp entry.1 room)
 
 abbrev pub any_due : ℕ → RoomRef → List Entry → Bool
 any_due moment room entries = list_any (is_due_in moment room) entries
@@ -70,9 +70,10 @@ abbrev pub Puts : RoomRef → Option ℕ → OpenRooms → OpenRooms → Type 0
 Puts room deadline before after = (entry : Entry)
     → holds after entry ≡ (is_entry room deadline entry || holds before entry)
 
--- the deadline of a room is noted, where that which it had stood there
-abbrev pub Notes : RoomRef → Option ℕ → Option ℕ → OpenRooms → OpenRooms → Type 0
-Notes room had now before after =
+-- the deadline of a room, where there is one, is noted, where that which it had stood there
+abbrev pub Notes : Option RoomRef → Option ℕ → Option ℕ → OpenRooms → OpenRooms → Type 0
+Notes None had now before after = after ≡ before
+Notes (Some room) had now before after =
     ((entry : Entry) → is_same_room room entry.1 ≡ true
     → holds before entry ≡ is_deadline had entry.0)
     → (entry : Entry) → holds after entry
@@ -82,6 +83,20 @@ Notes room had now before after =
 abbrev pub deadline_by : Configuration → List Fact → RoomRef → Option ℕ
 deadline_by config facts room =
     if has_room config room.investor room.n then deadline_of (of_room room facts) else None
+
+-- the same of the room in which something takes place, if it does in one
+abbrev pub deadline_in : Configuration → List Fact → Option RoomRef → Option ℕ
+deadline_in config facts None = None
+deadline_in config facts (Some room) = deadline_by config facts room
+
+-- whether a deadline, where there is one, has come
+abbrev pub has_come : ℕ → Option ℕ → Bool
+has_come moment None = false
+has_come moment (Some deadline) = nat_le deadline moment
+
+-- whether a room of the venue that is opening or open is past its deadline
+abbrev pub is_due : Configuration → ℕ → List Fact → RoomRef → Bool
+is_due config moment facts room = has_come moment (deadline_by config facts room)
 
 -- the rooms that are opening or open are kept, each with its deadline
 abbrev pub RoomsStand : Configuration → List Fact → OpenRooms → Type 0

@@ -1,11 +1,11 @@
 -- The places of a venue at the start of a day: names for private functions alone.
-use Rattle.std.specs.Prelude.{◌≡◌, ◌<◌, ℕ, ◌+◌, List, [], ◌∷◌, ◌++◌, length, replicate, slice_get}
-use Rattle.std.specs.Prelude.{Option, Some, None}
-use Rattle.venue_rows.specs.Rows.{Configuration, dealer_numbered}
+use Rattle.std.specs.Prelude.{◌≡◌, ℕ, ◌+◌, List, [], ◌∷◌, ◌++◌, length, take, replicate, None}
+use Rattle.venue_rows.specs.Rows.{Configuration}
 use Rattle.venue_rows.specs.declared.dealer_rows.DealerRow.{DealerRow}
 use Rattle.venue_rows.specs.declared.investor_rows.InvestorRow.{InvestorRow}
 use Rattle.investor_desk.specs.InvestorDesk.{market_of, no_events}
 use Rattle.step_replay.specs.Actions.{dealer_of, first_word}
+use Rattle.step_replay.specs.Matching.{Match}
 use Rattle.step_replay.specs.declared.floor.DealerPlace.{DealerPlace}
 use Rattle.step_replay.specs.declared.floor.InvestorPlace.{InvestorPlace}
 use Rattle.step_replay.specs.declared.floor.Floor.{Floor}
@@ -17,17 +17,9 @@ pub record DealerOpens (config : Configuration) (number : ℕ) (row : DealerRow)
   pub first_is : place.first_word ≡ first_word config (dealer_of number row)
   pub liftings_are : place.liftings.items ≡ []
 
--- a place, where there is one
-abbrev pub DealerOpensIn : Configuration → ℕ → DealerRow → Option DealerPlace → Type 0
-DealerOpensIn config number row None = ⊥
-DealerOpensIn config number row (Some place) = DealerOpens config number row place
-
 -- the places of the first so many dealers
 pub record DealersOpen (config : Configuration) (many : ℕ) (places : List DealerPlace) : Type 0 where
-  pub count : length places ≡ many
-  pub each : (number : ℕ) (row : DealerRow) → number < many
-      → dealer_numbered config number ≡ Some row
-      → DealerOpensIn config number row (slice_get places number)
+  pub opened : Match (DealerOpens config) 0 (take many config.dealers) places
 
 -- an investor's place at the start: no event came to its desk, and its rooms are vacant
 pub record InvestorOpens (config : Configuration) (firm : ℕ) (row : InvestorRow)
@@ -35,17 +27,10 @@ pub record InvestorOpens (config : Configuration) (firm : ℕ) (row : InvestorRo
   pub desk_is : place.desk ≡ no_events (market_of config firm row)
   pub rooms_are : place.rooms.items ≡ replicate row.requests []
 
--- a place, where there is one
-abbrev pub InvestorOpensIn : Configuration → ℕ → InvestorRow → Option InvestorPlace → Type 0
-InvestorOpensIn config firm row None = ⊥
-InvestorOpensIn config firm row (Some place) = InvestorOpens config firm row place
-
 -- the places of the first so many investors
 pub record InvestorsOpen (config : Configuration) (many : ℕ) (places : List InvestorPlace) : Type 0 where
-  pub count : length places ≡ many
-  pub each : (index : ℕ) (row : InvestorRow) → index < many
-      → slice_get config.investors index ≡ Some row
-      → InvestorOpensIn config (length config.dealers + index) row (slice_get places index)
+  pub opened : Match (InvestorOpens config) (length config.dealers) (take many config.investors)
+      places
 
 -- the owner of each word of these dealers' quotes, of which the first has this number
 abbrev pub owners_from : ℕ → List DealerRow → List ℕ

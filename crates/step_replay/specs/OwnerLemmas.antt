@@ -1,7 +1,7 @@
 -- The quote that has a word is one of its dealer's day.
 use Rattle.std.proofs.Common.{◌≡◌, ◌≤◌, ℕ, zero, suc, ◌+◌, ◌-◌, Bool, true, false, ◌&&◌, nat_le}
 use Rattle.std.proofs.Common.{nat_lt, List, [], ◌∷◌, Some, if◌then◌else◌, refl, ap, arith, sym, ◌∙◌}
-use Rattle.std.proofs.Common.{take}
+use Rattle.std.proofs.Common.{subst, take}
 use Rattle.std.specs.Prelude.{slice_get}
 use Rattle.std.proofs.lemmas.Bool.Decides.{nat_tests}
 use Rattle.venue_rows.specs.declared.dealer_rows.DealerRow.{DealerRow}
@@ -14,58 +14,6 @@ use Rattle.std.proofs.lemmas.Option.{same_Some}
 -- a quote of the first of some dealers
 abbrev first_quote : ℕ → ℕ → QuoteRef
 first_quote number word = record { dealer = number; quote = word + 1 }
-
-least_dealer : (number : ℕ) (rows : List DealerRow) (word : ℕ) (hit : QuoteRef)
-    → quote_among number rows word ≡ Some hit → number ≤ hit.dealer
-least_dealer number [] word hit is = cc
-least_dealer number (row ∷ rows) word hit is =
-    by_test (nat_lt word row.quotes) (least_dealer (number + 1) rows (word - row.quotes) hit) is
-  where
-    by_test : (b : Bool)
-        → (quote_among (number + 1) rows (word - row.quotes) ≡ Some hit → number + 1 ≤ hit.dealer)
-        → (if b then Some (first_quote number word)
-        else quote_among (number + 1) rows (word - row.quotes)) ≡ Some hit
-        → number ≤ hit.dealer
-    by_test true later found =
-        let same : number ≡ hit.dealer =
-        ap (λ (h : QuoteRef). h.dealer) (same_Some (first_quote number word) hit found) in
-        omega arith
-    by_test false later found =
-        let least : number + 1 ≤ hit.dealer = later found in
-        omega arith
-
-pub quote_of_day : (number : ℕ) (rows : List DealerRow) (word : ℕ) (hit : QuoteRef) (place : ℕ)
-    (row : DealerRow) → quote_among number rows word ≡ Some hit → slice_get rows place ≡ Some row
-    → hit.dealer ≡ number + place → (nat_le 1 hit.quote && nat_le hit.quote row.quotes) ≡ true
-quote_of_day number [] word hit place row is at dealer = cc
-quote_of_day number (first ∷ rows) word hit place row is at dealer =
-    by_test (nat_lt word first.quotes) refl
-    (λ place. quote_of_day (number + 1) rows (word - first.quotes) hit place row) is place at dealer
-  where
-    by_test : (b : Bool) → nat_lt word first.quotes ≡ b
-        → ((place : ℕ) → quote_among (number + 1) rows (word - first.quotes) ≡ Some hit
-        → slice_get rows place ≡ Some row → hit.dealer ≡ number + 1 + place
-        → (nat_le 1 hit.quote && nat_le hit.quote row.quotes) ≡ true)
-        → (if b then Some (first_quote number word)
-        else quote_among (number + 1) rows (word - first.quotes)) ≡ Some hit
-        → (place : ℕ) → slice_get (first ∷ rows) place ≡ Some row → hit.dealer ≡ number + place
-        → (nat_le 1 hit.quote && nat_le hit.quote row.quotes) ≡ true
-    by_test true test later found zero at dealer =
-        let same = ap (λ (r : DealerRow). r.quotes) (same_Some first row at) in
-        let quote : word + 1 ≡ hit.quote =
-        ap (λ (h : QuoteRef). h.quote) (same_Some (first_quote number word) hit found) in
-        grind (arith, nat_tests)
-    by_test true test later found (suc place) at dealer =
-        let same : number ≡ hit.dealer =
-        ap (λ (h : QuoteRef). h.dealer) (same_Some (first_quote number word) hit found) in
-        absurd (omega arith)
-    by_test false test later found zero at dealer =
-        let least : number + 1 ≤ hit.dealer =
-        least_dealer (number + 1) rows (word - first.quotes) hit found in
-        absurd (omega arith)
-    by_test false test later found (suc place) at dealer =
-        let further : hit.dealer ≡ number + 1 + place = omega arith in
-        later place found at further
 
 -- the first quotes of a list of dealers are those of its first
 quotes_first : (first : DealerRow) (rows : List DealerRow)
@@ -167,6 +115,16 @@ owned_by number (first ∷ rows) word hit is =
         }
     by_test false test later found =
         later_owned number first rows word hit test (later found)
+
+pub quote_of_day : (number : ℕ) (rows : List DealerRow) (word : ℕ) (hit : QuoteRef) (place : ℕ)
+    (row : DealerRow) → quote_among number rows word ≡ Some hit → slice_get rows place ≡ Some row
+    → hit.dealer ≡ number + place → (nat_le 1 hit.quote && nat_le hit.quote row.quotes) ≡ true
+quote_of_day number rows word hit place row is at dealer =
+    let owned = owned_by number rows word hit is in
+    let same : owned.place ≡ place = omega (arith, owned.dealer_is) in
+    let row_is = same_Some owned.row row (sym owned.row_is ∙ ap (slice_get rows) same ∙ at) in
+    subst (λ (r : DealerRow). (nat_le 1 hit.quote && nat_le hit.quote r.quotes) ≡ true) row_is
+    owned.within
 
 -- a word of the row is of a quote
 pub has_owner : (number : ℕ) (rows : List DealerRow) (word : ℕ)

@@ -1,22 +1,22 @@
 -- How the code keeps the places of a venue: names for private functions alone.
-use Rattle.std.specs.Prelude.{◌≡◌, ℕ, ◌-◌, List, ◌++◌, length, slice_get}
-use Rattle.std.specs.Prelude.{Option, Some, None, true, false, ◌&&◌, nat_le}
+use Rattle.std.specs.Prelude.{◌≡◌, ℕ, List, ◌++◌, length, replicate}
+use Rattle.std.specs.Prelude.{Option, Some, true, false, ◌&&◌, nat_le}
 use Rattle.market_terms.specs.declared.duties.Duty.{Duty}
 use Rattle.quote_word.specs.PlainWords.{entry_in}
 use Rattle.quote_word.specs.declared.settled.Settled.{Settled}
-use Rattle.venue_rows.specs.Rows.{Configuration, dealer_numbered, investor_numbered}
+use Rattle.venue_rows.specs.Rows.{Configuration, dealer_numbered}
 use Rattle.venue_rows.specs.declared.dealer_rows.DealerRow.{DealerRow}
 use Rattle.dealer_desk.specs.DealerOutput.{desk_after, rooms_of}
 use Rattle.investor_desk.specs.InvestorOutput as investor_output
 use Rattle.investor_desk.specs.InvestorDesk.{market_of}
 use Rattle.venue_rows.specs.declared.investor_rows.InvestorRow.{InvestorRow}
-use Rattle.request_room.specs.RoomFacts.{RoomFact}
 use Rattle.request_room.specs.declared.events.RoomEvent.{RoomEvent}
 use Rattle.step_replay.specs.RowOfWords.{word_if}
 use Rattle.request_room.specs.Book.{room_after}
 use Rattle.step_replay.specs.DealerTrail.{DealerEntry, facts_of, rooms_by, sent_by}
 use Rattle.step_replay.specs.DealerTrail.{was_lifted, was_withdrawn}
 use Rattle.step_replay.specs.InvestorTrail as investor_trail
+use Rattle.step_replay.specs.Matching.{Match}
 use Rattle.step_replay.specs.VenueFacts.{Fact, of_dealer, of_room, of_investor}
 use Rattle.step_replay.specs.Actions.{Effect, dealer_of, first_word, word_for, words_of}
 use Rattle.step_replay.specs.DueList.{due_list}
@@ -37,36 +37,30 @@ pub record DealerStands (config : Configuration) (number : ℕ) (row : DealerRow
   pub dues_are : dues_behind 0 place.desk.events place.liftings.items ≡ due_list trail
   pub are_within : AreWithin (length place.desk.events) place.liftings.items
 
--- a place, where there is one
-abbrev pub DealerStandsIn : Configuration → ℕ → DealerRow → List DealerEntry → Option DealerPlace
-    → Type 0
-DealerStandsIn config number row trail None = ⊥
-DealerStandsIn config number row trail (Some place) = DealerStands config number row trail place
+-- the same of the dealer with this number, by the facts of all places
+abbrev pub DealerIs : Configuration → List Fact → ℕ → DealerRow → DealerPlace → Type 0
+DealerIs config facts number row place =
+    DealerStands config number row (of_dealer number facts) place
 
--- a room stands where its facts have come
-abbrev pub RoomStandsIn : List RoomFact → Option (List RoomEvent) → Type 0
-RoomStandsIn facts None = ⊥
-RoomStandsIn facts (Some events) = room_after events ≡ facts
+-- a room of an investor stands where its facts have come
+abbrev pub RoomIs : List Fact → ℕ → ℕ → Unit {0} → List RoomEvent → Type 0
+RoomIs facts investor n slot events =
+    room_after events ≡ of_room (record { investor = investor; n = n }) facts
+
+-- a slot for each room of an investor with this row
+abbrev pub slots : InvestorRow → List (Unit {0})
+slots row = replicate row.requests tt
 
 -- an investor's place stands where its trail and the facts of its rooms have come
-pub record InvestorStands (config : Configuration) (number : ℕ) (row : InvestorRow)
-    (facts : List Fact) (place : InvestorPlace) : Type 0 where
+pub record InvestorStands (config : Configuration) (facts : List Fact) (number : ℕ)
+    (row : InvestorRow) (place : InvestorPlace) : Type 0 where
   pub market_is : place.desk.market ≡ market_of config number row
   pub state_is : investor_output.desk_after (market_of config number row) place.desk.events
       ≡ record {
         facts = investor_trail.facts_of (of_investor number facts);
         sent = investor_trail.sent_by (of_investor number facts);
       }
-  pub room_count : length place.rooms.items ≡ row.requests
-  pub rooms_are : (n : ℕ) → (nat_le 1 n && nat_le n row.requests) ≡ true
-      → RoomStandsIn (of_room (record { investor = number; n = n }) facts)
-      (slice_get place.rooms.items (n - 1))
-
--- a place, where there is one
-abbrev pub InvestorStandsIn : Configuration → ℕ → InvestorRow → List Fact → Option InvestorPlace
-    → Type 0
-InvestorStandsIn config number row facts None = ⊥
-InvestorStandsIn config number row facts (Some place) = InvestorStands config number row facts place
+  pub rooms_are : Match (RoomIs facts number) 1 (slots row) place.rooms.items
 
 -- what the word of a quote is: lifted, withdrawn, or open yet
 abbrev pub word_is : List DealerEntry → ℕ → Option Settled
@@ -83,15 +77,9 @@ WordsStand config facts words = (number : ℕ) (row : DealerRow) (quote : ℕ)
 -- the places stand where the facts have come
 pub record Stands (config : Configuration) (facts : List Fact) (floor : Floor) : Type 0 where
   pub config_is : floor.config ≡ config
-  pub dealer_count : length floor.dealers.items ≡ length config.dealers
-  pub dealers_are : (number : ℕ) (row : DealerRow) → dealer_numbered config number ≡ Some row
-      → DealerStandsIn config number row (of_dealer number facts)
-      (slice_get floor.dealers.items number)
-  pub investor_count : length floor.investors.items ≡ length config.investors
-  pub investors_are : (number : ℕ) (row : InvestorRow)
-      → investor_numbered config number ≡ Some row
-      → InvestorStandsIn config number row facts
-      (slice_get floor.investors.items (number - length config.dealers))
+  pub dealers_are : Match (DealerIs config facts) 0 config.dealers floor.dealers.items
+  pub investors_are : Match (InvestorStands config facts) (length config.dealers) config.investors
+      floor.investors.items
   pub word_count : length floor.words ≡ words_of config
   pub words_are : WordsStand config facts floor.words
   pub owners_are : OwnersStand config floor.owners.items

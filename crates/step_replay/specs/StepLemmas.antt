@@ -35,7 +35,7 @@ module _ (config : Configuration) (own : ℕ) (row : DealerRow)
 
   -- All actions, by their kinds.
 
-  action_keeps : (facts : List Fact) (desk : Option ℕ) (room : Option RoomRef) (effect : Effect)
+  pub action_keeps : (facts : List Fact) (desk : Option ℕ) (room : Option RoomRef) (effect : Effect)
       → IsAction config facts desk room effect → Keeps facts effect
   action_keeps facts desk room effect (idle is) =
       subst (Keeps facts) (sym is) (nothing_keeps config own row is_dealer P kept facts)

@@ -1,7 +1,7 @@
 -- What is kept of a dealer's trail by each of the five kinds of what can happen there is kept by an
 -- event at any desk and in any room.
 use Rattle.std.proofs.Common.{◌≡◌, ℕ, ◌==◌, Bool, true, false, ◌&&◌, nat_le, List, [], ◌∷◌, ◌++◌}
-use Rattle.std.proofs.Common.{map, Some, is_some, refl, sym, ap, ◌∙◌, subst, arith, eq-eqb}
+use Rattle.std.proofs.Common.{map, Some, is_some, refl, sym, ap, ◌∙◌, subst, arith}
 use Rattle.std.proofs.lemmas.Bool.Decides.{nat_tests}
 use Rattle.std.proofs.lemmas.List.{append-nil}
 use Rattle.std.proofs.lemmas.List.Elements.{filter_map-append}
@@ -19,9 +19,10 @@ use Rattle.investor_desk.specs.InvestorRules.{InvestorMarket}
 use Rattle.investor_desk.specs.declared.events.InvestorEvent.{InvestorEvent}
 use Rattle.request_room.specs.RoomFacts.{RoomFact}
 use Rattle.step_replay.specs.DealerTrail.{DealerEntry, Lifted, entries_of, was_withdrawn, book_by}
-use Rattle.step_replay.specs.InvestorTrail.{InvestorEntry}
-use Rattle.step_replay.specs.VenueFacts.{Fact, AtDealer, InRoom, AtInvestor, of_dealer}
+use Rattle.step_replay.specs.VenueFacts.{Fact, InRoom, of_dealer}
 use Rattle.step_replay.specs.VenueFacts.{entry_at_dealer}
+use Rattle.step_replay.specs.PlaceLemmas.{own_trail, other_trail, trail_in_room}
+use Rattle.step_replay.specs.PlaceLemmas.{trail_at_investor}
 use Rattle.step_replay.specs.ActionKinds.{Comes, dropped, said, shown, told}
 use Rattle.step_replay.specs.Actions.{Effect, Dealer, dealer_of, at_dealer, at_market, nothing}
 use Rattle.step_replay.specs.Actions.{settlement_of, drop_at}
@@ -80,40 +81,17 @@ module _ (config : Configuration) (own : ℕ) (row : DealerRow)
   unfolding of_dealer
   nothing_keeps facts = elsewhere facts nothing refl
 
-  pub room_none : (room : RoomRef) (xs : List RoomFact) → trail (map (InRoom room) xs) ≡ []
-  unfolding of_dealer
-  room_none room [] = refl
-  room_none room (x ∷ xs) = room_none room xs
-
-  investor_none : (number : ℕ) (xs : List InvestorEntry) → trail (map (AtInvestor number) xs) ≡ []
-  unfolding of_dealer
-  investor_none number [] = refl
-  investor_none number (x ∷ xs) = investor_none number xs
-
-  other_none : (number : ℕ) → (number == own) ≡ false → (xs : List DealerEntry)
-      → trail (map (AtDealer number) xs) ≡ []
-  unfolding of_dealer
-  other_none number other [] = refl
-  other_none number other (x ∷ xs) = rw other (other_none number other xs)
-
-  own_all : (xs : List DealerEntry) → trail (map (AtDealer own) xs) ≡ xs
-  unfolding of_dealer
-  own_all [] = refl
-  own_all (x ∷ xs) =
-      let same : (own == own) ≡ true = eq-eqb own own refl in
-      rw same (ap (λ (l : List DealerEntry). x ∷ l) (own_all xs))
-
   pub happened_keeps : (facts : List Fact) (room : RoomRef) (happened : List RoomFact)
       (duties : List Duty)
       → Keeps facts (record { facts = map (InRoom room) happened; duties = duties })
   happened_keeps facts room happened duties =
       elsewhere facts (record { facts = map (InRoom room) happened; duties = duties })
-      (room_none room happened)
+      (trail_in_room own room happened)
 
   pub market_keeps : (facts : List Fact) (market : InvestorMarket) (event : InvestorEvent)
       (duties : List Duty) → Keeps facts (at_market facts market event duties)
   market_keeps facts market event duties =
-      elsewhere facts (at_market facts market event duties) (investor_none market.firm _)
+      elsewhere facts (at_market facts market event duties) (trail_at_investor own market.firm _)
 
   -- At a dealer's desk.
 
@@ -124,28 +102,22 @@ module _ (config : Configuration) (own : ℕ) (row : DealerRow)
   own_keeps facts event duties seen =
       keeps_by facts (at_dealer config facts (dealer_of own row) event duties)
       (entries_of config.date row (trail facts) event)
-      (own_all (entries_of config.date row (trail facts) event)) seen
+      (own_trail own (entries_of config.date row (trail facts) event)) seen
 
   other_keeps : (facts : List Fact) (dealer : Dealer) (event : DealerEvent) (duties : List Duty)
       → (dealer.number == own) ≡ false → Keeps facts (at_dealer config facts dealer event duties)
   other_keeps facts dealer event duties other =
-      elsewhere facts (at_dealer config facts dealer event duties) (other_none dealer.number other _)
+      elsewhere facts (at_dealer config facts dealer event duties) (other_trail own dealer.number other _)
 
   -- an event that comes to the desk keeps what is kept
   comes_keeps : (now : List DealerEntry) (event : DealerEvent) → Comes config.date row now event
       → P now → P (now ++ entries_of config.date row now event)
-  comes_keeps now event (said moment bytes is) before =
-      subst (λ (e : DealerEvent). P (now ++ entries_of config.date row now e)) (sym is)
-      (kept.own now moment bytes before)
-  comes_keeps now event (dropped last moment is) before =
-      subst (λ (e : DealerEvent). P (now ++ entries_of config.date row now e)) (sym is)
-      (kept.drop now last moment before)
+  comes_keeps now event (said moment bytes is) before = rw is (kept.own now moment bytes before)
+  comes_keeps now event (dropped last moment is) before = rw is (kept.drop now last moment before)
   comes_keeps now event (shown room ask moment is) before =
-      subst (λ (e : DealerEvent). P (now ++ entries_of config.date row now e)) (sym is)
-      (kept.shown now room ask moment before)
+      rw is (kept.shown now room ask moment before)
   comes_keeps now event (told request close moment may is) before =
-      subst (λ (e : DealerEvent). P (now ++ entries_of config.date row now e)) (sym is)
-      (kept.told now request close moment may before)
+      rw is (kept.told now request close moment may before)
 
   pub desk_keeps : (facts : List Fact) (number : ℕ) (other : DealerRow) (event : DealerEvent)
       (duties : List Duty) → dealer_numbered config number ≡ Some other

@@ -1,6 +1,6 @@
 //! What happens at the dealers' desks of a replay.
 ghost use Rattle.std.specs.Prelude.{IfOk};
-ghost use Rattle.step_replay.specs.Standing.{Acts};
+ghost use Rattle.step_replay.specs.Standing.{Acts, ActsOnce};
 ghost use Rattle.step_replay.specs.Actions as action;
 ghost use Rattle.step_replay.specs.Coming as coming;
 
@@ -13,7 +13,7 @@ use venue_steps::{Duties, do_drop, own_dealer};
 impl Floor {
     /// What comes to a dealer's desk is brought to it.
     pub(crate) fn to_dealer(&mut self, dealer: u16, what: ForDealer) -> Result<Duties, Memory>
-        ensures { IfOk result (λ duties. Acts (λ config facts.
+        ensures { IfOk result (λ duties. ActsOnce (λ config facts.
             action.done_by (action.dealer_at config dealer) (coming.dealer_gets config facts what))
             self.old self.new duties.items) }
     {
@@ -52,7 +52,7 @@ impl Floor {
         last: u32,
         moment: Moment,
     ) -> Result<Duties, Memory>
-        ensures { IfOk result (λ duties. Acts (λ config facts.
+        ensures { IfOk result (λ duties. ActsOnce (λ config facts.
             action.done_by (action.dealer_at config dealer)
             (action.dropped_by config facts last moment))
             self.old self.new duties.items) }

@@ -38,6 +38,7 @@ pub(crate) fn sweep(floor: &mut Floor, room: RoomRef, moment: Moment) -> Result<
 
 /// What comes to a place is brought to it.
 // Inlined, so that what comes is not moved once more.
+#[tactic(auto, unfolding(crate::specs::Coming::arrival_effect))]
 #[inline(always)]
 fn bring(floor: &mut Floor, arrival: Placement) -> Result<Duties, Memory>
     ensures { IfOk result (λ duties. ActsOnce

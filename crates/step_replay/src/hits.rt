@@ -13,6 +13,7 @@ use venue_steps::{Duties, do_hit};
 impl Floor {
     /// The investor hits a quote in the room of its request. Where it is awarded, the place of the
     /// quote's dealer notes the lifting.
+    #[tactic(auto, using(crate::proofs::RoomPlaceLemmas::investor_inside, crate::proofs::RoomPlaceLemmas::room_inside))]
     pub(crate) fn hit(
         &mut self,
         room: RoomRef,
@@ -29,11 +30,21 @@ impl Floor {
         };
         let place = &mut self.investors[investor].rooms[index];
         let duties = do_hit(place, &mut self.words, room, response, word, moment)?;
-        if !awards(&duties) {
-            return Ok(duties);
+        self.note_award(&duties, word)?;
+        Ok(duties)
+    }
+
+    /// Notes that the quote with this word was lifted, where the hit of it that left these duties is
+    /// awarded.
+    fn note_award(&mut self, duties: &Duties, word: u32) -> Result<(), Memory>
+        ensures { OnOk result (noted.NotesWhere (noted.awards duties.now.items) word self.old
+            self.new) }
+    {
+        if !awards(duties) {
+            return Ok(());
         }
         self.note_lifting(word)?;
-        Ok(duties)
+        Ok(())
     }
 
     /// Notes at the place of its dealer that the quote with this word was lifted.

@@ -1,7 +1,7 @@
 //! What happens at the investors' desks of a replay.
-ghost use Rattle.std.specs.Prelude.{◌≡◌, ◌-◌, nat_le, Some, None, IfOk, if◌then◌else◌};
+ghost use Rattle.std.specs.Prelude.{◌≡◌, ◌<◌, ◌+◌, None, IfOk, IfSome};
 ghost use Rattle.investor_desk.specs.InvestorDesk as investor_output;
-ghost use Rattle.step_replay.specs.Standing.{Acts};
+ghost use Rattle.step_replay.specs.Standing.{Acts, ActsOnce};
 ghost use Rattle.step_replay.specs.Actions as action;
 ghost use Rattle.step_replay.specs.Coming as coming;
 
@@ -13,7 +13,8 @@ use venue_steps::{Duties, own_investor};
 /// Where the investor with this number among the firms has its place among the investors', which
 /// are numbered behind these dealers: none for a dealer's number.
 fn place_of(firm: u16, dealers: usize) -> Option<usize>
-    ensures { result ≡ (if nat_le dealers firm then Some (firm - dealers) else None) }
+    ensures some { IfSome result (λ at. firm ≡ dealers + at) }
+    ensures none { result ≡ None → firm < dealers }
 {
     let firm = usize::from(firm);
     if firm < dealers {
@@ -47,7 +48,7 @@ impl Floor {
 
     /// What comes to an investor's desk is brought to it.
     pub(crate) fn to_investor(&mut self, firm: u16, what: ForInvestor) -> Result<Duties, Memory>
-        ensures { IfOk result (λ duties. Acts (λ config facts.
+        ensures { IfOk result (λ duties. ActsOnce (λ config facts.
             action.done_for (investor_output.market_for config firm)
             (coming.investor_gets facts what))
             self.old self.new duties.items) }

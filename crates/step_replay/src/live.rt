@@ -8,7 +8,7 @@ ghost use Rattle.step_replay.specs.FirmDays.{FirmDay, firm_days};
 ghost use Rattle.step_replay.specs.FloorDays.{days_of_floor};
 ghost use Rattle.step_replay.specs.LiveDays as live;
 ghost use Rattle.step_replay.specs.LiveStanding as spec;
-ghost use Rattle.step_replay.specs.LiveStanding.{Answers, AnswersSweeps, IsAt, Sends, SendsAll};
+ghost use Rattle.step_replay.specs.LiveStanding.{Answers, AnswersSweeps, IsAt, SendsAll};
 ghost use Rattle.step_replay.specs.LiveStanding.{SendsDuties, SendsStep};
 ghost use Rattle.step_replay.specs.StepFaults as faults;
 ghost use Rattle.step_replay.specs.declared.steps.Step.{Step};
@@ -169,12 +169,12 @@ fn do_step(venue: &mut LiveVenue, step: &Step, told: &mut Vec<SentTo>) -> Result
     ensures { OnOk result
         (SendsStep step.now venue.old venue.new told.old.items told.new.items) }
 {
-    let Some(room) = room_of(&venue.replay, step) else {
-        send_step(&mut venue.replay, step, told)?;
-        return Ok(());
-    };
+    let room = room_of(&venue.replay, step);
     let before = deadline_at(&venue.replay.floor, room);
-    send_step(&mut venue.replay, step, told)?;
+    let desk = desk_of(&venue.replay, step);
+    let count = count_at(&venue.replay.floor, desk);
+    venue.replay.step(step)?;
+    push_behind(told, &venue.replay.floor, desk, count)?;
     let after = deadline_at(&venue.replay.floor, room);
     venue.open_rooms.note(room, before, after)?;
     Ok(())
@@ -216,19 +216,6 @@ fn room_of_duty(duty: &Duty) -> Option<RoomRef>
         Duty::Close { .. } => None,
         Duty::Drop { .. } => None,
     }
-}
-
-/// A step is done, and what is sent with it is put behind `told`.
-fn send_step(replay: &mut Replay, step: &Step, told: &mut Vec<SentTo>) -> Result<(), Memory>
-    ensures { OnOk result (Sends (λ config. faults.fault_of config 0 step.now ≡ None)
-        (λ config trail. venue.after_step config trail step.now)
-        replay.old replay.new told.old.items told.new.items) }
-{
-    let desk = desk_of(replay, step);
-    let count = count_at(&replay.floor, desk);
-    replay.step(step)?;
-    push_behind(told, &replay.floor, desk, count)?;
-    Ok(())
 }
 
 /// The desk at which a step may send messages.

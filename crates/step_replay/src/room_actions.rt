@@ -1,6 +1,6 @@
 //! What happens in the rooms of a replay.
 ghost use Rattle.std.specs.Prelude.{◌≡◌, IfOk};
-ghost use Rattle.step_replay.specs.Standing.{Acts};
+ghost use Rattle.step_replay.specs.Standing.{ActsOnce};
 ghost use Rattle.step_replay.specs.Coming as coming;
 ghost use Rattle.step_replay.specs.RoomPlaces as spec;
 
@@ -25,8 +25,9 @@ impl Floor {
     }
 
     /// What comes to a room is brought to it.
+    #[tactic(auto, using(crate::proofs::RoomPlaceLemmas::investor_inside, crate::proofs::RoomPlaceLemmas::room_inside))]
     pub(crate) fn to_room(&mut self, room: RoomRef, what: ForRoom) -> Result<Duties, Memory>
-        ensures { IfOk result (λ duties. Acts
+        ensures { IfOk result (λ duties. ActsOnce
             (λ config facts. coming.room_gets config facts room what)
             self.old self.new duties.items) }
     {

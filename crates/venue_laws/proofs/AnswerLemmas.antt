@@ -1,174 +1,213 @@
 -- Every word that a dealer asks is answered as the dealer view says.
-use Rattle.std.proofs.Common.{List, None, Some, ℕ, [], ap, is_some, map, option_map, option_to_list}
-use Rattle.std.proofs.Common.{refl, sym, true, ◌++◌, ◌∙◌, ◌∷◌, ◌≡◌}
-use Rattle.std.proofs.lemmas.List.{append-nil}
-use Rattle.market_terms.specs.declared.asks.Ask.{Ask}
-use Rattle.market_terms.specs.declared.closes.Close.{Close}
-use Rattle.market_terms.specs.declared.rooms.RoomRef.{RoomRef}
-use Rattle.quote_word.specs.declared.settled.Settled.{Settled}
-use Rattle.venue_rows.specs.Rows.{Configuration, dealer_numbered}
-use Rattle.venue_rows.specs.declared.dealer_rows.DealerRow.{DealerRow}
-use Rattle.dealer_desk.specs.DealerFacts.{Came, DealerFact, Dropped, Shown, Told, number_to_drop}
-use Rattle.dealer_desk.specs.DealerOutput.{closable, event_facts, settled_facts, uses_number}
-use Rattle.dealer_desk.specs.DealerOutput.{verdict_facts}
-use Rattle.dealer_desk.specs.DealerRules.{dealer_verdict}
+use Rattle.venue_laws.proofs.Common.{List, None, Option, Some, ℕ, [], filter_map, map, option_map}
+use Rattle.venue_laws.proofs.Common.{option_to_list, refl, ◌++◌, ◌∙◌, ◌∷◌, ◌≡◌, append-nil}
+use Rattle.venue_laws.proofs.Common.{filter_map-append, Settled, Configuration, dealer_numbered}
+use Rattle.venue_laws.proofs.Common.{DealerRow, Came, DealerFact, Dropped, Shown, Told, Withdrawn}
+use Rattle.venue_laws.proofs.Common.{number_to_drop, desk_after, event_facts, settled_facts}
+use Rattle.venue_laws.proofs.Common.{shown_room, uses_number, verdict_facts, dealer_verdict}
+use Rattle.venue_laws.proofs.Common.{DealerEvent, answer_to_drop, drop_at, settlement_of}
+use Rattle.venue_laws.proofs.Common.{audit_trail, settled_undue, verdict_undue, AtDesk, DealerEntry}
+use Rattle.venue_laws.proofs.Common.{Sent, ShownIn, answer_to_dealer, book_by, entries_of, facts_of}
+use Rattle.venue_laws.proofs.Common.{message_by, due_by_fact, due_list, Each, Every, Stays}
+use Rattle.venue_laws.proofs.Common.{each_append, every_both, seen_is_kept, Seen, start_seen}
+use Rattle.venue_laws.proofs.Common.{kept_by_all, IsKept, of_dealer, Step}
+use Rattle.std.proofs.lemmas.List.{append_cancel_left}
+use Rattle.std.proofs.lemmas.List.Sums.{fold-append}
+use Rattle.dealer_desk.specs.DealerFacts.{Late, book_of}
+use Rattle.dealer_desk.specs.SettledWords.{asked_by, asked_word, settled_word, settled_words}
 use Rattle.dealer_desk.specs.declared.events.DealerEvent.TheVariants as event
 use Rattle.dealer_desk.specs.declared.standing.Withdrawal.TheVariants as by
-use Rattle.step_replay.specs.Actions.{drop_at, settlement_of}
-use Rattle.step_replay.specs.AuditTrail.{audit_trail}
-use Rattle.step_replay.specs.DealerTrail.{AtDesk, DealerEntry, Lifted, Sent, ShownIn}
-use Rattle.step_replay.specs.DealerTrail.{answer_to_dealer, book_by, entries_of, message_by}
-use Rattle.step_replay.specs.DealerView.{DealerView}
-use Rattle.step_replay.specs.EachLemmas.{Each, Every, Stays, each_append, each_of}
-use Rattle.step_replay.specs.IsolationLemmas.{seen_is_kept}
-use Rattle.step_replay.specs.SeenLemmas.{Seen, start_seen}
-use Rattle.step_replay.specs.StepLemmas.{kept_by_all}
-use Rattle.step_replay.specs.TrailKept.{IsKept}
-use Rattle.step_replay.specs.VenueFacts.{of_dealer}
-use Rattle.step_replay.specs.declared.steps.Step.{Step}
-use Rattle.venue_laws.proofs.ListLemmas.{first_grown}
-use Rattle.venue_laws.proofs.QuietEntries.{IsAnswered, IsQuiet, answer_by, each_quiet, facts_quiet}
-use Rattle.venue_laws.proofs.QuietEntries.{next_settled, next_verdict, settled_quiet, verdict_quiet}
-use Rattle.venue_laws.proofs.QuietEntries.{view_at, view_keeps}
+use Rattle.step_replay.specs.DealerGrowth.{desk_push}
+use Rattle.step_replay.specs.DealerView.{DealerView, after_due, answer_to, view_after}
+use Rattle.step_replay.specs.DueList.{due_by}
+use Rattle.venue_laws.proofs.ListLemmas.{every_map, first_grown}
 use Rattle.venue_laws.specs.Answers.{asked_at, next_settlement, settlement_by_view, settlement_in}
 
+-- what one event more asks at a desk
+abbrev pub WordsAsked : Type 0
+WordsAsked = (date : List ℕ) (row : DealerRow) (events : List DealerEvent) (more : DealerEvent)
+    → settled_words (desk_after date row (events ++ more ∷ [])).facts
+    ≡ settled_words (desk_after date row events).facts
+    ++ asked_by date row (book_of (desk_after date row events).facts) more
+
+-- a word with its answer by a view
+abbrev IsAnswer : DealerView → ℕ × Settled → Type 0
+IsAnswer view word = word.1 ≡ answer_to view word.0
+
+-- an entry of which nothing is due, and that answers a word by this view, if one
+abbrev IsQuiet : DealerView → DealerEntry → Type 0
+IsQuiet view entry =
+    (due_by entry ≡ None) × Every (IsAnswer view) (option_to_list (settlement_in entry))
+
+quiet_facts : (view : DealerView) (facts : List DealerFact) → filter_map due_by_fact facts ≡ []
+    → Every (IsAnswer view) (settled_words facts) → Every (IsQuiet view) (map AtDesk facts)
+quiet_facts view [] undue words = tt
+quiet_facts view (Came moment bytes used ∷ facts) undue words = cc
+quiet_facts view (Shown ask moment ∷ facts) undue words = cc
+quiet_facts view (Told request close moment ∷ facts) undue words = cc
+quiet_facts view (Dropped last moment ∷ facts) undue words = cc
+quiet_facts view (Withdrawn quote how ∷ facts) undue words =
+    ((refl, (words.0, tt)), quiet_facts view facts undue words.1)
+quiet_facts view (Late quote ∷ facts) undue words =
+    ((refl, (words.0, tt)), quiet_facts view facts undue words.1)
+quiet_facts view (fact ∷ facts) undue words = ((refl, tt), quiet_facts view facts undue words)
+
+-- the first word that some facts settle is settled next
+next_stays : (word : ℕ × Settled) (entries more : List DealerEntry)
+    → next_settlement entries ≡ Some word → next_settlement (entries ++ more) ≡ Some word
+next_stays word entries more is =
+    first_grown next_settlement settlement_in (λ entry later. refl) refl word entries more is
+
+next_settled : (facts : List DealerFact) (word : ℕ × Settled) → settled_words facts ≡ word ∷ []
+    → next_settlement (map AtDesk facts) ≡ Some word
+next_settled [] word is = cc
+next_settled (Withdrawn quote how ∷ facts) word is = cc
+next_settled (Late quote ∷ facts) word is = cc
+next_settled (fact ∷ facts) word is = next_settled facts word is
+
 module _ (date : List ℕ) (row : DealerRow) where
-  -- One event more.
+  -- the words that an entry asks are answered behind it as the view says, and so is the word that
+  -- it answers
+  pub record IsAnswered (before : List DealerEntry) (entry : DealerEntry) (after : List DealerEntry)
+      : Type 0 where
+    pub asked : (quote : ℕ) → asked_at date row before entry ≡ Some quote
+        → next_settlement after ≡ Some (quote, settlement_by_view date row before quote)
+    pub answered : (quote : ℕ) (settlement : Settled)
+        → settlement_in entry ≡ Some (quote, settlement)
+        → settlement ≡ settlement_by_view date row before quote
 
-  next_stays : (settlement : ℕ × Settled) (after more : List DealerEntry)
-      → next_settlement after ≡ Some settlement → next_settlement (after ++ more) ≡ Some settlement
-  next_stays settlement after more is =
-      first_grown next_settlement settlement_in (λ entry later. refl) refl settlement after more is
-
-  answered_stays : Stays (IsAnswered date row)
+  answered_stays : Stays IsAnswered
   answered_stays before entry after more holds = record {
-    asked = λ quote asks.
-        next_stays (quote, settlement_by_view date row before quote) after more
-        (holds.asked quote asks);
+    asked = λ quote asks. next_stays _ after more (holds.asked quote asks);
     answered = holds.answered;
   }
 
+  -- the view of a trail so far
+  abbrev view_at : List DealerEntry → DealerView
+  view_at before = view_after date row (due_list before)
+
+  -- an event at the desk lifts no quote
+  fact_keeps : (before : List DealerEntry) (fact : DealerFact)
+      → (view_at (before ++ AtDesk fact ∷ [])).lifted ≡ (view_at before).lifted
+  unfolding after_due
+  fact_keeps before (Came moment bytes used) = rw (filter_map-append, fold-append) refl
+  fact_keeps before fact = rw (filter_map-append, fold-append) refl
+
+  asks_none : (before : List DealerEntry) (entry : DealerEntry) → due_by entry ≡ None
+      → asked_at date row before entry ≡ None
+  asks_none before (AtDesk (Came moment bytes used)) none = cc
+  asks_none before (AtDesk (Dropped last moment)) none = cc
+  asks_none before entry none = refl
+
+  each_quiet : (before entries : List DealerEntry) → Every (IsQuiet (view_at before)) entries
+      → Each IsAnswered before entries
+  each_quiet before [] quiet = tt
+  each_quiet before (entry ∷ entries) quiet = (
+    record {
+      asked = λ quote asks. cc (asks_none before entry quiet.0.0);
+      answered = λ quote settlement says. (rw says at quiet.0.1).0;
+    },
+    each_quiet (before ++ entry ∷ []) entries
+        (rw (filter_map-append due_by before (entry ∷ []), quiet.0.0, append-nil) quiet.1),
+  )
+
   -- what is kept
-  abbrev pub Kept : List DealerEntry → Type 0
-  Kept trail = Seen date row trail × Each (IsAnswered date row) [] trail
+  abbrev Kept : List DealerEntry → Type 0
+  Kept trail = Seen date row trail × Each IsAnswered [] trail
 
-  module _ (trail : List DealerEntry) (seen : Seen date row trail) where
-    -- a word is answered by the liftings of the view
-    dealer_answer : (quote : ℕ) → answer_to_dealer trail quote ≡ answer_by seen.lifted quote
-    dealer_answer quote = rw (seen.lifted_are quote) refl
+  module _ (law : WordsAsked) (trail : List DealerEntry) (before : Kept trail) where
+    -- the word that is asked, if one, with its answer
+    abbrev answers : Option ℕ → List (ℕ × Settled)
+    answers asked = asked_word asked (option_map (answer_to_dealer trail) asked)
 
-    lifted_is : (view_at date row trail).lifted ≡ seen.lifted
-    lifted_is = ap (λ (view : DealerView). view.lifted) seen.view_is
+    word_answered : (first : DealerFact) (asked : Option ℕ)
+        → Every (IsAnswer (view_at (trail ++ AtDesk first ∷ []))) (answers asked)
+    word_answered first None = tt
+    word_answered first (Some quote) =
+        (rw (fact_keeps trail first, before.0.view_is, before.0.lifted_are quote) refl, tt)
 
-    answer_is_view : (quote : ℕ)
-        → answer_to_dealer trail quote ≡ settlement_by_view date row trail quote
-    answer_is_view quote = dealer_answer quote ∙ ap (λ l. answer_by l quote) (sym lifted_is)
-
-    -- an event whose first fact asks, and whose other entries are quiet
-    asking_each : (first : DealerFact) (rest : List DealerFact) (messages : List (List ℕ))
-        → settlement_in (AtDesk first) ≡ None
-        → ((quote : ℕ) → asked_at date row trail (AtDesk first) ≡ Some quote
-        → next_settlement (map AtDesk rest ++ [] ++ map Sent messages)
-        ≡ Some (quote, answer_to_dealer trail quote))
-        → Every (IsQuiet seen.lifted) (map AtDesk rest)
-        → Each (IsAnswered date row) trail (map AtDesk (first ∷ rest) ++ [] ++ map Sent messages)
-    asking_each first rest messages none next quiet = (
-      record {
-        asked = λ quote asks. rw (← answer_is_view quote) (next quote asks);
-        answered = λ quote settlement says. cc (sym none ∙ says);
-      },
-      each_quiet date row seen.lifted (trail ++ AtDesk first ∷ [])
-          (map AtDesk rest ++ [] ++ map Sent messages)
-          (view_keeps date row trail (AtDesk first) refl ∙ lifted_is)
-          (facts_quiet date row seen.lifted rest [] messages quiet),
+    -- after an event that adds a fact that may ask a word, and others of which nothing is due
+    event_kept : (more : DealerEvent) (first : DealerFact) (rest : List DealerFact)
+        → Seen date row (trail ++ entries_of date row trail more)
+        → event_facts date row (book_by trail) more ≡ first ∷ rest
+        → filter_map due_by_fact rest ≡ [] → settled_word first ≡ None
+        → asked_by date row (book_by trail) more ≡ answers (asked_at date row trail (AtDesk first))
+        → Kept (trail ++ entries_of date row trail more)
+    unfolding entries_of
+    event_kept more first rest seen is undue still words = (
+      seen,
+      each_append IsAnswered answered_stays [] trail _ before.1 (rw is (
+        record {
+          asked = λ quote so. next_stays _ (map AtDesk rest ++ rooms) sent
+              (next_stays _ (map AtDesk rest) rooms (next quote so));
+          answered = λ quote settlement says. cc;
+        },
+        each_quiet (trail ++ AtDesk first ∷ []) (map AtDesk rest ++ rooms ++ sent)
+            (every_both Quiet (map AtDesk rest ++ rooms) sent
+            (every_both Quiet (map AtDesk rest) rooms
+            (quiet_facts (view_at (trail ++ AtDesk first ∷ [])) rest undue
+            (rw settles (word_answered first _)))
+            (every_map Quiet ShownIn _ (λ room among. (refl, tt))))
+            (every_map Quiet Sent _ (λ message among. (refl, tt)))),
+      )),
     )
+      where
+        Quiet : DealerEntry → Type 0
+        Quiet entry = IsQuiet (view_at (trail ++ AtDesk first ∷ [])) entry
 
-    own_each : (moment : ℕ) (bytes : List ℕ)
-        → Each (IsAnswered date row) trail (entries_of date row trail (event.Received moment bytes
-        (settlement_of trail (dealer_verdict date row (book_by trail) moment bytes))))
-    unfolding entries_of event_facts
-    own_each moment bytes =
-        let v = dealer_verdict date row (book_by trail) moment bytes in
-        let messages = option_to_list (message_by date row trail
-        (event.Received moment bytes (settlement_of trail v))) in
-        asking_each (Came moment bytes (uses_number v)) (verdict_facts v (settlement_of trail v))
-        messages refl
-        (λ quote asks. next_verdict date row (answer_to_dealer trail) messages v quote asks)
-        (verdict_quiet date row seen.lifted (answer_to_dealer trail) dealer_answer v)
+        rooms : List DealerEntry
+        rooms = map ShownIn (option_to_list (shown_room more))
 
-    drop_each : (last moment : ℕ)
-        → Each (IsAnswered date row) trail (entries_of date row trail (drop_at trail last moment))
-    unfolding entries_of event_facts
-    drop_each last moment =
-        let asked = number_to_drop (book_by trail) last in
-        let messages = option_to_list (message_by date row trail (drop_at trail last moment)) in
-        let facts = settled_facts asked by.Cancel (option_map (answer_to_dealer trail) asked) in
-        asking_each (Dropped last moment) facts messages refl
-        (λ quote asks. rw (append-nil facts) at (next_settled date row (answer_to_dealer trail)
-        messages asked by.Cancel [] quote asks))
-        (settled_quiet date row seen.lifted (answer_to_dealer trail) dealer_answer asked by.Cancel)
+        sent : List DealerEntry
+        sent = map Sent (option_to_list (message_by date row trail more))
 
-    shown_each : (room : RoomRef) (ask : Ask) (moment : ℕ)
-        → Each (IsAnswered date row) trail (entries_of date row trail (event.Shown room ask moment))
-    unfolding entries_of event_facts
-    shown_each room ask moment =
-        let messages = option_to_list (message_by date row trail (event.Shown room ask moment)) in
-        each_quiet date row seen.lifted trail
-        (AtDesk (Shown ask moment) ∷ ShownIn room ∷ map Sent messages) lifted_is
-        (facts_quiet date row seen.lifted (Shown ask moment ∷ []) (room ∷ []) messages (tt, tt))
+        settles : settled_words rest ≡ answers (asked_at date row trail (AtDesk first))
+        settles =
+            let grown = rw (desk_push, before.0.state_is, filter_map-append) at
+            (law date row before.0.events more) in
+            let added = append_cancel_left (settled_words (facts_of trail)) _ _ grown in
+            (rw (is, still) at added) ∙ words
 
-    told_each : (request : ℕ) (close : Close) (moment : ℕ)
-        → is_some (closable (book_by trail) request) ≡ true
-        → Each (IsAnswered date row) trail
-        (entries_of date row trail (event.Told request close moment))
-    unfolding entries_of event_facts
-    told_each request close moment may =
-        let messages = option_to_list
-        (message_by date row trail (event.Told request close moment)) in
-        rw may (each_quiet date row seen.lifted trail
-        (AtDesk (Told request close moment) ∷ map Sent messages) lifted_is
-        (facts_quiet date row seen.lifted (Told request close moment ∷ []) [] messages (tt, tt)))
+        next : (quote : ℕ) → asked_at date row trail (AtDesk first) ≡ Some quote
+            → next_settlement (map AtDesk rest)
+            ≡ Some (quote, settlement_by_view date row trail quote)
+        next quote so =
+            rw (before.0.view_is, before.0.lifted_are quote)
+            (next_settled rest (quote, answer_to_dealer trail quote) (rw so at settles))
 
-    lifted_each : (quote : ℕ) → Each (IsAnswered date row) trail (Lifted quote ∷ [])
-    lifted_each quote =
-        (record { asked = λ other asks. cc; answered = λ other settlement says. cc }, tt)
-
-  -- what is kept after an event that keeps the view
-  kept_more : (trail more : List DealerEntry) → Kept trail → Seen date row (trail ++ more)
-      → Each (IsAnswered date row) trail more → Kept (trail ++ more)
-  kept_more trail more before seen each =
-      (seen, each_append (IsAnswered date row) answered_stays [] trail more before.1 each)
-
-  pub answers_are_kept : IsKept date row Kept
-  answers_are_kept = record {
+  answers_are_kept : WordsAsked → IsKept date row Kept
+  unfolding event_facts
+  answers_are_kept law = record {
     own = λ trail moment bytes before.
-        kept_more trail _ before (views.own trail moment bytes before.0)
-        (own_each trail before.0 moment bytes);
+        let v = dealer_verdict date row (book_by trail) moment bytes in
+        event_kept law trail before (event.Received moment bytes (settlement_of trail v))
+        (Came moment bytes (uses_number v)) (verdict_facts v (settlement_of trail v))
+        (views.own trail moment bytes before.0) refl (verdict_undue v (settlement_of trail v)) refl
+        refl;
     drop = λ trail last moment before.
-        kept_more trail _ before (views.drop trail last moment before.0)
-        (drop_each trail before.0 last moment);
+        event_kept law trail before (drop_at trail last moment) (Dropped last moment)
+        (settled_facts (number_to_drop (book_by trail) last) by.Cancel (answer_to_drop trail last))
+        (views.drop trail last moment before.0) refl (settled_undue _ by.Cancel _) refl refl;
     shown = λ trail room ask moment before.
-        kept_more trail _ before (views.shown trail room ask moment before.0)
-        (shown_each trail before.0 room ask moment);
+        event_kept law trail before (event.Shown room ask moment) (Shown ask moment) []
+        (views.shown trail room ask moment before.0) refl refl refl refl;
     told = λ trail request close moment may before.
-        kept_more trail _ before (views.told trail request close moment may before.0)
-        (told_each trail before.0 request close moment may);
-    lifted = λ trail quote within still before.
-        kept_more trail _ before (views.lifted trail quote within still before.0)
-        (lifted_each trail before.0 quote);
+        event_kept law trail before (event.Told request close moment) (Told request close moment) []
+        (views.told trail request close moment may before.0) (rw may refl) refl refl refl;
+    lifted = λ trail quote within still before. (
+      views.lifted trail quote within still before.0,
+      each_append IsAnswered answered_stays [] trail _ before.1
+          (record { asked = λ other asks. cc; answered = λ other settlement says. cc }, tt),
+    );
   }
     where
       views : IsKept date row (Seen date row)
       views = seen_is_kept date row
 
 -- at each place of a dealer's trail
-pub is_answered : (config : Configuration) (steps : List Step) (dealer : ℕ) (row : DealerRow)
-    (before after : List DealerEntry) (entry : DealerEntry)
-    → dealer_numbered config dealer ≡ Some row
-    → of_dealer dealer (audit_trail config steps).facts ≡ before ++ entry ∷ after
-    → IsAnswered config.date row before entry after
-is_answered config steps dealer row before after entry is splits =
-    let all = kept_by_all config dealer row is (Kept config.date row)
-    (answers_are_kept config.date row) (start_seen config.date row, tt) steps in
-    each_of (IsAnswered config.date row) (of_dealer dealer (audit_trail config steps).facts)
-    before entry after all.1 splits
+pub are_answered : WordsAsked → (config : Configuration) (steps : List Step) (dealer : ℕ)
+    (row : DealerRow) → dealer_numbered config dealer ≡ Some row
+    → Each (IsAnswered config.date row) [] (of_dealer dealer (audit_trail config steps).facts)
+are_answered law config steps dealer row is =
+    (kept_by_all config dealer row is (Kept config.date row)
+    (answers_are_kept config.date row law) (start_seen config.date row, tt) steps).1

@@ -1,230 +1,262 @@
 -- A day of which the prices are erased, who was the cover, what was sent, and the bytes of what
 -- dealers sent, but for one dealer: what is left is what that dealer's due list can tell of, but
--- for the cover. At each place of the day what is left stands as it does without prices.
-use Rattle.std.proofs.Common.{◌≡◌, ℕ, ◌==◌, Bool, true, false, List, [], map, filter_map, Option}
-use Rattle.std.proofs.Common.{Some, None, option_map, option_and_then, unwrap_or, refl, sym, ap}
-use Rattle.std.proofs.Common.{◌∙◌, arith, if◌then◌else◌}
-use Rattle.std.proofs.lemmas.Bool.Decides.{nat_tests}
-use Rattle.market_terms.proofs.ErasedLists.{map_cond, twice}
-use Rattle.market_terms.specs.Unpriced.{uncovered, unpriced_duty}
-use Rattle.market_terms.specs.declared.closes.Close.{Close}
-use Rattle.market_terms.specs.declared.rooms.RoomRef.{RoomRef}
-use Rattle.dealer_desk.specs.DealerFacts.{DealerFact, Came, Told}
-use Rattle.dealer_desk.specs.DealerOutput.{is_same_room}
-use Rattle.dealer_desk.specs.Unpriced.{unpriced as unpriced_at_dealer, unpriced_book}
-use Rattle.dealer_desk.proofs.UnpricedBooks.{book_same, withdrawn_same}
-use Rattle.investor_desk.specs.Unpriced.{unpriced as unpriced_at_investor}
-use Rattle.investor_desk.specs.Unpriced.{unpriced_book as unpriced_investor_book}
-use Rattle.investor_desk.proofs.UnpricedDesks.{book_same as investor_book_same}
-use Rattle.request_room.specs.Unpriced.{unpriced as unpriced_in_room}
-use Rattle.step_replay.specs.AuditTrail.{Caused}
-use Rattle.step_replay.specs.DealerTrail.{DealerEntry, AtDesk, Sent, book_by, fact_in, facts_of}
-use Rattle.step_replay.specs.DealerTrail.{lifts, room_in, rooms_by, was_lifted, was_withdrawn}
+-- for the cover. Whoever asks for nothing that is erased reads the same of what is left.
+use Rattle.venue_laws.proofs.Common.{◌≡◌, Bool, List, [], ◌∷◌, ◌++◌, map, filter_map, Option, Some}
+use Rattle.venue_laws.proofs.Common.{None, option_map, option_to_list, refl, ℕ, ◌==◌, inl, inr}
+use Rattle.venue_laws.proofs.Common.{cases_Bool, eqb-true, map-append, filter_map-append, map-map}
+use Rattle.venue_laws.proofs.Common.{RoomRef, DealerRow, number_to_drop, dealer_verdict, closable}
+use Rattle.venue_laws.proofs.Common.{event_facts, is_same_room, shown_room, DealerEvent, book_same}
+use Rattle.venue_laws.proofs.Common.{InvestorBook, knows, InvestorMarket, investor_verdict}
+use Rattle.venue_laws.proofs.Common.{InvestorEvent, RoomFact, DealerEntry, AtDesk, ShownIn, Sent}
+use Rattle.venue_laws.proofs.Common.{book_by, answer_to_dealer, entries_of, facts_of, rooms_by}
+use Rattle.venue_laws.proofs.Common.{was_lifted, was_withdrawn, InvestorEntry, nothing_of, Fact}
+use Rattle.venue_laws.proofs.Common.{AtDealer, InRoom, AtInvestor, of_dealer, of_investor, of_room}
+use Rattle.std.proofs.Common.{append-nil}
+use Rattle.dealer_desk.specs.Unpriced as dealers
+use Rattle.dealer_desk.proofs.UnpricedBooks.{withdrawn_same}
+use Rattle.dealer_desk.proofs.UnpricedVerdicts.{closable_same, kept_same, number_same, verdict_same}
+use Rattle.investor_desk.specs.InvestorOutput as investor_output
+use Rattle.investor_desk.specs.Unpriced as investors
+use Rattle.investor_desk.proofs.UnpricedDesks as investors_same
+use Rattle.request_room.specs.Unpriced as rooms
 use Rattle.step_replay.specs.InvestorTrail as investor_trail
-use Rattle.step_replay.specs.InvestorTrail.{InvestorEntry, AtDesk as AtInvestorsDesk}
-use Rattle.step_replay.specs.InvestorTrail.{Sent as SentToInvestor}
-use Rattle.step_replay.specs.VenueFacts.{Fact, AtDealer, InRoom, AtInvestor, entry_at_dealer}
-use Rattle.step_replay.specs.VenueFacts.{entry_at_investor, fact_in_room, of_dealer, of_investor}
-use Rattle.step_replay.specs.VenueFacts.{of_room}
-use Rattle.step_replay.specs.Actions.{Effect}
-use Rattle.step_replay.specs.declared.dues.Due.{Due}
-use Rattle.step_replay.specs.declared.dues.Due.TheVariants as due
-use Rattle.venue_laws.proofs.ErasedLists.{any_fuse, fuse, map_fuse}
+use Rattle.step_replay.specs.InvestorTrail.{AtDesk as AtInvestorsDesk, Sent as SentToInvestor}
 
 -- What is left of a fact, where anything is.
 
 -- at a dealer: the bytes that came stay or do not
 abbrev pub erase_entry : Bool → DealerEntry → Option DealerEntry
-erase_entry stay (AtDesk fact) = Some (AtDesk (unpriced_at_dealer stay fact))
+erase_entry stay (AtDesk fact) = Some (AtDesk (dealers.unpriced stay fact))
 erase_entry stay (Sent message) = None
 erase_entry stay entry = Some entry
-
--- at an investor
-abbrev pub erase_investor_entry : InvestorEntry → Option InvestorEntry
-erase_investor_entry (AtInvestorsDesk fact) = Some (AtInvestorsDesk (unpriced_at_investor fact))
-erase_investor_entry (SentToInvestor message) = None
 
 -- in the venue: the bytes stay that the dealer with this number sent
 abbrev pub erase : ℕ → Fact → Option Fact
 erase own (AtDealer number entry) = option_map (AtDealer number) (erase_entry (number == own) entry)
-erase own (InRoom room fact) = Some (InRoom room (unpriced_in_room fact))
-erase own (AtInvestor number entry) = option_map (AtInvestor number) (erase_investor_entry entry)
+erase own (InRoom room fact) = Some (InRoom room (rooms.unpriced fact))
+erase own (AtInvestor number (AtInvestorsDesk fact)) =
+    Some (AtInvestor number (AtInvestorsDesk (investors.unpriced fact)))
+erase own (AtInvestor number (SentToInvestor message)) = None
 
--- what is left of facts, of what an action adds and leaves, of a duty that was caused, and of an
--- item that is due
-
-abbrev pub bare : ℕ → List Fact → List Fact
+-- what is left of facts
+unfoldable pub bare : ℕ → List Fact → List Fact
 bare own facts = filter_map (erase own) facts
 
-abbrev pub left : ℕ → Effect → Effect
-left own effect =
-    record { facts = bare own effect.facts; duties = map unpriced_duty effect.duties }
+-- What is left of what is added.
 
-abbrev pub erase_caused : Caused → Caused
-erase_caused caused = record { by = caused.by; duty = unpriced_duty caused.duty }
+pub bare_append : (own : ℕ) (facts more : List Fact)
+    → bare own (facts ++ more) ≡ bare own facts ++ bare own more
+unfolding bare
+bare_append own facts more = filter_map-append (erase own) facts more
 
-abbrev pub erase_due : Due → Due
-erase_due (due.Closed request close moment) = due.Closed request (uncovered close) moment
-erase_due other = other
+-- where of each fact something is left
+bare_all : {X : Type 0} (own : ℕ) (place : X → Fact) (u : X → X)
+    → ((x : X) → erase own (place x) ≡ Some (place (u x))) → (xs : List X)
+    → bare own (map place xs) ≡ map place (map u xs)
+unfolding bare
+bare_all own place u same [] = refl
+bare_all own place u same (x ∷ xs) = rw (same x, bare_all own place u same xs)
 
--- Places.
+pub desk_added : (own number : ℕ) (date : List ℕ) (row : DealerRow) (trail : List DealerEntry)
+    (event : DealerEvent)
+    → bare own (map (AtDealer number) (entries_of date row trail event))
+    ≡ map (λ fact. AtDealer number (AtDesk fact))
+    (map (dealers.unpriced (number == own)) (event_facts date row (book_by trail) event))
+    ++ map (λ room. AtDealer number (ShownIn room)) (option_to_list (shown_room event))
+unfolding bare entries_of
+desk_added own number date row trail event =
+    simp (
+      map-append,
+      map-map,
+      bare_append,
+      bare_all own (λ fact. AtDealer number (AtDesk fact)) (dealers.unpriced (number == own))
+          (λ fact. refl),
+      bare_all own (λ room. AtDealer number (ShownIn room)) (λ room. room) (λ room. refl),
+      nothing_of (erase own) (λ message. AtDealer number (Sent message)) (λ message. refl),
+      append-nil,
+    )
 
--- what is left of something at a place
-at_place : {E : Type 0} (read : Fact → Option E) (place : E → Fact) (b : Bool) (left : Option E)
-    → ((entry : E) → read (place entry) ≡ (if b then Some entry else None))
-    → option_and_then read (option_map place left) ≡ (if b then left else None)
-at_place read place true None is = refl
-at_place read place false None is = refl
-at_place read place b (Some entry) is = is entry
+pub room_added : (own : ℕ) (room : RoomRef) (facts : List RoomFact)
+    → bare own (map (InRoom room) facts) ≡ map (InRoom room) (map rooms.unpriced facts)
+room_added own room facts = bare_all own (InRoom room) rooms.unpriced (λ fact. refl) facts
 
-if_left : {E : Type 0} (left : E → Option E) (b : Bool) (entry : E)
-    → (if b then left entry else None) ≡ option_and_then left (if b then Some entry else None)
-if_left left true entry = refl
-if_left left false entry = refl
+pub market_added : (own number : ℕ) (market : InvestorMarket) (trail : List InvestorEntry)
+    (event : InvestorEvent)
+    → bare own (map (AtInvestor number) (investor_trail.entries_of market trail event))
+    ≡ map (λ fact. AtInvestor number (AtInvestorsDesk fact)) (map investors.unpriced
+    (investor_output.event_facts market (investor_trail.book_by trail) event))
+unfolding bare investor_trail.entries_of
+market_added own number market trail event =
+    simp (
+      map-append,
+      map-map,
+      bare_append,
+      bare_all own (λ fact. AtInvestor number (AtInvestorsDesk fact)) investors.unpriced
+          (λ fact. refl),
+      nothing_of (erase own) (λ message. AtInvestor number (SentToInvestor message))
+          (λ message. refl),
+      append-nil,
+    )
 
-pub trail_left : (own : ℕ) (facts : List Fact) (number : ℕ)
-    → of_dealer number (bare own facts)
+pub ruleset added = (desk_added, room_added, market_added)
+
+-- What is left at a place.
+
+pub trail_left : (own number : ℕ) (facts : List Fact) → of_dealer number (bare own facts)
     ≡ filter_map (erase_entry (number == own)) (of_dealer number facts)
-unfolding of_dealer
-trail_left own facts number = simp (fuse, each)
-  where
-    each : (fact : Fact)
-        → option_and_then (entry_at_dealer number) (erase own fact)
-        ≡ option_and_then (erase_entry (number == own)) (entry_at_dealer number fact)
-    each (AtDealer dealer entry) =
-        at_place (entry_at_dealer number) (AtDealer dealer) (dealer == number)
-        (erase_entry (dealer == own) entry) (λ kept. refl)
-        ∙ by_test (dealer == number) refl
-        ∙ if_left (erase_entry (number == own)) (dealer == number) entry
-      where
-        by_test : (b : Bool) → (dealer == number) ≡ b
-            → (if b then erase_entry (dealer == own) entry else None)
-            ≡ (if b then erase_entry (number == own) entry else None)
-        by_test false test = refl
-        by_test true test =
-            let equal : dealer ≡ number = grind (arith, nat_tests) in
-            ap (λ (n : ℕ). erase_entry (n == own) entry) equal
-    each (InRoom room fact) = refl
-    each (AtInvestor investor (SentToInvestor message)) = refl
-    each (AtInvestor investor entry) = refl
+unfolding bare of_dealer
+trail_left own number [] = refl
+trail_left own number (AtDealer dealer (Sent message) ∷ facts) =
+    let later = trail_left own number facts in
+    elim (cases_Bool (dealer == number)) [ inl is ↦ rw (is, later) | inr is ↦ rw (is, later) ]
+trail_left own number (AtDealer dealer entry ∷ facts) =
+    elim (cases_Bool (dealer == number)) [
+      | inl is ↦ let same : dealer ≡ number = eqb-true dealer number is in
+          rw (is, trail_left own number facts) (cc)
+      | inr is ↦ rw (is, trail_left own number facts)
+    ]
+trail_left own number (AtInvestor investor (SentToInvestor message) ∷ facts) =
+    trail_left own number facts
+trail_left own number (fact ∷ facts) = trail_left own number facts
 
-pub room_left : (own : ℕ) (facts : List Fact) (place : RoomRef)
-    → of_room place (bare own facts) ≡ map unpriced_in_room (of_room place facts)
-unfolding of_room
-room_left own facts place = simp (fuse, map_fuse, each)
-  where
-    each : (fact : Fact)
-        → option_and_then (fact_in_room place) (erase own fact)
-        ≡ option_map unpriced_in_room (fact_in_room place fact)
-    each (AtDealer dealer (Sent message)) = refl
-    each (AtDealer dealer entry) = refl
-    each (InRoom room fact) = map_cond unpriced_in_room (is_same_room room place) fact None
-    each (AtInvestor investor (SentToInvestor message)) = refl
-    each (AtInvestor investor entry) = refl
+pub room_left : (own : ℕ) (place : RoomRef) (facts : List Fact)
+    → of_room place (bare own facts) ≡ map rooms.unpriced (of_room place facts)
+unfolding bare of_room
+room_left own place [] = refl
+room_left own place (InRoom room fact ∷ facts) =
+    let same = is_same_room room place in
+    let later = room_left own place facts in
+    elim (cases_Bool same) [ inl is ↦ rw (is, later) | inr is ↦ rw (is, later) ]
+room_left own place (AtDealer dealer (Sent message) ∷ facts) = room_left own place facts
+room_left own place (AtInvestor investor (SentToInvestor message) ∷ facts) =
+    room_left own place facts
+room_left own place (fact ∷ facts) = room_left own place facts
 
-investor_left : (own : ℕ) (facts : List Fact) (number : ℕ)
-    → of_investor number (bare own facts)
-    ≡ filter_map erase_investor_entry (of_investor number facts)
-unfolding of_investor
-investor_left own facts number = simp (fuse, each)
-  where
-    each : (fact : Fact)
-        → option_and_then (entry_at_investor number) (erase own fact)
-        ≡ option_and_then erase_investor_entry (entry_at_investor number fact)
-    each (AtDealer dealer (Sent message)) = refl
-    each (AtDealer dealer entry) = refl
-    each (InRoom room fact) = refl
-    each (AtInvestor investor entry) =
-        at_place (entry_at_investor number) (AtInvestor investor) (investor == number)
-        (erase_investor_entry entry) (λ kept. refl)
-        ∙ if_left erase_investor_entry (investor == number) entry
+market_left : (own number : ℕ) (facts : List Fact)
+    → investor_trail.facts_of (of_investor number (bare own facts))
+    ≡ map investors.unpriced (investor_trail.facts_of (of_investor number facts))
+unfolding bare of_investor
+market_left own number [] = refl
+market_left own number (AtInvestor investor (AtInvestorsDesk fact) ∷ facts) =
+    let later = market_left own number facts in
+    elim (cases_Bool (investor == number)) [ inl is ↦ rw (is, later) | inr is ↦ rw (is, later) ]
+market_left own number (AtInvestor investor (SentToInvestor message) ∷ facts) =
+    let later = market_left own number facts in
+    elim (cases_Bool (investor == number)) [ inl is ↦ rw (is, later) | inr is ↦ rw (is, later) ]
+market_left own number (AtDealer dealer (Sent message) ∷ facts) = market_left own number facts
+market_left own number (fact ∷ facts) = market_left own number facts
 
-pub investor_book_left : (own : ℕ) (facts : List Fact) (number : ℕ)
-    → investor_trail.book_by (of_investor number (bare own facts))
-    ≡ unpriced_investor_book (investor_trail.book_by (of_investor number facts))
-investor_book_left own facts number =
-    rw (investor_left own facts number, facts_left (of_investor number facts))
-    (investor_book_same (investor_trail.facts_of (of_investor number facts)))
-  where
-    fact_left : (entry : InvestorEntry)
-        → option_and_then investor_trail.fact_in (erase_investor_entry entry)
-        ≡ option_map unpriced_at_investor (investor_trail.fact_in entry)
-    fact_left (AtInvestorsDesk fact) = refl
-    fact_left (SentToInvestor message) = refl
+-- What is read of a dealer's trail.
 
-    facts_left : (trail : List InvestorEntry)
-        → investor_trail.facts_of (filter_map erase_investor_entry trail)
-        ≡ map unpriced_at_investor (investor_trail.facts_of trail)
-    facts_left trail = simp (fuse, map_fuse, fact_left)
+module _ (stay : Bool) where
+  facts_left : (trail : List DealerEntry) → facts_of (filter_map (erase_entry stay) trail)
+      ≡ map (dealers.unpriced stay) (facts_of trail)
+  facts_left [] = refl
+  facts_left (Sent message ∷ trail) = facts_left trail
+  facts_left (entry ∷ trail) = rw (facts_left trail)
 
--- A dealer's trail.
+  rooms_same : (trail : List DealerEntry)
+      → rooms_by (filter_map (erase_entry stay) trail) ≡ rooms_by trail
+  rooms_same [] = refl
+  rooms_same (Sent message ∷ trail) = rooms_same trail
+  rooms_same (entry ∷ trail) = rw (rooms_same trail)
 
-module _ (stay : Bool) (trail : List DealerEntry) where
-  facts_left : facts_of (filter_map (erase_entry stay) trail)
-      ≡ map (unpriced_at_dealer stay) (facts_of trail)
-  facts_left = simp (fuse, map_fuse, each)
-    where
-      each : (entry : DealerEntry)
-          → option_and_then fact_in (erase_entry stay entry)
-          ≡ option_map (unpriced_at_dealer stay) (fact_in entry)
-      each (AtDesk fact) = refl
-      each (Sent message) = refl
-      each entry = refl
+  lifted_same : (quote : ℕ) (trail : List DealerEntry)
+      → was_lifted (filter_map (erase_entry stay) trail) quote ≡ was_lifted trail quote
+  lifted_same quote [] = refl
+  lifted_same quote (Sent message ∷ trail) = lifted_same quote trail
+  lifted_same quote (entry ∷ trail) = rw (lifted_same quote trail)
 
-  pub book_is : book_by (filter_map (erase_entry stay) trail) ≡ unpriced_book (book_by trail)
-  book_is = rw (facts_left) (book_same stay (facts_of trail))
-
-  -- what is left once is left
-  pub once_left : filter_map (erase_entry stay) (filter_map (erase_entry stay) trail)
-      ≡ filter_map (erase_entry stay) trail
-  once_left = simp (fuse, each)
-    where
-      bytes_twice : (b : Bool) (bytes : List ℕ)
-          → (if b then (if b then bytes else []) else []) ≡ (if b then bytes else [])
-      bytes_twice true bytes = refl
-      bytes_twice false bytes = refl
-
-      fact_twice : (fact : DealerFact)
-          → unpriced_at_dealer stay (unpriced_at_dealer stay fact) ≡ unpriced_at_dealer stay fact
-      fact_twice (Came moment bytes used) =
-          ap (λ (l : List ℕ). Came moment l used) (bytes_twice stay bytes)
-      fact_twice (Told request close moment) =
-          ap (λ (c : Close). Told request c moment) (sym (twice close))
-      fact_twice fact = refl
-
-      each : (entry : DealerEntry)
-          → option_and_then (erase_entry stay) (erase_entry stay entry) ≡ erase_entry stay entry
-      each (AtDesk fact) = ap (λ (f : DealerFact). Some (AtDesk f)) (fact_twice fact)
-      each (Sent message) = refl
-      each entry = refl
-
+-- What is known of a dealer.
 module _ (own : ℕ) (facts : List Fact) (number : ℕ) where
-  pub book_left : book_by (of_dealer number (bare own facts))
-      ≡ unpriced_book (book_by (of_dealer number facts))
-  book_left = rw (trail_left own facts number) (book_is (number == own) (of_dealer number facts))
+  -- the dealer's trail
+  abbrev trail : List DealerEntry
+  trail = of_dealer number facts
 
-  pub rooms_left : rooms_by (of_dealer number (bare own facts)) ≡ rooms_by (of_dealer number facts)
-  rooms_left = rw (trail_left own facts number) (simp (fuse, each))
-    where
-      each : (entry : DealerEntry)
-          → option_and_then room_in (erase_entry (number == own) entry) ≡ room_in entry
-      each (AtDesk fact) = refl
-      each (Sent message) = refl
-      each entry = refl
+  -- what is left of it
+  abbrev known : List DealerEntry
+  known = of_dealer number (bare own facts)
 
-  pub lifted_left : (quote : ℕ) → was_lifted (of_dealer number (bare own facts)) quote
-      ≡ was_lifted (of_dealer number facts) quote
-  lifted_left quote = rw (trail_left own facts number) (simp (any_fuse, each))
-    where
-      each : (entry : DealerEntry)
-          → unwrap_or (option_map (lifts quote) (erase_entry (number == own) entry)) false
-          ≡ lifts quote entry
-      each (AtDesk fact) = refl
-      each (Sent message) = refl
-      each entry = refl
+  pub facts_known : facts_of known ≡ map (dealers.unpriced (number == own)) (facts_of trail)
+  facts_known = rw (trail_left own number facts) (facts_left (number == own) trail)
 
-  pub withdrawn_left : (quote : ℕ) → was_withdrawn (of_dealer number (bare own facts)) quote
-      ≡ was_withdrawn (of_dealer number facts) quote
-  withdrawn_left quote =
-      rw (trail_left own facts number, facts_left (number == own) (of_dealer number facts))
-      (withdrawn_same (number == own) quote (facts_of (of_dealer number facts)))
+  pub rooms_known : rooms_by known ≡ rooms_by trail
+  rooms_known = rw (trail_left own number facts) (rooms_same (number == own) trail)
+
+  lifted_known : (quote : ℕ) → was_lifted known quote ≡ was_lifted trail quote
+  lifted_known quote = rw (trail_left own number facts) (lifted_same (number == own) quote trail)
+
+  pub withdrawn_known : (quote : ℕ) → was_withdrawn known quote ≡ was_withdrawn trail quote
+  withdrawn_known quote = rw facts_known (withdrawn_same (number == own) quote (facts_of trail))
+
+  pub book_known : book_by known ≡ dealers.unpriced_book (book_by trail)
+  book_known = rw facts_known (book_same (number == own) (facts_of trail))
+
+  pub number_known : (last : ℕ)
+      → number_to_drop (book_by known) last ≡ number_to_drop (book_by trail) last
+  number_known last = rw book_known (number_same (book_by trail) last)
+
+  pub closable_known : (request : ℕ)
+      → closable (book_by known) request ≡ closable (book_by trail) request
+  closable_known request = rw book_known (closable_same (book_by trail) request)
+
+  pub verdict_known : (date : List ℕ) (row : DealerRow) (moment : ℕ) (bytes : List ℕ)
+      → dealer_verdict date row (book_by known) moment bytes
+      ≡ dealer_verdict date row (book_by trail) moment bytes
+  verdict_known date row moment bytes =
+      rw book_known (verdict_same (book_by trail) date row moment bytes)
+
+  -- the answer to the word that the dealer asks, where it asks one
+  pub answer_known : (asked : Option ℕ)
+      → option_map (answer_to_dealer known) asked ≡ option_map (answer_to_dealer trail) asked
+  answer_known None = refl
+  answer_known (Some quote) = rw (lifted_known quote)
+
+pub ruleset known_at_desks = (rooms_known, number_known, closable_known, answer_known)
+
+pub desk_kept : (more : DealerEvent) (own : ℕ) (facts : List Fact) (number : ℕ) (date : List ℕ)
+    (row : DealerRow)
+    → map (dealers.unpriced (number == own)) (event_facts date row
+    (book_by (of_dealer number (bare own facts))) (dealers.unpriced_event more))
+    ≡ map (dealers.unpriced (number == own))
+    (event_facts date row (book_by (of_dealer number facts)) more)
+desk_kept more own facts number date row =
+    rw (book_known own facts number)
+    (kept_same date row (number == own) (book_by (of_dealer number facts)) more)
+
+-- What is known of an investor.
+module _ (own : ℕ) (facts : List Fact) (number : ℕ) where
+  -- the investor's book
+  abbrev market_book : InvestorBook
+  market_book = investor_trail.book_by (of_investor number facts)
+
+  -- what is left of it
+  abbrev known_book : InvestorBook
+  known_book = investor_trail.book_by (of_investor number (bare own facts))
+
+  market_known : known_book ≡ investors.unpriced_book market_book
+  market_known =
+      rw (market_left own number facts)
+      (investors_same.book_same (investor_trail.facts_of (of_investor number facts)))
+
+  pub knows_known : (request : ℕ) (quote : Option ℕ)
+      → knows known_book request quote ≡ knows market_book request quote
+  knows_known request quote = rw market_known (investors_same.knows_same market_book request quote)
+
+  pub said_known : (market : InvestorMarket) (moment : ℕ) (bytes : List ℕ)
+      → investor_verdict market known_book moment bytes
+      ≡ investor_verdict market market_book moment bytes
+  said_known market moment bytes =
+      rw market_known (investors_same.verdict_same market market_book moment bytes)
+
+pub ruleset known_at_markets = (knows_known, said_known)
+
+pub market_kept : (more : InvestorEvent) (own : ℕ) (facts : List Fact) (number : ℕ)
+    (market : InvestorMarket)
+    → map investors.unpriced (investor_output.event_facts market
+    (investor_trail.book_by (of_investor number (bare own facts))) (investors.unpriced_event more))
+    ≡ map investors.unpriced (investor_output.event_facts market
+    (investor_trail.book_by (of_investor number facts)) more)
+market_kept more own facts number market =
+    rw (market_known own facts number) (investors_same.kept_same market
+    (investor_trail.book_by (of_investor number facts)) more)

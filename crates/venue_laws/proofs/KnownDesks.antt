@@ -1,21 +1,16 @@
 -- What stands at an investor's desk, and goes on to stand: which requests and quotes it knows, and
 -- that its quotes are numbered.
-use Rattle.std.proofs.Common.{Bool, List, None, Option, Some, ℕ, [], ap, arith, eq-eqb, false, find}
-use Rattle.std.proofs.Common.{inl, inr, is_some, length, refl, subst, sym, true, ◌++◌, ◌+◌, ◌<◌}
-use Rattle.std.proofs.Common.{◌==◌, ◌∙◌, ◌∷◌, ◌≡◌, ◌≤◌}
-use Rattle.std.proofs.lemmas.Bool.{and_from, and_parts, both_ways, cases_Bool, eqb-true, ne_eqb}
-use Rattle.std.proofs.lemmas.Bool.{or_cases}
-use Rattle.std.proofs.lemmas.List.{length-append}
-use Rattle.std.proofs.lemmas.List.Folds.{list_any-append}
-use Rattle.std.specs.List.{list_any}
-use Rattle.investor_desk.specs.InvestorFacts.{Asked, Came, InvestorFact, Offered, book_of, knows}
-use Rattle.investor_desk.specs.InvestorFacts.{knows_quote, offer_numbered, offers_of}
-use Rattle.investor_desk.specs.InvestorFacts.{request_numbered, requests_of, was_shown_on}
-use Rattle.investor_desk.specs.declared.standing.AcceptedRequest.{AcceptedRequest}
-use Rattle.investor_desk.specs.declared.standing.ShownOffer.{ShownOffer}
-use Rattle.step_replay.specs.EachLemmas.{Every, every_both, every_weaker}
-use Rattle.step_replay.specs.GrowthLemmas.{any_left}
-use Rattle.venue_laws.proofs.ListLemmas.{find_grown}
+use Rattle.venue_laws.proofs.Common.{Bool, List, None, Option, Some, ℕ, [], ap, arith, eq-eqb}
+use Rattle.venue_laws.proofs.Common.{false, find, inl, inr, is_some, length, refl, subst, true}
+use Rattle.venue_laws.proofs.Common.{◌++◌, ◌+◌, ◌==◌, ◌∷◌, ◌≡◌, ◌≤◌, or-false, and_parts}
+use Rattle.venue_laws.proofs.Common.{cases_Bool, eqb-true, or_cases, append-nil, append_assoc}
+use Rattle.venue_laws.proofs.Common.{length-append, list_any-append, list_any, Asked, InvestorFact}
+use Rattle.venue_laws.proofs.Common.{Offered, book_of, knows, offers_of, requests_of, ShownOffer}
+use Rattle.venue_laws.proofs.Common.{Each, Every, every_both, every_weaker, any_left}
+use Rattle.std.proofs.Common.{◌<◌}
+use Rattle.std.proofs.lemmas.Bool.{ne_eqb}
+use Rattle.investor_desk.specs.InvestorFacts.{knows_quote, offer_numbered, request_numbered}
+use Rattle.venue_laws.proofs.ListLemmas.{cases_some, find_grown}
 
 -- Requests.
 
@@ -38,19 +33,26 @@ asked_is number (Asked request ∷ facts) = elim (cases_Bool (request.number == 
 ]
 asked_is number (fact ∷ facts) = asked_is number facts
 
+-- a request that is known, with no quote
+pub asked_known : (facts : List InvestorFact) (number : ℕ) → asked facts number ≡ true
+    → knows (book_of facts) number None ≡ true
+asked_known facts number is = rw (asked_is number facts, is) refl
+
+pub known_asked : (facts : List InvestorFact) (number : ℕ) (quote : Option ℕ)
+    → knows (book_of facts) number quote ≡ true → asked facts number ≡ true
+known_asked facts number quote is = (and_parts _ _ (rw (asked_is number facts) at is)).0
+
+-- More facts.
+
 pub requests_both : (facts more : List InvestorFact)
     → length (requests_of (facts ++ more))
     ≡ length (requests_of facts) + length (requests_of more)
-requests_both [] more =
-    let sum : length (requests_of more) ≡ 0 + length (requests_of more) = omega arith in
-    sum
+requests_both [] more = omega arith
 requests_both (Asked request ∷ facts) more =
     let later : length (requests_of (facts ++ more))
     ≡ length (requests_of facts) + length (requests_of more) = requests_both facts more in
     omega arith
 requests_both (fact ∷ facts) more = requests_both facts more
-
--- Quotes.
 
 pub offers_both : (facts more : List InvestorFact)
     → offers_of (facts ++ more) ≡ offers_of facts ++ offers_of more
@@ -63,56 +65,30 @@ module _ (facts more : List InvestorFact) (number : ℕ) where
       → knows_quote (book_of (facts ++ more)) number quote ≡ true
   unfolding offer_numbered
   quote_grown None is = refl
-  quote_grown (Some quote) is = by_found (find same (offers_of facts)) refl is
-    where
-      same : ShownOffer → Bool
-      same shown = shown.number == quote
-
-      by_found : (found : Option ShownOffer) → find same (offers_of facts) ≡ found
-          → was_shown_on number found ≡ true
-          → was_shown_on number (find same (offers_of (facts ++ more))) ≡ true
-      by_found None found shown_on = cc
-      by_found (Some shown) found shown_on =
-          rw (
-            offers_both facts more,
-            find_grown same (offers_of facts) (offers_of more) shown found,
-          ) shown_on
-
-  pub asked_grown : asked facts number ≡ true → asked (facts ++ more) number ≡ true
-  asked_grown is = any_left (asks number) facts more is
+  quote_grown (Some quote) is =
+      elim (cases_some (find (λ (s : ShownOffer). s.number == quote) (offers_of facts))) [
+        | inl none ↦ cc (rw none at is)
+        | inr some ↦ rw (offers_both facts more, find_grown _ _ (offers_of more) some.0 some.1)
+            (rw (some.1) at is)
+      ]
 
   pub knows_grown : (quote : Option ℕ) → knows (book_of facts) number quote ≡ true
       → knows (book_of (facts ++ more)) number quote ≡ true
   knows_grown quote is =
-      let parts = and_parts (is_some (request_numbered (book_of facts) number))
-      (knows_quote (book_of facts) number quote) is in
-      and_from (is_some (request_numbered (book_of (facts ++ more)) number))
-      (knows_quote (book_of (facts ++ more)) number quote)
-      (asked_is number (facts ++ more)
-      ∙ asked_grown (sym (asked_is number facts) ∙ parts.0))
+      let parts = and_parts _ _ (rw (asked_is number facts) at is) in
+      rw (asked_is number (facts ++ more), any_left (asks number) facts more parts.0)
       (quote_grown quote parts.1)
 
--- a request that is known, with no quote
-pub asked_known : (facts : List InvestorFact) (number : ℕ) → asked facts number ≡ true
-    → knows (book_of facts) number None ≡ true
-asked_known facts number is =
-    and_from (is_some (request_numbered (book_of facts) number)) true
-    (asked_is number facts ∙ is) refl
-
-pub known_asked : (facts : List InvestorFact) (number : ℕ) (quote : Option ℕ)
-    → knows (book_of facts) number quote ≡ true → asked facts number ≡ true
-known_asked facts number quote is =
-    sym (asked_is number facts)
-    ∙ (and_parts (is_some (request_numbered (book_of facts) number))
-    (knows_quote (book_of facts) number quote) is).0
-
 -- Desks.
+
+-- a quote of which the investor knows that it was shown
+abbrev pub IsKnown : List InvestorFact → ShownOffer → Type 0
+IsKnown facts s = knows (book_of facts) s.request (Some s.number) ≡ true
 
 -- what stands at an investor's desk that may have these requests: it knows each quote, whose number
 -- is not beyond how many there are, and so it is with the numbers of its requests
 pub record DeskFit (may : ℕ → Bool) (facts : List InvestorFact) : Type 0 where
-  pub known : Every (λ (s : ShownOffer). knows (book_of facts) s.request (Some s.number) ≡ true)
-      (offers_of facts)
+  pub known : Every (IsKnown facts) (offers_of facts)
   pub below : Every (λ (s : ShownOffer). s.number ≤ length (offers_of facts)) (offers_of facts)
   pub asked_ok : (number : ℕ) → asked facts number ≡ true
       → (number ≤ length (requests_of facts)) × (may number ≡ true)
@@ -126,91 +102,64 @@ found_last : (most : ℕ) (offers : List ShownOffer) (shown : ShownOffer)
     → find (λ (s : ShownOffer). s.number == shown.number) (offers ++ shown ∷ []) ≡ Some shown
 found_last most [] shown below beyond = rw (eq-eqb shown.number shown.number refl) refl
 found_last most (other ∷ offers) shown below beyond =
-    let least : other.number ≤ most = below.0 in
     rw (ne_eqb other.number shown.number (λ same. omega arith))
     (found_last most offers shown below.1 beyond)
 
-module _ (may : ℕ → Bool) (facts : List InvestorFact) (fit : DeskFit may facts) where
-  -- more facts, that show these quotes
-  more_fit : (more : List InvestorFact) (shown : List ShownOffer) → offers_of more ≡ shown
-      → Every (λ (s : ShownOffer).
-      knows (book_of (facts ++ more)) s.request (Some s.number) ≡ true) shown
-      → Every (λ (s : ShownOffer). s.number ≤ length (offers_of facts) + length shown) shown
-      → ((number : ℕ) → asked more number ≡ true
-      → (number ≤ length (requests_of facts) + length (requests_of more)) × (may number ≡ true))
-      → DeskFit may (facts ++ more)
-  more_fit more shown is known below added =
-      record {
-        known = subst (Every (Known (facts ++ more))) (sym offers_are)
-            (every_both (Known (facts ++ more)) (offers_of facts) shown
-            (every_weaker (Known facts) (Known (facts ++ more))
-            (λ s knows_it. knows_grown facts more s.request (Some s.number) knows_it)
-            (offers_of facts) fit.known) known);
-        below = rw (offers_are, length-append)
-            (every_both Below (offers_of facts) shown
-            (every_weaker (λ (s : ShownOffer). s.number ≤ length (offers_of facts)) Below
-            (λ s least. omega arith) (offers_of facts) fit.below) below);
-        asked_ok = λ number asks_it. rw (requests_both facts more)
-            (elim (or_cases _ _ (rw list_any-append at asks_it)) [
-              | inl before ↦
-                  let stood = fit.asked_ok number before in
-                  let least : number ≤ length (requests_of facts) = stood.0 in
-                  let most : number ≤ length (requests_of facts) + length (requests_of more) =
-                  omega arith in
-                  (most, stood.1)
-              | inr now ↦ added number now
-            ]);
-      }
-    where
-      Known : List InvestorFact → ShownOffer → Type 0
-      Known some s = knows (book_of some) s.request (Some s.number) ≡ true
+module _ (may : ℕ → Bool) where
+  -- a fact that may come: the next request of the day, or the next quote, on a request that is known
+  abbrev pub MayCome : List InvestorFact → InvestorFact → List InvestorFact → Type 0
+  MayCome facts (Asked request) later =
+      (request.number ≡ length (requests_of facts) + 1) × (may request.number ≡ true)
+  MayCome facts (Offered shown) later =
+      (asked facts shown.request ≡ true) × (shown.number ≡ length (offers_of facts) + 1)
+  MayCome facts fact later = Unit {0}
 
-      Below : ShownOffer → Type 0
-      Below s = s.number ≤ length (offers_of facts) + length shown
+  module _ (facts : List InvestorFact) (fit : DeskFit may facts) (fact : InvestorFact) where
+    -- what is to be so of the quote that it shows, and of the request that it accepts
+    fit_with : Every (IsKnown (facts ++ fact ∷ [])) (offers_of (fact ∷ []))
+        → Every (λ (s : ShownOffer).
+        s.number ≤ length (offers_of facts) + length (offers_of (fact ∷ []))) (offers_of (fact ∷ []))
+        → ((number : ℕ) → asks number fact ≡ true
+        → (number ≤ length (requests_of facts) + length (requests_of (fact ∷ [])))
+        × (may number ≡ true))
+        → DeskFit may (facts ++ fact ∷ [])
+    fit_with known below added = record {
+      known = rw (offers_both facts (fact ∷ [])) (every_both (IsKnown (facts ++ fact ∷ [])) _ _
+          (every_weaker (IsKnown facts) _
+          (λ s is. knows_grown facts (fact ∷ []) s.request (Some s.number) is) _ fit.known) known);
+      below = rw (offers_both facts (fact ∷ []), length-append) (every_both _ _ _
+          (every_weaker (λ (s : ShownOffer). s.number ≤ length (offers_of facts)) _
+          (λ s least. omega arith) _ fit.below) below);
+      asked_ok = λ number asks_it. rw (requests_both facts (fact ∷ []))
+          (elim (or_cases _ _ (rw (list_any-append, or-false) at asks_it)) [
+            | inl before ↦ let stood = fit.asked_ok number before in (omega arith, stood.1)
+            | inr now ↦ added number now
+          ]);
+    }
 
-      offers_are : offers_of (facts ++ more) ≡ offers_of facts ++ shown
-      offers_are = rw (offers_both facts more, is) refl
-
-  -- facts that neither accept a request nor show a quote
-  pub plain_fit : (more : List InvestorFact) → offers_of more ≡ []
-      → ((number : ℕ) → asked more number ≡ false) → DeskFit may (facts ++ more)
-  plain_fit more no_offers no_requests =
-      more_fit more [] no_offers tt tt
-      (λ number is. absurd (both_ways (asked more number) (no_requests number) is))
-
-  -- a request that is accepted
-  pub asked_fit : (moment : ℕ) (bytes : List ℕ) (used : Bool) (request : AcceptedRequest)
-      → request.number ≡ length (requests_of facts) + 1 → may request.number ≡ true
-      → DeskFit may (facts ++ Came moment bytes used ∷ Asked request ∷ [])
-  asked_fit moment bytes used request is within =
-      more_fit (Came moment bytes used ∷ Asked request ∷ []) [] refl tt tt
-      (λ number asks_it. elim (or_cases (request.number == number) false asks_it) [
-        | inr never ↦ cc
-        | inl test ↦
-            let same = eqb-true request.number number test in
-            let most : number ≤ length (requests_of facts) + 1 = omega arith in
-            (most, rw same at within)
-      ])
-
-  -- a quote that is shown
-  pub offered_fit : (gone : List InvestorFact) → offers_of gone ≡ []
-      → ((number : ℕ) → asked gone number ≡ false) → (shown : ShownOffer)
-      → asked facts shown.request ≡ true → shown.number ≡ length (offers_of facts) + 1
-      → DeskFit may (facts ++ (gone ++ Offered shown ∷ []))
+  fact_fit : (facts : List InvestorFact) → DeskFit may facts → (fact : InvestorFact)
+      (later : List InvestorFact) → MayCome facts fact later → DeskFit may (facts ++ fact ∷ [])
   unfolding offer_numbered
-  offered_fit gone no_offers no_requests shown is number_is =
-      let more = gone ++ Offered shown ∷ [] in
-      let offers : offers_of more ≡ shown ∷ [] =
-      rw (offers_both gone (Offered shown ∷ []), no_offers) refl in
-      let all : offers_of (facts ++ more) ≡ offers_of facts ++ shown ∷ [] =
-      offers_both facts more ∙ ap (λ l. offers_of facts ++ l) offers in
+  fact_fit facts fit (Asked request) later next =
+      fit_with facts fit (Asked request) tt tt (λ number test.
+      let same = eqb-true request.number number test in
+      (omega arith, rw same at next.1))
+  fact_fit facts fit (Offered shown) later next =
       let beyond : length (offers_of facts) < shown.number = omega arith in
-      let most : shown.number ≤ length (offers_of facts) + 1 = omega arith in
-      more_fit more (shown ∷ []) offers (
-        and_from (is_some (request_numbered (book_of (facts ++ more)) shown.request)) _
-            (asked_is shown.request (facts ++ more) ∙ asked_grown facts more shown.request is)
-            (rw (all, found_last (length (offers_of facts)) (offers_of facts) shown fit.below beyond)
-            (eq-eqb shown.request shown.request refl)),
+      fit_with facts fit (Offered shown) (
+        rw (
+          asked_is shown.request (facts ++ Offered shown ∷ []),
+          any_left (asks shown.request) facts (Offered shown ∷ []) next.0,
+          offers_both facts (Offered shown ∷ []),
+          found_last (length (offers_of facts)) (offers_of facts) shown fit.below beyond,
+        ) (eq-eqb shown.request shown.request refl),
         tt,
-      ) (most, tt)
-      (λ number asks_it. cc (rw (list_any-append, no_requests number) at asks_it))
+      ) (omega arith, tt) (λ number never. cc)
+  fact_fit facts fit fact later next = fit_with facts fit fact tt tt (λ number never. cc)
+
+  pub facts_fit : (facts more : List InvestorFact) → DeskFit may facts → Each MayCome facts more
+      → DeskFit may (facts ++ more)
+  facts_fit facts [] fit each = rw append-nil fit
+  facts_fit facts (fact ∷ more) fit each =
+      subst (DeskFit may) (append_assoc facts (fact ∷ []) more)
+      (facts_fit (facts ++ fact ∷ []) more (fact_fit facts fit fact more each.0) each.1)

@@ -1,17 +1,11 @@
 -- Options and lists: what the lemmas on a venue take of them.
-use Rattle.std.proofs.Common.{Bool, IfSome, List, None, Option, Some, ℕ, [], ap, arith, cond}
-use Rattle.std.proofs.Common.{eq-eqb, false, filter, filter_map, find, inl, inr, is_none, is_some}
-use Rattle.std.proofs.Common.{length, map, nat_lt, position, refl, subst, suc, sym, true, zero}
-use Rattle.std.proofs.Common.{◌++◌, ◌<◌, ◌==◌, ◌∙◌, ◌∷◌, ◌≡◌, ◌≤◌, ◌⊎◌}
-use Rattle.std.proofs.lemmas.Bool.{cases_Bool, eqb-true, or_cases, or_left, or_right}
-use Rattle.std.proofs.lemmas.Bool.Decides.{nat_tests}
+use Rattle.venue_laws.proofs.Common.{Bool, IfSome, List, None, Option, Some, ℕ, [], ap, arith}
+use Rattle.venue_laws.proofs.Common.{eq-eqb, false, filter, filter_map, find, inl, inr, is_none}
+use Rattle.venue_laws.proofs.Common.{is_some, length, map, refl, subst, suc, true, zero, ◌++◌, ◌==◌}
+use Rattle.venue_laws.proofs.Common.{◌∷◌, ◌≡◌, ◌≤◌, ◌⊎◌, cases_Bool, eqb-true, or_cases, or_left}
+use Rattle.venue_laws.proofs.Common.{or_right, same_Some, list_any, slice_get, Every, In}
 use Rattle.std.proofs.lemmas.List.Folds.{find-append}
-use Rattle.std.proofs.lemmas.Option.{cond_some, same_Some}
-use Rattle.std.specs.List.{list_any, position_or_len}
 use Rattle.std.specs.Option.{option_or}
-use Rattle.std.specs.Prelude.{slice_get}
-use Rattle.step_replay.specs.EachLemmas.{Every}
-use Rattle.step_replay.specs.GrowthLemmas.{In}
 
 -- Options.
 
@@ -27,22 +21,16 @@ pub some_of : {A : Type 0} (o : Option A) → is_some o ≡ true → (x : A) × 
 some_of None is = cc
 some_of (Some x) is = (x, refl)
 
+pub cases_some : {A : Type 0} (o : Option A) → (o ≡ None) ⊎ ((x : A) × (o ≡ Some x))
+cases_some None = inl refl
+cases_some (Some x) = inr (x, refl)
+
 -- What holds of each item.
 
 pub every_map : {A B : Type 0} (P : B → Type 0) (f : A → B) (xs : List A)
     → ((x : A) → In x xs → P (f x)) → Every P (map f xs)
 every_map P f [] each = tt
 every_map P f (x ∷ xs) each = (each x (inl refl), every_map P f xs (λ y is. each y (inr is)))
-
-pub every_mapped : {A B : Type 0} (P : B → Type 0) (f : A → B) (xs : List A)
-    → Every (λ x. P (f x)) xs → Every P (map f xs)
-every_mapped P f [] all = tt
-every_mapped P f (x ∷ xs) all = (all.0, every_mapped P f xs all.1)
-
-pub at_split : {A : Type 0} (P : A → Type 0) (front : List A) (x : A) (rest : List A)
-    → Every P (front ++ x ∷ rest) → P x
-at_split P [] x rest every = every.0
-at_split P (y ∷ front) x rest every = at_split P front x rest every.1
 
 pub slice_holds : {A : Type 0} (P : A → Type 0) (xs : List A) (place : ℕ) (x : A)
     → slice_get xs place ≡ Some x → Every P xs → P x
@@ -53,12 +41,10 @@ slice_holds P (y ∷ xs) (suc place) x is all = slice_holds P xs place x is all.
 pub found_all : {A B : Type 0} (Q : B → Type 0) (says : A → Option B)
     → ((x : A) (y : B) → says x ≡ Some y → Q y) → (xs : List A) → Every Q (filter_map says xs)
 found_all Q says each [] = tt
-found_all {A} {B} Q says each (x ∷ xs) = by_found (says x) refl (found_all Q says each xs)
-  where
-    by_found : (found : Option B) → says x ≡ found → Every Q (filter_map says xs)
-        → Every Q (filter_map says (x ∷ xs))
-    by_found None found later = rw found later
-    by_found (Some y) found later = rw found (each x y found, later)
+found_all Q says each (x ∷ xs) = elim (cases_some (says x)) [
+  | inl none ↦ rw none (found_all Q says each xs)
+  | inr some ↦ rw (some.1) (each x some.0 some.1, found_all Q says each xs)
+]
 
 -- What stands in a list.
 
@@ -66,12 +52,6 @@ pub in_map : {A B : Type 0} (f : A → B) (x : A) (xs : List A) → In x xs → 
 in_map f x [] is = absurd is
 in_map f x (y ∷ xs) (inl is) = inl (ap f is)
 in_map f x (y ∷ xs) (inr is) = inr (in_map f x xs is)
-
-pub in_mapped : {A B : Type 0} (f : A → B) (y : B) (xs : List A) → In y (map f xs)
-    → (x : A) × (f x ≡ y)
-in_mapped f y [] is = absurd is
-in_mapped f y (x ∷ xs) (inl is) = (x, is)
-in_mapped f y (x ∷ xs) (inr is) = in_mapped f y xs is
 
 pub in_both : {A : Type 0} (x : A) (xs ys : List A) → In x (xs ++ ys) → In x xs ⊎ In x ys
 in_both x [] ys is = inr is
@@ -87,18 +67,23 @@ in_one x y (inr is) = absurd is
 pub in_found : {A B : Type 0} (says : A → Option B) (y : B) (xs : List A)
     → In y (filter_map says xs) → (x : A) × (says x ≡ Some y) × In x xs
 in_found says y [] is = absurd is
-in_found {A} {B} says y (x ∷ xs) is =
-    by_found (says x) refl is (λ later. in_found says y xs later)
-  where
-    by_found : (found : Option B) → says x ≡ found → In y (filter_map says (x ∷ xs))
-        → (In y (filter_map says xs) → (one : A) × (says one ≡ Some y) × In one xs)
-        → (one : A) × (says one ≡ Some y) × In one (x ∷ xs)
-    by_found None found among later =
-        let further = later (rw found at among) in (further.0, further.1, inr further.2)
-    by_found (Some z) found among later = elim (rw found at among) [
-      | inl here ↦ (x, found ∙ ap (λ (b : B). Some b) here, inl refl)
-      | inr behind ↦ let further = later behind in (further.0, further.1, inr further.2)
-    ]
+in_found says y (x ∷ xs) is = elim (cases_some (says x)) [
+  | inl none ↦
+      let later = in_found says y xs (rw none at is) in (later.0, later.1, inr later.2)
+  | inr some ↦ elim (rw (some.1) at is) [
+    | inl here ↦ (x, rw here at some.1, inl refl)
+    | inr behind ↦ let later = in_found says y xs behind in (later.0, later.1, inr later.2)
+  ]
+]
+
+pub found_in : {A B : Type 0} (says : A → Option B) (x : A) (y : B) (xs : List A)
+    → says x ≡ Some y → In x xs → In y (filter_map says xs)
+found_in says x y [] so is = absurd is
+found_in says x y (z ∷ xs) so (inl is) = rw (is, so) (inl refl)
+found_in says x y (z ∷ xs) so (inr is) = elim (cases_some (says z)) [
+  | inl none ↦ rw none (found_in says x y xs so is)
+  | inr some ↦ rw (some.1) (inr (found_in says x y xs so is))
+]
 
 -- one that passes a test is left
 pub in_filter : {A : Type 0} (test : A → Bool) (x : A) (xs : List A) → In x xs → test x ≡ true
@@ -133,14 +118,6 @@ in_named dealer (other ∷ dealers) is = elim (or_cases (other == dealer) _ is) 
 
 -- What is found first.
 
-pub position_within : {A : Type 0} (test : A → Bool) (xs : List A) (i : ℕ)
-    → position test xs ≡ Some i → i < length xs
-position_within test xs i is =
-    let parts = cond_some (nat_lt (position_or_len test xs) (length xs)) _ i is in
-    let within : nat_lt (position_or_len test xs) (length xs) ≡ true = parts.0 in
-    let same : position_or_len test xs ≡ i = parts.1 in
-    grind (arith, nat_tests)
-
 -- the first that is found passes the test
 pub found_passes : {X : Type 0} (test : X → Bool) (xs : List X) (x : X) → find test xs ≡ Some x
     → test x ≡ true
@@ -154,32 +131,22 @@ found_passes test (y ∷ ys) x is = elim (cases_Bool (test y)) [
 pub first_of_every : {X : Type 0} (P : X → Type 0) (test : X → Bool) (xs : List X) → Every P xs
     → IfSome (find test xs) P
 first_of_every P test [] all = tt
-first_of_every {X} P test (x ∷ xs) all = by_test (test x) (first_of_every P test xs all.1)
-  where
-    by_test : (b : Bool) → IfSome (find test xs) P → IfSome (cond b (Some x) (find test xs)) P
-    by_test true later = all.0
-    by_test false later = later
+first_of_every P test (x ∷ xs) all = elim (cases_Bool (test x)) [
+  | inl passes ↦ rw passes (all.0)
+  | inr fails ↦ rw fails (first_of_every P test xs all.1)
+]
 
 pub find_grown : {A : Type 0} (test : A → Bool) (xs ys : List A) (x : A)
     → find test xs ≡ Some x → find test (xs ++ ys) ≡ Some x
 find_grown test xs ys x is = rw (find-append test xs ys, is) refl
-
--- what is found is one of the list
-pub found_holds : {A : Type 0} (P : A → Type 0) (test : A → Bool) (xs : List A) (x : A)
-    → find test xs ≡ Some x → Every P xs → P x
-found_holds P test xs x is all = rw is at (first_of_every P test xs all)
 
 -- the first that some items say stays the first
 pub first_grown : {E A : Type 0} (first : List E → Option A) (says : E → Option A)
     → ((x : E) (xs : List E) → first (x ∷ xs) ≡ option_or (says x) (first xs)) → first [] ≡ None
     → (y : A) (xs more : List E) → first xs ≡ Some y → first (xs ++ more) ≡ Some y
 first_grown first says step none y [] more is = cc
-first_grown {E} {A} first says step none y (x ∷ xs) more is =
-    step x (xs ++ more) ∙ by_said (says x) (sym (step x xs) ∙ is)
-    (λ found. first_grown first says step none y xs more found)
-  where
-    by_said : (said : Option A) → option_or said (first xs) ≡ Some y
-        → (first xs ≡ Some y → first (xs ++ more) ≡ Some y)
-        → option_or said (first (xs ++ more)) ≡ Some y
-    by_said (Some z) found later = found
-    by_said None found later = later found
+first_grown first says step none y (x ∷ xs) more is = elim (cases_some (says x)) [
+  | inl silent ↦ rw (step x (xs ++ more), silent)
+      (first_grown first says step none y xs more (rw (step x xs, silent) at is))
+  | inr some ↦ rw (step x (xs ++ more), some.1) (rw (step x xs, some.1) at is)
+]

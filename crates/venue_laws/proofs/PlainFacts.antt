@@ -1,25 +1,13 @@
 -- The facts of one place among those of a venue; entries that no room and no other desk looks at.
-use Rattle.std.proofs.Common.{Bool, List, None, Option, Some, ℕ, [], false, if◌then◌else◌, inl, inr}
-use Rattle.std.proofs.Common.{map, refl, true, ◌++◌, ◌==◌, ◌∷◌, ◌≡◌}
-use Rattle.std.proofs.lemmas.Bool.{cases_Bool, eqb-true}
-use Rattle.market_terms.specs.declared.rooms.RoomRef.{RoomRef}
-use Rattle.quote_word.specs.declared.settled.Settled.{Settled}
-use Rattle.quote_word.specs.declared.settled.Settled.TheVariants as settled
-use Rattle.venue_rows.specs.declared.dealer_rows.DealerRow.{DealerRow}
-use Rattle.dealer_desk.specs.DealerFacts.{DealerFact, Quoted, Shown, Told}
-use Rattle.dealer_desk.specs.DealerOutput.{answer_facts, goes_through, is_same_room, settled_facts}
-use Rattle.dealer_desk.specs.DealerOutput.{verdict_facts}
-use Rattle.dealer_desk.specs.declared.accepted.AcceptedQuote.{AcceptedQuote}
+use Rattle.venue_laws.proofs.Common.{Bool, List, Option, ℕ, [], false, filter_map, inl, inr, map}
+use Rattle.venue_laws.proofs.Common.{refl, true, ◌++◌, ◌==◌, ◌∷◌, ◌≡◌, cases_Bool, eqb-true}
+use Rattle.venue_laws.proofs.Common.{RoomRef, Settled, DealerRow, Came, DealerFact, Dropped, Shown}
+use Rattle.venue_laws.proofs.Common.{Told, is_same_room, settled_facts, verdict_facts}
+use Rattle.venue_laws.proofs.Common.{DealerVerdict, RoomFact, settled_undue, verdict_undue, AtDesk}
+use Rattle.venue_laws.proofs.Common.{DealerEntry, Sent, ShownIn, rooms_by, due_by_fact, Each, Every}
+use Rattle.venue_laws.proofs.Common.{same_room, AtDealer, Fact, InRoom, of_dealer, of_room}
 use Rattle.dealer_desk.specs.declared.standing.Withdrawal.{Withdrawal}
-use Rattle.dealer_desk.specs.declared.standing.Withdrawal.TheVariants as by
-use Rattle.dealer_desk.specs.declared.verdicts.DealerVerdict.{DealerVerdict}
-use Rattle.dealer_desk.specs.declared.verdicts.DealerVerdict.TheVariants as verdict
-use Rattle.request_room.specs.RoomFacts.{RoomFact}
-use Rattle.step_replay.specs.DealerTrail.{AtDesk, DealerEntry, Sent, ShownIn, rooms_by}
-use Rattle.step_replay.specs.EachLemmas.{Each, Every, every_both}
-use Rattle.step_replay.specs.GrowthLemmas.{same_room}
-use Rattle.step_replay.specs.VenueFacts.{AtDealer, Fact, InRoom, of_dealer, of_room}
-use Rattle.venue_laws.proofs.ListLemmas.{every_map, every_mapped}
+use Rattle.venue_laws.proofs.ListLemmas.{every_map}
 use Rattle.venue_laws.proofs.VenueParts.{NamesLifted}
 
 -- What stands at each fact stands at each of a place.
@@ -83,17 +71,13 @@ quiet_trail dealer facts quiet = at_dealer_all (λ fact. is_quiet fact ≡ true)
 
 pub plain_rooms : (entries : List DealerEntry) → ArePlain entries → rooms_by entries ≡ []
 plain_rooms [] plain = refl
-plain_rooms (ShownIn room ∷ entries) plain =
-    let clash : false ≡ true = plain.0 in
-    cc
+plain_rooms (ShownIn room ∷ entries) plain = cc (plain.0)
 plain_rooms (entry ∷ entries) plain = plain_rooms entries plain.1
 
 pub plain_names : (date : List ℕ) (row : DealerRow) (before entries : List DealerEntry)
     → ArePlain entries → Each (NamesLifted date row) before entries
 plain_names date row before [] plain = tt
-plain_names date row before (AtDesk (Told request close moment) ∷ entries) plain =
-    let clash : false ≡ true = plain.0 in
-    cc
+plain_names date row before (AtDesk (Told request close moment) ∷ entries) plain = cc (plain.0)
 plain_names date row before (entry ∷ entries) plain =
     (tt, plain_names date row (before ++ entry ∷ []) entries plain.1)
 
@@ -105,39 +89,25 @@ sent_plain messages =
 abbrev pub IsPlain : DealerFact → Type 0
 IsPlain fact = is_plain_entry (AtDesk fact) ≡ true
 
-answers_plain : (quote : ℕ) (how : Withdrawal) (settlement : Option Settled)
-    → Every IsPlain (answer_facts quote how settlement)
-answers_plain quote how None = tt
-answers_plain quote how (Some settled.Withdrawn) = (refl, tt)
-answers_plain quote how (Some settled.Lifted) = (refl, tt)
+-- facts of which nothing is due by itself are
+undue_plain : (facts : List DealerFact) → filter_map due_by_fact facts ≡ [] → Every IsPlain facts
+undue_plain [] undue = tt
+undue_plain (Came moment bytes used ∷ facts) undue = cc
+undue_plain (Shown ask moment ∷ facts) undue = cc
+undue_plain (Told request close moment ∷ facts) undue = cc
+undue_plain (Dropped last moment ∷ facts) undue = cc
+undue_plain (fact ∷ facts) undue = (refl, undue_plain facts undue)
 
 pub settled_plain : (asked : Option ℕ) (how : Withdrawal) (settlement : Option Settled)
     → Every IsPlain (settled_facts asked how settlement)
-settled_plain None how settlement = tt
-settled_plain (Some quote) how settlement = answers_plain quote how settlement
-
-kept_plain : (b : Bool) (quote : AcceptedQuote)
-    → Every IsPlain (if b then Quoted quote ∷ [] else [])
-kept_plain true quote = (refl, tt)
-kept_plain false quote = tt
+settled_plain asked how settlement = undue_plain _ (settled_undue asked how settlement)
 
 pub verdict_plain : (v : DealerVerdict) (settlement : Option Settled)
     → Every IsPlain (verdict_facts v settlement)
-verdict_plain (verdict.QuoteAccepted request id quote replaced) settlement =
-    every_both IsPlain (settled_facts replaced by.Replacement settlement)
-    (if goes_through replaced settlement then Quoted quote ∷ [] else [])
-    (settled_plain replaced by.Replacement settlement)
-    (kept_plain (goes_through replaced settlement) quote)
-verdict_plain (verdict.CancelAccepted id quote request) settlement =
-    answers_plain quote by.Cancel settlement
-verdict_plain (verdict.DeclineAccepted request number) settlement = (refl, tt)
-verdict_plain other settlement = tt
+verdict_plain v settlement = undue_plain _ (verdict_undue v settlement)
 
 -- what an event adds that shows no request and tells nothing
 pub event_plain : (facts : List DealerFact) (messages : List (List ℕ)) → Every IsPlain facts
     → ArePlain (map AtDesk facts ++ [] ++ map Sent messages)
-event_plain facts messages plain =
-    let Plain = λ (entry : DealerEntry). is_plain_entry entry ≡ true in
-    every_both Plain (map AtDesk facts ++ []) (map Sent messages)
-    (every_both Plain (map AtDesk facts) [] (every_mapped Plain AtDesk facts plain) tt)
-    (sent_plain messages)
+event_plain [] messages plain = sent_plain messages
+event_plain (fact ∷ facts) messages plain = (plain.0, event_plain facts messages plain.1)

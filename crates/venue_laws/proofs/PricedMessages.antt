@@ -1,59 +1,158 @@
 -- Two messages of a dealer that differ in lawful prices alone: the verdicts on them are one but for
 -- the price.
-use Rattle.std.proofs.Common.{◌≡◌, ℕ, ◌==◌, Bool, true, false, List, drop, Option, Some, None}
-use Rattle.std.proofs.Common.{codes, refl, if◌then◌else◌, Result, Ok, Err, nat_lt}
-use Rattle.std.specs.List.{AllZip}
-use Rattle.std.specs.Str.Parse.{digits_value}
-use Rattle.fix_fields.specs.Frame.{Field, frame_of, value_of, times_of}
-use Rattle.quote_messages.specs.Arrivals.{sequence_number, reject_of, out_of_sequence, in_sequence}
-use Rattle.quote_messages.specs.Arrivals.{numbered, dealer_arrival}
-use Rattle.quote_messages.specs.ValueForms.{AnId}
-use Rattle.quote_messages.specs.SessionLines.{text_at, required, first_fault, unless_fault, at_tag}
-use Rattle.quote_messages.specs.SessionLines.{occurrence_fault, tag_fault}
-use Rattle.quote_messages.specs.SessionChecks.{header_lines, types_of, verdict_by, quote_lines}
-use Rattle.quote_messages.specs.SessionChecks.{quote_of, dealer_tables, dealer_session_verdict}
-use Rattle.quote_messages.specs.declared.arrivals.Arrival.{Arrival}
-use Rattle.quote_messages.specs.declared.arrivals.Arrival.TheVariants.{OutOfSequence, Taken}
+use Rattle.venue_laws.proofs.Common.{◌≡◌, ℕ, Option, Some, None, option_map, is_none, is_some, List}
+use Rattle.venue_laws.proofs.Common.{refl, ap, ◌∙◌, Bool, true, Result, Ok, inl, inr, IfSome, sym}
+use Rattle.venue_laws.proofs.Common.{◌==◌, false, drop, codes, if◌then◌else◌, Err, cases_Bool}
+use Rattle.venue_laws.proofs.Common.{bytes_eq-Decides, price_of, Configuration, bond_with_id}
+use Rattle.venue_laws.proofs.Common.{same_text, BondRow, DealerRow, dealer_verdict}
+use Rattle.venue_laws.proofs.Common.{unpriced_verdict, StandingRequest, Every, is_price_tag}
+use Rattle.venue_laws.proofs.Common.{IsOneOrPriced, bond_meant, AllZip, Field, frame_of, value_of}
+use Rattle.venue_laws.proofs.Common.{times_of, first_fault, tag_fault, quote_lines, DealerVerdict}
+use Rattle.bond_prices.specs.Grid.{on_grid}
+use Rattle.bond_prices.specs.declared.fault.PriceFault.{PriceFault}
+use Rattle.market_terms.specs.declared.asks.Side.{Side}
+use Rattle.market_terms.specs.declared.asks.Side.TheVariants as side
 use Rattle.quote_messages.specs.declared.quotes.Quote.{Quote}
+use Rattle.quote_messages.specs.Written.{request_name}
+use Rattle.dealer_desk.specs.DealerFacts.{DealerBook, request_named, expected_number}
+use Rattle.dealer_desk.specs.DealerRules.{asked_price, if_on_grid, lone_price, other_price}
+use Rattle.dealer_desk.specs.DealerRules.{price_for, quote_on, quote_refusal, quote_verdict}
+use Rattle.dealer_desk.specs.DealerRules.{arrival_verdict}
+use Rattle.venue_laws.specs.PriceAlike.{IsPriceOf, is_on_grid_of}
+use Rattle.venue_laws.proofs.ListLemmas.{cases_some, first_of_every}
+use Rattle.venue_laws.proofs.PricedFields.{AreValues, price_value, quote_same, times_same}
+use Rattle.venue_laws.proofs.PricedFields.{value_same}
+use Rattle.venue_laws.proofs.VenueParts.{BearsGrid}
+use Rattle.std.specs.Str.Parse.{digits_value}
+use Rattle.quote_messages.proofs.GroupLemmas.{or_next-none}
+use Rattle.quote_messages.specs.Arrivals.{dealer_arrival, numbered, sequence_number}
+use Rattle.quote_messages.specs.ValueForms.{AnId}
+use Rattle.quote_messages.specs.SessionLines.{required, text_at, unless_fault}
+use Rattle.quote_messages.specs.SessionChecks.{dealer_session_verdict, dealer_tables, header_lines}
+use Rattle.quote_messages.specs.SessionChecks.{quote_of, types_of, verdict_by}
+use Rattle.quote_messages.specs.declared.arrivals.Arrival.{Arrival}
+use Rattle.quote_messages.specs.declared.arrivals.Arrival.TheVariants.{Taken}
 use Rattle.quote_messages.specs.declared.quotes.DealerMessage.{DealerMessage}
 use Rattle.quote_messages.specs.declared.quotes.DealerMessage.TheVariants as message
 use Rattle.quote_messages.specs.declared.session_faults.SessionFault.{SessionFault}
-use Rattle.venue_rows.specs.Rows.{Configuration, bond_with_id}
-use Rattle.venue_rows.specs.Texts.{same_text}
-use Rattle.venue_rows.specs.declared.bond_rows.BondRow.{BondRow}
-use Rattle.venue_rows.specs.declared.dealer_rows.DealerRow.{DealerRow}
-use Rattle.dealer_desk.specs.DealerFacts.{DealerBook, expected_number}
-use Rattle.dealer_desk.specs.DealerRules.{arrival_verdict, dealer_verdict}
-use Rattle.dealer_desk.specs.declared.standing.StandingRequest.{StandingRequest}
-use Rattle.dealer_desk.specs.declared.verdicts.DealerVerdict.{DealerVerdict}
-use Rattle.venue_laws.specs.PriceAlike.{is_price_tag, IsOneOrPriced, bond_meant}
-use Rattle.dealer_desk.specs.Unpriced.{unpriced_verdict}
-use Rattle.step_replay.specs.EachLemmas.{Every}
-use Rattle.venue_laws.proofs.VenueParts.{BearsGrid}
-use Rattle.venue_laws.proofs.PricedFields.{AreValues, value_same, times_same, price_value}
-use Rattle.venue_laws.proofs.PricedFields.{quote_same}
-use Rattle.venue_laws.proofs.PricedQuotes.{priced, verdict_alike}
-use Rattle.quote_messages.proofs.GroupLemmas.{or_next-none}
 
--- What a message without a fault of its session names: a bond.
+-- Two quotes.
 
+-- the grid of a bond, where there is one
+abbrev grid_of : Option BondRow → Option ℕ
+grid_of bond = option_map (λ (row : BondRow). row.grid) bond
+
+on_its_grid : (bond : Option BondRow) (grid price : ℕ) → grid_of bond ≡ Some grid
+    → is_on_grid_of bond price ≡ true → on_grid price grid ≡ true
+on_its_grid None grid price is lawful = cc
+on_its_grid (Some bond) grid price is lawful = let same : bond.grid ≡ grid = cc in rw same at lawful
+
+-- a quote at the prices that these texts bear
+abbrev priced : Quote → Option (List ℕ) → Option (List ℕ) → Quote
+priced quote bid offer =
+    record quote { bid = option_map price_of bid; offer = option_map price_of offer }
+
+-- Whether a quote has a lawful price: of these values of its tags, of a bond with this grid.
+module _ (bond : Option BondRow) (grid : ℕ) (is_grid : grid_of bond ≡ Some grid) where
+  -- whether the price on the asked side is lawful, with this one on the other side
+  abbrev is_lawful : Option (Result ℕ PriceFault) → Option (Result ℕ PriceFault) → Bool
+  is_lawful asked other = is_some (if_on_grid grid (lone_price asked other))
+
+  lawful : (text : List ℕ) → IsPriceOf bond text → (beside : Option (Result ℕ PriceFault))
+      → is_lawful (Some (price_of text)) beside ≡ is_none beside
+  lawful text is None =
+      rw (is.is_read, on_its_grid bond grid is.price is_grid is.is_on_grid)
+  lawful text is (Some beside) = rw (is.is_read)
+
+  asked_same : (tag : ℕ) (one other : Option (List ℕ)) (beside : Option (Result ℕ PriceFault))
+      → AreValues bond tag one other
+      → is_lawful (option_map price_of one) beside ≡ is_lawful (option_map price_of other) beside
+  asked_same tag one other beside (inl same) = rw same
+  asked_same tag one other beside (inr values) =
+      rw (
+        values.one_is,
+        values.other_is,
+        lawful values.text values.prices.one_price beside,
+        lawful values.priced values.prices.other_price beside,
+      )
+
+  other_same : (tag : ℕ) (asked : Option (Result ℕ PriceFault)) (one other : Option (List ℕ))
+      → AreValues bond tag one other
+      → is_lawful asked (option_map price_of one) ≡ is_lawful asked (option_map price_of other)
+  other_same tag asked one other (inl same) = rw same
+  other_same tag (Some (Ok price)) one other (inr values) = rw (values.one_is, values.other_is)
+  other_same tag asked one other (inr values) = refl
+
+  lawful_same : (asked : Side) (quote : Quote) (bid bid_too offer offer_too : Option (List ℕ))
+      → AreValues bond 132 bid bid_too → AreValues bond 133 offer offer_too
+      → is_lawful (asked_price asked (priced quote bid offer))
+      (other_price asked (priced quote bid offer))
+      ≡ is_lawful (asked_price asked (priced quote bid_too offer_too))
+      (other_price asked (priced quote bid_too offer_too))
+  lawful_same side.Buy quote bid bid_too offer offer_too bids offers =
+      asked_same 133 offer offer_too (option_map price_of bid) offers
+      ∙ other_same 132 (option_map price_of offer_too) bid bid_too bids
+  lawful_same side.Sell quote bid bid_too offer offer_too bids offers =
+      asked_same 132 bid bid_too (option_map price_of offer) bids
+      ∙ other_same 133 (option_map price_of bid_too) offer offer_too offers
+
+-- The verdicts, where each request bears the grid of its bond, and the prices are lawful prices of
+-- the bond that the quote names.
+module _ (row : DealerRow) (book : DealerBook) (moment : ℕ) (config : Configuration)
+    (bear : Every (λ (own : StandingRequest). BearsGrid config own.ask) book.requests)
+    (quote : Quote) (bond : Option BondRow) (meant : bond_with_id config quote.bond ≡ bond)
+    (bid bid_too offer offer_too : Option (List ℕ)) (bids : AreValues bond 132 bid bid_too)
+    (offers : AreValues bond 133 offer offer_too) where
+  -- the quote at the prices of both messages
+  abbrev former : Quote
+  former = priced quote bid offer
+
+  abbrev latter : Quote
+  latter = priced quote bid_too offer_too
+
+  refusal_same : (shown : StandingRequest) → BearsGrid config shown.ask
+      → quote_refusal row book moment former (Some shown)
+      ≡ quote_refusal row book moment latter (Some shown)
+  unfolding quote_refusal price_for
+  refusal_same own bears = elim (cases_Bool (same_text quote.bond own.ask.bond)) [
+    | inl is ↦
+        let named : bond_with_id config own.ask.bond ≡ bond =
+        ap (bond_with_id config) (sym ((bytes_eq-Decides quote.bond own.ask.bond).0 is)) ∙ meant in
+        rw (lawful_same bond own.ask.grid (rw named at bears) own.ask.side quote bid bid_too offer
+        offer_too bids offers)
+    | inr is ↦ rw is
+  ]
+
+  on_request : (request : Option StandingRequest)
+      → IfSome request (λ (own : StandingRequest). BearsGrid config own.ask)
+      → unpriced_verdict (quote_on row book moment former request)
+      ≡ unpriced_verdict (quote_on row book moment latter request)
+  unfolding quote_refusal
+  on_request None bears = refl
+  on_request (Some shown) bears =
+      let refused = quote_refusal row book moment latter (Some shown) in
+      rw (refusal_same shown bears)
+      (elim (cases_some refused) [ inl none ↦ rw none | inr some ↦ rw some.1 ])
+
+  verdict_alike : unpriced_verdict (quote_verdict row book moment former)
+      ≡ unpriced_verdict (quote_verdict row book moment latter)
+  unfolding quote_verdict request_named
+  verdict_alike =
+      on_request (request_named book quote.request)
+      (first_of_every (λ (own : StandingRequest). BearsGrid config own.ask)
+      (λ (request : StandingRequest). same_text (request_name request.number) quote.request)
+      book.requests bear)
+
+-- Two messages.
+
+-- what a line that is kept asks for stands
 stands : (date : List ℕ) (tag : ℕ) (fields : List Field) → required tag AnId date fields ≡ None
     → (text : List ℕ) × (value_of tag fields ≡ Some text)
 unfolding tag_fault
-stands date tag fields fine = by_value (value_of tag fields) refl fine
-  where
-    by_value : (value : Option (List ℕ)) → value_of tag fields ≡ value
-        → at_tag tag (occurrence_fault date
-        (record { tag = tag; is_required = true; value = AnId }) value
-        (nat_lt 1 (times_of tag fields))) ≡ None
-        → (text : List ℕ) × (value_of tag fields ≡ Some text)
-    by_value None is none = cc
-    by_value (Some text) is none = (text, is)
-
-names_bond : (date : List ℕ) (fields : List Field) → first_fault quote_lines date fields ≡ None
-    → (text : List ℕ) × (value_of 48 fields ≡ Some text)
-names_bond date fields fine =
-    stands date 48 fields (or_next-none _ _ (or_next-none _ _ (or_next-none _ _ fine).1).1).0
+stands date tag fields fine = elim (cases_some (value_of tag fields)) [
+  | inl none ↦ let never = rw none at fine in cc
+  | inr some ↦ some
+]
 
 module _ (config : Configuration) (date : List ℕ) (row : DealerRow) (book : DealerBook)
     (moment : ℕ)
@@ -64,68 +163,53 @@ module _ (config : Configuration) (date : List ℕ) (row : DealerRow) (book : De
   abbrev judged : Arrival DealerMessage → DealerVerdict
   judged came = unpriced_verdict (arrival_verdict row book moment came)
 
-  same_value : (tag : ℕ) → is_price_tag tag ≡ false
-      → value_of tag one ≡ value_of tag other
+  same_value : (tag : ℕ) → is_price_tag tag ≡ false → value_of tag one ≡ value_of tag other
   same_value tag is_none = value_same (bond_meant config one) one other alike tag is_none
 
   same_times : (tag : ℕ) → times_of tag one ≡ times_of tag other
   same_times = times_same (bond_meant config one) one other alike
 
-  -- the other message's quote, at the prices of this one
-  abbrev at_prices : Quote
-  at_prices = priced (quote_of date other) (value_of 132 one) (value_of 133 one)
-
-  quote_one : first_fault quote_lines date other ≡ None
-      → judged (Taken (message.Quote at_prices))
+  -- a quote without a fault names a bond: the quote of the other message, at the prices of either
+  quoted : first_fault quote_lines date other ≡ None
+      → judged (Taken (message.Quote
+      (priced (quote_of date other) (value_of 132 one) (value_of 133 one))))
       ≡ judged (Taken (message.Quote (quote_of date other)))
-  quote_one fine =
-      verdict_alike (quote_of date other) (value_of 132 one) (value_of 132 other)
-      (value_of 133 one) (value_of 133 other) row book moment config bear
-      (λ bond found. (values bond found 132, values bond found 133))
-    where
-      named : (text : List ℕ) × (value_of 48 other ≡ Some text)
-      named = names_bond date other fine
-
-      values : (bond : BondRow) → bond_with_id config (text_at 48 other) ≡ Some bond → (tag : ℕ)
-          → AreValues (Some bond) tag (value_of tag one) (value_of tag other)
-      values bond found tag =
-          let meant : bond_meant config one ≡ Some bond =
-          rw (same_value 48 refl, named.1) (rw (named.1) at found) in
-          rw meant at (price_value (bond_meant config one) one other alike tag)
+  quoted fine =
+      let named = stands date 48 other (or_next-none _ _ (or_next-none _ _ (or_next-none _ _
+      fine).1).1).0 in
+      let meant : bond_with_id config (text_at 48 other) ≡ bond_meant config one =
+      rw (same_value 48 refl, named.1) refl in
+      verdict_alike row book moment config bear (quote_of date other) (bond_meant config one) meant
+      (value_of 132 one) (value_of 132 other) (value_of 133 one) (value_of 133 other)
+      (price_value (bond_meant config one) one other alike 132)
+      (price_value (bond_meant config one) one other alike 133)
 
   -- All messages.
+
+  numbered_same : (expected : ℕ) (text : Option (List ℕ)) (said : Result DealerMessage SessionFault)
+      → numbered expected one text said ≡ numbered expected other text said
+  numbered_same expected None said = refl
+  numbered_same expected (Some number) (Ok message) = rw (same_value 35 refl)
+  numbered_same expected (Some number) (Err fault) = rw (same_value 35 refl)
 
   -- two quotes under one number, with one fault of the header and one of their own
   quotes_one : (expected : ℕ) (number : Option (List ℕ)) (header : Option SessionFault)
       (is_quote : Bool) (fault : Option SessionFault) (v w : DealerMessage)
       (later : Result DealerMessage SessionFault)
       → (fault ≡ None → judged (Taken v) ≡ judged (Taken w))
-      → judged (numbered expected one number
+      → judged (numbered expected other number
       (unless_fault header (if is_quote then unless_fault fault (Ok v) else later)))
       ≡ judged (numbered expected other number
       (unless_fault header (if is_quote then unless_fault fault (Ok w) else later)))
   quotes_one expected None header is_quote fault v w later same = refl
-  quotes_one expected (Some number) header is_quote fault v w later same =
-      by_test (digits_value 10 number == expected) header is_quote fault same
-    where
-      taken : (said : Result DealerMessage SessionFault)
-          → judged (in_sequence one number said) ≡ judged (in_sequence other number said)
-      taken (Ok message) = refl
-      taken (Err fault) = rw (same_value 35 refl)
-
-      by_test : (b : Bool) (h : Option SessionFault) (q : Bool) (f : Option SessionFault)
-          → (f ≡ None → judged (Taken v) ≡ judged (Taken w))
-          → judged (if b then in_sequence one number
-          (unless_fault h (if q then unless_fault f (Ok v) else later))
-          else OutOfSequence (reject_of one number out_of_sequence))
-          ≡ judged (if b then in_sequence other number
-          (unless_fault h (if q then unless_fault f (Ok w) else later))
-          else OutOfSequence (reject_of other number out_of_sequence))
-      by_test false h q f same = rw (same_value 35 refl)
-      by_test true (Some fault) q f same = taken (Err fault)
-      by_test true None false f same = taken later
-      by_test true None true (Some fault) same = taken (Err fault)
-      by_test true None true None same = same refl
+  quotes_one expected number (Some reason) is_quote fault v w later same = refl
+  quotes_one expected number None false fault v w later same = refl
+  quotes_one expected number None true (Some reason) v w later same = refl
+  quotes_one expected (Some number) None true None v w later same =
+      elim (cases_Bool (digits_value 10 number == expected)) [
+        | inl is ↦ rw is (same refl)
+        | inr is ↦ rw is
+      ]
 
   arrivals_one : (expected : ℕ)
       → judged (numbered expected one (sequence_number one) (dealer_session_verdict date row one))
@@ -133,12 +217,12 @@ module _ (config : Configuration) (date : List ℕ) (row : DealerRow) (book : De
       (dealer_session_verdict date row other))
   unfolding dealer_session_verdict
   arrivals_one expected =
-      rw (quote_same (bond_meant config one) one other alike date)
+      rw (numbered_same expected, quote_same (bond_meant config one) date one other alike)
       (simp (same_times, same_value) (quotes_one expected (sequence_number other)
       (first_fault (header_lines row.name row.traders (types_of dealer_tables)) date other)
       (same_text (codes "S") (text_at 35 other)) (first_fault quote_lines date other)
-      (message.Quote at_prices) (message.Quote (quote_of date other))
-      (verdict_by (drop 1 dealer_tables) date other) quote_one))
+      (message.Quote (priced (quote_of date other) (value_of 132 one) (value_of 133 one)))
+      (message.Quote (quote_of date other)) (verdict_by (drop 1 dealer_tables) date other) quoted))
 
   pub verdicts_alike : (bytes others : List ℕ) → frame_of bytes ≡ Some one
       → frame_of others ≡ Some other

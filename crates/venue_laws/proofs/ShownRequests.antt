@@ -1,18 +1,14 @@
--- The requests that some facts show, and which of them may still be told to be closed.
-use Rattle.std.proofs.Common.{Bool, List, None, Option, Some, ℕ, [], ap, false, find, if◌then◌else◌}
-use Rattle.std.proofs.Common.{inl, inr, is_some, refl, subst, sym, true, ◌++◌, ◌+◌, ◌==◌, ◌∙◌, ◌∷◌}
-use Rattle.std.proofs.Common.{◌≡◌}
-use Rattle.std.proofs.lemmas.Bool.{cases_Bool, eqb-true, or_parts, or_right}
-use Rattle.std.proofs.lemmas.List.Folds.{list_any-append}
-use Rattle.std.specs.List.{list_any}
-use Rattle.market_terms.specs.declared.closes.Close.{Close}
-use Rattle.dealer_desk.specs.DealerFacts.{DealerFact, Shown, Told, request_numbered, requests_from}
-use Rattle.dealer_desk.specs.DealerFacts.{standing_request, tells}
-use Rattle.dealer_desk.specs.DealerOutput.{closable, untold}
-use Rattle.dealer_desk.specs.declared.standing.StandingRequest.{StandingRequest}
-use Rattle.step_replay.specs.DealerTrail.{AtDesk, DealerEntry, book_by, facts_of}
-use Rattle.step_replay.specs.GrowthLemmas.{In}
-use Rattle.venue_laws.specs.Notices.{was_shown}
+-- The requests that some facts show, by their numbers: which of them were told to be closed, and
+-- which may still be.
+use Rattle.venue_laws.proofs.Common.{Bool, List, None, Option, Some, ℕ, [], ap, arith, false}
+use Rattle.venue_laws.proofs.Common.{filter_map, find, inl, inr, is_some, length, refl, suc, true}
+use Rattle.venue_laws.proofs.Common.{◌&&◌, ◌++◌, ◌+◌, ◌==◌, ◌∷◌, ◌≡◌, ◌≤◌, or-false, cases_Bool}
+use Rattle.venue_laws.proofs.Common.{eqb-true, nat_tests, list_any-append, same_Some, list_any}
+use Rattle.venue_laws.proofs.Common.{slice_get, Ask, Close, RoomRef, DealerFact, Shown, Told}
+use Rattle.venue_laws.proofs.Common.{requests_from, tells, is_same_room, untold, StandingRequest}
+use Rattle.venue_laws.proofs.Common.{AtDesk, DealerEntry, facts_of, In, same_room}
+use Rattle.std.proofs.Common.{◌||◌}
+use Rattle.dealer_desk.specs.DealerOutput.{number_from}
 
 -- Requests.
 
@@ -21,92 +17,45 @@ abbrev pub found : ℕ → ℕ → List DealerFact → Option StandingRequest
 found number first facts =
     find (λ (request : StandingRequest). request.number == number) (requests_from first facts)
 
--- a request that was shown is shown whatever comes
-pub found_grown : (number first : ℕ) (facts more : List DealerFact)
-    → is_some (found number first facts) ≡ true
-    → is_some (found number first (facts ++ more)) ≡ true
-found_grown number first [] more is = cc
-found_grown number first (Shown ask moment ∷ later) more is =
-    elim (cases_Bool (first == number)) [
-      | inl same ↦ rw same refl
-      | inr differs ↦
-          rw differs (found_grown number (first + 1) later more (rw differs at is))
-    ]
-found_grown number first (fact ∷ later) more is = found_grown number first later more is
+-- whether its notice was told
+abbrev pub has_notice : Option StandingRequest → Bool
+has_notice None = false
+has_notice (Some request) = request.is_told
 
--- what a notice may be sent of after more facts could have one before them, and these tell nothing
--- of it
-pub record StillUntold (number first : ℕ) (facts more : List DealerFact) : Type 0 where
-  pub silent : list_any (tells number) more ≡ false
-  pub before : is_some (untold (found number first facts)) ≡ true
+-- what may be closed was shown, and was not told
+pub untold_is : (request : Option StandingRequest) → is_some (untold request) ≡ true
+    → (untold request ≡ request) × (is_some request ≡ true) × (has_notice request ≡ false)
+untold_is None may = cc
+untold_is (Some request) may = elim (cases_Bool request.is_told) [
+  | inl told ↦ cc (rw told at may)
+  | inr still ↦ (rw still refl, refl, still)
+]
 
-is_untold : (b : Bool) (request : StandingRequest)
-    → is_some (if b then None else Some request) ≡ true → b ≡ false
-is_untold true request is = cc
-is_untold false request is = refl
+pub noticed_push : (number first : ℕ) (facts : List DealerFact) (fact : DealerFact)
+    → has_notice (found number first (facts ++ fact ∷ []))
+    ≡ (has_notice (found number first facts)
+    || (is_some (found number first facts) && tells number fact))
+noticed_push number first [] (Shown ask moment) = elim (cases_Bool (first == number)) [
+  | inl same ↦ rw same refl
+  | inr differs ↦ rw differs refl
+]
+noticed_push number first [] fact = refl
+noticed_push number first (Shown ask moment ∷ later) fact = elim (cases_Bool (first == number)) [
+  | inl test ↦
+      let both = list_any-append (tells number) later (fact ∷ []) in
+      rw (test, eqb-true first number test, both, or-false) refl
+  | inr differs ↦ rw differs (noticed_push number (first + 1) later fact)
+]
+noticed_push number first (other ∷ later) fact = noticed_push number first later fact
 
-not_untold : (b : Bool) (request : StandingRequest)
-    → is_some (if b then None else Some request) ≡ false → b ≡ true
-not_untold true request is = refl
-not_untold false request is = cc
-
-pub still_untold : (number first : ℕ) (facts more : List DealerFact)
-    → is_some (found number first facts) ≡ true
-    → is_some (untold (found number first (facts ++ more))) ≡ true
-    → StillUntold number first facts more
-still_untold number first [] more is unclosed = cc
-still_untold number first (Shown ask moment ∷ later) more is unclosed =
-    elim (cases_Bool (first == number)) [
-      | inl test ↦
-          let same = eqb-true first number test in
-          let none : list_any (tells first) (later ++ more) ≡ false =
-          is_untold (list_any (tells first) (later ++ more))
-          (standing_request first ask (later ++ more)) (rw test at unclosed) in
-          let parts = or_parts (list_any (tells first) later) (list_any (tells first) more)
-          (sym (list_any-append (tells first) later more) ∙ none) in
-          record {
-            silent = subst (λ (n : ℕ). list_any (tells n) more ≡ false) same parts.1;
-            before = rw (test, parts.0) refl;
-          }
-      | inr differs ↦
-          let later_on = still_untold number (first + 1) later more (rw differs at is)
-          (rw differs at unclosed) in
-          record { silent = later_on.silent; before = rw differs later_on.before }
-    ]
-still_untold number first (fact ∷ later) more is unclosed =
-    let later_on = still_untold number first later more is unclosed in
-    record { silent = later_on.silent; before = later_on.before }
-
--- what may be closed was shown
-pub untold_found : (request : Option StandingRequest) → is_some (untold request) ≡ true
-    → is_some request ≡ true
-untold_found None is = cc
-untold_found (Some request) is = refl
-
--- a request that was shown and may not be closed was told
-told_already : (number first : ℕ) (facts : List DealerFact)
-    → is_some (found number first facts) ≡ true
-    → is_some (untold (found number first facts)) ≡ false
-    → list_any (tells number) facts ≡ true
-told_already number first [] is closed = cc
-told_already number first (Shown ask moment ∷ later) is closed =
-    elim (cases_Bool (first == number)) [
-      | inr differs ↦
-          told_already number (first + 1) later (rw differs at is) (rw differs at closed)
-      | inl test ↦
-          let same = eqb-true first number test in
-          subst (λ (n : ℕ). list_any (tells n) later ≡ true) same
-          (not_untold (list_any (tells first) later) (standing_request first ask later)
-          (rw test at closed))
-    ]
-told_already number first (fact ∷ later) is closed =
-    or_right (tells number fact) _ (told_already number first later is closed)
-
-pub told_or_closable : (trail : List DealerEntry) (request : ℕ) → was_shown trail request ≡ true
-    → is_some (closable (book_by trail) request) ≡ false
-    → list_any (tells request) (facts_of trail) ≡ true
-unfolding closable request_numbered
-told_or_closable trail request is closed = told_already request 1 (facts_of trail) is closed
+-- what was shown and may not be closed was told
+pub told_is : (request : Option StandingRequest) → is_some request ≡ true
+    → is_some (untold request) ≡ false → has_notice request ≡ true
+told_is None is closed = cc
+told_is (Some request) is closed = elim (cases_Bool request.is_told) [
+  | inl told ↦ told
+  | inr still ↦ cc (rw still at closed)
+]
 
 -- Notices.
 
@@ -130,3 +79,40 @@ in_facts fact [] is = absurd is
 in_facts fact (AtDesk other ∷ trail) (inl is) = inl (ap AtDesk is)
 in_facts fact (AtDesk other ∷ trail) (inr is) = inr (in_facts fact trail is)
 in_facts fact (entry ∷ trail) is = inr (in_facts fact trail is)
+
+-- what a fact shows
+abbrev pub shown_in : DealerFact → Option Ask
+shown_in (Shown ask moment) = Some ask
+shown_in fact = None
+
+-- A number of a room is that of a request.
+
+-- the place of a room in which a request was shown
+pub number_place : (first : ℕ) (rooms : List RoomRef) (room : RoomRef) (number : ℕ)
+    → number_from first rooms room ≡ Some number
+    → (place : ℕ) × (number ≡ first + place) × (slice_get rooms place ≡ Some room)
+number_place first [] room number is = cc
+number_place first (shown ∷ rooms) room number is =
+    elim (cases_Bool (is_same_room shown room)) [
+      | inl same ↦
+          let here = same_Some first number (rw same at is) in
+          (0, omega arith, ap (λ (r : RoomRef). Some r) (same_room shown room same))
+      | inr other ↦
+          let later = number_place (first + 1) rooms room number (rw other at is) in
+          (suc later.0, omega arith, later.2)
+    ]
+
+pub request_within : (first : ℕ) (facts : List DealerFact) (number : ℕ) → first ≤ number
+    → suc number ≤ first + length (filter_map shown_in facts)
+    → is_some (found number first facts) ≡ true
+request_within first [] number low high = absurd (omega arith)
+request_within first (Shown ask moment ∷ later) number low high =
+    elim (cases_Bool (first == number)) [
+      | inl same ↦ rw same refl
+      | inr differs ↦
+          let test = differs in
+          let least : first + 1 ≤ number = grind (arith, nat_tests) in
+          let most : suc number ≤ first + 1 + length (filter_map shown_in later) = omega arith in
+          rw differs (request_within (first + 1) later number least most)
+    ]
+request_within first (fact ∷ later) number low high = request_within first later number low high

@@ -1,26 +1,15 @@
 -- Where every queue is empty and a room has ended, each dealer that it names was told so once.
-use Rattle.std.proofs.Common.{Some, ℕ, [], ap, eq-eqb, filter, refl, sym, true, ◌++◌, ◌∙◌, ◌≡◌}
-use Rattle.std.proofs.lemmas.List.{append-nil, take-append-drop}
-use Rattle.std.proofs.lemmas.Option.{same_Some}
-use Rattle.market_terms.specs.declared.closes.Close.{Close}
-use Rattle.market_terms.specs.declared.rooms.RoomRef.{RoomRef}
-use Rattle.venue_rows.specs.Rows.{Configuration}
-use Rattle.dealer_desk.specs.DealerFacts.{Told, tells}
-use Rattle.request_room.specs.RoomFacts.{end_of, is_named}
-use Rattle.request_room.specs.declared.ends.End.{End}
-use Rattle.venue_steps.specs.RoomSteps.{close_for}
-use Rattle.venue_places.specs.declared.actors.Actor.{Actor}
-use Rattle.step_replay.specs.AuditTrail.{AuditTrail, pending}
-use Rattle.step_replay.specs.DealerTrail.{AtDesk, facts_of, rooms_by}
-use Rattle.step_replay.specs.GrowthLemmas.{In, all_in}
-use Rattle.step_replay.specs.VenueFacts.{AtDealer, of_dealer, of_room}
+use Rattle.venue_laws.proofs.Common.{Some, ℕ, [], ap, eq-eqb, filter, refl, sym, true, ◌++◌, ◌∙◌}
+use Rattle.venue_laws.proofs.Common.{◌≡◌, append-nil, take-append-drop, same_Some, RoomRef}
+use Rattle.venue_laws.proofs.Common.{Configuration, Told, tells, end_of, is_named, End, close_for}
+use Rattle.venue_laws.proofs.Common.{Actor, AuditTrail, pending, facts_of, all_in, of_dealer}
+use Rattle.venue_laws.proofs.Common.{of_room}
 use Rattle.venue_laws.proofs.ListLemmas.{in_filter, only_one}
-use Rattle.venue_laws.proofs.ShownRequests.{in_facts, told_in}
-use Rattle.venue_laws.proofs.VenueGrowth.{later_same}
-use Rattle.venue_laws.proofs.VenueInvariant.{ClosedIn, FactOk, VenueOk}
-use Rattle.venue_laws.proofs.VenueKnown.{all_there, ended_in, named_dealer, one_number}
+use Rattle.venue_laws.proofs.ShownRequests.{told_in}
+use Rattle.venue_laws.proofs.VenueInvariant.{VenueOk}
+use Rattle.venue_laws.proofs.VenueKnown.{ended_in, named_dealer, told_did}
 use Rattle.venue_laws.proofs.VenueParts.{MarkOk, Still, Telling, WasTold, closer, did_in, duties_by}
-use Rattle.venue_laws.proofs.VenueParts.{marks}
+use Rattle.venue_laws.proofs.VenueParts.{later_same, marks}
 use Rattle.venue_laws.proofs.VenueTurns.{turns_of}
 use Rattle.venue_laws.specs.Notices.{IsToldOnce}
 
@@ -39,29 +28,12 @@ module _ (config : Configuration) (venue : AuditTrail) (stood : VenueOk config v
       let by = closer end.kind room in
       all_in (λ mark. Still (MarkOk mark) venue) (Telling dealer room) (marks (did_in venue by))
       (stood.queues by).done
-      (rw (all_done by) ((ended_in config venue stood room end end_is).told dealer named)) venue
+      (rw (all_done by) ((ended_in stood room end end_is).told dealer named)) venue
       (later_same venue)
-
-  close_is : (close : Close) (moment : ℕ)
-      → In (Told was_told.request close moment) (facts_of (of_dealer dealer venue.facts))
-      → close ≡ close_for end dealer
-  close_is close moment stands =
-      let closed : ClosedIn config dealer was_told.request close venue =
-      all_in (λ entry. Still (FactOk config (AtDealer dealer entry)) venue)
-      (AtDesk (Told was_told.request close moment)) (of_dealer dealer venue.facts)
-      (all_there config venue stood dealer)
-      (in_facts (Told was_told.request close moment) (of_dealer dealer venue.facts) stands) venue
-      (later_same venue) in
-      let rooms : closed.room ≡ room =
-      one_number (rooms_by (of_dealer dealer venue.facts)) closed.room room
-      was_told.request closed.request_is was_told.request_is in
-      let ends : closed.end ≡ end =
-      same_Some closed.end end (sym (rw rooms at closed.end_is) ∙ end_is) in
-      rw ends at closed.close_is
 
   pub is_told_once : IsToldOnce (of_dealer dealer venue.facts) room (close_for end dealer)
   is_told_once =
-      let there = named_dealer config venue stood room dealer named in
+      let there = named_dealer stood room dealer named in
       let facts = facts_of (of_dealer dealer venue.facts) in
       let told = told_in was_told.request facts was_told.told in
       let notice = Told was_told.request told.0 told.1 in
@@ -69,9 +41,14 @@ module _ (config : Configuration) (venue : AuditTrail) (stood : VenueOk config v
       (in_filter (tells was_told.request) notice facts told.2
       (eq-eqb was_told.request was_told.request refl))
       ((stood.desks dealer there.0 there.1).noticed.once was_told.request) in
+      let did = (told_did stood room dealer was_told.request told.0 told.1 was_told.request_is
+      told.2).1 in
+      let close_is : told.0 ≡ close_for end dealer =
+      did.ok.close_is ∙ ap (λ (e : End). close_for e dealer)
+      (same_Some did.ok.end end (sym did.ok.end_is ∙ end_is)) in
       record {
         request = was_told.request;
         moment = told.1;
         shown = was_told.request_is;
-        told = rw (← close_is told.0 told.1 told.2) only;
+        told = rw (← close_is) only;
       }

@@ -1,49 +1,34 @@
 -- What a dealer says and drops brings what stands in a venue.
-use Rattle.std.proofs.Common.{Bool, IfSome, List, None, Option, Some, ℕ, [], ap, arith, false}
-use Rattle.std.proofs.Common.{if◌then◌else◌, inl, inr, map, nat_le, option_map, option_to_list}
-use Rattle.std.proofs.Common.{refl, subst, sym, true, ◌&&◌, ◌++◌, ◌+◌, ◌-◌, ◌∙◌, ◌∷◌, ◌≡◌, ◌≤◌}
-use Rattle.std.proofs.lemmas.Bool.Decides.{nat_tests}
-use Rattle.std.proofs.lemmas.List.Elements.{filter_map-append}
-use Rattle.market_terms.specs.declared.duties.Duty.{Duty}
+use Rattle.venue_laws.proofs.Common.{Bool, IfSome, List, None, Option, Some, ℕ, ap, arith, false}
+use Rattle.venue_laws.proofs.Common.{if◌then◌else◌, inl, inr, map, nat_le, option_map}
+use Rattle.venue_laws.proofs.Common.{option_to_list, refl, subst, true, ◌&&◌, ◌+◌, ◌-◌, ◌∙◌, ◌∷◌}
+use Rattle.venue_laws.proofs.Common.{◌≡◌, ◌≤◌, nat_tests, Duty, RoomRef, Settled, Configuration}
+use Rattle.venue_laws.proofs.Common.{dealer_numbered, DealerRow, Came, Dropped, Quoted}
+use Rattle.venue_laws.proofs.Common.{number_to_drop, event_facts, settled_facts, uses_number}
+use Rattle.venue_laws.proofs.Common.{verdict_facts, dealer_verdict, AcceptedQuote, StandingQuote}
+use Rattle.venue_laws.proofs.Common.{DealerVerdict, Effect, answer_to_drop, dealer_of, drop_at}
+use Rattle.venue_laws.proofs.Common.{dropped_by, received_by_dealer, settlement_of, facts_grown}
+use Rattle.venue_laws.proofs.Common.{DealerEntry, book_by, entries_of, facts_of, rooms_by, Every}
+use Rattle.venue_laws.proofs.Common.{every_both, In, in_right, dealer_grown, own_trail, AtDealer}
+use Rattle.venue_laws.proofs.Common.{Fact, of_dealer}
 use Rattle.market_terms.specs.declared.duties.Duty.TheVariants as duty
-use Rattle.market_terms.specs.declared.rooms.RoomRef.{RoomRef}
-use Rattle.quote_word.specs.declared.settled.Settled.{Settled}
-use Rattle.venue_rows.specs.Rows.{dealer_numbered}
-use Rattle.venue_rows.specs.declared.dealer_rows.DealerRow.{DealerRow}
+use Rattle.day_parts.specs.AcceptedQuotes.{AcceptOk, verdict_accepts}
 use Rattle.dealer_desk.specs.DealerDesk.{DeskEvents, book_at, verdict_at}
-use Rattle.dealer_desk.specs.DealerFacts.{Came, DealerFact, Dropped, Quoted, book_of}
-use Rattle.dealer_desk.specs.DealerFacts.{number_to_drop, quote_to_drop}
-use Rattle.dealer_desk.specs.DealerOutput.{DeskState, event_facts, goes_through, is_withdrawn}
-use Rattle.dealer_desk.specs.DealerOutput.{post_of, room_of, settled_facts, unpost_dropped}
-use Rattle.dealer_desk.specs.DealerOutput.{uses_number, verdict_duty, verdict_facts, word_asked}
-use Rattle.dealer_desk.specs.DealerRules.{dealer_verdict}
-use Rattle.dealer_desk.specs.declared.accepted.AcceptedQuote.{AcceptedQuote}
-use Rattle.dealer_desk.specs.declared.events.DealerEvent.{DealerEvent}
+use Rattle.dealer_desk.specs.DealerFacts.{book_of, quote_to_drop}
+use Rattle.dealer_desk.specs.DealerOutput.{DeskState, goes_through, is_withdrawn, post_of, room_of}
+use Rattle.dealer_desk.specs.DealerOutput.{unpost_dropped, verdict_duty, word_asked}
 use Rattle.dealer_desk.specs.declared.events.DealerEvent.TheVariants as event
-use Rattle.dealer_desk.specs.declared.standing.StandingQuote.{StandingQuote}
 use Rattle.dealer_desk.specs.declared.standing.Withdrawal.TheVariants as by_way
-use Rattle.dealer_desk.specs.declared.verdicts.DealerVerdict.{DealerVerdict}
 use Rattle.dealer_desk.specs.declared.verdicts.DealerVerdict.TheVariants as verdict
 use Rattle.venue_places.specs.declared.actors.Actor.TheVariants as actor
-use Rattle.step_replay.specs.Actions.{Effect, answer_to_drop, dealer_of, drop_at, dropped_by}
-use Rattle.step_replay.specs.Actions.{left_by, left_by_drop, received_by_dealer, settlement_of}
-use Rattle.step_replay.specs.DealerTrail.{AtDesk, DealerEntry, Sent, book_by, entries_of, fact_in}
-use Rattle.step_replay.specs.DealerTrail.{facts_of, message_by, rooms_by}
-use Rattle.step_replay.specs.EachLemmas.{Every, every_both}
-use Rattle.step_replay.specs.GrowthLemmas.{In, in_right}
-use Rattle.step_replay.specs.PlaceLemmas.{dealer_grown, own_trail}
-use Rattle.step_replay.specs.SeenLemmas.{Seen}
-use Rattle.step_replay.specs.TrailLemmas.{facts_added}
-use Rattle.step_replay.specs.VenueFacts.{AtDealer, of_dealer}
-use Rattle.venue_laws.proofs.AcceptedQuotes.{AcceptOk, verdict_accepts}
-use Rattle.venue_laws.proofs.ListLemmas.{slice_holds}
+use Rattle.step_replay.specs.Actions.{left_by, left_by_drop}
+use Rattle.venue_laws.proofs.ListLemmas.{cases_some, slice_holds}
 use Rattle.venue_laws.proofs.PlainFacts.{event_plain, settled_plain, verdict_plain}
-use Rattle.venue_laws.proofs.VenueGrowth.{later_both, named_later, number_later, quoted_later}
 use Rattle.venue_laws.proofs.VenueInvariant.{ByDealer, ByNamed, DeskOk, ShownTo}
-use Rattle.venue_laws.proofs.VenueKinds.{Fine, at_desk, desk_plain, when_brings}
+use Rattle.venue_laws.proofs.VenueKinds.{Fine, desk_plain, when_brings}
 use Rattle.venue_laws.proofs.VenueKnown.{rooms_shown}
-use Rattle.venue_laws.proofs.VenueParts.{Still}
-use Rattle.venue_laws.proofs.VenueSteps.{Brings, Here, day, since, trail_of}
+use Rattle.venue_laws.proofs.VenueParts.{Still, named_later, number_later, quoted_later}
+use Rattle.venue_laws.proofs.VenueSteps.{Brings, Here, day, since, to_now, trail_of}
 
 -- The words of a dealer's day.
 
@@ -65,23 +50,25 @@ pub record WordsOfDay : Type 0 where
   pub drops : (desk : DeskEvents) (last : ℕ)
       → IfSome (number_to_drop (book_at desk) last) (OfRow desk.row)
 
-module _ (words : WordsOfDay) (date : List ℕ) (row : DealerRow) (trail : List DealerEntry)
-    (seen : Seen date row trail) where
-  -- the desk of the trail
-  abbrev desk_seen : DeskEvents
-  desk_seen = record { date = date; row = row; events = seen.events }
+module _ (words : WordsOfDay) {config : Configuration} {facts : List Fact} {dealer : ℕ}
+    {row : DealerRow} (desk : DeskOk config facts dealer row) where
+  -- the desk that has seen what its trail has
+  abbrev seen_desk : DeskEvents
+  seen_desk = record { date = config.date; row = row; events = desk.seen.events }
 
   pub asks_of_day : (moment : ℕ) (bytes : List ℕ)
-      → IfSome (word_asked (dealer_verdict date row (book_by trail) moment bytes)) (OfRow row)
+      → IfSome (word_asked (dealer_verdict config.date row (book_by (of_dealer dealer facts)) moment
+      bytes)) (OfRow row)
   asks_of_day moment bytes =
-      subst (λ (state : DeskState).
-      IfSome (word_asked (dealer_verdict date row (book_of state.facts) moment bytes)) (OfRow row))
-      seen.state_is (words.asks desk_seen moment bytes)
+      subst (λ (state : DeskState). IfSome (word_asked (dealer_verdict config.date row
+      (book_of state.facts) moment bytes)) (OfRow row)) desk.seen.state_is
+      (words.asks seen_desk moment bytes)
 
-  pub drops_of_day : (last : ℕ) → IfSome (number_to_drop (book_by trail) last) (OfRow row)
+  pub drops_of_day : (last : ℕ)
+      → IfSome (number_to_drop (book_by (of_dealer dealer facts)) last) (OfRow row)
   drops_of_day last =
       subst (λ (state : DeskState). IfSome (number_to_drop (book_of state.facts) last) (OfRow row))
-      seen.state_is (words.drops desk_seen last)
+      desk.seen.state_is (words.drops seen_desk last)
 
 -- What the dealer's desk leaves.
 
@@ -100,57 +87,35 @@ module _ (words : WordsOfDay) (h : Here) (dealer : ℕ) (row : DealerRow)
   who = record { dealer = dealer; row = row; by_is = by_is; row_is = is }
 
   module _ (effect : Effect) where
-    abbrev FineNow : Duty → Type 0
-    FineNow left = Fine h effect left
+    abbrev AreFine : Option Duty → Type 0
+    AreFine left = Every (Fine h effect) (option_to_list left)
 
     named_then : (number : ℕ) (room : RoomRef) → room_of rooms number ≡ Some room
         → Still (λ now. ByNamed h.config h.by room now.facts) (day h effect)
     named_then number room found now later = record {
       who = who;
-      named = named_later (later_both (since h effect) later) room dealer
-          (slice_holds (λ r. ShownTo h.config dealer r h.venue) rooms (number - 1) room found
-          (rooms_shown h.config h.venue h.stood dealer)).named;
+      named = named_later (to_now h effect later) room dealer
+          ((slice_holds (λ r. ShownTo h.config dealer r h.venue) rooms (number - 1) room found
+          (rooms_shown h.stood dealer)).2.ok.named);
     }
 
-    map_fine : (found : Option RoomRef) (left : RoomRef → Duty)
-        → ((room : RoomRef) → found ≡ Some room → FineNow (left room))
-        → Every FineNow (option_to_list (option_map left found))
-    map_fine None left fine = tt
-    map_fine (Some room) left fine = (fine room refl, tt)
+    -- a duty in the room with a number, where something holds
+    room_fine : (b : Bool) (number : ℕ) (left : RoomRef → Duty)
+        → ((room : RoomRef) → b ≡ true → room_of rooms number ≡ Some room
+        → Fine h effect (left room))
+        → AreFine (if b then option_map left (room_of rooms number) else None)
+    room_fine false number left fine = tt
+    room_fine true number left fine = elim (cases_some (room_of rooms number)) [
+      | inl none ↦ rw none tt
+      | inr some ↦ rw (some.1) (fine some.0 refl some.1, tt)
+    ]
 
-    if_fine : (b : Bool) (left : Option Duty) → (b ≡ true → Every FineNow (option_to_list left))
-        → Every FineNow (option_to_list (if b then left else None))
-    if_fine true left fine = fine refl
-    if_fine false left fine = tt
-
-    post_fine : (quote : AcceptedQuote) (room : RoomRef) → 1 ≤ quote.request
-        → (nat_le 1 quote.number && nat_le quote.number row.quotes) ≡ true
-        → In (Quoted quote) (facts_of (of_dealer dealer (day h effect).facts))
-        → room_of rooms quote.request ≡ Some room → FineNow (post_of quote room)
+    unpost_fine : (b : Bool) (number quote moment : ℕ) → OfRow row quote
+        → AreFine (if b
+        then option_map (λ room. duty.Unpost room quote moment) (room_of rooms number) else None)
     unfolding named_then
-    post_fine quote room least within quoted found =
-        let place : quote.request - 1 + 1 ≡ quote.request = omega arith in (
-          λ now later. record {
-            named = named_then quote.request room found now later;
-            within = within;
-            quoted = quoted_later later dealer room quote.number (record {
-              own = quote;
-              quoted = quoted;
-              number_is = refl;
-              request_is = number_later (since h effect) dealer room quote.request
-                  (desk.numbered (quote.request - 1) room found
-                  ∙ ap (λ (n : ℕ). Some n) place);
-            });
-          },
-          refl,
-        )
-
-    unpost_fine : (number quote moment : ℕ) → OfRow row quote
-        → Every FineNow (option_to_list (option_map (λ room. duty.Unpost room quote moment)
-        (room_of rooms number)))
-    unfolding named_then
-    unpost_fine number quote moment of_day =
-        map_fine (room_of rooms number) (λ room. duty.Unpost room quote moment) (λ room found. (
+    unpost_fine b number quote moment of_day =
+        room_fine b number (λ room. duty.Unpost room quote moment) (λ room is found. (
           λ now later. record {
             named = named_then number room found now later;
             within = within_row row quote of_day;
@@ -162,21 +127,34 @@ module _ (words : WordsOfDay) (h : Here) (dealer : ℕ) (row : DealerRow)
         → IfSome (word_asked v) (OfRow row)
         → ((quote : AcceptedQuote) → In (Quoted quote) (verdict_facts v settlement)
         → In (Quoted quote) (facts_of (of_dealer dealer (day h effect).facts)))
-        → Every FineNow (option_to_list (verdict_duty rooms moment v settlement))
+        → AreFine (verdict_duty rooms moment v settlement)
+    unfolding named_then
     said_fine moment (verdict.QuoteAccepted name id quote old) settlement accepts of_day quoted =
-        if_fine (goes_through old settlement)
-        (option_map (post_of quote) (room_of rooms quote.request))
-        (λ goes. map_fine (room_of rooms quote.request) (post_of quote)
-        (λ room found. post_fine quote room accepts.0 accepts.1
-        (quoted quote (in_right (Quoted quote) (settled_facts old by_way.Replacement settlement) _
-        (rw goes (inl refl)))) found))
+        let least : 1 ≤ quote.request = accepts.0 in
+        let place : quote.request - 1 + 1 ≡ quote.request = omega arith in
+        room_fine (goes_through old settlement) quote.request (post_of quote) (λ room goes found. (
+          λ now later. (
+            record {
+              named = named_then quote.request room found now later;
+              within = accepts.1;
+            },
+            quoted_later later dealer room quote.number (record {
+              own = quote;
+              quoted = quoted quote (in_right (Quoted quote)
+                  (settled_facts old by_way.Replacement settlement) _ (rw goes (inl refl)));
+              number_is = refl;
+              request_is = number_later (since h effect) dealer room quote.request
+                  (desk.numbered (quote.request - 1) room found
+                  ∙ ap (λ (n : ℕ). Some n) place);
+            }),
+          ),
+          refl,
+        ))
     said_fine moment (verdict.CancelAccepted id quote request) settlement accepts of_day quoted =
-        if_fine (is_withdrawn settlement)
-        (option_map (λ room. duty.Unpost room quote moment) (room_of rooms request))
-        (λ goes. unpost_fine request quote moment of_day)
+        unpost_fine (is_withdrawn settlement) request quote moment of_day
     said_fine moment (verdict.DeclineAccepted name number) settlement accepts of_day quoted =
-        map_fine (room_of rooms number) (λ room. duty.Decline room moment)
-        (λ room found. (named_then number room found, refl))
+        room_fine true number (λ room. duty.Decline room moment)
+        (λ room is found. (named_then number room found, refl))
     said_fine moment (verdict.DropsFollow last) settlement accepts of_day quoted =
         ((λ now later. who, refl), tt)
     said_fine moment other settlement accepts of_day quoted = tt
@@ -185,23 +163,15 @@ module _ (words : WordsOfDay) (h : Here) (dealer : ℕ) (row : DealerRow)
 
     dropped_fine : (moment : ℕ) (settlement : Option Settled) (own : Option StandingQuote)
         → IfSome (option_map (λ (o : StandingQuote). o.quote.number) own) (OfRow row)
-        → Every FineNow (option_to_list (unpost_dropped rooms moment settlement own))
+        → AreFine (unpost_dropped rooms moment settlement own)
     dropped_fine moment settlement None of_day = tt
     dropped_fine moment settlement (Some own) of_day =
-        if_fine (is_withdrawn settlement)
-        (option_map (λ room. duty.Unpost room own.quote.number moment)
-        (room_of rooms own.quote.request))
-        (λ goes. unpost_fine own.quote.request own.quote.number moment of_day)
+        unpost_fine (is_withdrawn settlement) own.quote.request own.quote.number moment of_day
 
     further_fine : (b : Bool) (last moment : ℕ)
-        → Every FineNow (option_to_list (if b then Some (duty.Drop last moment) else None))
+        → AreFine (if b then Some (duty.Drop last moment) else None)
     further_fine true last moment = ((λ now later. who, refl), tt)
     further_fine false last moment = tt
-
-  -- the entries of an event that shows no room
-  abbrev entries_with : List DealerFact → DealerEvent → List DealerEntry
-  entries_with facts more = map AtDesk facts ++ []
-      ++ map Sent (option_to_list (message_by h.config.date row trail more))
 
   pub said_brings : (moment : ℕ) (bytes : List ℕ)
       → Brings h (received_by_dealer h.config h.venue.facts moment bytes (dealer_of dealer row))
@@ -210,22 +180,19 @@ module _ (words : WordsOfDay) (h : Here) (dealer : ℕ) (row : DealerRow)
       let v = dealer_verdict h.config.date row (book_by trail) moment bytes in
       let settlement = settlement_of trail v in
       let more = event.Received moment bytes settlement in
-      let facts = Came moment bytes (uses_number v) ∷ verdict_facts v settlement in
-      let messages = option_to_list (message_by h.config.date row trail more) in
-      let entries = entries_with facts more in
-      let effect = at_desk h dealer entries (left_by trail moment v) in
+      let entries = entries_of h.config.date row trail more in
       when_brings h _ _ (λ test.
       desk_plain h dealer row is entries (left_by trail moment v)
-      (event_plain facts messages (refl, verdict_plain v settlement))
-      (said_fine effect moment v settlement
+      (event_plain (Came moment bytes (uses_number v) ∷ verdict_facts v settlement) _
+      (refl, verdict_plain v settlement))
+      (said_fine _ moment v settlement
       (verdict_accepts row (facts_of trail) moment h.config.date bytes)
-      (asks_of_day words h.config.date row trail desk.seen moment bytes)
-      (λ quote quoted. subst (In (Quoted quote))
-      (sym (ap facts_of (dealer_grown dealer h.venue.facts (map (AtDealer dealer) entries)
-      ∙ ap (λ l. trail ++ l) (own_trail dealer entries))
-      ∙ filter_map-append fact_in trail entries
-      ∙ ap (λ l. facts_of trail ++ l) (facts_added facts [] messages)))
-      (in_right (Quoted quote) (facts_of trail) facts (inr quoted)))))
+      (asks_of_day words desk moment bytes)
+      (λ quote quoted. rw (
+        dealer_grown dealer h.venue.facts (map (AtDealer dealer) entries),
+        own_trail dealer entries,
+        facts_grown h.config.date row trail more,
+      ) (in_right (Quoted quote) (facts_of trail) _ (inr quoted)))))
 
   pub dropped_brings : (last moment : ℕ)
       → Brings h (dropped_by h.config h.venue.facts last moment (dealer_of dealer row))
@@ -233,16 +200,12 @@ module _ (words : WordsOfDay) (h : Here) (dealer : ℕ) (row : DealerRow)
   dropped_brings last moment =
       let asked = number_to_drop (book_by trail) last in
       let settlement = answer_to_drop trail last in
-      let more = drop_at trail last moment in
-      let facts = Dropped last moment ∷ settled_facts asked by_way.Cancel settlement in
-      let entries = entries_with facts more in
-      let left = left_by_drop h.config h.venue.facts last moment (dealer_of dealer row) in
-      let effect = at_desk h dealer entries left in
       when_brings h _ _ (λ test.
-      desk_plain h dealer row is entries left
-      (event_plain facts (option_to_list (message_by h.config.date row trail more))
+      desk_plain h dealer row is (entries_of h.config.date row trail (drop_at trail last moment))
+      (left_by_drop h.config h.venue.facts last moment (dealer_of dealer row))
+      (event_plain (Dropped last moment ∷ settled_facts asked by_way.Cancel settlement) _
       (refl, settled_plain asked by_way.Cancel settlement))
-      (every_both (FineNow effect) _ _
-      (dropped_fine effect moment settlement (quote_to_drop (book_by trail) last)
-      (drops_of_day words h.config.date row trail desk.seen last))
-      (further_fine effect _ last moment)))
+      (every_both (Fine h _) _ _
+      (dropped_fine _ moment settlement (quote_to_drop (book_by trail) last)
+      (drops_of_day words desk last))
+      (further_fine _ _ last moment)))

@@ -1,59 +1,33 @@
 -- The end of a room brings what stands in a venue: a pass, an expiry, a hit.
-use Rattle.std.proofs.Common.{Bool, Err, List, None, Ok, Option, Result, Some, ℕ, [], ap, false}
-use Rattle.std.proofs.Common.{if◌then◌else◌, is_some, map, not, refl, subst, true, ◌++◌, ◌∙◌, ◌∷◌}
-use Rattle.std.proofs.Common.{◌≡◌}
-use Rattle.std.proofs.lemmas.Bool.{and_parts, not-true}
-use Rattle.market_terms.specs.Dealers.{are_distinct}
+use Rattle.venue_laws.proofs.Common.{Bool, Err, List, None, Ok, Option, Result, Some, ℕ, [], ap}
+use Rattle.venue_laws.proofs.Common.{false, if◌then◌else◌, inr, map, not, refl, subst, true, ◌++◌}
+use Rattle.venue_laws.proofs.Common.{◌∙◌, ◌∷◌, ◌≡◌, and_parts, both_ways, not-true, append-nil}
+use Rattle.venue_laws.proofs.Common.{are_distinct, HitRefusal, Duty, ResponseRef, RoomRef, Ended}
+use Rattle.venue_laws.proofs.Common.{end_of, ended_as, is_ended, is_open, is_readied, is_ready}
+use Rattle.venue_laws.proofs.Common.{opened_for, request_of, End, RoomRequest, replies_to}
+use Rattle.venue_laws.proofs.Common.{close_for, Actor, Effect, QuoteRef, in_room, lifting}
+use Rattle.venue_laws.proofs.Common.{AuditTrail, Lifted, sweep_effect, Every, every_both, In}
+use Rattle.venue_laws.proofs.Common.{any_left, in_right, said_after, investor_grown}
+use Rattle.venue_laws.proofs.Common.{investor_in_room, own_room, room_grown, AtDealer, Fact, InRoom}
+use Rattle.venue_laws.proofs.Common.{of_investor, of_room}
 use Rattle.market_terms.specs.declared.closes.Close.TheVariants as closes
-use Rattle.market_terms.specs.declared.closes.HitRefusal.{HitRefusal}
-use Rattle.market_terms.specs.declared.duties.Duty.{Duty}
+use Rattle.market_terms.specs.declared.closes.Reply.{Reply}
 use Rattle.market_terms.specs.declared.duties.Duty.TheVariants as duty
-use Rattle.market_terms.specs.declared.rooms.ResponseRef.{ResponseRef}
-use Rattle.market_terms.specs.declared.rooms.RoomRef.{RoomRef}
 use Rattle.request_room.specs.Book.{event_facts, expired, is_past_deadline, may_expire, passed}
-use Rattle.request_room.specs.Book.{where_so}
-use Rattle.request_room.specs.RoomFacts.{Ended, end_of, ended_as, is_ended, is_open, is_ready}
-use Rattle.request_room.specs.RoomFacts.{names, request_of}
-use Rattle.request_room.specs.declared.ends.End.{End}
 use Rattle.request_room.specs.declared.events.RoomEvent.TheVariants as at_room
-use Rattle.request_room.specs.declared.requests.RoomRequest.{RoomRequest}
-use Rattle.venue_steps.specs.InvestorSteps.{replies_to}
-use Rattle.venue_steps.specs.RoomSteps.{close_for, dealers_of, duties_of_pass, reply_to_pass}
-use Rattle.venue_steps.specs.RoomSteps.{told_in}
-use Rattle.venue_places.specs.declared.actors.Actor.{Actor}
+use Rattle.venue_steps.specs.RoomSteps.{dealers_of, duties_of_pass, reply_to_pass, told_in}
 use Rattle.venue_places.specs.declared.actors.Actor.TheVariants as actor
-use Rattle.step_replay.specs.Actions.{Effect, QuoteRef, in_room, lifting}
-use Rattle.step_replay.specs.AuditTrail.{AuditTrail}
-use Rattle.step_replay.specs.DealerTrail.{Lifted}
-use Rattle.step_replay.specs.DutyEffects.{sweep_effect}
-use Rattle.step_replay.specs.EachLemmas.{Every, every_both}
-use Rattle.step_replay.specs.GrowthLemmas.{In, in_right, said_after}
-use Rattle.step_replay.specs.PlaceLemmas.{investor_grown, investor_in_room, own_room, room_grown}
-use Rattle.step_replay.specs.VenueFacts.{AtDealer, Fact, InRoom, of_investor, of_room}
-use Rattle.venue_laws.proofs.ListLemmas.{every_map, in_map, in_named, named_in, none_some}
+use Rattle.venue_laws.proofs.ListLemmas.{found_in, in_map, in_named, named_in, none_some, some_of}
 use Rattle.venue_laws.proofs.PlainFacts.{AreQuiet, is_quiet}
-use Rattle.venue_laws.proofs.VenueGrowth.{end_later, known_later, later_both, marks_both}
-use Rattle.venue_laws.proofs.VenueGrowth.{marks_each, named_already, named_later, opened_later}
-use Rattle.venue_laws.proofs.VenueGrowth.{ready_later, request_later}
-use Rattle.venue_laws.proofs.VenueInvariant.{DutyOk, ReadyIn, RespondsIn}
-use Rattle.venue_laws.proofs.VenueKinds.{OrderThen, in_it, known, queued, quiet_brings, room_brings}
-use Rattle.venue_laws.proofs.VenueKinds.{same_markets, when_brings}
-use Rattle.venue_laws.proofs.VenueKnown.{opened_in, ready_in}
-use Rattle.venue_laws.proofs.VenueOpenings.{each_once}
-use Rattle.venue_laws.proofs.VenueParts.{Later, LiftedIn, Telling, WasLeft, closer, mark_of, marks}
-use Rattle.venue_laws.proofs.VenueSteps.{Brings, DutyThen, FactThen, Here, day, queue, since}
-use Rattle.venue_laws.proofs.VenueTurns.{left_parts, own_left}
-
--- whom a request names
-listed_named : (request : Option RoomRequest) (dealer : ℕ) → In dealer (dealers_of request)
-    → names request dealer ≡ true
-listed_named None dealer is = absurd is
-listed_named (Some request) dealer is = named_in dealer request.dealers is
-
-named_listed : (request : Option RoomRequest) (dealer : ℕ) → names request dealer ≡ true
-    → In dealer (dealers_of request)
-named_listed None dealer is = cc
-named_listed (Some request) dealer is = in_named dealer request.dealers is
+use Rattle.venue_laws.proofs.VenueInvariant.{RespondsIn}
+use Rattle.venue_laws.proofs.VenueKinds.{Fine, each_once, fine_left, in_it, known, quiet_brings}
+use Rattle.venue_laws.proofs.VenueKinds.{room_brings, same_markets, where_brings}
+use Rattle.venue_laws.proofs.VenueKnown.{opened_in, ready_opened}
+use Rattle.venue_laws.proofs.VenueParts.{Later, LiftedIn, Telling, closer, duties_by, known_later}
+use Rattle.venue_laws.proofs.VenueParts.{mark_of, marks, marks_both, named_already, named_later}
+use Rattle.venue_laws.proofs.VenueParts.{said_later}
+use Rattle.venue_laws.proofs.VenueSteps.{Brings, FactThen, Here, day, queue, to_now}
+use Rattle.venue_laws.proofs.VenueTurns.{own_left}
 
 -- what is lifted, where something is, stands at no other place
 
@@ -64,33 +38,31 @@ lifting_is P none one None outcome = none
 lifting_is P none one (Some hit) (Ok award) = one hit
 lifting_is P none one (Some hit) (Err why) = none
 
-lifting_elsewhere : (room : RoomRef) (found : Option QuoteRef) (outcome : Result End HitRefusal)
-    → of_room room (lifting found outcome) ≡ []
-unfolding of_room
-lifting_elsewhere room = lifting_is (λ l. of_room room l ≡ []) refl (λ hit. refl)
-
-lifting_away : (investor : ℕ) (found : Option QuoteRef) (outcome : Result End HitRefusal)
-    → of_investor investor (lifting found outcome) ≡ []
-unfolding of_investor
-lifting_away investor = lifting_is (λ l. of_investor investor l ≡ []) refl (λ hit. refl)
-
 pub none_lifted : (found : Option QuoteRef) (why : HitRefusal) → lifting found (Err why) ≡ []
 none_lifted None why = refl
 none_lifted (Some hit) why = refl
 
 module _ (h : Here) (room : RoomRef) where
-  untold : end_of (known h room) ≡ None → (dealer : ℕ) (left : Duty)
-      → mark_of left ≡ Some (Telling dealer room) → DutyOk h.config h.by left h.venue → ⊥
-  untold none dealer (duty.Tell other at close moment) does fits =
-      let same : at ≡ room = cc in
-      cc (rw (same, none) at fits.end_is)
-  untold none dealer other does fits = cc
-
   -- who is told
   abbrev listed : List ℕ
   listed = dealers_of (request_of (known h room))
 
-  -- An end, where the room was open.
+  -- A room that is open.
+
+  module _ (is : is_open (known h room) ≡ true) where
+    parts : (is_ready (known h room) ≡ true) × (not (is_ended (known h room)) ≡ true)
+    parts = and_parts (is_ready (known h room)) (not (is_ended (known h room))) is
+
+    request : (r : RoomRequest) × (request_of (known h room) ≡ Some r)
+    request =
+        some_of (request_of (known h room)) (ready_opened h.stood room parts.0)
+
+    distinct : are_distinct listed ≡ true
+    distinct =
+        ap (λ (r : Option RoomRequest). are_distinct (dealers_of r)) request.1
+        ∙ (opened_in h.stood room request.0 request.1).1.ok.distinct
+
+  -- Its end.
 
   module _ (end : End) (moment : ℕ) (left : Duty) (lifted : Option QuoteRef) where
     abbrev pub ending : Effect
@@ -100,75 +72,50 @@ module _ (h : Here) (room : RoomRef) where
     }
 
     module _ (is : is_open (known h room) ≡ true) (by_is : h.by ≡ closer end.kind room)
-        (free : mark_of left ≡ None) (left_ok : DutyThen h ending left)
+        (fine : Fine h ending left)
         (hits : (now : AuditTrail) → Later (day h ending) now → (dealer : ℕ)
         → close_for end dealer ≡ closes.Hit → LiftedIn now.facts dealer room) where
       abbrev tell : ℕ → Duty
       tell dealer = duty.Tell dealer room (close_for end dealer) moment
 
-      parts : (is_ready (known h room) ≡ true) × (not (is_ended (known h room)) ≡ true)
-      parts = and_parts (is_ready (known h room)) (not (is_ended (known h room))) is
-
-      no_end : end_of (known h room) ≡ None
-      no_end = none_some (end_of (known h room)) (not-true (is_ended (known h room)) parts.1)
-
-      ready : ReadyIn h.config room h.venue
-      ready = ready_in h.config h.venue h.stood room parts.0
-
-      marks_are : marks ending.duties ≡ map (λ dealer. Telling dealer room) listed
-      marks_are =
-          rw free (marks_each tell (λ dealer. Telling dealer room) (λ dealer. refl) listed)
-
       end_now : end_of (of_room room (day h ending).facts) ≡ Some end
+      unfolding of_room
       end_now =
           rw (
             room_grown room h.venue.facts ending.facts,
             room_grown room (lifting lifted (Ok end)) (map (InRoom room) (Ended end moment ∷ [])),
-            lifting_elsewhere room lifted (Ok end),
+            lifting_is (λ l. of_room room l ≡ []) refl (λ hit. refl) lifted (Ok end),
             own_room room (Ended end moment ∷ []),
-          ) (said_after ended_as (known h room) (Ended end moment ∷ []) no_end)
+          ) (said_after ended_as (known h room) (Ended end moment ∷ [])
+          (none_some (end_of (known h room)) (not-true (is_ended (known h room)) (parts is).1)))
 
       -- that each named dealer is told it was left
       told_left : (dealer : ℕ) → In dealer listed
-          → WasLeft (day h ending) (closer end.kind room) (Telling dealer room)
+          → In (tell dealer) (duties_by (closer end.kind room) (day h ending).caused)
       told_left dealer is =
-          subst (λ (a : Actor). WasLeft (day h ending) a (Telling dealer room)) by_is
-          (rw (
-            left_parts h.venue h.by ending h.by,
-            own_left h.by ending.duties,
-            marks_both (queue h) ending.duties,
-            marks_are,
-          )
-          (in_right (Telling dealer room) (marks (queue h)) _
-          (in_map (λ dealer. Telling dealer room) dealer listed is)))
+          subst (λ (a : Actor). In (tell dealer) (duties_by a (day h ending).caused)) by_is
+          (rw (own_left h.venue h.by ending) (in_right (tell dealer) (queue h) ending.duties
+          (inr (in_map tell dealer listed is))))
 
       ended : FactThen h ending (InRoom room (Ended end moment))
-      ended now later =
-          let to_now = later_both (since h ending) later in
-          record {
-            request = ready.request;
-            request_is = request_later to_now room ready.request ready.request_is;
-            ready = ready_later to_now room parts.0;
-            told = λ dealer named. later.left (closer end.kind room) (Telling dealer room)
-                (told_left dealer (named_listed (request_of (known h room)) dealer
-                (named_already to_now room ready.request dealer ready.request_is named)));
-          }
-
-      order : OrderThen h ending (map (λ dealer. Telling dealer room) listed)
-      order =
-          each_once (day h ending) (λ dealer. Telling dealer room) (λ dealer other same. cc)
-          (λ before dealer now later. tt) (marks (queue h)) listed
-          (ap (λ (r : Option RoomRequest). are_distinct (dealers_of r)) ready.request_is
-          ∙ (opened_in h.config h.venue h.stood room ready.request ready.request_is).distinct)
-          (λ dealer among is. let left = queued h (Telling dealer room) is in
-          untold no_end dealer left.left left.mark_is left.ok)
+      ended now later = record {
+        ready = rw ((to_now h ending later).facts_are, room_grown)
+            (any_left is_readied (known h room) _ (parts is).0);
+        told = λ dealer named.
+            found_in mark_of (tell dealer) (Telling dealer room) _ refl
+            (later.left (closer end.kind room) (tell dealer) (told_left dealer
+            (rw ((request is).1) (in_named dealer (request is).0.dealers (rw ((request is).1) at
+            (named_already (to_now h ending later) room (request is).0 dealer (request is).1
+            named))))));
+      }
 
       away : (investor : ℕ) → of_investor investor ending.facts ≡ []
+      unfolding of_investor
       away investor =
           rw (
             investor_grown investor (lifting lifted (Ok end))
                 (map (InRoom room) (Ended end moment ∷ [])),
-            lifting_away investor lifted (Ok end),
+            lifting_is (λ l. of_investor investor l ≡ []) refl (λ hit. refl) lifted (Ok end),
           ) (investor_in_room investor room (Ended end moment ∷ []))
 
       pub ended_brings : Brings h ending
@@ -179,24 +126,38 @@ module _ (h : Here) (room : RoomRef) where
           (every_both (FactThen h ending) (lifting lifted (Ok end)) _
           (lifting_is (Every (FactThen h ending)) tt (λ hit. (λ now later. tt, tt)) lifted
           (Ok end)) (ended, tt)) (
-            left_ok,
-            every_map (DutyThen h ending) tell listed (λ dealer named now later. record {
-              end = end;
-              end_is = end_later later room end end_now;
-              by_is = by_is;
-              close_is = refl;
-              named = named_later (later_both (since h ending) later) room dealer
-                  (listed_named (request_of (known h room)) dealer named);
-              hit = hits now later dealer;
-            }),
+            (fine.0, rw (fine.1) tt),
+            each_once h ending tell (λ dealer. Telling dealer room) (λ dealer. refl)
+                (λ dealer other same. cc) (λ before dealer now later. tt) (queue h ++ left ∷ [])
+                (rw (marks_both (queue h) (left ∷ []), fine.1) (append-nil (marks (queue h)))) listed
+                (distinct is) (λ dealer ends. both_ways (is_ended (known h room))
+                (not-true (is_ended (known h room)) (parts is).1) ends)
+                (λ dealer named now later. record {
+                  end = end;
+                  end_is = said_later later ended_as room end end_now;
+                  by_is = by_is;
+                  close_is = refl;
+                  named = named_later (to_now h ending later) room dealer
+                      (rw ((request is).1) (named_in dealer (request is).0.dealers
+                      (rw ((request is).1) at named)));
+                  hit = hits now later dealer;
+                }),
           )
-          (rw marks_are order)
           (λ investor. same_markets h ending.facts investor (away investor))
 
   -- one duty that does nothing once, where nothing ends
-  pub left_brings : (left : Duty) → mark_of left ≡ None
-      → DutyThen h (in_it h room [] (left ∷ [])) left → Brings h (in_it h room [] (left ∷ []))
-  left_brings left free ok = room_brings h room [] (left ∷ []) tt (ok, tt) (rw free tt)
+  pub left_brings : (left : Duty) → Fine h (in_it h room [] (left ∷ [])) left
+      → Brings h (in_it h room [] (left ∷ []))
+  left_brings left fine =
+      room_brings h room [] (left ∷ []) tt
+      (fine_left h (in_it h room [] (left ∷ [])) (queue h) (left ∷ []) (fine, tt))
+
+  -- the reply to a response of the investor
+  pub answered : {some : Bool} (response : ResponseRef) (reply : Reply) (moment : ℕ)
+      → RespondsIn h.config h.by room response some h.venue → replies_to response.k reply ≡ true
+      → (effect : Effect) → Fine h effect (duty.Answer room response reply moment)
+  answered response reply moment fits replies effect =
+      (λ now later. (replies, known_later (to_now h effect later) room response.k fits.known), refl)
 
   -- A pass, and an expiry.
 
@@ -206,48 +167,34 @@ module _ (h : Here) (room : RoomRef) where
       (duties_of_pass (known h room) room response moment))
   unfolding event_facts
   passed_brings response moment passes =
-      when_brings h _ _ (λ test. by_test (is_open (known h room)) refl)
+      let none = none_some response.k passes.some_is in
+      where_brings h room _ (is_open (known h room)) (Ended passed moment)
+      (λ (b : Bool). reply b ∷ (if b then told_in (known h room) room passed moment else []))
+      (λ is. ended_brings passed moment (reply true) None is passes.by_is
+      (answered response (reply_to_pass true) moment passes (rw none refl)
+      (ending passed moment (reply true) None)) (λ now later dealer hit. cc))
+      (left_brings (reply false) (answered response (reply_to_pass false) moment passes
+      (rw none refl) (in_it h room [] (reply false ∷ []))))
     where
       reply : Bool → Duty
       reply b = duty.Answer room response (reply_to_pass b) moment
-
-      answers_so : (b : Bool) → replies_to None (reply_to_pass b) ≡ true
-      answers_so true = refl
-      answers_so false = refl
-
-      answered : (b : Bool) (effect : Effect) → DutyThen h effect (reply b)
-      answered b effect now later = (
-        rw (none_some response.k passes.some_is) (answers_so b),
-        known_later (later_both (since h effect) later) room response.k passes.known,
-      )
-
-      by_test : (b : Bool) → is_open (known h room) ≡ b → Brings h (in_it h room
-          (where_so b (Ended passed moment))
-          (reply b ∷ (if b then told_in (known h room) room passed moment else [])))
-      by_test true is =
-          ended_brings passed moment (reply true) None is passes.by_is refl
-          (answered true (ending passed moment (reply true) None))
-          (λ now later dealer hit. cc)
-      by_test false is =
-          left_brings (reply false) refl (answered false (in_it h room [] (reply false ∷ [])))
 
   pub expired_brings : (moment : ℕ) → h.by ≡ actor.Clock
       → Brings h (sweep_effect h.config h.venue.facts room moment)
   unfolding event_facts sweep_effect
   expired_brings moment by_is =
-      when_brings h _ _ (λ test. by_test (may_expire (known h room) moment) refl)
+      where_brings h room _ (may_expire (known h room) moment) (Ended expired moment)
+      (λ (b : Bool). if b then close ∷ told_in (known h room) room expired moment else [])
+      (λ is.
+      let was_open = (and_parts (is_open (known h room))
+      (is_past_deadline (request_of (known h room)) moment) is).0 in
+      ended_brings expired moment close None was_open by_is (
+        λ now later. rw (said_later (to_now h (ending expired moment close None) later) opened_for
+            room (request was_open).0 (request was_open).1) refl,
+        refl,
+      )
+      (λ now later dealer hit. cc))
+      (room_brings h room [] [] tt tt)
     where
-      by_test : (b : Bool) → may_expire (known h room) moment ≡ b → Brings h (in_it h room
-          (where_so b (Ended expired moment))
-          (if b then duty.Close room moment ∷ told_in (known h room) room expired moment else []))
-      by_test false is = room_brings h room [] [] tt tt tt
-      by_test true is =
-          let was_open = (and_parts (is_open (known h room))
-          (is_past_deadline (request_of (known h room)) moment) is).0 in
-          let stood = ready_in h.config h.venue h.stood room (and_parts (is_ready (known h room))
-          (not (is_ended (known h room))) was_open).0 in
-          ended_brings expired moment (duty.Close room moment) None was_open by_is refl
-          (λ now later. opened_later (later_both
-          (since h (ending expired moment (duty.Close room moment) None)) later) room
-          (ap (λ (r : Option RoomRequest). is_some r) stood.request_is))
-          (λ now later dealer hit. cc)
+      close : Duty
+      close = duty.Close room moment

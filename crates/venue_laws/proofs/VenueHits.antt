@@ -1,61 +1,40 @@
 -- A hit brings what stands in a venue: where it awards, the winner's quote of the book is lifted.
-use Rattle.std.proofs.Common.{Bool, Err, List, None, Ok, Option, Result, Some, ℕ, [], ap, arith}
-use Rattle.std.proofs.Common.{eq-eqb, false, if◌then◌else◌, map, option_map, refl, subst, sym, true}
-use Rattle.std.proofs.Common.{◌++◌, ◌+◌, ◌∙◌, ◌∷◌, ◌≡◌}
-use Rattle.std.proofs.lemmas.Bool.{not-false, or_left}
-use Rattle.std.proofs.lemmas.Bool.Decides.{nat_tests}
+use Rattle.venue_laws.proofs.Common.{Bool, Err, List, None, Ok, Option, Result, Some, ℕ, [], ap}
+use Rattle.venue_laws.proofs.Common.{arith, eq-eqb, false, if◌then◌else◌, inl, inr, map, refl}
+use Rattle.venue_laws.proofs.Common.{subst, sym, true, ◌++◌, ◌+◌, ◌∙◌, ◌∷◌, ◌≡◌, cases_Bool}
+use Rattle.venue_laws.proofs.Common.{eqb-true, not-false, or_left, HitRefusal, Duty, ResponseRef}
+use Rattle.venue_laws.proofs.Common.{RoomRef, Settled, hit_checks, hit_refusal, quote_meant, Ended}
+use Rattle.venue_laws.proofs.Common.{RoomFact, is_open, End, close_for, Effect, QuoteRef, lifting}
+use Rattle.venue_laws.proofs.Common.{quote_with_word, Lifted, lifts, any_right, dealer_grown}
+use Rattle.venue_laws.proofs.Common.{own_trail, Fact, InRoom, of_dealer, none_holds}
 use Rattle.market_terms.specs.declared.closes.Close.TheVariants as closes
-use Rattle.market_terms.specs.declared.closes.HitRefusal.{HitRefusal}
-use Rattle.market_terms.specs.declared.closes.HitRefusal.TheVariants as refusal
-use Rattle.market_terms.specs.declared.duties.Duty.{Duty}
 use Rattle.market_terms.specs.declared.duties.Duty.TheVariants as duty
-use Rattle.market_terms.specs.declared.rooms.ResponseRef.{ResponseRef}
-use Rattle.market_terms.specs.declared.rooms.RoomRef.{RoomRef}
-use Rattle.quote_word.specs.declared.settled.Settled.{Settled}
-use Rattle.request_room.specs.Book.{award_of, book_of, end_by, event_facts, hit_checks, hit_outcome}
-use Rattle.request_room.specs.Book.{hit_refusal, hit_settled, is_lift, quote_meant, reply_of}
-use Rattle.request_room.specs.RoomFacts.{Ended, RoomFact, is_open}
-use Rattle.request_room.specs.declared.ends.End.{End}
+use Rattle.request_room.specs.Book.{award_of, book_of, end_by, event_facts, hit_outcome, is_lift}
+use Rattle.request_room.specs.Book.{reply_of}
 use Rattle.request_room.specs.declared.quotes.PostedQuote.{PostedQuote as BookQuote}
-use Rattle.venue_steps.specs.InvestorSteps.{replies_to}
-use Rattle.venue_steps.specs.RoomSteps.{close_for, is_cover, is_winner, told_of_hit}
-use Rattle.step_replay.specs.Actions.{Effect, QuoteRef, hit_with, lifting, quote_with_word}
-use Rattle.step_replay.specs.DealerTrail.{Lifted, lifts}
-use Rattle.step_replay.specs.GrowthLemmas.{any_right}
+use Rattle.venue_steps.specs.RoomSteps.{is_cover, is_winner, told_of_hit}
+use Rattle.step_replay.specs.Actions.{hit_with}
 use Rattle.step_replay.specs.OwnerLemmas.{owner_among, quote_at}
-use Rattle.step_replay.specs.PlaceLemmas.{dealer_grown, own_trail}
-use Rattle.step_replay.specs.VenueFacts.{Fact, InRoom, of_dealer}
-use Rattle.venue_laws.proofs.AcceptedQuotes.{none_holds}
-use Rattle.venue_laws.proofs.ListLemmas.{some_of}
-use Rattle.venue_laws.proofs.VenueEnds.{ended_brings, ending, left_brings, none_lifted}
-use Rattle.venue_laws.proofs.VenueGrowth.{known_later, later_both, lifted_later, quoted_later}
+use Rattle.venue_laws.proofs.ListLemmas.{cases_some, some_of}
+use Rattle.venue_laws.proofs.VenueEnds.{answered, ended_brings, ending, left_brings, none_lifted}
 use Rattle.venue_laws.proofs.VenueInvariant.{PostedIn, RespondsIn}
 use Rattle.venue_laws.proofs.VenueKinds.{in_it, known}
 use Rattle.venue_laws.proofs.VenueKnown.{posted_in}
-use Rattle.venue_laws.proofs.VenueParts.{LiftedIn, closer}
-use Rattle.venue_laws.proofs.VenueSteps.{Brings, DutyThen, Here, day, since, trail_of}
+use Rattle.venue_laws.proofs.VenueParts.{LiftedIn, closer, lifted_later, quoted_later}
+use Rattle.venue_laws.proofs.VenueSteps.{Brings, Here, day, since, trail_of}
 
 -- a hit that awards asked a word that no check refused, and ends as the book says
-pub record Awards (facts : List RoomFact) (word moment : ℕ) (award : End) : Type 0 where
-  pub unrefused : hit_refusal facts word moment ≡ None
-  pub award_is : award ≡ award_of facts word
-
-pub awards : (facts : List RoomFact) (word moment : ℕ) (settlement : Option Settled) (award : End)
-    → hit_outcome facts word moment settlement ≡ Ok award → Awards facts word moment award
+awards : (facts : List RoomFact) (word moment : ℕ) (settlement : Option Settled) (award : End)
+    → hit_outcome facts word moment settlement ≡ Ok award
+    → (hit_refusal facts word moment ≡ None) × (award_of facts word ≡ award)
 awards facts word moment settlement award is =
-    by_refusal (hit_refusal facts word moment) refl is
-  where
-    by_lift : (b : Bool) → hit_refusal facts word moment ≡ None
-        → (if b then Ok (award_of facts word) else Err refusal.Withdrawn) ≡ Ok award
-        → Awards facts word moment award
-    by_lift true none found = record { unrefused = none; award_is = cc }
-    by_lift false none found = cc
-
-    by_refusal : (refused : Option HitRefusal) → hit_refusal facts word moment ≡ refused
-        → hit_settled refused settlement (award_of facts word) ≡ Ok award
-        → Awards facts word moment award
-    by_refusal (Some why) refused found = cc
-    by_refusal None refused found = by_lift (is_lift settlement) refused found
+    elim (cases_some (hit_refusal facts word moment)) [
+      | inr some ↦ cc (rw (some.1) at is)
+      | inl none ↦ elim (cases_Bool (is_lift settlement)) [
+        | inr withdrawn ↦ cc (rw (none, withdrawn) at is)
+        | inl lifts ↦ (none, cc (rw (none, lifts) at is))
+      ]
+    ]
 
 -- who is told of a hit is the winner
 winner_is : (b c : Bool)
@@ -66,17 +45,7 @@ winner_is false true is = cc
 winner_is false false is = cc
 
 module _ (h : Here) (room : RoomRef) where
-  -- the quote of a posted word
-  found_word : (quote : BookQuote) (posted : PostedIn h.config room quote h.venue)
-      → quote_with_word h.config quote.word ≡ Some (quote_at quote.dealer posted.quote)
-  found_word quote posted =
-      let number : 0 + quote.dealer ≡ quote.dealer = omega arith in
-      ap (quote_with_word h.config) posted.word_is
-      ∙ owner_among 0 h.config.dealers quote.dealer posted.row posted.quote posted.row_is
-      posted.within
-      ∙ ap (λ (n : ℕ). Some (quote_at n posted.quote)) number
-
-  module _ (word moment : ℕ) (award : End) (award_is : award ≡ award_of (known h room) word)
+  module _ (word : ℕ) (award : End) (award_is : award_of (known h room) word ≡ award)
       (rest : List Fact) where
     -- what an award adds
     abbrev lift_with : Option QuoteRef → Effect
@@ -106,21 +75,23 @@ module _ (h : Here) (room : RoomRef) where
     winner_lifted : (dealer : ℕ) → close_for award dealer ≡ closes.Hit
         → Lifts (quote_with_word h.config word) dealer
     winner_lifted dealer hit =
-        by_quote (quote_meant (book_of (known h room)) word) refl
-        (winner_is (is_winner (award_of (known h room) word).winner dealer)
-        (is_cover (award_of (known h room) word).cover dealer) (rw award_is at hit))
-      where
-        by_quote : (found : Option BookQuote) → quote_meant (book_of (known h room)) word ≡ found
-            → is_winner (option_map (λ (q : BookQuote). (q.dealer, q.word)) found) dealer ≡ true
-            → Lifts (quote_with_word h.config word) dealer
-        by_quote None found wins = cc
-        by_quote (Some quote) found wins =
-            let posted = posted_in h.config h.venue h.stood room word quote found in
-            let dealer_is : quote.dealer ≡ dealer = grind (arith, nat_tests) in
-            subst (Lifts (quote_with_word h.config word)) dealer_is
-            (subst (λ (o : Option QuoteRef). Lifts o quote.dealer)
-            (sym (ap (quote_with_word h.config) (sym posted.0) ∙ found_word quote posted.1))
-            (lift quote posted.1))
+        let wins = winner_is (is_winner (award_of (known h room) word).winner dealer)
+        (is_cover (award_of (known h room) word).cover dealer) (rw (← award_is) at hit) in
+        elim (cases_some (quote_meant (book_of (known h room)) word)) [
+          | inl none ↦ cc (rw none at wins)
+          | inr some ↦
+              let quote = some.0 in
+              let posted = posted_in h.stood room word quote some.1 in
+              let number : 0 + quote.dealer ≡ quote.dealer = omega arith in
+              subst (Lifts (quote_with_word h.config word))
+              (eqb-true quote.dealer dealer (rw (some.1) at wins))
+              (subst (λ (o : Option QuoteRef). Lifts o quote.dealer)
+              (sym (ap (quote_with_word h.config) (sym posted.0 ∙ posted.1.word_is)
+              ∙ owner_among 0 h.config.dealers quote.dealer posted.1.row posted.1.quote
+              posted.1.row_is posted.1.within
+              ∙ ap (λ (n : ℕ). Some (quote_at n posted.1.quote)) number))
+              (lift quote posted.1))
+        ]
 
   pub hit_brings : (response : ResponseRef) (word moment : ℕ) (settlement : Option Settled)
       → RespondsIn h.config h.by room response true h.venue
@@ -132,22 +103,8 @@ module _ (h : Here) (room : RoomRef) where
       replied : Result End HitRefusal → Duty
       replied outcome = duty.Answer room response (reply_of outcome) moment
 
-      answers_so : (outcome : Result End HitRefusal) (quote : ℕ)
-          → replies_to (Some quote) (reply_of outcome) ≡ true
-      answers_so (Ok award) quote = refl
-      answers_so (Err why) quote = refl
-
-      answered : (outcome : Result End HitRefusal) (effect : Effect)
-          → DutyThen h effect (replied outcome)
-      answered outcome effect now later = (
-        let quote = some_of response.k hits.some_is in rw (quote.1) (answers_so outcome quote.0),
-        known_later (later_both (since h effect) later) room response.k hits.known,
-      )
-
-      opened_yet : hit_refusal (known h room) word moment ≡ None → is_open (known h room) ≡ true
-      opened_yet none =
-          not-false (is_open (known h room))
-          (none_holds (hit_checks (known h room) word moment) none).0
+      quote : (n : ℕ) × (response.k ≡ Some n)
+      quote = some_of response.k hits.some_is
 
       by_outcome : (outcome : Result End HitRefusal)
           → hit_outcome (known h room) word moment settlement ≡ outcome
@@ -158,16 +115,17 @@ module _ (h : Here) (room : RoomRef) where
           })
       by_outcome (Ok award) is =
           let so = awards (known h room) word moment settlement award is in
-          ended_brings h room award moment (replied (Ok award)) (quote_with_word h.config word)
-          (opened_yet so.unrefused)
-          (hits.by_is ∙ sym (ap (λ (e : End). closer e.kind room) so.award_is)) refl
-          (answered (Ok award) (ending h room award moment (replied (Ok award))
-          (quote_with_word h.config word)))
-          (λ now later dealer hit. lifted_later later dealer room (winner_lifted word moment award
-          so.award_is (map (InRoom room) (Ended award moment ∷ [])) dealer hit))
+          let lifted = quote_with_word h.config word in
+          ended_brings h room award moment (replied (Ok award)) lifted
+          (not-false (is_open (known h room))
+          (none_holds (hit_checks (known h room) word moment) so.0).0)
+          (hits.by_is ∙ ap (λ (e : End). closer e.kind room) so.1)
+          (answered h room response (reply_of (Ok award)) moment hits (rw (quote.1) refl)
+          (ending h room award moment (replied (Ok award)) lifted))
+          (λ now later dealer hit. lifted_later later dealer room (winner_lifted word award so.1
+          (map (InRoom room) (Ended award moment ∷ [])) dealer hit))
       by_outcome (Err why) is =
-          subst (λ (l : List Fact).
-          Brings h (record { facts = l ++ []; duties = replied (Err why) ∷ [] }))
-          (sym (none_lifted (quote_with_word h.config word) why))
-          (left_brings h room (replied (Err why)) refl
-          (answered (Err why) (in_it h room [] (replied (Err why) ∷ []))))
+          rw (none_lifted (quote_with_word h.config word) why)
+          (left_brings h room (replied (Err why))
+          (answered h room response (reply_of (Err why)) moment hits (rw (quote.1) refl)
+          (in_it h room [] (replied (Err why) ∷ []))))

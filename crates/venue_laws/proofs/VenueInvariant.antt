@@ -1,42 +1,24 @@
 -- What stands in every venue of rooms, desks and the duties that were left: at each fact, at each
 -- duty, and at each desk.
-use Rattle.std.proofs.Common.{Bool, List, None, Some, ℕ, [], count_by, false, is_some, length}
-use Rattle.std.proofs.Common.{nat_le, true, ◌&&◌, ◌≡◌, ◌≤◌}
-use Rattle.market_terms.specs.Dealers.{are_distinct}
-use Rattle.market_terms.specs.declared.asks.Ask.{Ask}
-use Rattle.market_terms.specs.declared.closes.Close.{Close}
+use Rattle.venue_laws.proofs.Common.{Bool, List, None, Some, ℕ, [], count_by, false, is_some}
+use Rattle.venue_laws.proofs.Common.{length, nat_le, true, ◌&&◌, ◌≡◌, ◌≤◌, are_distinct, Ask, Close}
+use Rattle.venue_laws.proofs.Common.{Duty, ResponseRef, RoomRef, Configuration, dealer_numbered}
+use Rattle.venue_laws.proofs.Common.{has_room, DealerRow, Shown, Told, Ended, Opened, Posted}
+use Rattle.venue_laws.proofs.Common.{Readied, RoomFact, end_of, is_named, is_ready, End}
+use Rattle.venue_laws.proofs.Common.{RoomRequest, replies_to, close_for, Actor, dealer_of, word_for}
+use Rattle.venue_laws.proofs.Common.{AuditTrail, is_same_actor, AtDesk, DealerEntry, ShownIn}
+use Rattle.venue_laws.proofs.Common.{rooms_by, Each, Every, AreNumbered, In, Seen, AtDealer}
+use Rattle.venue_laws.proofs.Common.{AtInvestor, Fact, InRoom, of_dealer, of_room, IsOneOf}
 use Rattle.market_terms.specs.declared.closes.Close.TheVariants as closes
-use Rattle.market_terms.specs.declared.duties.Duty.{Duty}
 use Rattle.market_terms.specs.declared.duties.Duty.TheVariants as duty
-use Rattle.market_terms.specs.declared.rooms.ResponseRef.{ResponseRef}
-use Rattle.market_terms.specs.declared.rooms.RoomRef.{RoomRef}
-use Rattle.venue_rows.specs.Rows.{Configuration, dealer_numbered, has_room}
-use Rattle.venue_rows.specs.declared.dealer_rows.DealerRow.{DealerRow}
-use Rattle.dealer_desk.specs.DealerFacts.{Shown, Told}
-use Rattle.request_room.specs.RoomFacts.{Ended, Opened, Posted, Readied, RoomFact, end_of, is_named}
-use Rattle.request_room.specs.RoomFacts.{is_ready, request_of}
-use Rattle.request_room.specs.declared.ends.End.{End}
 use Rattle.request_room.specs.declared.quotes.PostedQuote.{PostedQuote as BookQuote}
-use Rattle.request_room.specs.declared.requests.RoomRequest.{RoomRequest}
-use Rattle.venue_steps.specs.InvestorSteps.{replies_to}
-use Rattle.venue_steps.specs.RoomSteps.{close_for}
-use Rattle.venue_places.specs.declared.actors.Actor.{Actor}
 use Rattle.venue_places.specs.declared.actors.Actor.TheVariants as actor
-use Rattle.step_replay.specs.Actions.{dealer_of, word_for}
-use Rattle.step_replay.specs.AuditTrail.{AuditTrail, Caused, is_same_actor}
-use Rattle.step_replay.specs.DealerTrail.{AtDesk, DealerEntry, ShownIn, facts_of, rooms_by}
-use Rattle.step_replay.specs.EachLemmas.{Each, Every}
-use Rattle.step_replay.specs.GrowthLemmas.{AreNumbered}
-use Rattle.step_replay.specs.SeenLemmas.{Seen}
-use Rattle.step_replay.specs.VenueFacts.{AtDealer, AtInvestor, Fact, InRoom, of_dealer, of_room}
-use Rattle.step_replay.specs.WordLemmas.{IsOneOf}
-use Rattle.venue_laws.proofs.CountLemmas.{AreCounted}
 use Rattle.venue_laws.proofs.KnownDesks.{DeskFit}
-use Rattle.venue_laws.proofs.NoticeLemmas.{Noticed}
+use Rattle.venue_laws.proofs.NoticeLemmas.{IsNoticed}
 use Rattle.venue_laws.proofs.VenueParts.{BearsGrid, IsOpened, KnownIn, LiftedIn, MarkOk}
-use Rattle.venue_laws.proofs.VenueParts.{NamesLifted, Opening, OrderOk, QuotedIn, Readying, Showing}
-use Rattle.venue_laws.proofs.VenueParts.{Still, Telling, WasDone, WasLeft, closer, did_in}
-use Rattle.venue_laws.proofs.VenueParts.{duties_by, investor_facts, marks, number_for}
+use Rattle.venue_laws.proofs.VenueParts.{NamesLifted, OrderOk, QuotedIn, Still, Telling, WasLeft}
+use Rattle.venue_laws.proofs.VenueParts.{closer, did_in, duties_by, investor_facts, mark_of, marks}
+use Rattle.venue_laws.proofs.VenueParts.{number_for}
 
 module _ (config : Configuration) where
   -- one of the venue's dealers
@@ -55,73 +37,6 @@ module _ (config : Configuration) where
     pub who : ByDealer by
     pub named : is_named (of_room room facts) who.dealer ≡ true
 
-  -- Facts.
-
-  -- a room that was opened
-  pub record OpenedIn (room : RoomRef) (request : RoomRequest) (venue : AuditTrail) : Type 0 where
-    pub known : KnownIn room None venue.facts
-    pub distinct : are_distinct request.dealers ≡ true
-    pub are_dealers : Every IsDealer request.dealers
-    pub done : WasDone venue (actor.Firm room.investor) (Opening room)
-
-  -- a room for whose request each named dealer was shown it
-  pub record ReadyIn (room : RoomRef) (venue : AuditTrail) : Type 0 where
-    pub request : RoomRequest
-    pub request_is : request_of (of_room room venue.facts) ≡ Some request
-    pub shown : (dealer : ℕ) → is_named (of_room room venue.facts) dealer ≡ true
-        → is_some (number_for venue.facts dealer room) ≡ true
-    pub done : WasDone venue (actor.Firm room.investor) (Readying room)
-
-  -- a quote in a room: its dealer's
-  pub record PostedIn (room : RoomRef) (posted : BookQuote) (venue : AuditTrail) : Type 0 where
-    pub row : DealerRow
-    pub quote : ℕ
-    pub row_is : dealer_numbered config posted.dealer ≡ Some row
-    pub within : (nat_le 1 quote && nat_le quote row.quotes) ≡ true
-    pub word_is : posted.word ≡ word_for config (dealer_of posted.dealer row) quote
-    pub quoted : QuotedIn venue.facts posted.dealer room quote
-
-  -- an end of a room: that each named dealer is told it was left
-  pub record EndedIn (room : RoomRef) (end : End) (venue : AuditTrail) : Type 0 where
-    pub request : RoomRequest
-    pub request_is : request_of (of_room room venue.facts) ≡ Some request
-    pub ready : is_ready (of_room room venue.facts) ≡ true
-    pub told : (dealer : ℕ) → is_named (of_room room venue.facts) dealer ≡ true
-        → WasLeft venue (closer end.kind room) (Telling dealer room)
-
-  -- a room that was shown to a dealer
-  pub record ShownTo (dealer : ℕ) (room : RoomRef) (venue : AuditTrail) : Type 0 where
-    pub named : is_named (of_room room venue.facts) dealer ≡ true
-    pub done : WasDone venue (actor.Firm room.investor) (Showing dealer room)
-
-  -- a notice of a dealer, told by whom its kind of end says
-  pub record ClosedIn (dealer request : ℕ) (close : Close) (venue : AuditTrail) : Type 0 where
-    pub room : RoomRef
-    pub end : End
-    pub request_is : number_for venue.facts dealer room ≡ Some request
-    pub end_is : end_of (of_room room venue.facts) ≡ Some end
-    pub close_is : close ≡ close_for end dealer
-    pub done : WasDone venue (closer end.kind room) (Telling dealer room)
-
-  -- what stands where an entry of a dealer does, and a fact of a room
-  abbrev pub EntryOk : ℕ → DealerEntry → AuditTrail → Type 0
-  EntryOk dealer (AtDesk (Told request close moment)) venue = ClosedIn dealer request close venue
-  EntryOk dealer (AtDesk (Shown ask moment)) venue = BearsGrid config ask
-  EntryOk dealer (ShownIn room) venue = ShownTo dealer room venue
-  EntryOk dealer entry venue = Unit {0}
-
-  abbrev pub RoomOk : RoomRef → RoomFact → AuditTrail → Type 0
-  RoomOk room (Opened request) venue = OpenedIn room request venue
-  RoomOk room Readied venue = ReadyIn room venue
-  RoomOk room (Posted posted) venue = PostedIn room posted venue
-  RoomOk room (Ended end moment) venue = EndedIn room end venue
-  RoomOk room fact venue = Unit {0}
-
-  abbrev pub FactOk : Fact → AuditTrail → Type 0
-  FactOk (AtDealer dealer entry) venue = EntryOk dealer entry venue
-  FactOk (InRoom room fact) venue = RoomOk room fact venue
-  FactOk (AtInvestor investor entry) venue = Unit {0}
-
   -- Duties, by who left them.
 
   module _ (by : Actor) where
@@ -139,16 +54,7 @@ module _ (config : Configuration) where
       pub named : is_named (of_room room venue.facts) dealer ≡ true
       pub bears : BearsGrid config ask
 
-    pub record ReadiesBy (room : RoomRef) (venue : AuditTrail) : Type 0 where
-      pub by_is : by ≡ actor.Firm room.investor
-      pub opened : IsOpened room venue.facts
-
     -- a quote to be posted, or taken out, by its dealer
-    pub record PostsIn (room : RoomRef) (quote : ℕ) (venue : AuditTrail) : Type 0 where
-      pub named : ByNamed by room venue.facts
-      pub within : (nat_le 1 quote && nat_le quote named.who.row.quotes) ≡ true
-      pub quoted : QuotedIn venue.facts named.who.dealer room quote
-
     pub record UnpostsIn (room : RoomRef) (quote : ℕ) (venue : AuditTrail) : Type 0 where
       pub named : ByNamed by room venue.facts
       pub within : (nat_le 1 quote && nat_le quote named.who.row.quotes) ≡ true
@@ -174,8 +80,11 @@ module _ (config : Configuration) where
     abbrev pub DutyOk : Duty → AuditTrail → Type 0
     DutyOk (duty.Open room ask dealers moment) venue = OpensIn room ask dealers venue
     DutyOk (duty.Show dealer room ask moment) venue = ShowsIn dealer room ask venue
-    DutyOk (duty.Ready room moment) venue = ReadiesBy room venue
-    DutyOk (duty.Post room quote price valid_until moment) venue = PostsIn room quote venue
+    DutyOk (duty.Ready room moment) venue =
+        (by ≡ actor.Firm room.investor) × IsOpened room venue.facts
+    DutyOk (duty.Post room quote price valid_until moment) venue =
+        (posts : UnpostsIn room quote venue)
+        × QuotedIn venue.facts posts.named.who.dealer room quote
     DutyOk (duty.Relay room offer moment) venue = IsOpened room venue.facts
     DutyOk (duty.Unpost room quote moment) venue = UnpostsIn room quote venue
     DutyOk (duty.Gone room word moment) venue = IsOpened room venue.facts
@@ -189,18 +98,87 @@ module _ (config : Configuration) where
     DutyOk (duty.Tell dealer room close moment) venue = TellsIn dealer room close venue
     DutyOk (duty.Drop last moment) venue = ByDealer by
 
+  -- a duty that an actor did
+  pub record Did (left : Duty) (venue : AuditTrail) : Type 0 where
+    pub by : Actor
+    pub ok : DutyOk by left venue
+    pub done : In left (did_in venue by)
+
+  -- Facts.
+
+  -- a room was opened, and was made ready when each named dealer was shown its request
+  abbrev pub OpenedIn : RoomRef → RoomRequest → AuditTrail → Type 0
+  OpenedIn room request venue =
+      (moment : ℕ) × Did (duty.Open room request.ask request.dealers moment) venue
+
+  pub record ReadyIn (room : RoomRef) (venue : AuditTrail) : Type 0 where
+    pub moment : ℕ
+    pub did : Did (duty.Ready room moment) venue
+    pub shown : (dealer : ℕ) → is_named (of_room room venue.facts) dealer ≡ true
+        → is_some (number_for venue.facts dealer room) ≡ true
+
+  -- a quote in a room: its dealer's
+  pub record PostedIn (room : RoomRef) (posted : BookQuote) (venue : AuditTrail) : Type 0 where
+    pub row : DealerRow
+    pub quote : ℕ
+    pub row_is : dealer_numbered config posted.dealer ≡ Some row
+    pub within : (nat_le 1 quote && nat_le quote row.quotes) ≡ true
+    pub word_is : posted.word ≡ word_for config (dealer_of posted.dealer row) quote
+    pub quoted : QuotedIn venue.facts posted.dealer room quote
+
+  -- an end of a room: that each named dealer is told it was left
+  pub record EndedIn (room : RoomRef) (end : End) (venue : AuditTrail) : Type 0 where
+    pub ready : is_ready (of_room room venue.facts) ≡ true
+    pub told : (dealer : ℕ) → is_named (of_room room venue.facts) dealer ≡ true
+        → WasLeft venue (closer end.kind room) (Telling dealer room)
+
+  -- a room was shown to a dealer
+  abbrev pub ShownTo : ℕ → RoomRef → AuditTrail → Type 0
+  ShownTo dealer room venue =
+      (ask : Ask) × (moment : ℕ) × Did (duty.Show dealer room ask moment) venue
+
+  -- a notice of a dealer
+  pub record ClosedIn (dealer request : ℕ) (close : Close) (venue : AuditTrail) : Type 0 where
+    pub room : RoomRef
+    pub moment : ℕ
+    pub request_is : number_for venue.facts dealer room ≡ Some request
+    pub did : Did (duty.Tell dealer room close moment) venue
+
+  -- what stands where an entry of a dealer does, and a fact of a room
+  abbrev pub EntryOk : ℕ → DealerEntry → AuditTrail → Type 0
+  EntryOk dealer (AtDesk (Told request close moment)) venue = ClosedIn dealer request close venue
+  EntryOk dealer (AtDesk (Shown ask moment)) venue = BearsGrid config ask
+  EntryOk dealer (ShownIn room) venue = ShownTo dealer room venue
+  EntryOk dealer entry venue = Unit {0}
+
+  abbrev pub RoomOk : RoomRef → RoomFact → AuditTrail → Type 0
+  RoomOk room (Opened request) venue = OpenedIn room request venue
+  RoomOk room Readied venue = ReadyIn room venue
+  RoomOk room (Posted posted) venue = PostedIn room posted venue
+  RoomOk room (Ended end moment) venue = EndedIn room end venue
+  RoomOk room fact venue = Unit {0}
+
+  abbrev pub FactOk : Fact → AuditTrail → Type 0
+  FactOk (AtDealer dealer entry) venue = EntryOk dealer entry venue
+  FactOk (InRoom room fact) venue = RoomOk room fact venue
+  FactOk (AtInvestor investor entry) venue = Unit {0}
+
   -- Places.
 
+  -- what stands of a duty at its place in the queue of an actor
+  abbrev pub LeftOk : AuditTrail → Actor → List Duty → Duty → List Duty → Type 0
+  LeftOk venue by before left after =
+      Still (DutyOk by left) venue × OrderOk venue (marks before) (mark_of left)
+
   pub record QueueOk (venue : AuditTrail) (by : Actor) : Type 0 where
-    pub order : Each (OrderOk venue) [] (marks (duties_by by venue.caused))
+    pub left : Each (LeftOk venue by) [] (duties_by by venue.caused)
     pub done : Every (λ mark. Still (MarkOk mark) venue) (marks (did_in venue by))
     pub within : count_by (is_same_actor by) venue.done ≤ length (duties_by by venue.caused)
 
   pub record DeskOk (facts : List Fact) (dealer : ℕ) (row : DealerRow) : Type 0 where
     pub seen : Seen config.date row (of_dealer dealer facts)
     pub one_of : IsOneOf (of_dealer dealer facts)
-    pub noticed : Noticed (facts_of (of_dealer dealer facts))
-    pub counted : AreCounted (of_dealer dealer facts)
+    pub noticed : IsNoticed (of_dealer dealer facts)
     pub numbered : AreNumbered (rooms_by (of_dealer dealer facts))
     pub names : Each (NamesLifted config.date row) [] (of_dealer dealer facts)
 
@@ -210,7 +188,6 @@ module _ (config : Configuration) where
   -- what stands in a venue
   pub record VenueOk (venue : AuditTrail) : Type 0 where
     pub facts : Every (λ fact. Still (FactOk fact) venue) venue.facts
-    pub caused : Every (λ (c : Caused). Still (DutyOk c.by c.duty) venue) venue.caused
     pub queues : (by : Actor) → QueueOk venue by
     pub desks : (dealer : ℕ) (row : DealerRow) → dealer_numbered config dealer ≡ Some row
         → DeskOk venue.facts dealer row

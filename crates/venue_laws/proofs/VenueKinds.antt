@@ -1,61 +1,44 @@
 -- What each kind of effect brings for what stands in a venue: nothing, an event at a dealer's desk,
 -- and what happens in a room.
-use Rattle.std.proofs.Common.{Bool, List, None, Option, Some, ℕ, [], false, if◌then◌else◌, inl, inr}
-use Rattle.std.proofs.Common.{map, option_map, refl, subst, sym, true, ◌++◌, ◌==◌, ◌∙◌, ◌∷◌, ◌≡◌}
-use Rattle.std.proofs.lemmas.Bool.{cases_Bool, eqb-true}
-use Rattle.std.proofs.lemmas.List.{append-nil}
-use Rattle.std.proofs.lemmas.Option.{same_Some}
-use Rattle.market_terms.specs.declared.duties.Duty.{Duty}
-use Rattle.market_terms.specs.declared.rooms.RoomRef.{RoomRef}
-use Rattle.venue_rows.specs.Rows.{dealer_numbered}
-use Rattle.venue_rows.specs.declared.dealer_rows.DealerRow.{DealerRow}
-use Rattle.dealer_desk.specs.DealerFacts.{Shown, Told}
-use Rattle.request_room.specs.Book.{event_facts}
-use Rattle.request_room.specs.RoomFacts.{RoomFact}
-use Rattle.request_room.specs.declared.events.RoomEvent.{RoomEvent}
-use Rattle.venue_places.specs.declared.actors.Actor.{Actor}
-use Rattle.venue_places.specs.declared.actors.Actor.TheVariants as actor
-use Rattle.step_replay.specs.Actions.{Dealer, Effect, acting_dealer, dealer_at, dealer_of, done_by}
-use Rattle.step_replay.specs.Actions.{in_room, nothing}
-use Rattle.step_replay.specs.AuditTrail.{AuditTrail}
-use Rattle.step_replay.specs.DealerTrail.{AtDesk, DealerEntry, ShownIn}
-use Rattle.step_replay.specs.EachLemmas.{Each, Every, every_weaker}
-use Rattle.step_replay.specs.GrowthLemmas.{all_in}
-use Rattle.step_replay.specs.PlaceLemmas.{investor_at_dealer, investor_in_room, other_trail}
-use Rattle.step_replay.specs.PlaceLemmas.{own_room, own_trail, room_grown}
-use Rattle.step_replay.specs.VenueFacts.{AtDealer, Fact, InRoom, of_dealer, of_investor, of_room}
-use Rattle.venue_laws.proofs.ListLemmas.{every_map, every_mapped, in_found}
+use Rattle.venue_laws.proofs.Common.{Bool, List, None, Some, ℕ, [], false, if◌then◌else◌, inl, inr}
+use Rattle.venue_laws.proofs.Common.{map, not, refl, subst, sym, true, ◌++◌, ◌==◌, ◌∙◌, ◌∷◌, ◌≡◌}
+use Rattle.venue_laws.proofs.Common.{and_parts, both_ways, cases_Bool, eqb-true, not-true}
+use Rattle.venue_laws.proofs.Common.{append-nil, filter_map-append, same_Some, list_any}
+use Rattle.venue_laws.proofs.Common.{are_distinct, Duty, RoomRef, dealer_numbered, DealerRow, Shown}
+use Rattle.venue_laws.proofs.Common.{Told, where_so, RoomFact, Dealer, Effect, acting_dealer}
+use Rattle.venue_laws.proofs.Common.{dealer_of, done_by, nothing, AtDesk, DealerEntry, ShownIn}
+use Rattle.venue_laws.proofs.Common.{Every, every_weaker, In, investor_in_room, own_trail, AtDealer}
+use Rattle.venue_laws.proofs.Common.{Fact, InRoom, of_investor, of_room}
+use Rattle.day_parts.specs.KeptItems.{every_in}
+use Rattle.step_replay.specs.PlaceLemmas.{investor_at_dealer, other_trail}
+use Rattle.venue_laws.proofs.ListLemmas.{every_map, in_both, in_found, in_one, named_in}
 use Rattle.venue_laws.proofs.PlainFacts.{ArePlain, AreQuiet, is_plain_entry, is_quiet, plain_names}
 use Rattle.venue_laws.proofs.PlainFacts.{plain_rooms, quiet_trail}
-use Rattle.venue_laws.proofs.VenueGrowth.{investor_facts_grown, later_same}
-use Rattle.venue_laws.proofs.VenueInvariant.{ByDealer, DutyOk, MarketOk}
-use Rattle.venue_laws.proofs.VenueParts.{Later, Mark, OrderOk, Still, WasDone, WasLeft, mark_of}
-use Rattle.venue_laws.proofs.VenueParts.{marks}
-use Rattle.venue_laws.proofs.VenueSteps.{Brings, DeskAdds, DutyThen, FactThen, Here, day, queue}
-use Rattle.venue_laws.proofs.VenueSteps.{trail_of}
-use Rattle.venue_laws.proofs.VenueTurns.{duties_hold}
+use Rattle.venue_laws.proofs.VenueInvariant.{ByDealer, Did, LeftOk, MarketOk}
+use Rattle.venue_laws.proofs.VenueKnown.{each_holds, needs}
+use Rattle.venue_laws.proofs.VenueParts.{InOrder, Mark, Needs, Still, WasLeft, investor_facts_grown}
+use Rattle.venue_laws.proofs.VenueParts.{later_same, mark_of, marks, marks_both}
+use Rattle.venue_laws.proofs.VenueSteps.{Brings, DeskAdds, DutyThen, FactThen, Here, LeftThen, day}
+use Rattle.venue_laws.proofs.VenueSteps.{queue, trail_of}
 
 module _ (h : Here) where
   -- the facts of a room
   abbrev pub known : RoomRef → List RoomFact
   known room = of_room room h.venue.facts
 
-  abbrev pub OrderThen : Effect → List Mark → Type 0
-  OrderThen effect some = Each (OrderOk (day h effect)) (marks (queue h)) some
+  -- what a duty's actor did as its turn was had, whatever the effect
+  abbrev pub DoneNow : Duty → Type 0
+  DoneNow left = (effect : Effect) → Still (Did h.config left) (day h effect)
 
   -- a duty that may be left, and does nothing once
   abbrev pub Fine : Effect → Duty → Type 0
   Fine effect left = DutyThen h effect left × (mark_of left ≡ None)
 
-  fine_duties : (effect : Effect) (duties : List Duty) → Every (Fine effect) duties
-      → Every (DutyThen h effect) duties
-  fine_duties effect duties fine =
-      every_weaker (Fine effect) (DutyThen h effect) (λ left one. one.0) duties fine
-
-  fine_order : (effect : Effect) (duties : List Duty) → Every (Fine effect) duties
-      → OrderThen effect (marks duties)
-  fine_order effect [] fine = tt
-  fine_order effect (left ∷ duties) fine = rw (fine.0.1) (fine_order effect duties fine.1)
+  pub fine_left : (effect : Effect) (front duties : List Duty) → Every (Fine effect) duties
+      → LeftThen h effect front duties
+  fine_left effect front [] fine = tt
+  fine_left effect front (left ∷ duties) fine =
+      ((fine.0.0, rw (fine.0.1) tt), fine_left effect (front ++ left ∷ []) duties fine.1)
 
   pub same_markets : (more : List Fact) (investor : ℕ) → of_investor investor more ≡ []
       → MarketOk h.config (h.venue.facts ++ more) investor
@@ -68,19 +51,18 @@ module _ (h : Here) where
       → dealer_numbered h.config dealer ≡ Some row → ArePlain entries
       → DeskAdds h dealer row entries
   plain_adds dealer row entries is plain = (
-    rw (plain_rooms entries plain, append-nil) (h.stood.desks dealer row is).numbered,
+    rw (filter_map-append, plain_rooms entries plain, append-nil)
+        (h.stood.desks dealer row is).numbered,
     plain_names h.config.date row (trail_of h dealer) entries plain,
   )
 
   -- an effect of which each fact of a dealer is plain
   pub quiet_brings : (effect : Effect) → AreQuiet effect.facts
-      → Every (FactThen h effect) effect.facts → Every (DutyThen h effect) effect.duties
-      → OrderThen effect (marks effect.duties)
+      → Every (FactThen h effect) effect.facts → LeftThen h effect (queue h) effect.duties
       → ((investor : ℕ) → MarketOk h.config (day h effect).facts investor) → Brings h effect
-  quiet_brings effect quiet facts duties order markets = record {
+  quiet_brings effect quiet facts left markets = record {
     facts = facts;
-    duties = duties;
-    order = order;
+    left = left;
     adds = λ dealer row is.
         plain_adds dealer row _ is (quiet_trail dealer effect.facts quiet);
     markets = markets;
@@ -88,7 +70,7 @@ module _ (h : Here) where
 
   pub nothing_brings : Brings h nothing
   unfolding of_investor
-  nothing_brings = quiet_brings nothing tt tt tt tt (λ investor. same_markets [] investor refl)
+  nothing_brings = quiet_brings nothing tt tt tt (λ investor. same_markets [] investor refl)
 
   -- an effect where its test holds, and where it does not
   pub when_brings : (b : Bool) (effect : Effect) → (b ≡ true → Brings h effect)
@@ -98,23 +80,10 @@ module _ (h : Here) where
 
   -- At a dealer.
 
-  pub dealer_brings : (number : ℕ) (action : Dealer → Effect)
-      → ((row : DealerRow) → dealer_numbered h.config number ≡ Some row
-      → Brings h (action (dealer_of number row)))
-      → Brings h (done_by (dealer_at h.config number) action)
-  dealer_brings number action brings = by_found (dealer_numbered h.config number) refl
-    where
-      by_found : (found : Option DealerRow) → dealer_numbered h.config number ≡ found
-          → Brings h (done_by (option_map (dealer_of number) found) action)
-      by_found None found = nothing_brings
-      by_found (Some row) found = brings row found
-
   pub acting_brings : (who : ByDealer h.config h.by) (action : Dealer → Effect)
       → Brings h (action (dealer_of who.dealer who.row))
       → Brings h (done_by (acting_dealer h.config h.by) action)
-  acting_brings who action brings =
-      subst (λ (a : Actor). Brings h (done_by (acting_dealer h.config a) action)) (sym who.by_is)
-      (rw who.row_is brings)
+  acting_brings who action brings = simp (who.by_is, who.row_is) brings
 
   pub plain_ok : (effect : Effect) (dealer : ℕ) (entries : List DealerEntry) → ArePlain entries
       → Every (λ entry. FactThen h effect (AtDealer dealer entry)) entries
@@ -142,27 +111,20 @@ module _ (h : Here) where
         → Every (Fine (at_desk dealer entries duties)) duties
         → Brings h (at_desk dealer entries duties)
     desk_brings adds entry_ok fine = record {
-      facts = every_mapped (FactThen h (at_desk dealer entries duties)) (AtDealer dealer) entries
-          entry_ok;
-      duties = fine_duties (at_desk dealer entries duties) duties fine;
-      order = fine_order (at_desk dealer entries duties) duties fine;
+      facts = every_in _ (FactThen h _) (AtDealer dealer) (λ entry ok. ok) entries entry_ok;
+      left = fine_left (at_desk dealer entries duties) (queue h) duties fine;
       adds = λ other row_too is_too. elim (cases_Bool (dealer == other)) [
         | inr differs ↦ rw (other_trail other dealer differs entries)
             (plain_adds other row_too [] is_too tt)
-        | inl test ↦ own_adds other row_too is_too test
+        | inl test ↦
+            let same = eqb-true dealer other test in
+            let rows : row ≡ row_too = same_Some row row_too (sym is ∙ rw same is_too) in
+            rw (← same, ← rows, own_trail dealer entries) adds
       ];
       markets = λ investor.
           same_markets (map (AtDealer dealer) entries) investor
           (investor_at_dealer investor dealer entries);
     }
-      where
-        own_adds : (other : ℕ) (row_too : DealerRow)
-            → dealer_numbered h.config other ≡ Some row_too → (dealer == other) ≡ true
-            → DeskAdds h other row_too (of_dealer other (map (AtDealer dealer) entries))
-        own_adds other row_too is_too test =
-            let same = eqb-true dealer other test in
-            let rows : row ≡ row_too = same_Some row row_too (sym is ∙ rw same is_too) in
-            rw (← same, ← rows, own_trail dealer entries) adds
 
     -- the same, where it tells nothing and shows no room
     pub desk_plain : ArePlain entries → Every (Fine (at_desk dealer entries duties)) duties
@@ -179,56 +141,65 @@ module _ (h : Here) where
 
   pub room_brings : (room : RoomRef) (added : List RoomFact) (duties : List Duty)
       → Every (λ fact. FactThen h (in_it room added duties) (InRoom room fact)) added
-      → Every (DutyThen h (in_it room added duties)) duties
-      → OrderThen (in_it room added duties) (marks duties)
+      → LeftThen h (in_it room added duties) (queue h) duties
       → Brings h (in_it room added duties)
-  room_brings room added duties facts_ok duties_ok order =
+  room_brings room added duties facts_ok left =
       quiet_brings (in_it room added duties)
       (every_map (λ fact. is_quiet fact ≡ true) (InRoom room) added (λ fact is. refl))
-      (every_mapped (FactThen h (in_it room added duties)) (InRoom room) added facts_ok)
-      duties_ok order
+      (every_in _ (FactThen h _) (InRoom room) (λ fact ok. ok) added facts_ok) left
       (λ investor. same_markets (map (InRoom room) added) investor
       (investor_in_room investor room added))
 
-  -- where a step takes place in it
-  pub in_room_brings : (room : RoomRef) (may : Bool) (event : RoomEvent) (duties : List Duty)
-      → Brings h (in_it room (event_facts (known room) event) duties)
-      → Brings h (in_room h.config h.venue.facts room may event duties)
-  in_room_brings room may event duties brings = when_brings _ _ (λ test. brings)
-
-  -- What stands in a room then.
-
-  pub room_now : (room : RoomRef) (added : List RoomFact)
-      → of_room room (h.venue.facts ++ map (InRoom room) added) ≡ known room ++ added
-  room_now room added =
-      rw (room_grown room h.venue.facts (map (InRoom room) added), own_room room added) refl
+  -- where a step takes place in it, what its test decides
+  pub where_brings : (room : RoomRef) (may b : Bool) (fact : RoomFact) (left : Bool → List Duty)
+      → (b ≡ true → Brings h (in_it room (fact ∷ []) (left true)))
+      → Brings h (in_it room [] (left false))
+      → Brings h (if may then in_it room (where_so b fact) (left b) else nothing)
+  where_brings room may true fact left so other = when_brings may _ (λ test. so refl)
+  where_brings room may false fact left so other = when_brings may _ (λ test. other)
 
   -- Queues.
 
-  -- what stands of a duty in its queue that does this once
-  pub record Queued (mark : Mark) : Type 0 where
-    pub left : Duty
-    pub mark_is : mark_of left ≡ Some mark
-    pub ok : DutyOk h.config h.by left h.venue
-
-  pub queued : (mark : Mark) → WasLeft h.venue h.by mark → Queued mark
+  -- what a duty in the queue that does this once needs
+  pub queued : (mark : Mark) → WasLeft h.venue h.by mark → Needs h.venue.facts (Some mark)
   queued mark is =
       let found = in_found mark_of mark (queue h) is in
-      record {
-        left = found.0;
-        mark_is = found.1;
-        ok = all_in (λ left. Still (DutyOk h.config h.by left) h.venue) found.0 (queue h)
-            (duties_hold (λ by left. Still (DutyOk h.config by left) h.venue) h.by h.venue.caused
-            h.stood.caused) found.2 h.venue (later_same h.venue);
-      }
+      let there = each_holds (LeftOk h.config h.venue h.by) found.0 [] (queue h)
+      (h.stood.queues h.by).left found.2 in
+      rw (found.1) at (needs h.config h.by h.venue found.0
+      (there.2.0 h.venue (later_same h.venue)))
 
-  -- what an actor's duty does once is done as its turn is had, whatever its effect
-  abbrev pub DoneNow : Mark → Type 0
-  DoneNow mark = (effect : Effect) → WasDone (day h effect) h.by mark
+  -- one duty a dealer, none twice
+  module _ (effect : Effect) (make : ℕ → Duty) (mark : ℕ → Mark)
+      (is : (dealer : ℕ) → mark_of (make dealer) ≡ Some (mark dealer))
+      (apart : (dealer other : ℕ) → mark dealer ≡ mark other → dealer ≡ other)
+      (plain : (before : List Mark) (dealer : ℕ)
+      → Still (InOrder before (mark dealer)) (day h effect)) where
+    once_behind : (front : List Duty) (dealers : List ℕ) → are_distinct dealers ≡ true
+        → ((dealer : ℕ) → In dealer dealers → DutyThen h effect (make dealer))
+        → ((dealer : ℕ) → In dealer dealers → In (mark dealer) (marks front) → ⊥)
+        → LeftThen h effect front (map make dealers)
+    once_behind front [] distinct ok clear = tt
+    once_behind front (dealer ∷ dealers) distinct ok clear =
+        let parts = and_parts (not (list_any (λ (named : ℕ). named == dealer) dealers))
+        (are_distinct dealers) distinct in (
+          (ok dealer (inl refl), rw (is dealer) (clear dealer (inl refl), plain (marks front) dealer)),
+          once_behind (front ++ make dealer ∷ []) dealers parts.1
+              (λ other among. ok other (inr among))
+              (λ other among stands. elim (in_both (mark other) (marks front) (mark dealer ∷ [])
+              (rw (marks_both front (make dealer ∷ []), is dealer) at stands)) [
+                | inl before ↦ clear other (inr among) before
+                | inr here ↦ both_ways _ (not-true _ parts.0) (named_in dealer dealers
+                    (subst (λ (d : ℕ). In d dealers)
+                    (sym (apart dealer other (in_one (mark other) (mark dealer) here))) among))
+              ]),
+        )
 
-  -- by the investor of a room
-  pub by_investor : (room : RoomRef) (mark : Mark) → h.by ≡ actor.Firm room.investor
-      → DoneNow mark → (effect : Effect) (now : AuditTrail) → Later (day h effect) now
-      → WasDone now (actor.Firm room.investor) mark
-  by_investor room mark is done effect now later =
-      subst (λ (a : Actor). WasDone now a mark) is (later.did h.by mark (done effect))
+    pub each_once : (front : List Duty) → marks front ≡ marks (queue h) → (dealers : List ℕ)
+        → are_distinct dealers ≡ true
+        → ((dealer : ℕ) → Needs h.venue.facts (Some (mark dealer)) → ⊥)
+        → ((dealer : ℕ) → In dealer dealers → DutyThen h effect (make dealer))
+        → LeftThen h effect front (map make dealers)
+    each_once front same dealers distinct free ok =
+        once_behind front dealers distinct ok
+        (λ dealer among left. free dealer (queued (mark dealer) (rw same at left)))

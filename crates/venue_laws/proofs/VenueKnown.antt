@@ -1,41 +1,29 @@
 -- What stands of a room in a venue, by its facts: its request, that it is ready, its end.
-use Rattle.std.proofs.Common.{List, None, Option, Some, ℕ, [], ap, arith, eq-eqb, inl, inr, refl}
-use Rattle.std.proofs.Common.{subst, sym, true, ◌++◌, ◌+◌, ◌==◌, ◌∙◌, ◌∷◌, ◌≡◌}
-use Rattle.std.proofs.lemmas.Bool.{and_from, cases_Bool, eqb-true}
-use Rattle.std.proofs.lemmas.Option.{same_Some}
-use Rattle.std.specs.List.{list_any}
-use Rattle.std.specs.Prelude.{slice_get}
-use Rattle.market_terms.specs.declared.duties.Duty.{Duty}
-use Rattle.market_terms.specs.declared.rooms.RoomRef.{RoomRef}
-use Rattle.venue_rows.specs.Rows.{Configuration, dealer_numbered, has_room}
-use Rattle.venue_rows.specs.declared.dealer_rows.DealerRow.{DealerRow}
-use Rattle.dealer_desk.specs.DealerFacts.{DealerFact, Shown, requests_from}
-use Rattle.dealer_desk.specs.DealerOutput.{is_same_room, number_in}
-use Rattle.dealer_desk.specs.declared.standing.StandingRequest.{StandingRequest}
-use Rattle.request_room.specs.Book.{book_of, quote_meant, takes_out}
-use Rattle.request_room.specs.RoomFacts.{Ended, Opened, Posted, Readied, RoomFact, end_of, ended_as}
-use Rattle.request_room.specs.RoomFacts.{first_said, is_named, is_readied, is_ready, names}
-use Rattle.request_room.specs.RoomFacts.{opened_for, request_of}
-use Rattle.request_room.specs.declared.ends.End.{End}
+use Rattle.venue_laws.proofs.Common.{List, None, Option, Some, ℕ, [], ap, arith, eq-eqb, inl, inr}
+use Rattle.venue_laws.proofs.Common.{refl, subst, sym, true, ◌++◌, ◌+◌, ◌==◌, ◌∙◌, ◌∷◌, ◌≡◌}
+use Rattle.venue_laws.proofs.Common.{and_from, cases_Bool, eqb-true, take-append-drop, same_Some}
+use Rattle.venue_laws.proofs.Common.{list_any, slice_get, Close, Duty, RoomRef, Configuration}
+use Rattle.venue_laws.proofs.Common.{dealer_numbered, has_room, DealerRow, Shown, Told}
+use Rattle.venue_laws.proofs.Common.{requests_from, is_same_room, number_in, StandingRequest}
+use Rattle.venue_laws.proofs.Common.{quote_meant, Ended, Opened, Posted, Readied, RoomFact, end_of}
+use Rattle.venue_laws.proofs.Common.{ended_as, first_said, is_ended, is_named, is_readied, is_ready}
+use Rattle.venue_laws.proofs.Common.{names, opened_for, request_of, End, RoomRequest, Actor}
+use Rattle.venue_laws.proofs.Common.{AuditTrail, pending, AtDesk, DealerEntry, book_by, facts_of}
+use Rattle.venue_laws.proofs.Common.{rooms_by, Each, Every, each_of, every_weaker, In, all_in}
+use Rattle.venue_laws.proofs.Common.{AtDealer, Fact, InRoom, of_dealer, of_room}
+use Rattle.market_terms.specs.declared.duties.Duty.TheVariants as duty
+use Rattle.request_room.specs.Book.{book_of, takes_out}
 use Rattle.request_room.specs.declared.quotes.PostedQuote.{PostedQuote as BookQuote}
-use Rattle.request_room.specs.declared.requests.RoomRequest.{RoomRequest}
-use Rattle.venue_places.specs.declared.actors.Actor.{Actor}
-use Rattle.step_replay.specs.AuditTrail.{AuditTrail, pending}
-use Rattle.step_replay.specs.DealerTrail.{AtDesk, DealerEntry, book_by, facts_of, rooms_by}
-use Rattle.step_replay.specs.EachLemmas.{Every, each_of}
-use Rattle.step_replay.specs.GrowthLemmas.{all_in, names_some}
-use Rattle.step_replay.specs.VenueFacts.{AtDealer, Fact, InRoom, of_dealer, of_room}
-use Rattle.venue_laws.proofs.CountLemmas.{number_place}
+use Rattle.step_replay.specs.GrowthLemmas.{names_some}
 use Rattle.venue_laws.proofs.KnownDesks.{known_asked}
-use Rattle.venue_laws.proofs.ListLemmas.{at_split, in_named, some_of}
+use Rattle.venue_laws.proofs.ListLemmas.{in_named, some_of}
 use Rattle.venue_laws.proofs.PlainFacts.{at_dealer_all, in_room_all, rooms_all}
-use Rattle.venue_laws.proofs.VenueGrowth.{later_same, marks_both}
-use Rattle.venue_laws.proofs.VenueInvariant.{DutyOk, EndedIn, FactOk, IsDealer, OpenedIn, PostedIn}
-use Rattle.venue_laws.proofs.VenueInvariant.{ReadyIn, ShownTo, VenueOk}
-use Rattle.venue_laws.proofs.VenueParts.{BearsGrid, InOrder, IsOpened, KnownIn, Mark, OrderOk}
-use Rattle.venue_laws.proofs.VenueParts.{Still, WasDone, did_in, duties_by, investor_facts, mark_of}
-use Rattle.venue_laws.proofs.VenueParts.{marks, number_for}
-use Rattle.venue_laws.proofs.VenueTurns.{duties_hold, pending_next}
+use Rattle.venue_laws.proofs.ShownRequests.{in_facts, number_place}
+use Rattle.venue_laws.proofs.VenueInvariant.{ClosedIn, Did, DutyOk, EndedIn, FactOk, IsDealer}
+use Rattle.venue_laws.proofs.VenueInvariant.{LeftOk, OpenedIn, PostedIn, ReadyIn, ShownTo, VenueOk}
+use Rattle.venue_laws.proofs.VenueParts.{BearsGrid, IsOpened, KnownIn, Needs, Still, did_in}
+use Rattle.venue_laws.proofs.VenueParts.{duties_by, investor_facts, later_same, mark_of, number_for}
+use Rattle.venue_laws.proofs.VenueTurns.{turns_of}
 
 -- Facts of a room.
 
@@ -84,7 +72,7 @@ room_self room =
     and_from _ _ (eq-eqb room.investor room.investor refl) (eq-eqb room.n room.n refl)
 
 -- two rooms that one number names are one
-pub one_number : (rooms : List RoomRef) (one other : RoomRef) (number : ℕ)
+one_number : (rooms : List RoomRef) (one other : RoomRef) (number : ℕ)
     → number_in rooms one ≡ Some number → number_in rooms other ≡ Some number → one ≡ other
 one_number rooms one other number is also =
     let first = number_place 1 rooms one number is in
@@ -94,59 +82,81 @@ one_number rooms one other number is also =
     let same : first.0 ≡ second.0 = omega arith in
     same_Some one other (sym first.2 ∙ ap (slice_get rooms) same ∙ second.2)
 
--- a request that a fact shows bears its grid
-abbrev DeskBears : Configuration → DealerFact → Type 0
-DeskBears config (Shown ask moment) = BearsGrid config ask
-DeskBears config fact = Unit {0}
+-- Rooms that stand, and what duties need.
 
-requests_bear : (config : Configuration) (number : ℕ) (facts : List DealerFact)
-    → Every (DeskBears config) facts
-    → Every (λ (own : StandingRequest). BearsGrid config own.ask) (requests_from number facts)
-requests_bear config number [] all = tt
-requests_bear config number (Shown ask moment ∷ later) all =
-    (all.0, requests_bear config (number + 1) later all.1)
-requests_bear config number (fact ∷ later) all = requests_bear config number later all.1
+-- a room that names a dealer was opened
+pub opened_by : (room : RoomRef) (facts : List Fact) (dealer : ℕ)
+    → is_named (of_room room facts) dealer ≡ true → IsOpened room facts
+opened_by room facts dealer named =
+    let request = names_some (request_of (of_room room facts)) dealer named in
+    rw (request.1) refl
 
-module _ (config : Configuration) (venue : AuditTrail) (stood : VenueOk config venue) where
+pub needs : (config : Configuration) (by : Actor) (venue : AuditTrail) (left : Duty)
+    → DutyOk config by left venue → Needs venue.facts (mark_of left)
+needs config by venue (duty.Open room ask dealers moment) ok = ok.known
+needs config by venue (duty.Show dealer room ask moment) ok =
+    opened_by room venue.facts dealer ok.named
+needs config by venue (duty.Ready room moment) ok = ok.1
+needs config by venue (duty.Tell dealer room close moment) ok = rw (ok.end_is) refl
+needs config by venue other ok = tt
+
+-- what stands at each place of a list stands at that of an item
+pub each_holds : {A : Type 0} (P : List A → A → List A → Type 0) (x : A) (before xs : List A)
+    → Each P before xs → In x xs → (front : List A) × (rest : List A) × P front x rest
+each_holds P x before [] each is = absurd is
+each_holds P x before (y ∷ xs) each (inl is) =
+    (before, xs, subst (λ z. P before z xs) is each.0)
+each_holds P x before (y ∷ xs) each (inr is) = each_holds P x (before ++ y ∷ []) xs each.1 is
+
+module _ {config : Configuration} {venue : AuditTrail} (stood : VenueOk config venue) where
   abbrev known : RoomRef → List RoomFact
   known room = of_room room venue.facts
 
   -- what stands at a fact from this venue on
-  abbrev pub Stands : Fact → Type 0
+  abbrev Stands : Fact → Type 0
   Stands fact = Still (FactOk config fact) venue
 
-  pub all_known : (room : RoomRef) → Every (λ fact. Stands (InRoom room fact)) (known room)
-  all_known room = in_room_all Stands room venue.facts stood.facts
+  -- what stands at each fact of a room
+  abbrev InIt : RoomRef → RoomFact → Type 0
+  InIt room fact = FactOk config (InRoom room fact) venue
 
-  pub all_there : (dealer : ℕ)
+  all_known : (room : RoomRef) → Every (InIt room) (known room)
+  all_known room =
+      in_room_all (λ fact. FactOk config fact venue) room venue.facts
+      (every_weaker Stands (λ fact. FactOk config fact venue)
+      (λ fact stands. stands venue (later_same venue)) venue.facts stood.facts)
+
+  all_there : (dealer : ℕ)
       → Every (λ entry. Stands (AtDealer dealer entry)) (of_dealer dealer venue.facts)
   all_there dealer = at_dealer_all Stands dealer venue.facts stood.facts
 
   pub opened_in : (room : RoomRef) (request : RoomRequest)
       → request_of (known room) ≡ Some request → OpenedIn config room request venue
   opened_in room request is =
-      opened_fact (λ fact. Stands (InRoom room fact)) request (known room) is (all_known room) venue
-      (later_same venue)
+      opened_fact (InIt room) request (known room) is (all_known room)
 
   pub ready_in : (room : RoomRef) → is_ready (known room) ≡ true → ReadyIn config room venue
-  ready_in room is =
-      ready_fact (λ fact. Stands (InRoom room fact)) (known room) is (all_known room) venue
-      (later_same venue)
+  ready_in room is = ready_fact (InIt room) (known room) is (all_known room)
 
   pub ended_in : (room : RoomRef) (end : End) → end_of (known room) ≡ Some end
       → EndedIn config room end venue
-  ended_in room end is =
-      (ended_fact (λ fact. Stands (InRoom room fact)) end (known room) is (all_known room)).1 venue
-      (later_same venue)
+  ended_in room end is = (ended_fact (InIt room) end (known room) is (all_known room)).1
+
+  -- what was made ready was opened, and what ended was made ready
+  pub ready_opened : (room : RoomRef) → is_ready (known room) ≡ true → IsOpened room venue.facts
+  ready_opened room is = (ready_in room is).did.ok.1
+
+  pub ended_ready : (room : RoomRef) → is_ended (known room) ≡ true
+      → is_ready (known room) ≡ true
+  ended_ready room is =
+      let end = some_of (end_of (known room)) is in (ended_in room end.0 end.1).ready
 
   -- what stands of a quote of the book
   pub posted_in : (room : RoomRef) (word : ℕ) (quote : BookQuote)
       → quote_meant (book_of (known room)) word ≡ Some quote
       → (quote.word ≡ word) × PostedIn config room quote venue
   posted_in room word quote found =
-      let posted = posted_fact (λ fact. Stands (InRoom room fact)) word (known room) quote found
-      (all_known room) in
-      (posted.0, posted.1 venue (later_same venue))
+      posted_fact (InIt room) word (known room) quote found (all_known room)
 
   -- a room that was shown to a dealer
   pub rooms_shown : (dealer : ℕ) → Every (λ room. ShownTo config dealer room venue)
@@ -156,12 +166,26 @@ module _ (config : Configuration) (venue : AuditTrail) (stood : VenueOk config v
       (λ room stands. stands venue (later_same venue)) (of_dealer dealer venue.facts)
       (all_there dealer)
 
+  -- a notice of a room's end was told as the duty says that was done
+  pub told_did : (room : RoomRef) (dealer request : ℕ) (close : Close) (moment : ℕ)
+      → number_for venue.facts dealer room ≡ Some request
+      → In (Told request close moment) (facts_of (of_dealer dealer venue.facts))
+      → (when : ℕ) × Did config (duty.Tell dealer room close when) venue
+  told_did room dealer request close moment found is =
+      let trail = of_dealer dealer venue.facts in
+      let closed : ClosedIn config dealer request close venue =
+      all_in (λ entry. Stands (AtDealer dealer entry)) (AtDesk (Told request close moment)) trail
+      (all_there dealer) (in_facts (Told request close moment) trail is) venue (later_same venue) in
+      let same : closed.room ≡ room =
+      one_number (rooms_by trail) closed.room room request closed.request_is found in
+      (closed.moment, rw same at closed.did)
+
   -- Rooms that an investor knows.
 
   pub known_opened : (room : RoomRef) → IsOpened room venue.facts → KnownIn room None venue.facts
   known_opened room is =
       let request = some_of (request_of (known room)) is in
-      (opened_in room request.0 request.1).known
+      (opened_in room request.0 request.1).1.ok.known
 
   pub known_room : (room : RoomRef) (quote : Option ℕ) → KnownIn room quote venue.facts
       → has_room config room.investor room.n ≡ true
@@ -173,9 +197,7 @@ module _ (config : Configuration) (venue : AuditTrail) (stood : VenueOk config v
 
   pub known_named : (room : RoomRef) (dealer : ℕ) → is_named (known room) dealer ≡ true
       → KnownIn room None venue.facts
-  known_named room dealer named =
-      let request = names_some (request_of (known room)) dealer named in
-      (opened_in room request.0 request.1).known
+  known_named room dealer named = known_opened room (opened_by room venue.facts dealer named)
 
   pub named_dealer : (room : RoomRef) (dealer : ℕ) → is_named (known room) dealer ≡ true
       → (row : DealerRow) × (dealer_numbered config dealer ≡ Some row)
@@ -183,7 +205,7 @@ module _ (config : Configuration) (venue : AuditTrail) (stood : VenueOk config v
       let request = names_some (request_of (known room)) dealer named in
       some_of (dealer_numbered config dealer)
       (all_in (IsDealer config) dealer request.0.dealers
-      (opened_in room request.0 request.1).are_dealers
+      (opened_in room request.0 request.1).1.ok.are_dealers
       (in_named dealer request.0.dealers
       (ap (λ (r : Option RoomRequest). names r dealer) (sym request.1) ∙ named)))
 
@@ -195,43 +217,30 @@ module _ (config : Configuration) (venue : AuditTrail) (stood : VenueOk config v
       some_of (number_for venue.facts dealer room)
       ((ready_in room (ended_in room end is).ready).shown dealer named)
 
-  -- the requests of a dealer's book bear the grids of their bonds
-  pub book_bears : (dealer : ℕ) → Every (λ (own : StandingRequest). BearsGrid config own.ask)
-      (book_by (of_dealer dealer venue.facts)).requests
-  book_bears dealer =
-      requests_bear config 1 (facts_of (of_dealer dealer venue.facts))
-      (bear (of_dealer dealer venue.facts) (all_there dealer))
-    where
-      bears : (fact : DealerFact) → Stands (AtDealer dealer (AtDesk fact)) → DeskBears config fact
-      bears (Shown ask moment) stands = stands venue (later_same venue)
-      bears fact stands = tt
-
-      bear : (trail : List DealerEntry) → Every (λ entry. Stands (AtDealer dealer entry)) trail
-          → Every (DeskBears config) (facts_of trail)
-      bear [] every = tt
-      bear (AtDesk fact ∷ trail) every = (bears fact every.0, bear trail every.1)
-      bear (entry ∷ trail) every = bear trail every.1
-
   -- The first duty that an actor has to do.
 
   module _ (by : Actor) (left : Duty) (rest : List Duty) (is : pending by venue ≡ left ∷ rest)
     where
-      pub pending_ok : DutyOk config by left venue
+      pub pending_ok : LeftOk config venue by (did_in venue by) left rest
       pending_ok =
-          at_split (λ left. Still (DutyOk config by left) venue) (did_in venue by) left rest
-          (subst (Every (λ left. Still (DutyOk config by left) venue))
-          (pending_next venue by left rest is).parts
-          (duties_hold (λ by left. Still (DutyOk config by left) venue) by venue.caused stood.caused))
-          venue (later_same venue)
+          each_of (LeftOk config venue by) (duties_by by venue.caused) (did_in venue by) left rest
+          (stood.queues by).left
+          (sym (take-append-drop (turns_of by venue.done) (duties_by by venue.caused))
+          ∙ ap (λ l. did_in venue by ++ l) is)
 
-      -- what it does once was not done by it before
-      pub pending_order : (mark : Mark) → mark_of left ≡ Some mark
-          → (WasDone venue by mark → ⊥) × InOrder (marks (did_in venue by)) mark venue
-      pending_order mark does =
-          let next = pending_next venue by left rest is in
-          let parts : marks (duties_by by venue.caused)
-          ≡ marks (did_in venue by) ++ mark ∷ marks rest =
-          ap marks next.parts ∙ marks_both (did_in venue by) (left ∷ rest) ∙ rw does refl in
-          let order = each_of (OrderOk venue) (marks (duties_by by venue.caused))
-          (marks (did_in venue by)) mark (marks rest) (stood.queues by).order parts in
-          (order.0, order.1 venue (later_same venue))
+-- the requests of a dealer's book bear the grids of their bonds
+pub book_bears : (config : Configuration) (venue : AuditTrail) (stood : VenueOk config venue)
+    (dealer : ℕ) → Every (λ (own : StandingRequest). BearsGrid config own.ask)
+    (book_by (of_dealer dealer venue.facts)).requests
+book_bears config venue stood dealer =
+    bear 1 (of_dealer dealer venue.facts) (all_there stood dealer)
+  where
+    bear : (number : ℕ) (trail : List DealerEntry)
+        → Every (λ entry. Still (FactOk config (AtDealer dealer entry)) venue) trail
+        → Every (λ (own : StandingRequest). BearsGrid config own.ask)
+        (requests_from number (facts_of trail))
+    bear number [] all = tt
+    bear number (AtDesk (Shown ask moment) ∷ trail) all =
+        (all.0 venue (later_same venue), bear (number + 1) trail all.1)
+    bear number (AtDesk fact ∷ trail) all = bear number trail all.1
+    bear number (entry ∷ trail) all = bear number trail all.1

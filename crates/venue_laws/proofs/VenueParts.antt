@@ -1,32 +1,24 @@
 -- What the invariant of a venue speaks of: desks and rooms by the facts that stand, what is done
 -- once, and what goes on to stand.
-use Rattle.std.proofs.Common.{List, None, Option, Some, ℕ, count_by, filter_map, is_some}
-use Rattle.std.proofs.Common.{option_map, take, true, ◌++◌, ◌≡◌}
-use Rattle.std.specs.List.{list_any}
-use Rattle.market_terms.specs.declared.asks.Ask.{Ask}
+use Rattle.venue_laws.proofs.Common.{List, None, Option, Some, ℕ, [], ap, count_by, filter_map}
+use Rattle.venue_laws.proofs.Common.{is_some, option_map, sym, take, true, ◌++◌, ◌∙◌, ◌≡◌}
+use Rattle.venue_laws.proofs.Common.{append-nil, append_assoc, filter_map-append, list_any, Ask}
+use Rattle.venue_laws.proofs.Common.{Duty, RoomRef, Configuration, bond_with_id, BondRow, DealerRow}
+use Rattle.venue_laws.proofs.Common.{Quoted, Told, tells, number_in, AcceptedQuote, InvestorFact}
+use Rattle.venue_laws.proofs.Common.{book_of, knows, RoomFact, first_said, is_ended, is_named}
+use Rattle.venue_laws.proofs.Common.{request_of, RoomRequest, Actor, AuditTrail, Caused, duty_of}
+use Rattle.venue_laws.proofs.Common.{is_same_actor, AtDesk, DealerEntry, facts_of, lifts, rooms_by}
+use Rattle.venue_laws.proofs.Common.{was_lifted, In, any_left, in_left, dealer_grown}
+use Rattle.venue_laws.proofs.Common.{investor_grown, room_grown, Fact, of_dealer, of_investor}
+use Rattle.venue_laws.proofs.Common.{of_room, NamesLiftedQuote}
 use Rattle.market_terms.specs.declared.closes.Close.TheVariants as closes
-use Rattle.market_terms.specs.declared.duties.Duty.{Duty}
 use Rattle.market_terms.specs.declared.duties.Duty.TheVariants as duty
-use Rattle.market_terms.specs.declared.rooms.RoomRef.{RoomRef}
-use Rattle.venue_rows.specs.Rows.{Configuration, bond_with_id}
-use Rattle.venue_rows.specs.declared.bond_rows.BondRow.{BondRow}
-use Rattle.venue_rows.specs.declared.dealer_rows.DealerRow.{DealerRow}
-use Rattle.dealer_desk.specs.DealerFacts.{Quoted, Told, tells}
-use Rattle.dealer_desk.specs.DealerOutput.{number_in}
-use Rattle.dealer_desk.specs.declared.accepted.AcceptedQuote.{AcceptedQuote}
-use Rattle.investor_desk.specs.InvestorFacts.{InvestorFact, book_of, knows}
-use Rattle.request_room.specs.RoomFacts.{is_named, request_of}
 use Rattle.request_room.specs.declared.ends.EndKind.{EndKind}
 use Rattle.request_room.specs.declared.ends.EndKind.TheVariants as ends
-use Rattle.request_room.specs.declared.requests.RoomRequest.{RoomRequest}
-use Rattle.venue_places.specs.declared.actors.Actor.{Actor}
 use Rattle.venue_places.specs.declared.actors.Actor.TheVariants as actor
-use Rattle.step_replay.specs.AuditTrail.{AuditTrail, Caused, duty_of, is_same_actor}
-use Rattle.step_replay.specs.DealerTrail.{AtDesk, DealerEntry, facts_of, rooms_by, was_lifted}
-use Rattle.step_replay.specs.GrowthLemmas.{In}
+use Rattle.step_replay.specs.GrowthLemmas.{named_before, named_grown, number_grown, said_grown}
 use Rattle.step_replay.specs.InvestorTrail as investor_trail
-use Rattle.step_replay.specs.VenueFacts.{Fact, of_dealer, of_investor, of_room}
-use Rattle.venue_laws.specs.Notices.{NamesLiftedQuote}
+use Rattle.venue_laws.proofs.KnownDesks.{knows_grown}
 
 -- the number under which a dealer was shown the request of a room
 abbrev pub number_for : List Fact → ℕ → RoomRef → Option ℕ
@@ -124,8 +116,9 @@ WasDone venue by mark = In mark (marks (did_in venue by))
 pub record Later (was now : AuditTrail) : Type 0 where
   pub more : List Fact
   pub facts_are : now.facts ≡ was.facts ++ more
-  pub left : (by : Actor) (mark : Mark) → WasLeft was by mark → WasLeft now by mark
-  pub did : (by : Actor) (mark : Mark) → WasDone was by mark → WasDone now by mark
+  pub left : (by : Actor) (one : Duty) → In one (duties_by by was.caused)
+      → In one (duties_by by now.caused)
+  pub did : (by : Actor) (one : Duty) → In one (did_in was by) → In one (did_in now by)
 
 -- it stands from this venue on
 abbrev pub Still : (AuditTrail → Type 0) → AuditTrail → Type 0
@@ -138,16 +131,125 @@ MarkOk (Telling dealer room) venue = WasTold venue.facts dealer room
 MarkOk other venue = Unit {0}
 
 -- behind each showing of its request a room is made ready
-pub record ReadiesIn (before : List Mark) (room : RoomRef) (venue : AuditTrail) : Type 0 where
-  pub request : RoomRequest
-  pub request_is : request_of (of_room room venue.facts) ≡ Some request
-  pub shown : (dealer : ℕ) → is_named (of_room room venue.facts) dealer ≡ true
-      → In (Showing dealer room) before
-
 abbrev pub InOrder : List Mark → Mark → AuditTrail → Type 0
-InOrder before (Readying room) venue = ReadiesIn before room venue
+InOrder before (Readying room) venue =
+    (dealer : ℕ) → is_named (of_room room venue.facts) dealer ≡ true
+    → In (Showing dealer room) before
 InOrder before other venue = Unit {0}
 
--- what stands at the place of a mark in a queue, where it does not stand before
-abbrev pub OrderOk : AuditTrail → List Mark → Mark → List Mark → Type 0
-OrderOk venue before mark after = (In mark before → ⊥) × Still (InOrder before mark) venue
+-- what stands at the place in a queue of a duty that does something once
+abbrev pub OrderOk : AuditTrail → List Mark → Option Mark → Type 0
+OrderOk venue before None = Unit {0}
+OrderOk venue before (Some mark) = (In mark before → ⊥) × Still (InOrder before mark) venue
+
+-- what stands where such a duty was left
+abbrev pub Needs : List Fact → Option Mark → Type 0
+Needs facts None = Unit {0}
+Needs facts (Some (Opening room)) = KnownIn room None facts
+Needs facts (Some (Showing dealer room)) = IsOpened room facts
+Needs facts (Some (Readying room)) = IsOpened room facts
+Needs facts (Some (Telling dealer room)) = is_ended (of_room room facts) ≡ true
+
+-- What stands in a venue stands in a later one.
+
+pub investor_facts_grown : (facts more : List Fact) (investor : ℕ)
+    → investor_facts (facts ++ more) investor
+    ≡ investor_facts facts investor ++ investor_facts more investor
+investor_facts_grown facts more investor =
+    rw (investor_grown investor facts more, filter_map-append)
+
+-- what some duties do once, where more follow
+pub marks_both : (duties more : List Duty) → marks (duties ++ more) ≡ marks duties ++ marks more
+marks_both duties more = filter_map-append mark_of duties more
+
+-- Later venues.
+
+pub later_same : (venue : AuditTrail) → Later venue venue
+later_same venue = record {
+  more = [];
+  facts_are = sym (append-nil venue.facts);
+  left = λ by one is. is;
+  did = λ by one is. is;
+}
+
+pub later_both : {one two three : AuditTrail} → Later one two → Later two three → Later one three
+later_both {one} first second = record {
+  more = first.more ++ second.more;
+  facts_are = second.facts_are ∙ ap (λ (l : List Fact). l ++ second.more) first.facts_are
+      ∙ append_assoc one.facts first.more second.more;
+  left = λ by one is. second.left by one (first.left by one is);
+  did = λ by one is. second.did by one (first.did by one is);
+}
+
+-- what stands from a venue on stands from each later one on
+pub still_later : (P : AuditTrail → Type 0) {was now : AuditTrail} → Later was now → Still P was
+    → Still P now
+still_later P later stands day after = stands day (later_both later after)
+
+-- What the facts say.
+
+module _ {was now : AuditTrail} (later : Later was now) where
+  pub number_later : (dealer : ℕ) (room : RoomRef) (number : ℕ)
+      → number_for was.facts dealer room ≡ Some number
+      → number_for now.facts dealer room ≡ Some number
+  number_later dealer room number is =
+      rw (later.facts_are, dealer_grown dealer was.facts later.more, filter_map-append)
+      (number_grown 1 _ _ room number is)
+
+  pub said_later : {A : Type 0} (says : RoomFact → Option A) (room : RoomRef) (x : A)
+      → first_said says (of_room room was.facts) ≡ Some x
+      → first_said says (of_room room now.facts) ≡ Some x
+  said_later says room x is =
+      rw (later.facts_are, room_grown room was.facts later.more)
+      (said_grown says (of_room room was.facts) (of_room room later.more) x is)
+
+  pub named_later : (room : RoomRef) (dealer : ℕ)
+      → is_named (of_room room was.facts) dealer ≡ true
+      → is_named (of_room room now.facts) dealer ≡ true
+  named_later room dealer is =
+      rw (later.facts_are, room_grown room was.facts later.more)
+      (named_grown (of_room room was.facts) (of_room room later.more) dealer is)
+
+  -- whom a room names once its request stands is named before
+  pub named_already : (room : RoomRef) (request : RoomRequest) (dealer : ℕ)
+      → request_of (of_room room was.facts) ≡ Some request
+      → is_named (of_room room now.facts) dealer ≡ true
+      → is_named (of_room room was.facts) dealer ≡ true
+  named_already room request dealer is named =
+      named_before (of_room room was.facts) (of_room room later.more) request dealer is
+      (rw (later.facts_are, room_grown room was.facts later.more) at named)
+
+  pub quoted_later : (dealer : ℕ) (room : RoomRef) (quote : ℕ)
+      → QuotedIn was.facts dealer room quote → QuotedIn now.facts dealer room quote
+  quoted_later dealer room quote before = record {
+    own = before.own;
+    quoted = rw (later.facts_are, dealer_grown dealer was.facts later.more, filter_map-append)
+        (in_left (Quoted before.own) _ _ before.quoted);
+    number_is = before.number_is;
+    request_is = number_later dealer room before.own.request before.request_is;
+  }
+
+  pub lifted_later : (dealer : ℕ) (room : RoomRef) → LiftedIn was.facts dealer room
+      → LiftedIn now.facts dealer room
+  lifted_later dealer room before = record {
+    quote = before.quote;
+    quoted = quoted_later dealer room before.quote before.quoted;
+    lifted = rw (later.facts_are, dealer_grown dealer was.facts later.more)
+        (any_left (lifts before.quote) (of_dealer dealer was.facts) _ before.lifted);
+  }
+
+  pub told_later : (dealer : ℕ) (room : RoomRef) → WasTold was.facts dealer room
+      → WasTold now.facts dealer room
+  told_later dealer room before = record {
+    request = before.request;
+    request_is = number_later dealer room before.request before.request_is;
+    told = rw (later.facts_are, dealer_grown dealer was.facts later.more, filter_map-append)
+        (any_left (tells before.request) (facts_of (of_dealer dealer was.facts)) _ before.told);
+  }
+
+  pub known_later : (room : RoomRef) (quote : Option ℕ) → KnownIn room quote was.facts
+      → KnownIn room quote now.facts
+  known_later room quote is =
+      rw (later.facts_are, investor_facts_grown was.facts later.more room.investor)
+      (knows_grown (investor_facts was.facts room.investor)
+      (investor_facts later.more room.investor) room.n quote is)

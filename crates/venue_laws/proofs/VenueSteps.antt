@@ -1,40 +1,22 @@
 -- What an effect has to bring for what stands in a venue to stand after it.
-use Rattle.std.proofs.Common.{List, Some, ℕ, [], ap, inl, inr, refl, subst, ◌++◌, ◌∙◌, ◌∷◌, ◌≡◌}
-use Rattle.std.proofs.lemmas.Bool.{cases_Bool}
-use Rattle.std.proofs.lemmas.List.Elements.{filter_map-append}
+use Rattle.venue_laws.proofs.Common.{List, None, Option, Some, ℕ, [], inl, inr, refl, subst, ◌++◌}
+use Rattle.venue_laws.proofs.Common.{◌≡◌, Duty, Configuration, dealer_numbered, DealerRow, Told}
+use Rattle.venue_laws.proofs.Common.{Actor, Effect, AuditTrail, AtDesk, DealerEntry, rooms_by, Each}
+use Rattle.venue_laws.proofs.Common.{Every, Stays, each_append, every_both, every_weaker}
+use Rattle.venue_laws.proofs.Common.{AreNumbered, in_left, seen_is_kept, dealer_grown, Seen, IsKept}
+use Rattle.venue_laws.proofs.Common.{Fact, of_dealer, IsOneOf, next_sent}
 use Rattle.market_terms.specs.declared.closes.Close.TheVariants as closes
-use Rattle.market_terms.specs.declared.duties.Duty.{Duty}
-use Rattle.market_terms.specs.declared.duties.Duty.TheVariants as duty
-use Rattle.venue_rows.specs.Rows.{Configuration, dealer_numbered}
-use Rattle.venue_rows.specs.declared.dealer_rows.DealerRow.{DealerRow}
-use Rattle.dealer_desk.specs.DealerFacts.{Told}
-use Rattle.venue_places.specs.declared.actors.Actor.{Actor}
-use Rattle.step_replay.specs.Actions.{Effect}
-use Rattle.step_replay.specs.AuditTrail.{AuditTrail, Caused, is_same_actor, pending}
-use Rattle.step_replay.specs.DealerTrail.{AtDesk, DealerEntry, facts_of, message_in, rooms_by}
-use Rattle.step_replay.specs.EachLemmas.{Each, Every, Stays, each_append, each_weaker, every_both}
-use Rattle.step_replay.specs.EachLemmas.{every_weaker}
-use Rattle.step_replay.specs.GrowthLemmas.{AreNumbered, in_left, in_right}
-use Rattle.step_replay.specs.PlaceLemmas.{dealer_grown}
-use Rattle.step_replay.specs.QueueLemmas.{one_actor}
-use Rattle.step_replay.specs.SeenLemmas.{Seen}
-use Rattle.step_replay.specs.VenueFacts.{Fact, of_dealer}
-use Rattle.step_replay.specs.WordLemmas.{IsOneOf}
-use Rattle.venue_laws.proofs.CountLemmas.{AreCounted}
-use Rattle.venue_laws.proofs.ListLemmas.{every_mapped, first_grown}
-use Rattle.venue_laws.proofs.NoticeLemmas.{Noticed}
-use Rattle.venue_laws.proofs.VenueGrowth.{marks_both, still_later}
-use Rattle.venue_laws.proofs.VenueInvariant.{DeskOk, DutyOk, FactOk, MarketOk, VenueOk}
+use Rattle.step_replay.specs.DealerTrail.{message_in}
+use Rattle.step_replay.specs.EachLemmas.{each_weaker}
+use Rattle.step_replay.specs.WordLemmas.{one_is_kept}
+use Rattle.venue_laws.proofs.ListLemmas.{first_grown}
+use Rattle.venue_laws.proofs.NoticeLemmas.{IsNoticed, noticed_is_kept}
+use Rattle.venue_laws.proofs.VenueInvariant.{DeskOk, DutyOk, FactOk, LeftOk, MarketOk, QueueOk}
+use Rattle.venue_laws.proofs.VenueInvariant.{VenueOk}
 use Rattle.venue_laws.proofs.VenueParts.{InOrder, Later, Mark, MarkOk, NamesLifted, OrderOk, Still}
-use Rattle.venue_laws.proofs.VenueParts.{WasDone, did_in, duties_by, mark_of, marks}
-use Rattle.venue_laws.proofs.VenueTurns.{DidThen, Doing, did_then, doing_now, left_by, left_parts}
-use Rattle.venue_laws.proofs.VenueTurns.{other_left, own_did, own_left, turn, venue_with}
-use Rattle.venue_laws.specs.Notices.{next_sent}
-
--- what every event at a desk keeps
-abbrev pub Basic : List ℕ → DealerRow → List DealerEntry → Type 0
-Basic date row trail =
-    Seen date row trail × (IsOneOf trail × (Noticed (facts_of trail) × AreCounted trail))
+use Rattle.venue_laws.proofs.VenueParts.{did_in, duties_by, later_both, mark_of, marks, marks_both}
+use Rattle.venue_laws.proofs.VenueParts.{still_later}
+use Rattle.venue_laws.proofs.VenueTurns.{Doing, Grown, doing_now, grown, venue_with}
 
 next_sent_stays : (message : List ℕ) (after more : List DealerEntry)
     → next_sent after ≡ Some message → next_sent (after ++ more) ≡ Some message
@@ -72,8 +54,15 @@ module _ (h : Here) where
   -- what entries more keep at a desk: that the rooms that were shown are numbered, and what its
   -- notices name
   abbrev pub DeskAdds : ℕ → DealerRow → List DealerEntry → Type 0
-  DeskAdds dealer row entries = AreNumbered (rooms_by (trail_of dealer) ++ rooms_by entries)
+  DeskAdds dealer row entries = AreNumbered (rooms_by (trail_of dealer ++ entries))
       × Each (NamesLifted h.config.date row) (trail_of dealer) entries
+
+-- what is left goes on to stand in a queue
+order_later : {was now : AuditTrail} → Later was now → (before : List Mark) (mark : Option Mark)
+    → OrderOk was before mark → OrderOk now before mark
+order_later later before None order = tt
+order_later later before (Some mark) order =
+    (order.0, still_later (InOrder before mark) later order.1)
 
 module _ (h : Here) (effect : Effect) where
   -- the day then
@@ -86,11 +75,13 @@ module _ (h : Here) (effect : Effect) where
   abbrev pub DutyThen : Duty → Type 0
   DutyThen left = Still (DutyOk h.config h.by left) day
 
+  abbrev pub LeftThen : List Duty → List Duty → Type 0
+  LeftThen before duties = Each (LeftOk h.config day h.by) before duties
+
   -- what an effect has to bring
   pub record Brings : Type 0 where
     pub facts : Every FactThen effect.facts
-    pub duties : Every DutyThen effect.duties
-    pub order : Each (OrderOk day) (marks (queue h)) (marks effect.duties)
+    pub left : LeftThen (queue h) effect.duties
     pub adds : (dealer : ℕ) (row : DealerRow) → dealer_numbered h.config dealer ≡ Some row
         → DeskAdds h dealer row (of_dealer dealer effect.facts)
     pub markets : (investor : ℕ) → MarketOk h.config day.facts investor
@@ -99,104 +90,78 @@ module _ (h : Here) (effect : Effect) where
   abbrev pub DoneThen : List Duty → Type 0
   DoneThen left = Every (λ mark. Still (MarkOk mark) day) (marks left)
 
-  -- what it keeps at each desk
-  abbrev pub KeepsDesks : Type 0
-  KeepsDesks = (dealer : ℕ) (row : DealerRow) → dealer_numbered h.config dealer ≡ Some row
-      → Basic h.config.date row (trail_of h dealer)
-      → Basic h.config.date row (of_dealer dealer day.facts)
-
-  did_so : (other : Actor) → DidThen h.venue h.by effect h.doing other
-  did_so other = did_then h.venue h.by effect other (h.stood.queues other).within h.doing
-
-  duties_then : (other : Actor) → marks (duties_by other day.caused)
-      ≡ marks (duties_by other h.venue.caused)
-      ++ marks (duties_by other (left_by h.by effect.duties))
-  duties_then other =
-      ap marks (left_parts h.venue h.by effect other)
-      ∙ marks_both (duties_by other h.venue.caused) _
-
-  marks_then : (other : Actor)
-      → marks (did_in day other) ≡ marks (did_in h.venue other) ++ marks (did_so other).also
-  marks_then other = ap marks (did_so other).did ∙ marks_both (did_in h.venue other) _
+  grown_by : (other : Actor) → Grown h.venue h.by effect h.doing other
+  grown_by other = grown h.venue h.by effect h.doing other (λ a. (h.stood.queues a).within)
 
   -- it is a later one
   pub since : Later h.venue day
   since = record {
     more = effect.facts;
     facts_are = refl;
-    left = λ other mark is.
-        rw (duties_then other) (in_left mark (marks (duties_by other h.venue.caused)) _ is);
-    did = λ other mark is. rw (marks_then other) (in_left mark (marks (did_in h.venue other)) _ is);
+    left = λ other one is. rw ((grown_by other).left) (in_left one _ _ is);
+    did = λ other one is. rw ((grown_by other).did) (in_left one _ _ is);
   }
 
-  pub ok_then : KeepsDesks → Brings → DoneThen (doing_now h.venue h.by h.doing)
-      → VenueOk h.config day
+  pub to_now : {now : AuditTrail} → Later day now → Later h.venue now
+  to_now later = later_both since later
+
+  pub ok_then : ((dealer : ℕ) (row : DealerRow) → dealer_numbered h.config dealer ≡ Some row
+      → (P : List DealerEntry → Type 0) → IsKept h.config.date row P → P (trail_of h dealer)
+      → P (of_dealer dealer day.facts))
+      → Brings → DoneThen (doing_now h.venue h.by h.doing) → VenueOk h.config day
   ok_then keeps brings done = record {
     facts = every_both FactThen h.venue.facts effect.facts
         (every_weaker (λ fact. Still (FactOk h.config fact) h.venue) FactThen
         (λ fact stands. still_later (FactOk h.config fact) since stands) h.venue.facts
         h.stood.facts)
         brings.facts;
-    caused = every_both (λ (c : Caused). Still (DutyOk h.config c.by c.duty) day) h.venue.caused
-        (left_by h.by effect.duties)
-        (every_weaker (λ (c : Caused). Still (DutyOk h.config c.by c.duty) h.venue)
-        (λ (c : Caused). Still (DutyOk h.config c.by c.duty) day)
-        (λ c stands. still_later (DutyOk h.config c.by c.duty) since stands) h.venue.caused
-        h.stood.caused)
-        (every_mapped (λ (c : Caused). Still (DutyOk h.config c.by c.duty) day)
-        (λ (left : Duty). record { by = h.by; duty = left }) effect.duties brings.duties);
-    queues = λ other. record {
-      order = rw (duties_then other)
-          (each_append (OrderOk day) (λ before mark after more holds. holds) []
-          (marks (duties_by other h.venue.caused)) _
-          (each_weaker (OrderOk h.venue) (OrderOk day)
-          (λ before mark after stands.
-          (stands.0, still_later (InOrder before mark) since stands.1)) [] _
-          (h.stood.queues other).order) (order_then other));
-      done = rw (marks_then other)
-          (every_both (λ mark. Still (MarkOk mark) day) (marks (did_in h.venue other)) _
-          (every_weaker (λ mark. Still (MarkOk mark) h.venue) (λ mark. Still (MarkOk mark) day)
-          (λ mark stands. still_later (MarkOk mark) since stands) _ (h.stood.queues other).done)
-          (elim ((did_so other).also_is) [ inl is ↦ rw is tt | inr is ↦ rw is done ]));
-      within = (did_so other).within;
-    };
+    queues = queue_then;
     desks = desk_then;
     markets = brings.markets;
   }
     where
-      order_then : (other : Actor) → Each (OrderOk day) (marks (duties_by other h.venue.caused))
-          (marks (duties_by other (left_by h.by effect.duties)))
-      order_then other = elim (cases_Bool (is_same_actor h.by other)) [
-        | inr differs ↦ rw (other_left h.by other differs effect.duties) tt
-        | inl same ↦
-            subst (λ (a : Actor). Each (OrderOk day) (marks (duties_by a h.venue.caused))
-            (marks (duties_by a (left_by h.by effect.duties)))) (one_actor h.by other same)
-            (rw (own_left h.by effect.duties) brings.order)
+      added_ok : (other : Actor)
+          → Each (LeftOk h.config day other) (duties_by other h.venue.caused)
+          (grown_by other).added
+          × Every (λ mark. Still (MarkOk mark) day) (marks (grown_by other).also)
+      added_ok other = elim ((grown_by other).own) [
+        | inl none ↦ rw (none.0, none.1) (tt, tt)
+        | inr own ↦ subst (λ (a : Actor).
+            Each (LeftOk h.config day a) (duties_by a h.venue.caused) (grown_by other).added
+            × Every (λ mark. Still (MarkOk mark) day) (marks (grown_by other).also)) own.0
+            (rw (own.1, own.2) (brings.left, done))
       ]
+
+      queue_then : (other : Actor) → QueueOk h.config day other
+      queue_then other = record {
+        left = rw ((grown_by other).left)
+            (each_append (LeftOk h.config day other) (λ before left after more ok. ok) []
+            (duties_by other h.venue.caused) (grown_by other).added
+            (each_weaker (LeftOk h.config h.venue other) (LeftOk h.config day other)
+            (λ before left after ok. (
+              still_later (DutyOk h.config other left) since ok.0,
+              order_later since (marks before) (mark_of left) ok.1,
+            )) [] _ (h.stood.queues other).left) (added_ok other).0);
+        done = rw ((grown_by other).did, marks_both)
+            (every_both (λ mark. Still (MarkOk mark) day) (marks (did_in h.venue other)) _
+            (every_weaker (λ mark. Still (MarkOk mark) h.venue) (λ mark. Still (MarkOk mark) day)
+            (λ mark stands. still_later (MarkOk mark) since stands) _ (h.stood.queues other).done)
+            (added_ok other).1);
+        within = (grown_by other).within;
+      }
 
       desk_then : (dealer : ℕ) (row : DealerRow) → dealer_numbered h.config dealer ≡ Some row
           → DeskOk h.config day.facts dealer row
       desk_then dealer row is =
+          let date = h.config.date in
           let stood = h.stood.desks dealer row is in
           let adds = brings.adds dealer row is in
-          let kept = keeps dealer row is
-          (stood.seen, (stood.one_of, (stood.noticed, stood.counted))) in
           record {
-            seen = kept.0;
-            one_of = kept.1.0;
-            noticed = kept.1.1.0;
-            counted = kept.1.1.1;
-            numbered = rw (dealer_grown dealer h.venue.facts effect.facts, filter_map-append)
-                adds.0;
+            seen = keeps dealer row is (Seen date row) (seen_is_kept date row) stood.seen;
+            one_of = keeps dealer row is IsOneOf (one_is_kept date row) stood.one_of;
+            noticed = keeps dealer row is IsNoticed (noticed_is_kept date row) stood.noticed;
+            numbered = rw (dealer_grown dealer h.venue.facts effect.facts) (adds.0);
             names = rw (dealer_grown dealer h.venue.facts effect.facts)
-                (each_append (NamesLifted h.config.date row) (names_after h.config.date row) []
+                (each_append (NamesLifted date row) (names_after date row) []
                 (trail_of h dealer) (of_dealer dealer effect.facts) stood.names adds.1);
           }
-
--- what a turn's duty does once is done then
-pub just_done : (venue : AuditTrail) (by : Actor) (left : Duty) (rest : List Duty)
-    (is : pending by venue ≡ left ∷ rest) (mark : Mark) → mark_of left ≡ Some mark
-    → (effect : Effect) → WasDone (venue_with venue by effect (turn left rest is)) by mark
-just_done venue by left rest is mark does effect =
-    rw (own_did venue by effect left rest is, marks_both (did_in venue by) (left ∷ []), does)
-    (in_right mark (marks (did_in venue by)) (mark ∷ []) (inl refl))

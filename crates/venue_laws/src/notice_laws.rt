@@ -20,7 +20,7 @@ ghost use Rattle.step_replay.specs.VenueFacts.{of_dealer, of_room};
 ghost use Rattle.venue_places.specs.declared.actors.Actor.{Actor};
 ghost use Rattle.step_replay.specs.declared.steps.Step.{Step};
 
-use dealer_desk::{limits_are_kept, what_is_asked_is_of_the_day};
+use dealer_desk::{limits_are_kept, what_is_asked_is_of_the_day, words_are_asked_event_by_event};
 
 /// A law: every word that a dealer asks is settled as the dealer view says, in every venue, after
 /// every list of steps. Where a message of its own or a drop asked the word of a quote, the first
@@ -40,7 +40,9 @@ pub fn words_are_settled_as_the_view_says()
         → of_dealer dealer (venue.audit_trail config steps).facts ≡ before ++ entry ∷ after
         → settlement_in entry ≡ Some (quote, settlement)
         → settlement ≡ settlement_by_view config.date row before quote }
-{}
+{
+    words_are_asked_event_by_event();
+}
 
 /// A law: a closing notice of a request comes after the dealer was shown the request, and at most
 /// once, in every venue, after every list of steps. It does nothing.

@@ -15,8 +15,8 @@ use step_replay::Due;
 /// nothing.
 ///
 /// Due text can't say every value of the types: a message of no byte, a request of a firm that is
-/// named as the venue or its clock, and a number of more than nine digits. No day of a venue has
-/// such a message or such a request.
+/// named as the venue or its clock, and a number of more than nine digits. No day that lines spell
+/// has such a message or such a request (`what_is_due_can_be_said` of the crate due_laws).
 pub fn what_was_due_is_read_back(date: &Date, dues: &[Due])
     ensures list { list_all spec.is_sayable dues.now ≡ true
         → spec.AreReadBack date.now dues.now }

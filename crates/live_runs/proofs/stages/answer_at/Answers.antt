@@ -81,7 +81,7 @@ returns-in_ok-put_line-in-Between-clause-ok g c =
     let was : c.args.stage.now ≡ stage.Between c.in-Between.field-0 c.in-Between.text = search rules in
     stage_between (meant_form c.args.form) c.args.number c.args.line.now c.args.stage.now _ c.in-Between.field-0 c.in-Between.text
     c.put_line.new.text (g.W.Write.contents c.args.out.now) (g.E.Write.contents c.args.err.now) was (sym c.if-is_turn.ensures) refl
-    c.in_ok-put_line-in-Between.ensures.ok
+    c.in_ok-put_line-in-Between.ensures.ok c.in_ok-put_line-in-Between.ensures.short
 
 pub returns-in_err-keep_step-in-Both-clause-err : goal.returns-in_err-keep_step-in-Both-clause-err
 returns-in_err-keep_step-in-Both-clause-err g c =

@@ -6,7 +6,7 @@ use Rattle.session_worker.specs.DayChecks.{first_unswept, first_untold}
 use Rattle.session_worker.specs.RelayedQuotes.{first_unrelayed}
 use Rattle.session_worker.specs.ShownRequests.{first_unshown}
 use Rattle.session_worker.proofs.ActionLemmas.{events_are_left}
-use Rattle.session_worker.proofs.FaultLemmas.{day_read}
+use Rattle.session_worker.proofs.JoinedLemmas.{day_read}
 use Rattle.session_worker.proofs.days.agreed.Goals as goal
 
 -- the first firm with an event that is not that of an action

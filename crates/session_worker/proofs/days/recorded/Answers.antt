@@ -10,7 +10,8 @@ use Rattle.session_worker.specs.DayFaults.{unrelayed_of}
 use Rattle.session_worker.specs.KeptDays.{KeepsDay, rooms_of}
 use Rattle.session_worker.proofs.DayLemmas.{Joined, day_is_kept}
 use Rattle.session_worker.proofs.FaultLemmas.{dealer_is_of, first_is_of, investor_is_of}
-use Rattle.session_worker.proofs.FaultLemmas.{joined_is_of, same_fault}
+use Rattle.session_worker.proofs.FaultLemmas.{same_fault}
+use Rattle.session_worker.proofs.JoinedLemmas.{joined_is_of}
 use Rattle.session_worker.proofs.days.recorded.Goals as goal
 
 -- a session for each investor

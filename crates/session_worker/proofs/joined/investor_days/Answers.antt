@@ -6,6 +6,7 @@ use Rattle.quote_word.specs.SettleLogLaws.{begins_all}
 use Rattle.recorded_days.specs.Records.{InvestorLists}
 use Rattle.session_worker.specs.DayChecks.{came_from_investor}
 use Rattle.session_worker.specs.KeptDays.{InvestorKeeps, InvestorsKeep, names_of}
+use Rattle.session_worker.specs.LeftResponses.{responses_answered, responses_left}
 use Rattle.session_worker.proofs.FaultLemmas.{investor_among, one_among, same_fault}
 use Rattle.session_worker.proofs.KeepLemmas.{investors_grow}
 use Rattle.session_worker.proofs.MovedLists.{all_moved, both_ended, both_shorter, counted_on, moved}
@@ -81,8 +82,10 @@ returns-in_err-day-clause-among g c =
     omega (arith, place, left, c.loop-place.invariant.counted) in
     same_fault _ c.from_residual-in_err-day.result why c.from_residual-in_err-day.ensures.1
     (investor_among InvestorLists why under.desk.market.firm firm c.args.first count
-    (came_from_investor under.desk.events) c.in-Some.session.inbox.items low high
-    c.in_err-day.ensures.other_desk c.in_err-day.ensures.other_inbox c.in_err-day.ensures.given)
+    (came_from_investor under.desk.events) c.in-Some.session.inbox.items
+    (responses_answered under.desk.events) (responses_left under.desk) low high
+    c.in_err-day.ensures.other_desk c.in_err-day.ensures.other_inbox
+    c.in_err-day.ensures.other_answers c.in_err-day.ensures.given)
 
 -- or of one of its rooms
 pub returns-in_err-seen-clause-among : goal.returns-in_err-seen-clause-among

@@ -1,6 +1,5 @@
-use Rattle.std.proofs.Common.{◌∙◌, None, ap, length, rules, take}
-use Rattle.std.proofs.lemmas.List.{length-replicate}
-use Rattle.step_replay.specs.DealerView.{view_after}
+use Rattle.step_replay.proofs.Common.{◌∙◌, None, ap, length, rules, take, length-replicate}
+use Rattle.step_replay.proofs.Common.{view_after}
 use Rattle.step_replay.proofs.ItemLemmas.{all_sent, item_stands, start_stands}
 use Rattle.step_replay.proofs.dealer_view.alone.Goals as goal
 

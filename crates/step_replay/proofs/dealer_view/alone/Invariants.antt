@@ -1,6 +1,4 @@
-use Rattle.std.proofs.Common.{◌≡◌, length, take}
-use Rattle.step_replay.specs.DealerView.{view_after}
-use Rattle.step_replay.specs.RowOfWords.{StandsFor}
+use Rattle.step_replay.proofs.Common.{◌≡◌, length, take, view_after, StandsFor}
 use Rattle.step_replay.proofs.dealer_view.alone.Given as goal
 
 abbrev pub invariant-loop-due : goal.invariant-loop-due

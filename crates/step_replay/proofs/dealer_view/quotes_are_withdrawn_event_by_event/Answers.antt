@@ -1,10 +1,7 @@
-use Rattle.std.proofs.Common.{Bool, ◌||◌, ◌∙◌, ap, sym}
-use Rattle.std.proofs.lemmas.List.Folds.{list_any-append}
-use Rattle.std.specs.List.{list_any}
-use Rattle.dealer_desk.specs.DealerDesk.{book_at, facts_at, with_event}
-use Rattle.dealer_desk.specs.SettledWords.{settled_words, asked_by}
-use Rattle.dealer_desk.specs.DeskLaws.{says_withdrawn}
-use Rattle.step_replay.specs.RowOfWords.{withdraws_by}
+use Rattle.step_replay.proofs.Common.{Bool, ◌||◌, ◌∙◌, ap, sym, list_any-append, list_any, book_at}
+use Rattle.step_replay.proofs.Common.{with_event, asked_by, says_withdrawn, withdraws_by}
+use Rattle.dealer_desk.specs.DealerDesk.{facts_at}
+use Rattle.dealer_desk.specs.SettledWords.{settled_words}
 use Rattle.step_replay.proofs.dealer_view.quotes_are_withdrawn_event_by_event.Goals as goal
 
 pub returns : goal.returns

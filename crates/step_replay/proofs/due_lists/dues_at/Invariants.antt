@@ -1,6 +1,5 @@
 -- What came so far and what is behind it are what was due.
-use Rattle.std.proofs.Common.{◌≡◌, ◌++◌, drop}
-use Rattle.step_replay.specs.Liftings.{dues_behind}
+use Rattle.step_replay.proofs.Common.{◌≡◌, ◌++◌, drop, dues_behind}
 use Rattle.step_replay.proofs.due_lists.dues_at.Given as goal
 
 abbrev pub invariant-loop-lifting : goal.invariant-loop-lifting

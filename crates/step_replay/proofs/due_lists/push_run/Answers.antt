@@ -1,4 +1,4 @@
-use Rattle.std.proofs.Common.{◌≤◌, arith}
+use Rattle.step_replay.proofs.Common.{◌≤◌, arith}
 use Rattle.step_replay.proofs.DueListLemmas.{run_pushed}
 use Rattle.step_replay.proofs.due_lists.push_run.Goals as goal
 

@@ -1,5 +1,5 @@
 -- What was due by the events so far has come behind the dues.
-use Rattle.std.proofs.Common.{◌≡◌, ◌≤◌, ◌-◌}
+use Rattle.step_replay.proofs.Common.{◌≡◌, ◌≤◌, ◌-◌}
 use Rattle.step_replay.proofs.DueListLemmas.{run_behind}
 use Rattle.step_replay.proofs.due_lists.push_run.Given as goal
 

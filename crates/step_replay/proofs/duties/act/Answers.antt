@@ -1,20 +1,16 @@
-use Rattle.step_replay.specs.DutyEffects.{duty_effect}
-use Rattle.venue_places.specs.Placed.{placed}
-use Rattle.step_replay.proofs.ComingLemmas.{duty_comes}
-use Rattle.step_replay.proofs.DutyLemmas.{nothing_comes, something_comes}
+use Rattle.step_replay.proofs.Common.{placed}
+use Rattle.step_replay.proofs.ComingLemmas.{duty_comes, nothing_comes, something_comes}
 use Rattle.step_replay.proofs.duties.act.Goals as goal
 
 pub returns-in_default : goal.returns-in_default
 returns-in_default c =
-    nothing_comes (λ config facts. duty_effect config facts c.args.by c.args.duty)
-    (λ config. placed config c.args.by c.args.duty)
+    nothing_comes (λ config. placed config c.args.by c.args.duty)
     (λ config facts. duty_comes config facts c.args.by c.args.duty) c.args.floor.now
     c.nothing.result.items c.in_default.ensures c.nothing.ensures
 
 pub returns : goal.returns
 returns c =
-    something_comes (λ config facts. duty_effect config facts c.args.by c.args.duty)
-    (λ config. placed config c.args.by c.args.duty)
+    something_comes (λ config. placed config c.args.by c.args.duty)
     (λ config facts. duty_comes config facts c.args.by c.args.duty) c.args.floor.now
     c.bring.new.floor c.in_ok-duties.duties.items c.in-Some.arrival c.in-Some.ensures
     c.in_ok-duties.ensures

@@ -1,18 +1,21 @@
-use Rattle.std.proofs.Common.{◌<◌, ◌≤◌, length, arith}
-use Rattle.std.proofs.lemmas.Bool.Decides.{nat_tests}
-use Rattle.step_replay.proofs.DutyLemmas.{dealer_message, investor_message}
+use Rattle.step_replay.proofs.Common.{◌≡◌, ◌<◌, ◌≤◌, length, arith, ap, false, is_some, nat_tests}
+use Rattle.step_replay.proofs.Common.{dealer_numbered, message_effect}
+use Rattle.step_replay.proofs.ComingLemmas.{dealer_here}
+use Rattle.step_replay.proofs.FoundDealers.{no_dealer}
 use Rattle.step_replay.proofs.duties.receive.Goals as goal
 
 pub returns-then-from-len : goal.returns-then-from-len
+unfolding message_effect
 returns-then-from-len c config facts stands =
     let within : c.args.firm < length c.args.floor.now.dealers.items =
     grind (arith, nat_tests, c.if-from-len.true, c.from.ensures, c.len.ensures) in
-    dealer_message config facts c.args.floor.now _ c.args.firm c.args.moment c.args.bytes.now _
-    stands within (c.in_ok-duties.ensures config facts stands)
+    rw (dealer_here c.args.firm stands within) (c.in_ok-duties.ensures config facts stands)
 
 pub returns : goal.returns
+unfolding message_effect
 returns c config facts stands =
     let beyond : length c.args.floor.now.dealers.items ≤ c.args.firm =
     grind (arith, nat_tests, c.if-from-len.false, c.from.ensures, c.len.ensures) in
-    investor_message config facts c.args.floor.now _ c.args.firm c.args.moment c.args.bytes.now _
-    stands beyond (c.in_ok-duties-2.ensures config facts stands)
+    let none : is_some (dealer_numbered config c.args.firm) ≡ false =
+    ap is_some (no_dealer config facts c.args.floor.now c.args.firm stands beyond) in
+    rw none (c.in_ok-duties-2.ensures config facts stands)

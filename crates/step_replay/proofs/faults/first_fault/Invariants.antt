@@ -1,5 +1,4 @@
-use Rattle.std.proofs.Common.{◌≡◌, ◌+◌, drop}
-use Rattle.step_replay.specs.StepFaults.{first_fault, first_fault_from}
+use Rattle.step_replay.proofs.Common.{◌≡◌, ◌+◌, drop, first_fault, first_fault_from}
 use Rattle.step_replay.proofs.faults.first_fault.Given as goal
 
 abbrev pub invariant-loop-index : goal.invariant-loop-index

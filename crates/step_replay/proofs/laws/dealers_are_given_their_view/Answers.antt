@@ -1,11 +1,8 @@
-use Rattle.std.proofs.Common.{◌∙◌, ap}
-use Rattle.std.proofs.Common.{Some}
-use Rattle.step_replay.specs.AuditTrail.{audit_trail}
-use Rattle.step_replay.specs.LiveDays.{live_steps, live_trail}
-use Rattle.step_replay.specs.IsolationLemmas.{is_sent_its_view}
-use Rattle.step_replay.proofs.LiveEffects.{dealer_within}
-use Rattle.step_replay.proofs.FirmMessages.{own_part}
-use Rattle.step_replay.proofs.OneListLemmas.{sent_on_its_day}
+use Rattle.step_replay.proofs.Common.{◌∙◌, ap, Some, audit_trail, live_steps, live_trail}
+use Rattle.step_replay.proofs.Common.{is_sent_its_view}
+use Rattle.step_replay.proofs.StepEffects.{dealer_within}
+use Rattle.step_replay.proofs.FirmSent.{own_part}
+use Rattle.step_replay.proofs.DayLemmas.{sent_on_its_day}
 use Rattle.step_replay.proofs.laws.dealers_are_given_their_view.Goals as goal
 
 pub returns-clause-days : goal.returns-clause-days

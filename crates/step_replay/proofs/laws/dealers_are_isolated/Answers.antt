@@ -1,8 +1,5 @@
-use Rattle.std.proofs.Common.{◌∙◌, ℕ, List, ap, sym}
+use Rattle.step_replay.proofs.Common.{◌∙◌, ℕ, List, ap, sym, dealer_view, Due, is_sent_its_view}
 use Rattle.step_replay.specs.AuditTrail as venue
-use Rattle.step_replay.specs.DealerView.{dealer_view}
-use Rattle.step_replay.specs.declared.dues.Due.{Due}
-use Rattle.step_replay.specs.IsolationLemmas.{is_sent_its_view}
 use Rattle.step_replay.proofs.laws.dealers_are_isolated.Goals as goal
 
 pub returns : goal.returns

@@ -1,4 +1,4 @@
-use Rattle.step_replay.specs.IsolationLemmas.{is_sent_its_view}
+use Rattle.step_replay.proofs.Common.{is_sent_its_view}
 use Rattle.step_replay.proofs.laws.dealers_are_sent_their_view.Goals as goal
 
 pub returns : goal.returns

@@ -1,7 +1,6 @@
-use Rattle.step_replay.specs.AuditTrail.{audit_trail}
-use Rattle.step_replay.specs.LiveDays.{live_trail}
-use Rattle.step_replay.proofs.FirmMessages.{own_part}
-use Rattle.step_replay.proofs.OneListLemmas.{sent_on_its_day}
+use Rattle.step_replay.proofs.Common.{audit_trail, live_trail}
+use Rattle.step_replay.proofs.FirmSent.{own_part}
+use Rattle.step_replay.proofs.DayLemmas.{sent_on_its_day}
 use Rattle.step_replay.proofs.laws.firms_are_sent_one_list.Goals as goal
 
 pub returns-clause-days : goal.returns-clause-days

@@ -1,4 +1,4 @@
-use Rattle.std.proofs.Common.{◌≡◌, ◌++◌, map, take}
+use Rattle.step_replay.proofs.Common.{◌≡◌, ◌++◌, map, take}
 use Rattle.step_replay.proofs.live.push_all.Given as goal
 
 abbrev pub invariant-loop-message : goal.invariant-loop-message

@@ -1,8 +1,4 @@
-use Rattle.std.proofs.Common.{◌++◌, true, ◌≡◌, ap, subst, ◌∙◌}
-use Rattle.step_replay.specs.AuditTrail.{after_step}
-use Rattle.step_replay.specs.LiveStanding.{SendsAllOf}
-use Rattle.step_replay.specs.Queues.{is_known}
-use Rattle.venue_places.specs.declared.actors.Actor.{Actor}
+use Rattle.step_replay.proofs.Common.{true, ◌≡◌, ap, ◌∙◌, after_step, is_known}
 use Rattle.step_replay.proofs.LiveLemmas.{actor_known}
 use Rattle.step_replay.proofs.live.send_all.Goals as goal
 
@@ -12,7 +8,5 @@ returns c config trail start none stood told =
     let first = c.in_ok-do_step.ensures config trail start none stood told in
     let known : is_known config c.actor_of.result ≡ true =
     ap (is_known config) c.actor_of.ensures ∙ actor_known config next none in
-    subst (λ (by : Actor). SendsAllOf config by (after_step config trail next)
-    c.send_duties.new.venue (start ++ c.send_duties.new.told.items)) c.actor_of.ensures
-    (c.in_ok-send_duties.ensures config (after_step config trail next) start known first.stands
-    first.told_is)
+    rw c.actor_of.ensures at (c.in_ok-send_duties.ensures config (after_step config trail next) start
+    known first.stands first.told_is)

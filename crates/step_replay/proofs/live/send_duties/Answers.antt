@@ -1,17 +1,13 @@
-use Rattle.std.proofs.Common.{◌++◌, arith, sym, subst}
-use Rattle.step_replay.specs.AuditTrail.{AuditTrail}
-use Rattle.step_replay.specs.LiveStanding.{VenueSends, after_turns}
-use Rattle.step_replay.proofs.LiveLemmas.{no_turn, tells_all, turn_known, turns_more}
+use Rattle.step_replay.proofs.Common.{◌++◌, arith, sym, after_turns}
+use Rattle.step_replay.proofs.LiveLemmas.{tells_all, turn_known}
+use Rattle.step_replay.proofs.StartLemmas.{no_turn, turns_more}
 use Rattle.step_replay.proofs.live.send_duties.Goals as goal
 
 pub loop-init : goal.loop-init
 loop-init c = record {
   within = omega arith;
   tells = λ config trail start known stood told.
-      subst (λ (t : AuditTrail). VenueSends config t c.args.venue.now
-      (start ++ c.args.told.now.items))
-      (sym (no_turn config c.args.by trail))
-      (record { stands = stood; told_is = told });
+      rw (no_turn config c.args.by trail) (record { stands = stood; told_is = told });
 }
 
 pub returns-in_default : goal.returns-in_default
@@ -25,9 +21,7 @@ loop-preserved c = record {
   within = omega (arith, c.loop-test.true);
   tells = λ config trail start known stood told.
       let had = c.loop.invariant.tells config trail start known stood told in
-      subst (λ (t : AuditTrail). VenueSends config t c.do_step.new.venue
-      (start ++ c.do_step.new.told.items))
-      (sym (turns_more config c.args.by c.loop.counter trail))
+      rw (turns_more config c.args.by c.loop.counter trail)
       (c.in_ok-do_step.ensures config (after_turns config c.args.by c.loop.counter trail) start
       (turn_known config c.args.by known) had.stands had.told_is);
 }

@@ -1,11 +1,7 @@
 -- As many turns as were counted are done, and what was sent with them is told.
-use Rattle.std.proofs.Common.{◌≡◌, ◌≤◌, ◌++◌, List, true}
-use Rattle.venue_rows.specs.Rows.{Configuration}
-use Rattle.step_replay.specs.AuditTrail.{AuditTrail}
-use Rattle.step_replay.specs.LiveDays.{Sent, messages_in}
-use Rattle.step_replay.specs.LiveStanding.{VenueStands, VenueSends, after_turns}
-use Rattle.step_replay.specs.Queues.{is_known}
-use Rattle.step_replay.specs.declared.steps.TheConstants.{MOST_TURNS_BEHIND}
+use Rattle.step_replay.proofs.Common.{◌≡◌, ◌≤◌, ◌++◌, List, true, Configuration, AuditTrail, Sent}
+use Rattle.step_replay.proofs.Common.{messages_in, VenueStands, VenueSends, after_turns, is_known}
+use Rattle.step_replay.proofs.Common.{MOST_TURNS_BEHIND}
 use Rattle.step_replay.proofs.live.send_duties.Given as goal
 
 abbrev pub invariant-loop : goal.invariant-loop

@@ -1,7 +1,5 @@
-use Rattle.std.proofs.Common.{◌≡◌, ◌<◌, ℕ, List, ap, sym, subst, ◌∙◌, ◌+◌, [], length, get_or}
-use Rattle.venue_rows.specs.declared.dealer_rows.DealerRow.{DealerRow}
-use Rattle.dealer_desk.specs.DealerDesk.{DeskEvents}
-use Rattle.step_replay.specs.Openings.{DealersOpen}
+use Rattle.step_replay.proofs.Common.{◌≡◌, ◌<◌, ℕ, List, ap, sym, subst, ◌∙◌, ◌+◌, [], length}
+use Rattle.step_replay.proofs.Common.{get_or, DealerRow, DeskEvents, DealersOpen}
 use Rattle.step_replay.proofs.OpeningLemmas.{dealers_grow, words_grow}
 use Rattle.step_replay.proofs.opening.dealers_at_start.Goals as goal
 

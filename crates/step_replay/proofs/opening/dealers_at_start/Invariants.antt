@@ -1,6 +1,4 @@
-use Rattle.std.proofs.Common.{◌≡◌, take}
-use Rattle.step_replay.specs.Actions.{quotes_of}
-use Rattle.step_replay.specs.Openings.{DealersOpen}
+use Rattle.step_replay.proofs.Common.{◌≡◌, take, quotes_of, DealersOpen}
 use Rattle.step_replay.proofs.opening.dealers_at_start.Given as goal
 
 abbrev pub invariant-loop-row : goal.invariant-loop-row

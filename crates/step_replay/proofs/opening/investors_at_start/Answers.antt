@@ -1,5 +1,5 @@
-use Rattle.std.proofs.Common.{◌≡◌, ◌<◌, sym, subst, ◌+◌, length, get_or, arith}
-use Rattle.step_replay.specs.Openings.{InvestorsOpen}
+use Rattle.step_replay.proofs.Common.{◌≡◌, ◌<◌, sym, subst, ◌+◌, length, get_or, arith}
+use Rattle.step_replay.proofs.Common.{InvestorsOpen}
 use Rattle.step_replay.proofs.InvestorOpeningLemmas.{investors_grow, market_found}
 use Rattle.step_replay.proofs.opening.investors_at_start.Goals as goal
 

@@ -1,5 +1,4 @@
-use Rattle.std.proofs.Common.{◌≡◌, ◌+◌, length}
-use Rattle.step_replay.specs.Openings.{InvestorsOpen}
+use Rattle.step_replay.proofs.Common.{◌≡◌, ◌+◌, length, InvestorsOpen}
 use Rattle.step_replay.proofs.opening.investors_at_start.Given as goal
 
 abbrev pub invariant-loop-row : goal.invariant-loop-row

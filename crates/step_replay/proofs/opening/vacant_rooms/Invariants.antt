@@ -1,4 +1,4 @@
-use Rattle.std.proofs.Common.{◌≡◌, ◌≤◌, [], replicate}
+use Rattle.step_replay.proofs.Common.{◌≡◌, ◌≤◌, [], replicate}
 use Rattle.step_replay.proofs.opening.vacant_rooms.Given as goal
 
 abbrev pub invariant-loop : goal.invariant-loop

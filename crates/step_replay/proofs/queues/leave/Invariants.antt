@@ -1,4 +1,4 @@
-use Rattle.std.proofs.Common.{◌≡◌, ◌++◌}
+use Rattle.step_replay.proofs.Common.{◌≡◌, ◌++◌}
 use Rattle.step_replay.proofs.queues.leave.Given as goal
 
 abbrev pub invariant-loop-duty : goal.invariant-loop-duty

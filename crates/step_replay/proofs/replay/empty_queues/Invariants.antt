@@ -1,4 +1,4 @@
-use Rattle.std.proofs.Common.{◌≡◌, ◌≤◌, [], map, replicate}
+use Rattle.step_replay.proofs.Common.{◌≡◌, ◌≤◌, [], map, replicate}
 use Rattle.step_replay.proofs.replay.empty_queues.Given as goal
 
 abbrev pub invariant-loop : goal.invariant-loop

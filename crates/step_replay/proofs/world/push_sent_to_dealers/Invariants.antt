@@ -1,5 +1,4 @@
-use Rattle.std.proofs.Common.{◌≡◌, ◌++◌, map}
-use Rattle.step_replay.specs.FloorDays.{dealer_day_at}
+use Rattle.step_replay.proofs.Common.{◌≡◌, ◌++◌, map, dealer_day_at}
 use Rattle.step_replay.proofs.world.push_sent_to_dealers.Given as goal
 
 abbrev pub invariant-loop-place : goal.invariant-loop-place

@@ -1,8 +1,7 @@
-use Rattle.std.proofs.Common.{◌++◌, append-nil, map, map-id, rules, sym, ap, ◌∙◌}
-use Rattle.std.proofs.lemmas.Iterator.Adapters.{YieldsList-from_vec}
-use Rattle.std.proofs.lemmas.Iterator.Consumers.{YieldsList-end}
-use Rattle.step_replay.specs.FloorDays.{investor_day_at}
-use Rattle.step_replay.proofs.WorldLemmas.{mapped_more}
+use Rattle.step_replay.proofs.Common.{◌++◌, map, map-id, rules, sym, ap, ◌∙◌, YieldsList-from_vec}
+use Rattle.step_replay.proofs.Common.{YieldsList-end, investor_day_at}
+use Rattle.std.proofs.Common.{append-nil}
+use Rattle.step_replay.proofs.DayLemmas.{mapped_more}
 use Rattle.step_replay.proofs.world.push_sent_to_investors.Goals as goal
 
 pub loop-place-init : goal.loop-place-init

@@ -1,6 +1,4 @@
-use Rattle.std.proofs.Common.{take}
-use Rattle.step_replay.specs.AuditTrail.{audit_trail}
-use Rattle.step_replay.specs.Following.{ReplayStands}
+use Rattle.step_replay.proofs.Common.{take, audit_trail, ReplayStands}
 use Rattle.step_replay.proofs.world.replayed.Given as goal
 
 abbrev pub invariant-loop-step : goal.invariant-loop-step

@@ -1,6 +1,6 @@
-use Rattle.std.proofs.Common.{◌≡◌, length, rules}
+use Rattle.step_replay.proofs.Common.{◌≡◌, length, rules}
 use Rattle.std.proofs.lemmas.List.{nil_from_length}
-use Rattle.step_replay.proofs.DoneLemmas.{all_done, all_left, part_done}
+use Rattle.step_replay.proofs.StartLemmas.{all_done, all_left, part_done}
 use Rattle.step_replay.proofs.world.replayed_once.Goals as goal
 
 pub loop-left-init : goal.loop-left-init

@@ -1,6 +1,5 @@
 -- Some of the day is done, and the rest is left.
-use Rattle.std.proofs.Common.{length}
-use Rattle.step_replay.specs.DoneSteps.{IsLeft}
+use Rattle.step_replay.proofs.Common.{length, IsLeft}
 use Rattle.step_replay.proofs.world.replayed_once.Given as goal
 
 abbrev pub invariant-loop-left : goal.invariant-loop-left

@@ -1,8 +1,9 @@
-use Rattle.step_replay.specs.AuditTrail.{audit_trail}
+use Rattle.venue_laws.proofs.Common.{audit_trail}
 use Rattle.venue_laws.proofs.ConditionMet.{message_met, met}
 use Rattle.venue_laws.proofs.VenueDay.{venue_ok}
 use Rattle.venue_laws.proofs.VenueDesk.{WordsOfDay}
-use Rattle.venue_laws.proofs.VenueKnown.{pending_ok, pending_order}
+use Rattle.venue_laws.proofs.VenueKnown.{pending_ok}
+use Rattle.venue_laws.proofs.VenueParts.{later_same}
 use Rattle.venue_laws.proofs.condition_laws.steps_meet_their_tests.Goals as goal
 
 pub returns-clause-duties : goal.returns-clause-duties
@@ -13,8 +14,8 @@ returns-clause-duties c config steps actor duty rest is =
     } in
     let day = audit_trail config steps in
     let stood = venue_ok c.limits_are_kept.ensures.lone words config steps in
-    met config day stood words actor duty (pending_ok config day stood actor duty rest is)
-    (λ mark so. (pending_order config day stood actor duty rest is mark so).0)
+    let fits = pending_ok stood actor duty rest is in
+    met stood actor words duty (fits.0 day (later_same day)) fits.1
 
 pub returns-clause-messages : goal.returns-clause-messages
 returns-clause-messages c config steps dealer row moment bytes is =
@@ -22,5 +23,5 @@ returns-clause-messages c config steps dealer row moment bytes is =
       asks = c.what_is_asked_is_of_the_day.ensures.message;
       drops = c.what_is_asked_is_of_the_day.ensures.drop;
     } in
-    message_met config (audit_trail config steps)
-    (venue_ok c.limits_are_kept.ensures.lone words config steps) words dealer row moment bytes is
+    message_met (venue_ok c.limits_are_kept.ensures.lone words config steps) words dealer row moment
+    bytes is

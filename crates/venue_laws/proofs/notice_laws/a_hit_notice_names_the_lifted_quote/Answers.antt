@@ -1,20 +1,13 @@
+use Rattle.venue_laws.proofs.Common.{Told, audit_trail, AtDesk, of_dealer, each_of}
 use Rattle.market_terms.specs.declared.closes.Close.TheVariants as closes
-use Rattle.dealer_desk.specs.DealerFacts.{Told}
-use Rattle.step_replay.specs.AuditTrail.{audit_trail}
-use Rattle.step_replay.specs.DealerTrail.{AtDesk}
-use Rattle.step_replay.specs.VenueFacts.{of_dealer}
-use Rattle.step_replay.specs.EachLemmas.{each_of}
 use Rattle.venue_laws.proofs.VenueDay.{venue_ok}
-use Rattle.venue_laws.proofs.VenueDesk.{WordsOfDay}
 use Rattle.venue_laws.proofs.VenueParts.{NamesLifted}
 use Rattle.venue_laws.proofs.notice_laws.a_hit_notice_names_the_lifted_quote.Goals as goal
 
 pub returns : goal.returns
 returns c config steps dealer row before after request moment is splits =
-    let words : WordsOfDay = record {
-      asks = c.what_is_asked_is_of_the_day.ensures.message;
-      drops = c.what_is_asked_is_of_the_day.ensures.drop;
-    } in
-    let stands = venue_ok c.limits_are_kept.ensures.lone words config steps in
+    let words = c.what_is_asked_is_of_the_day.ensures in
+    let stands = venue_ok c.limits_are_kept.ensures.lone
+    record { asks = words.message; drops = words.drop } config steps in
     each_of (NamesLifted config.date row) (of_dealer dealer (audit_trail config steps).facts) before
     (AtDesk (Told request closes.Hit moment)) after (stands.desks dealer row is).names splits

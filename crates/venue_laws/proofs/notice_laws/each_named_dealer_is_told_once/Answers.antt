@@ -1,14 +1,11 @@
-use Rattle.step_replay.specs.AuditTrail.{audit_trail}
+use Rattle.venue_laws.proofs.Common.{audit_trail}
 use Rattle.venue_laws.proofs.ToldLemmas.{is_told_once}
 use Rattle.venue_laws.proofs.VenueDay.{venue_ok}
-use Rattle.venue_laws.proofs.VenueDesk.{WordsOfDay}
 use Rattle.venue_laws.proofs.notice_laws.each_named_dealer_is_told_once.Goals as goal
 
 pub returns : goal.returns
 returns c config steps room end dealer idle ended named =
-    let words : WordsOfDay = record {
-      asks = c.what_is_asked_is_of_the_day.ensures.message;
-      drops = c.what_is_asked_is_of_the_day.ensures.drop;
-    } in
+    let words = c.what_is_asked_is_of_the_day.ensures in
     is_told_once config (audit_trail config steps)
-    (venue_ok c.limits_are_kept.ensures.lone words config steps) idle room end dealer ended named
+    (venue_ok c.limits_are_kept.ensures.lone record { asks = words.message; drops = words.drop }
+    config steps) idle room end dealer ended named

@@ -1,10 +1,14 @@
-use Rattle.venue_laws.proofs.AnswerLemmas.{is_answered}
+use Rattle.venue_laws.proofs.Common.{each_of}
+use Rattle.venue_laws.proofs.AnswerLemmas.{IsAnswered, are_answered}
 use Rattle.venue_laws.proofs.notice_laws.words_are_settled_as_the_view_says.Goals as goal
 
 pub returns-clause-asked : goal.returns-clause-asked
 returns-clause-asked c config steps dealer row before after entry quote is splits asks =
-    (is_answered config steps dealer row before after entry is splits).asked quote asks
+    let each = are_answered c.words_are_asked_event_by_event.ensures config steps dealer row is in
+    (each_of (IsAnswered config.date row) _ before entry after each splits).asked quote asks
 
 pub returns-clause-answered : goal.returns-clause-answered
 returns-clause-answered c config steps dealer row before after entry quote settlement is splits says =
-    (is_answered config steps dealer row before after entry is splits).answered quote settlement says
+    let each = are_answered c.words_are_asked_event_by_event.ensures config steps dealer row is in
+    (each_of (IsAnswered config.date row) _ before entry after each splits).answered quote
+    settlement says

@@ -1,40 +1,31 @@
--- Both days are computed: every definition that they need is opened.
+-- Both days are computed.
+use Rattle.venue_laws.proofs.Common.{List, [], ◌∷◌, ◌++◌, ◌≡◌, ◌⊎◌, ℕ, codes, drop, inl, inr, refl}
+use Rattle.venue_laws.proofs.Common.{take, AllZip, Field, ArePricesOf, IsPricedByAnother}
+use Rattle.venue_laws.proofs.Common.{bond_meant, venue}
 use Prim.Native.String.{String}
-use Rattle.std.proofs.Common.{ℕ, List, ◌++◌, refl, inl, inr, codes}
-use Rattle.std.specs.Fmt as fmt
-use Rattle.fix_fields.specs.Frame as frame
-use Rattle.fix_fields.specs.UtcTimestamp as timestamp
-use Rattle.bond_prices.specs.Grid as grid
-use Rattle.bond_prices.specs.Price as price
-use Rattle.quote_messages.specs.Arrivals as arrivals
-use Rattle.quote_messages.specs.PartyGroup as party
-use Rattle.quote_messages.specs.SessionChecks as session
-use Rattle.quote_messages.specs.SessionLines as lines
-use Rattle.quote_messages.specs.ValueForms as forms
-use Rattle.quote_messages.specs.Written as written
-use Rattle.dealer_desk.specs.DealerFacts as dealer_facts
-use Rattle.dealer_desk.specs.DealerOutput as dealer_output
-use Rattle.dealer_desk.specs.DealerRules as dealer_rules
-use Rattle.investor_desk.specs.InvestorFacts as investor_facts
-use Rattle.investor_desk.specs.InvestorOutput as investor_output
-use Rattle.investor_desk.specs.InvestorRules as investor_rules
-use Rattle.request_room.specs.Book as book
-use Rattle.step_replay.specs.DutyEffects as effects
-use Rattle.step_replay.specs.AuditTrail as audit
-use Rattle.step_replay.specs.DealerTrail as dealer_trail
-use Rattle.step_replay.specs.InvestorTrail as investor_trail
-use Rattle.step_replay.specs.VenueFacts as facts
-use Rattle.fix_fields.specs.Frame.{Field}
-use Rattle.venue_laws.specs.PriceAlike.{DiffersInPrices, IsPricedByAnother}
+use Rattle.fix_fields.specs.Frame.{fields_of}
 use Rattle.step_replay.specs.declared.steps.Step.TheVariants as step
-use Rattle.venue_laws.specs.PricedDays.{dear, cheap}
-use Rattle.venue_laws.specs.WorkedParts.{with_soh, message, moment}
-use Rattle.venue_laws.specs.WorkedVenue.{venue, dlr2}
+use Rattle.venue_laws.specs.PriceAlike.{DiffersInPrices}
+use Rattle.venue_laws.specs.PricedDays.{cheap, day_with, dear}
+use Rattle.venue_laws.specs.WorkedParts.{message, moment, with_soh}
+use Rattle.venue_laws.specs.WorkedVenue.{dlr2}
+use Rattle.venue_laws.proofs.ComputedDays.{computed}
 use Rattle.venue_laws.proofs.priced_days.definitions_give_the_priced_days.Goals as goal
+
+-- Lists that are one but for one item.
+module _ {A : Type 0} (Differ : A → A → Type 0) where
+  all_same : (xs : List A) → AllZip (λ x y. (x ≡ y) ⊎ Differ x y) xs xs
+  all_same [] = tt
+  all_same (x ∷ xs) = (inl refl, all_same xs)
+
+  but_one : (before : List A) (x y : A) (after : List A) → Differ x y
+      → AllZip (λ x y. (x ≡ y) ⊎ Differ x y) (before ++ x ∷ after) (before ++ y ∷ after)
+  but_one [] x y after differ = (inr differ, all_same after)
+  but_one (z ∷ before) x y after differ = (inl refl, but_one before x y after differ)
 
 -- the fields of the quote of DLR2
 abbrev fields : String → List Field
-fields quote = frame.fields_of (with_soh
+fields quote = fields_of (with_soh
     (codes "35=S|49=DLR2|56=VENUE|34=1|52=20250314-09:00:20|50=T2|" ++ codes quote ++ codes "|"))
 
 -- its bytes
@@ -42,54 +33,25 @@ abbrev quoted : String → List ℕ
 quoted quote = message "DLR2" "T2" "09:00:20" "S" 1 quote
 
 module _ (c : goal.After-frame_of_is_the_reading) where
-  -- they differ in their prices alone
   priced : DiffersInPrices venue (quoted dear) (quoted cheap)
-  unfolding fmt.digits frame.frame_text frame.fields_of frame.field_of frame.pieces_of frame.builds frame.length_digits_of frame.body_of frame.sum_digits_of frame.frame_of timestamp.is_date timestamp.milliseconds_of timestamp.spells timestamp.moment_of grid.on_grid price.price_of price.fraction_digits price.price_digits arrivals.dealer_arrival arrivals.investor_arrival party.party_group party.named_dealers session.dealer_session_verdict session.investor_session_verdict lines.tag_fault forms.quantity_of written.written dealer_facts.request_named dealer_facts.request_numbered dealer_facts.quote_with_id dealer_facts.quote_numbered dealer_facts.live_quote_on dealer_facts.has_lifted_quote dealer_facts.quote_to_drop dealer_facts.exposure_of dealer_facts.exposure_beside dealer_output.closable dealer_output.event_facts dealer_output.event_message dealer_rules.price_for dealer_rules.quote_refusal dealer_rules.quote_verdict dealer_rules.cancel_verdict dealer_rules.decline_verdict dealer_rules.dealer_verdict investor_facts.request_with_id investor_facts.request_numbered investor_facts.offer_named investor_facts.offer_numbered investor_output.event_facts investor_output.event_messages investor_rules.bond_with_id investor_rules.dealer_named investor_rules.request_refusal investor_rules.request_verdict investor_rules.hit_verdict investor_rules.pass_verdict investor_rules.investor_verdict book.cover_of book.hit_refusal book.event_facts effects.duty_effect effects.sweep_effect effects.message_effect audit.after_step audit.audit_trail dealer_trail.entries_of investor_trail.entries_of facts.of_dealer facts.of_room facts.of_investor
-  priced = record {
-    fields = fields dear;
-    others = fields cheap;
-    one_is = (c.frame_of_is_the_reading.ensures.reads (quoted dear) (fields dear)).0 refl;
-    other_is = (c.frame_of_is_the_reading.ensures.reads (quoted cheap) (fields cheap)).0 refl;
-    fields_are = (
-      inl refl,
-      (
-        inl refl,
-        (
-          inl refl,
-          (
-            inl refl,
-            (
-              inl refl,
-              (
-                inl refl,
-                (
-                  inl refl,
-                  (
-                    inl refl,
-                    (
-                      inl refl,
-                      (
-                        inl refl,
-                        (
-                          inr (record {
-                            is_price = refl;
-                            tag = refl;
-                            one_price = record { price = 25476; is_read = refl; is_on_grid = refl };
-                            other_price = record { price = 25472; is_read = refl; is_on_grid = refl };
-                          }),
-                          tt,
-                        ),
-                      ),
-                    ),
-                  ),
-                ),
-              ),
-            ),
-          ),
-        ),
-      ),
-    );
-  }
+  unfolding computed
+  priced =
+      let prices : ArePricesOf (bond_meant venue (fields dear)) (133, codes "99.515625")
+      (133, codes "99.5") =
+      record {
+        is_price = refl;
+        tag = refl;
+        one_price = record { price = 25476; is_read = refl; is_on_grid = refl };
+        other_price = record { price = 25472; is_read = refl; is_on_grid = refl };
+      } in
+      record {
+        fields = fields dear;
+        others = fields cheap;
+        one_is = (c.frame_of_is_the_reading.ensures.reads (quoted dear) (fields dear)).0 refl;
+        other_is = (c.frame_of_is_the_reading.ensures.reads (quoted cheap) (fields cheap)).0 refl;
+        fields_are = but_one (ArePricesOf (bond_meant venue (fields dear)))
+            (take 10 (fields dear)) _ _ [] prices;
+      }
 
   by_another : IsPricedByAnother venue 0 (step.In 1 (moment "09:00:20") (quoted dear))
       (step.In 1 (moment "09:00:20") (quoted cheap))
@@ -107,10 +69,10 @@ module _ (c : goal.After-frame_of_is_the_reading) where
   }
 
 pub returns : goal.returns
-unfolding fmt.digits frame.frame_text frame.fields_of frame.field_of frame.pieces_of frame.builds frame.length_digits_of frame.body_of frame.sum_digits_of frame.frame_of timestamp.is_date timestamp.milliseconds_of timestamp.spells timestamp.moment_of grid.on_grid price.price_of price.fraction_digits price.price_digits arrivals.dealer_arrival arrivals.investor_arrival party.party_group party.named_dealers session.dealer_session_verdict session.investor_session_verdict lines.tag_fault forms.quantity_of written.written dealer_facts.request_named dealer_facts.request_numbered dealer_facts.quote_with_id dealer_facts.quote_numbered dealer_facts.live_quote_on dealer_facts.has_lifted_quote dealer_facts.quote_to_drop dealer_facts.exposure_of dealer_facts.exposure_beside dealer_output.closable dealer_output.event_facts dealer_output.event_message dealer_rules.price_for dealer_rules.quote_refusal dealer_rules.quote_verdict dealer_rules.cancel_verdict dealer_rules.decline_verdict dealer_rules.dealer_verdict investor_facts.request_with_id investor_facts.request_numbered investor_facts.offer_named investor_facts.offer_numbered investor_output.event_facts investor_output.event_messages investor_rules.bond_with_id investor_rules.dealer_named investor_rules.request_refusal investor_rules.request_verdict investor_rules.hit_verdict investor_rules.pass_verdict investor_rules.investor_verdict book.cover_of book.hit_refusal book.event_facts effects.duty_effect effects.sweep_effect effects.message_effect audit.after_step audit.audit_trail dealer_trail.entries_of investor_trail.entries_of facts.of_dealer facts.of_room facts.of_investor
+unfolding computed
 returns c = record {
-  alike =
-      (inl refl, (inl refl, (inl refl, (inl refl, (inl refl, (inl refl, (inl refl, (inl refl, (inl refl, (inl refl, (inl refl, (inl refl, (inr (by_another c), (inl refl, (inl refl, (inl refl, (inl refl, (inl refl, (inl refl, (inl refl, (inl refl, tt)))))))))))))))))))));
+  alike = but_one (IsPricedByAnother venue 0) (take 12 (day_with dear)) _ _
+      (drop 13 (day_with dear)) (by_another c);
   dear = refl;
   cheap = refl;
 }

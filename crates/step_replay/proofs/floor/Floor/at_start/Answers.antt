@@ -1,5 +1,5 @@
-use Rattle.std.proofs.Common.{◌≡◌, ◌<◌, ◌≤◌, ◌^◌, ap, ◌∙◌, length, arith, lit<}
-use Rattle.step_replay.specs.Actions.{quotes_of}
+use Rattle.step_replay.proofs.Common.{◌≡◌, ◌<◌, ◌≤◌, ap, ◌∙◌, length, arith, quotes_of}
+use Rattle.std.proofs.Common.{◌^◌, lit<}
 use Rattle.step_replay.proofs.OpeningLemmas.{owners_count}
 use Rattle.step_replay.proofs.floor.Floor.at_start.Goals as goal
 

@@ -1,4 +1,4 @@
-use Rattle.std.proofs.Common.{◌∙◌, ap, get_or}
+use Rattle.step_replay.proofs.Common.{◌∙◌, ap, get_or}
 use Rattle.step_replay.proofs.LiftingLemmas.{noted_at}
 use Rattle.step_replay.proofs.floor.Floor.note_lifting.Goals as goal
 

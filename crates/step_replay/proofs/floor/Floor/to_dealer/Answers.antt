@@ -1,28 +1,22 @@
-use Rattle.std.proofs.Common.{◌<◌, [], arith, length}
-use Rattle.std.proofs.lemmas.Bool.Decides.{nat_tests}
-use Rattle.std.proofs.lemmas.Option.{slice_get_past}
-use Rattle.step_replay.specs.Coming.{dealer_gets}
-use Rattle.step_replay.specs.PlaceLemmas.{lent}
-use Rattle.step_replay.proofs.FoundDealers.{by_number, leaving, no_dealer_does}
-use Rattle.step_replay.proofs.DealerActionLemmas.{dealer_does}
+use Rattle.step_replay.proofs.Common.{[], arith, nat_tests, dealer_gets, lent}
+use Rattle.step_replay.proofs.FoundDealers.{by_found, by_number, dealer_found, leaving, no_dealer_does}
+use Rattle.step_replay.proofs.DealerActionLemmas.{gets}
 use Rattle.step_replay.proofs.floor.Floor.to_dealer.Goals as goal
 
 pub returns-in_default : goal.returns-in_default
-returns-in_default c config facts stands =
-    let action = dealer_gets config facts c.args.what in
-    leaving config facts _ _ c.nothing.result.items [] c.nothing.ensures
-    (by_number config facts c.from.result c.args.dealer action _ [] c.from.ensures
-    (no_dealer_does config facts c.args.self.now c.from.result action stands
-    (slice_get_past c.args.self.now.dealers.items c.from.result c.in_default.ensures.item.3)))
+returns-in_default c config facts stands one =
+    no_dealer_does config facts c.args.self.now c.from.result c.args.dealer
+    (dealer_gets config facts c.args.what) c.nothing.result.items stands
+    c.in_default.ensures.item.3 c.from.ensures c.nothing.ensures
 
 pub returns : goal.returns
-returns c config facts stands =
+returns c config facts stands one =
     let action = dealer_gets config facts c.args.what in
-    let within : c.from.result < length c.args.self.now.dealers.items =
-    grind (arith, nat_tests, c.in-Some.ensures.item.0) in
-    let stood = lent c.args.self.now.dealers.items c.from.result c.in-Some.place.now within
-    c.in-Some.ensures.item.1 in
+    let stood = lent c.args.self.now.dealers.items c.from.result c.in-Some.place.now
+    (grind (arith, nat_tests, c.in-Some.ensures.item.0)) c.in-Some.ensures.item.1 in
+    let found = dealer_found config facts c.args.self.now c.from.result c.in-Some.place.now stands
+    stood in
     leaving config facts _ _ c.in_ok-duties.duties.items [] c.in_ok-duties.ensures.duties
     (by_number config facts c.from.result c.args.dealer action _ [] c.from.ensures
-    (dealer_does config facts c.args.self.now c.from.result c.in-Some.place.now
-    c.bring_to_dealer.new.desk c.args.what stands stood c.in_ok-duties.ensures.ok))
+    (by_found config facts c.from.result c.in-Some.place.now found action _ []
+    (gets stands found c.bring_to_dealer.new.desk c.args.what c.in_ok-duties.ensures.ok)))

@@ -1,4 +1,4 @@
-use Rattle.step_replay.proofs.LiveSteps.{is_at_start}
+use Rattle.step_replay.proofs.LiveLemmas.{is_at_start}
 use Rattle.step_replay.proofs.live.LiveVenue.open.Goals as goal
 
 pub returns : goal.returns

@@ -1,7 +1,6 @@
-use Rattle.std.proofs.Common.{List, ◌++◌, ap, sym, ◌∙◌}
-use Rattle.std.proofs.lemmas.List.{append-nil}
-use Rattle.step_replay.specs.LiveDays.{Sent, live_trail, messages_in}
-use Rattle.step_replay.proofs.LiveSteps.{answered}
+use Rattle.step_replay.proofs.Common.{List, ◌++◌, ap, sym, ◌∙◌, append-nil, Sent, live_trail}
+use Rattle.step_replay.proofs.Common.{messages_in}
+use Rattle.step_replay.proofs.LiveLemmas.{answered}
 use Rattle.step_replay.proofs.StartLemmas.{any_place}
 use Rattle.step_replay.proofs.live.LiveVenue.step.Goals as goal
 

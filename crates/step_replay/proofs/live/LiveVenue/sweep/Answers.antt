@@ -1,12 +1,7 @@
-use Rattle.std.proofs.Common.{◌++◌, ◌∷◌, [], List, map, length, sym, subst}
-use Rattle.std.specs.Map.Iter.{deref}
-use Rattle.std.proofs.lemmas.List.{map-append}
-use Rattle.std.proofs.lemmas.Map.Iter.{iter_end, iter_turn}
-use Rattle.market_terms.specs.declared.rooms.RoomRef.{RoomRef}
-use Rattle.step_replay.specs.LiveDays.{Sent, live_messages, live_trail}
-use Rattle.step_replay.specs.VenueRooms.{sweeps_at}
-use Rattle.step_replay.proofs.SweptLemmas.{SweptSo, swept_all, swept_more, swept_none}
-use Rattle.step_replay.proofs.SweptRooms.{room_known}
+use Rattle.step_replay.proofs.Common.{◌≡◌, ◌∷◌, [], subst, sym, deref, rest_more, RoomRef}
+use Rattle.step_replay.proofs.Common.{live_messages}
+use Rattle.std.proofs.lemmas.Map.Iter.{rest_all}
+use Rattle.step_replay.proofs.SweptLemmas.{room_known, sweeps_begin, sweeps_end, sweeps_next}
 use Rattle.step_replay.proofs.live.LiveVenue.sweep.Goals as goal
 
 pub loop-room-init : goal.loop-room-init
@@ -14,9 +9,9 @@ loop-room-init c = record {
   can_next = tt;
   is_finite = tt;
   swept = λ config steps is_at.
-      subst (λ (l : List Sent). SweptSo config steps c.args.moment [] c.args.self.now l)
-      (sym c.new-told.ensures.items)
-      (swept_none config steps c.args.moment c.args.self.now is_at);
+      rw (c.new-told.ensures.items, c.into_iter-room-iterator.ensures.into_iter_gives.0)
+      (sweeps_begin config steps c.args.moment c.args.self.now c.in_ok-due.due is_at
+      c.in_ok-due.ensures);
 }
 
 pub loop-room-preserved : goal.loop-room-preserved
@@ -24,31 +19,21 @@ loop-room-preserved c = record {
   can_next = tt;
   is_finite = tt;
   swept = λ config steps is_at.
-      let had = c.loop-room.invariant.swept config steps is_at in
       let room : RoomRef = c.in-Some.room.now in
-      let done = map deref c.loop-room.yielded in
-      let there = iter_turn deref c.in_ok-due.due.keys c.loop-room.yielded
-      c.into_iter-room-iterator.result c.loop-room.room-iterator c.next.new.self c.next.result
-      c.into_iter-room-iterator.ensures.into_iter_gives.0 c.loop-room.yielded_by c.in-Some.room
+      let left : c.loop-room.room-iterator ≡ room ∷ c.next.new.self =
+      rest_more deref c.loop-room.room-iterator c.next.new.self c.next.result c.in-Some.room
       c.in-Some.is c.next.ensures.steps in
-      let none = room_known config steps c.args.self.now c.args.moment c.in_ok-due.due
-      (length c.loop-room.yielded) room is_at c.in_ok-due.ensures there.1 in
-      subst (λ (l : List RoomRef). SweptSo config steps c.args.moment l c.send_all.new.venue
-      c.send_all.new.told.items)
-      (sym (map-append deref c.loop-room.yielded (c.in-Some.room ∷ [])))
-      (swept_more config steps c.args.moment done room c.loop-room.self c.send_all.new.venue
-      c.loop-room.told.items c.send_all.new.told.items had
-      (c.in_ok-send_all.ensures config
-      (live_trail config (steps ++ sweeps_at c.args.moment done)) (live_messages config steps) none
-      had.answers.stands.stands had.answers.told_is));
+      let had = rw left at (c.loop-room.invariant.swept config steps is_at) in
+      sweeps_next config c.args.moment _ _ c.loop-room.self _ room c.next.new.self c.send_all.new.venue
+      _ had (c.in_ok-send_all.ensures config had.trail (live_messages config steps)
+      (room_known config c.args.moment _ _ c.loop-room.self _ room c.next.new.self had) had.stands
+      had.told_is);
 }
 
 pub returns : goal.returns
 returns c config steps is_at =
-    let whole = iter_end deref c.in_ok-due.due.keys c.loop-room.yielded
-    c.into_iter-room-iterator.result c.loop-room.room-iterator c.next.new.self c.next.result
-    c.into_iter-room-iterator.ensures.into_iter_gives.0 c.loop-room.yielded_by c.in-None.is
+    let none : c.loop-room.room-iterator ≡ [] =
+    rest_all deref c.loop-room.room-iterator c.next.new.self c.next.result c.in-None.is
     c.next.ensures.steps in
-    swept_all config steps c.args.moment c.args.self.now c.loop-room.self c.in_ok-due.due
-    (map deref c.loop-room.yielded) c.loop-room.told.items is_at c.in_ok-due.ensures whole.0
-    (c.loop-room.invariant.swept config steps is_at)
+    sweeps_end config steps c.args.moment _ c.loop-room.self c.loop-room.told.items
+    (rw none at (c.loop-room.invariant.swept config steps is_at))

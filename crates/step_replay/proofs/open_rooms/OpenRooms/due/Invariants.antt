@@ -1,9 +1,7 @@
 -- The rooms so far, and those that are due among the entries that are left, are all that are due.
-use Rattle.std.proofs.Common.{◌≡◌, ◌||◌}
-use Rattle.std.specs.BTreeSet.{IsOrdered, contains}
-use Rattle.std.specs.List.Sorted.{IsStrictlySortedBy}
-use Rattle.market_terms.specs.declared.rooms.RoomRef.{RoomRef}
-use Rattle.step_replay.specs.OpenRooms.{any_due, entry_cmp, room_cmp}
+use Rattle.step_replay.proofs.Common.{◌≡◌, ◌||◌, contains, IsStrictlySortedBy, RoomRef, any_due}
+use Rattle.step_replay.proofs.Common.{entry_cmp, room_cmp}
+use Rattle.std.specs.BTreeSet.{IsOrdered}
 use Rattle.step_replay.proofs.open_rooms.OpenRooms.due.Given as goal
 
 abbrev pub invariant-loop-deadline : goal.invariant-loop-deadline

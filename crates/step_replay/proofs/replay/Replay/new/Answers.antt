@@ -1,5 +1,4 @@
-use Rattle.std.proofs.Common.{◌+◌, List, [], replicate, ap, ◌∙◌, length}
-use Rattle.market_terms.specs.declared.duties.Duty.{Duty}
+use Rattle.step_replay.proofs.Common.{◌+◌, List, [], replicate, ap, ◌∙◌, length, Duty}
 use Rattle.step_replay.proofs.StartLemmas.{replay_begins}
 use Rattle.step_replay.proofs.replay.Replay.new.Goals as goal
 

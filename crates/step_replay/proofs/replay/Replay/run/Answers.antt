@@ -1,9 +1,7 @@
-use Rattle.std.proofs.Common.{map-id, rules, sym, subst, ◌∙◌}
-use Rattle.std.proofs.lemmas.Iterator.Adapters.{YieldsList-from_vec}
-use Rattle.std.proofs.lemmas.Iterator.Consumers.{YieldsList-end, YieldsList-turn}
-use Rattle.step_replay.specs.DoneSteps.{after_steps}
-use Rattle.step_replay.specs.Following.{ReplayStands}
-use Rattle.step_replay.proofs.DoneLemmas.{step_done}
+use Rattle.step_replay.proofs.Common.{map-id, rules, sym, subst, ◌∙◌, YieldsList-from_vec}
+use Rattle.step_replay.proofs.Common.{YieldsList-end, after_steps, ReplayStands}
+use Rattle.std.proofs.lemmas.Iterator.Consumers.{YieldsList-turn}
+use Rattle.step_replay.proofs.StartLemmas.{step_done}
 use Rattle.step_replay.proofs.replay.Replay.run.Goals as goal
 
 pub loop-step-init : goal.loop-step-init
@@ -11,17 +9,6 @@ loop-step-init c config trail known stands = stands
 
 pub loop-step-preserved : goal.loop-step-preserved
 loop-step-preserved c config trail known stands =
-    let done = c.loop-step.yielded in
-    let step = c.in-Some.step in
-    let turn = YieldsList-turn (YieldsList-from_vec {s = c.into_iter-step-iterator.result}
-    c.args.steps.items (search rules) (search rules)) done c.loop-step.step-iterator
-    c.loop-step.yielded_by c.next.result c.next.new.self step c.in-Some.is
-    c.next.ensures.steps in
-    step_done config trail c.args.steps.items done step c.loop-step.self c.step.new.self known
-    turn.0 turn.1 c.in_ok-step.ensures (c.loop-step.invariant config trail known stands)
-
-pub loop-step-preserved-in_ok-step : goal.loop-step-preserved-in_ok-step
-loop-step-preserved-in_ok-step c config trail known stands =
     let done = c.loop-step.yielded in
     let step = c.in-Some.step in
     let turn = YieldsList-turn (YieldsList-from_vec {s = c.into_iter-step-iterator.result}

@@ -1,8 +1,6 @@
 -- The steps so far are done.
-use Rattle.step_replay.specs.DoneSteps.{AreKnown, after_steps}
-use Rattle.step_replay.specs.Following.{ReplayStands}
-use Rattle.step_replay.specs.AuditTrail.{AuditTrail}
-use Rattle.venue_rows.specs.Rows.{Configuration}
+use Rattle.step_replay.proofs.Common.{AreKnown, after_steps, ReplayStands, AuditTrail}
+use Rattle.step_replay.proofs.Common.{Configuration}
 use Rattle.step_replay.proofs.replay.Replay.run.Given as goal
 
 abbrev pub invariant-loop-step : goal.invariant-loop-step

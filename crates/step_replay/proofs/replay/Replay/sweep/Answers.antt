@@ -1,25 +1,17 @@
-use Rattle.std.proofs.Common.{◌<◌, length, map, slice_set, arith, refl, ap, ◌∙◌}
-use Rattle.std.proofs.lemmas.Bool.Decides.{nat_tests}
-use Rattle.step_replay.specs.DutyEffects.{sweep_effect}
+use Rattle.step_replay.proofs.Common.{map, slice_set, arith, ap, ◌∙◌, nat_tests, map-set}
+use Rattle.step_replay.proofs.Common.{sweep_action}
 use Rattle.venue_places.specs.declared.actors.Actor.TheVariants as actor
-use Rattle.step_replay.specs.PlaceLemmas.{lent}
-use Rattle.step_replay.proofs.TurnLemmas.{map_set, map_get}
-use Rattle.step_replay.proofs.FollowLemmas.{step_follows, sweep_one, found_here}
+use Rattle.step_replay.proofs.FollowLemmas.{queue_at, step_follows}
 use Rattle.step_replay.proofs.replay.Replay.sweep.Goals as goal
 
 pub returns : goal.returns
 returns c config trail known before =
     let queues = c.args.self.now.queues.items in
     let index = c.in-Some.index in
-    let queue = c.in-Some-get_mut.queue.now in
-    let left = c.in_ok-duties.duties.items in
-    let within : index < length queues = grind (arith, nat_tests, c.in-Some-get_mut.ensures.item.0) in
-    let there = lent queues index queue within c.in-Some-get_mut.ensures.item.1 in
-    step_follows config actor.Clock trail c.args.self.now _ c.sweep.new.floor
-    (sweep_effect config trail.facts c.args.room c.args.moment) index queue.items left known before
-    (found_here c.args.self.now actor.Clock index c.in-Some.ensures)
-    (map_get (λ q. q.items) queues index queue there)
+    step_follows actor.Clock known before c.in-Some.ensures
+    (queue_at (λ q. q.items) queues index c.in-Some-get_mut.queue.now
+    (grind (arith, nat_tests, c.in-Some-get_mut.ensures.item.0)) c.in-Some-get_mut.ensures.item.1)
+    (sweep_action config trail.facts c.args.room c.args.moment)
     (c.in_ok-duties.ensures config trail.facts before.floor_stands before.are_one_of)
-    (sweep_one config trail.facts c.args.room c.args.moment before.are_one_of) refl
-    (map_set (λ q. q.items) queues index c.leave.new.queue
+    (map-set (λ q. q.items) queues index c.leave.new.queue
     ∙ ap (slice_set (map (λ q. q.items) queues) index) c.in_ok-leave.ensures)

@@ -1,5 +1,5 @@
-use Rattle.step_replay.specs.AuditTrail.{audit_trail}
-use Rattle.step_replay.proofs.WorldLemmas.{days_stand}
+use Rattle.step_replay.proofs.Common.{audit_trail}
+use Rattle.step_replay.proofs.DayLemmas.{days_stand}
 use Rattle.step_replay.proofs.stepped.SteppedVenue.into_world.Goals as goal
 
 pub returns : goal.returns

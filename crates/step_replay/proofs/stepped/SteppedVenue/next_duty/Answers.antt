@@ -1,5 +1,4 @@
-use Rattle.std.proofs.Common.{◌∙◌}
-use Rattle.step_replay.specs.AuditTrail.{audit_trail}
+use Rattle.step_replay.proofs.Common.{◌∙◌, audit_trail}
 use Rattle.step_replay.proofs.LiveLemmas.{next_is, next_unknown}
 use Rattle.step_replay.proofs.stepped.SteppedVenue.next_duty.Goals as goal
 

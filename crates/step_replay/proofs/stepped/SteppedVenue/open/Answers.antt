@@ -1,5 +1,4 @@
-use Rattle.std.proofs.Common.{sym, subst}
-use Rattle.step_replay.specs.Following.{ReplayStands}
+use Rattle.step_replay.proofs.Common.{sym, subst, ReplayStands}
 use Rattle.step_replay.proofs.SteppedLemmas.{steps_begin}
 use Rattle.step_replay.proofs.stepped.SteppedVenue.open.Goals as goal
 

@@ -1,6 +1,4 @@
-use Rattle.std.proofs.Common.{sym, subst}
-use Rattle.step_replay.specs.AuditTrail.{audit_trail}
-use Rattle.step_replay.specs.Following.{ReplayStands}
+use Rattle.step_replay.proofs.Common.{sym, audit_trail}
 use Rattle.step_replay.proofs.StartLemmas.{any_place}
 use Rattle.step_replay.proofs.SteppedLemmas.{one_step_more}
 use Rattle.step_replay.proofs.stepped.SteppedVenue.step.Goals as goal
@@ -14,7 +12,6 @@ returns-clause-ok c steps at =
     let config = c.args.config.now in
     let none = any_place config 1 c.args.step.now (sym c.in_default.ensures) in
     record {
-      stands = subst (λ trail. ReplayStands config trail c.step.new.self)
-          (sym (one_step_more config steps c.args.step.now))
+      stands = rw (one_step_more config steps c.args.step.now)
           (c.in_ok-step.ensures config (audit_trail config steps) none at.stands);
     }

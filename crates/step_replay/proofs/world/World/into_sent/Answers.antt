@@ -1,6 +1,5 @@
-use Rattle.std.proofs.Common.{map, ap, ◌∙◌}
-use Rattle.step_replay.specs.FirmDays.{FirmDay}
-use Rattle.step_replay.proofs.WorldLemmas.{all_sent}
+use Rattle.step_replay.proofs.Common.{map, ap, ◌∙◌, FirmDay}
+use Rattle.step_replay.proofs.DayLemmas.{all_sent}
 use Rattle.step_replay.proofs.world.World.into_sent.Goals as goal
 
 pub returns : goal.returns
