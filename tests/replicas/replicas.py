@@ -32,7 +32,7 @@ from held import count_of
 from midnight import TEST
 from parts.gateway import PORT
 from parts.machine import FIRMS, GATEWAYS, Machine, site_here
-from parts.run import Fault, whole_paths
+from parts.run import Fault, found_in, whole_paths
 from parts.site import ALONE
 from played import parser_of, play_all
 from side import Cast, Side, Stage
@@ -161,10 +161,12 @@ class Day:
         return [side.caught_up(self.venue) - 1 for side in self.sides]
 
     def stop_gateways(self) -> None:
-        """The one that follows in front, so that it does not take over."""
-        for gateway in (self.machine.following(), self.machine.speaking()):
-            if gateway:
-                gateway.service.stop(PATIENCE)
+        """The one that follows in front, so that it does not take over. None may speak just now, where
+        the primary is another one without a damage, as on a busy machine.
+        """
+        speaking = found_in("a gateway speaks", PATIENCE, self.machine.speaking)
+        for gateway in sorted(self.machine.gateways, key=lambda each: each is speaking):
+            gateway.service.stop(PATIENCE)
 
     def start_gateways(self) -> None:
         for gateway in self.machine.gateways:
