@@ -161,8 +161,8 @@ class Day:
         return [side.caught_up(self.venue) - 1 for side in self.sides]
 
     def stop_gateways(self) -> None:
-        """The one that follows in front, so that it does not take over. None may speak just now, where
-        the primary is another one without a damage, as on a busy machine.
+        """The one that follows in front, so that it does not take over. None may speak just now:
+        on a busy machine the primary becomes another one without a damage, too.
         """
         speaking = found_in("a gateway speaks", PATIENCE, self.machine.speaking)
         for gateway in sorted(self.machine.gateways, key=lambda each: each is speaking):
