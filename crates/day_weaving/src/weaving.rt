@@ -17,24 +17,29 @@ use fix_fields::Memory;
 use recorded_days::DayRecord;
 use std::alloc::{AllocFailed, Global};
 use step_replay::{Actor, ReplayFault, Step, World, run};
+use thiserror::Error;
 use venue_rows::VenueConfig;
 
 /// Why a recorded day can't be woven into steps.
-#[derive(Drop)]
+#[derive(Debug, Drop, Error)]
 pub enum WeaveFault {
     /// The record is not that of a day of the venue: the orders of its desks and rooms do not name
     /// each of its actions exactly once and nothing else; or the inbox of a firm has not one message
     /// for each that came; or the clock has a message, a firm a sweep or a desk a sweep; or it has a
     /// firm or a room that the venue does not have, or lacks a firm of the venue. This is the fault
     /// exactly where that is so, memory aside.
+    #[error("the record is not that of a day of the venue")]
     Malformed,
     /// No order keeps what came before what: of these actions each has one of them directly before
     /// it. An action goes by its actor, and its number among the actions of that actor, from 1.
+    #[error("no order keeps what came before what")]
     Cycle(Vec<(Actor, u64)>),
     /// The firm with this number was sent other messages than the steps send it. Of several such
     /// firms it is the first.
+    #[error("firm {0} was sent other messages than the steps send it")]
     Differs(u16),
     /// Memory was refused.
+    #[error("out of memory")]
     Memory,
 }
 

@@ -7,6 +7,7 @@ use arrayvec::ArrayString;
 use fix_fields::Memory;
 use itoa::Buffer;
 use std::alloc::AllocFailed;
+use std::error::Error;
 use std::fmt;
 use venue_config::ConfigFault;
 
@@ -141,6 +142,8 @@ impl fmt::Display for ProgramFault {
         }
     }
 }
+
+impl Error for ProgramFault {}
 
 impl From<Memory> for ProgramFault {
     ghost from_gives = { λ _ fault. fault ≡ Memory };

@@ -1,23 +1,33 @@
 //! Why a message is rejected at the session level.
 
+use thiserror::Error;
+
 /// SessionRejectReason (373) of a Reject (35=3).
-#[derive(Clone, Copy, PartialEq, Eq)]
+#[derive(Clone, Copy, Debug, PartialEq, Eq, Error)]
 pub enum SessionRejectReason {
     /// 1: the tag is required and does not stand.
+    #[error("required tag missing")]
     RequiredTagMissing,
     /// 4: the tag stands without a value.
+    #[error("tag without a value")]
     TagWithoutValue,
     /// 5: the value is not one that the tag may have here.
+    #[error("value not allowed for this tag")]
     ValueIncorrect,
     /// 6: the value is not of the tag's form.
+    #[error("incorrect data format for value")]
     IncorrectDataFormat,
     /// 9: SenderCompID (49) or TargetCompID (56) names another firm.
+    #[error("CompID problem")]
     CompIdProblem,
     /// 11: MsgType (35) is none that the firm may send.
+    #[error("MsgType that this firm may not send")]
     InvalidMsgType,
     /// 13: the tag stands more than once.
+    #[error("tag more than once")]
     TagMoreThanOnce,
     /// 16: the party group is not one run of as many entries as NoPartyIDs (453) says.
+    #[error("incorrect number of entries in the group")]
     IncorrectNumInGroup,
 }
 
@@ -44,7 +54,8 @@ impl SessionRejectReason {
 }
 
 /// The first fault of a message at the session level.
-#[derive(Clone, Copy, PartialEq, Eq)]
+#[derive(Clone, Copy, Debug, PartialEq, Eq, Error)]
+#[error("field {tag}: {reason}")]
 pub struct SessionFault {
     /// The tag at fault, RefTagID (371).
     pub tag: u32,

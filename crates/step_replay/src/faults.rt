@@ -6,19 +6,23 @@ ghost use Rattle.step_replay.specs.StepFaults as spec;
 use crate::steps::Step;
 use fix_fields::Memory;
 use std::alloc::AllocFailed;
+use thiserror::Error;
 use venue_places::Actor;
 use venue_rows::VenueConfig;
 
 /// Why a day can't be replayed: the first of its steps that names what the venue does not have, or
 /// a refusal of memory. All steps are looked at before the first is done.
-#[derive(Clone, Copy, Debug, PartialEq, Eq)]
+#[derive(Clone, Copy, Debug, PartialEq, Eq, Error)]
 pub enum ReplayFault {
     /// The step at this place of the list, from 1, names a number that no firm has. At place 0 it
     /// is the dealer whose due list is asked.
+    #[error("step {0} names a firm that the venue does not have (0: the dealer asked about)")]
     UnknownFirm(usize),
     /// The step at this place of the list, from 1, sweeps a room that no investor has.
+    #[error("step {0} sweeps a room that no investor has")]
     UnknownRoom(usize),
     /// Memory was refused.
+    #[error("out of memory")]
     Memory,
 }
 

@@ -14,13 +14,16 @@ use std::process::ExitCode;
 use std::rt::Env;
 use std::sync::Wait;
 use std::thread::Threads;
+use thiserror::Error;
 
 /// Why the arguments of the process could not be read.
-#[derive(Drop)]
+#[derive(Debug, Drop, Error)]
 pub enum ArgumentFault {
     /// One of them is no UTF-8.
+    #[error("invalid UTF-8 was detected in one or more arguments")]
     NotUtf8,
     /// Memory was refused.
+    #[error("out of memory")]
     Memory,
 }
 
