@@ -1,5 +1,5 @@
 //! The steps at a dealer's desk.
-ghost use Rattle.std.specs.Prelude.{◌≡◌, ◌<◌, ◌≤◌, ◌+◌, [], ◌++◌, IfOk, OnOk, OnErr, vec_len};
+ghost use Rattle.std.specs.Prelude.{◌≡◌, ◌<◌, ◌≤◌, ◌+◌, [], ◌++◌, length, IfOk, OnOk, OnErr, vec_len};
 ghost use Rattle.std.specs.Prelude.{vec_capacity};
 ghost use Rattle.std.specs.Option.{option_to_list};
 ghost use Rattle.dealer_desk.specs.DealerDesk.{rooms_at, with_notice_in};
@@ -37,6 +37,7 @@ pub fn own_dealer<W: Words>(
         spec.duties_of_own desk.old moment bytes.now
         (has_word (W.count words.old) (spec.own_word first_word desk.old moment bytes.now))
         (settlement_in (W.entry words.new) (spec.own_word first_word desk.old moment bytes.now))) }
+    ensures few { IfOk result (λ duties. length duties.items ≤ 9) }
     ensures err { OnErr result (desk.new ≡ desk.old) }
 {
     let verdict = desk.judge(moment, bytes);
@@ -72,6 +73,7 @@ pub fn do_drop<W: Words>(
         spec.duties_of_drop desk.old last moment
         (has_word (W.count words.old) (spec.drop_word first_word desk.old last))
         (settlement_in (W.entry words.new) (spec.drop_word first_word desk.old last))) }
+    ensures few { IfOk result (λ duties. length duties.items ≤ 9) }
     ensures err { OnErr result (desk.new ≡ desk.old) }
 {
     let word = word_of_asked(first_word, desk.question_drop(last));

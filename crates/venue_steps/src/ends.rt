@@ -41,6 +41,7 @@ pub fn do_hit<W: Words>(
         spec.duties_of_hit (room_after room.old) at response word moment
         (has_word (W.count words.old) (spec.hit_word (room_after room.old) word moment))
         (settlement_in (W.entry words.new) (spec.hit_word (room_after room.old) word moment))) }
+    ensures few { IfOk result (λ duties. length duties.items ≤ 9) }
     ensures err { OnErr result (room.new ≡ room.old) }
 {
     let asked = word_of_hit(room, word, moment);
@@ -85,6 +86,7 @@ pub fn do_pass(
     ensures ok { OnOk result (room.new ≡ room.old ++ event.Pass moment ∷ []) }
     ensures duties { IfOk result (λ duties. duties.items ≡
         spec.duties_of_pass (room_after room.old) at response moment) }
+    ensures few { IfOk result (λ duties. length duties.items ≤ 9) }
     ensures err { OnErr result (room.new ≡ room.old) }
 {
     let duties = room_for_told(room)?;
@@ -115,6 +117,7 @@ pub fn do_expire(room: &mut Room, at: RoomRef, moment: Moment) -> Result<Duties,
     ensures ok { OnOk result (room.new ≡ room.old ++ event.Expire moment ∷ []) }
     ensures duties { IfOk result (λ duties. duties.items ≡
         spec.duties_of_expire (room_after room.old) at moment) }
+    ensures few { IfOk result (λ duties. length duties.items ≤ 9) }
     ensures err { OnErr result (room.new ≡ room.old) }
 {
     let duties = room_for_told(room)?;
@@ -147,8 +150,9 @@ fn with_told(
 ) -> Duties
     requires none { duties.items ≡ [] }
     requires room { MOST_DUTIES ≤ vec_capacity duties }
-    ensures { result.items ≡ first ∷ (if ended
+    ensures items { result.items ≡ first ∷ (if ended
         then spec.told_of_end (room_after room.now) at moment else []) }
+    ensures few { length result.items ≤ 9 }
 {
     duties.push_reserved(first);
     if !ended {
@@ -169,8 +173,9 @@ fn tell_each(duties: &mut Duties, at: RoomRef, end: &End, dealers: &[u16], momen
     requires one { length duties.old.items ≤ 1 }
     requires few { length dealers.now ≤ 8 }
     requires room { MOST_DUTIES ≤ vec_capacity duties.old }
-    ensures { duties.new.items
+    ensures items { duties.new.items
         ≡ duties.old.items ++ spec.told_to_each at end.now dealers.now moment }
+    ensures few { length duties.new.items ≤ 9 }
 {
     for dealer in dealers {
         duties.push_reserved(Duty::Tell {

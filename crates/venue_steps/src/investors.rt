@@ -1,5 +1,5 @@
 //! The steps at an investor's desk.
-ghost use Rattle.std.specs.Prelude.{◌≡◌, ◌&&◌, [], IfOk, OnOk, OnErr};
+ghost use Rattle.std.specs.Prelude.{◌≡◌, ◌&&◌, ◌≤◌, [], length, IfOk, OnOk, OnErr};
 ghost use Rattle.investor_desk.specs.InvestorFacts.{knows};
 ghost use Rattle.investor_desk.specs.InvestorDesk.{book_at};
 ghost use Rattle.venue_steps.specs.InvestorSteps as spec;
@@ -18,6 +18,7 @@ pub fn own_investor(desk: &mut InvestorDesk, moment: Moment, bytes: &[u8]) -> Re
     ensures ok { OnOk result (desk.new ≡ spec.desk_after_own desk.old moment bytes.now) }
     ensures duties { IfOk result (λ duties. duties.items
         ≡ spec.duties_of_own desk.old moment bytes.now) }
+    ensures few { IfOk result (λ duties. length duties.items ≤ 9) }
     ensures err { OnErr result (desk.new ≡ desk.old) }
 {
     let duties = Duties::with_capacity(desk.alloc(), 1)?;

@@ -27,7 +27,7 @@
 //! - It asks one word at most, and what it does is by the settlement of that word.
 //! - The duties that follow, in their order, are those of `specs/DealerSteps`,
 //!   `specs/InvestorSteps` and `specs/RoomSteps`, which say them for each step from the place as it
-//!   was.
+//!   was. They are nine at most.
 //! - After [`Memory`](fix_fields::Memory) the place is as before. A step that asks a word has then
 //!   asked it: [`own_dealer`], [`do_drop`] and [`do_hit`] say so.
 #![tactic(auto)]

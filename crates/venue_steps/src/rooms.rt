@@ -1,5 +1,5 @@
 //! The steps in a room before it ends.
-ghost use Rattle.std.specs.Prelude.{◌≡◌, ◌<◌, [], IfOk, OnOk, OnErr, vec_len, vec_capacity};
+ghost use Rattle.std.specs.Prelude.{◌≡◌, ◌<◌, ◌≤◌, [], length, IfOk, OnOk, OnErr, vec_len, vec_capacity};
 ghost use Rattle.request_room.specs.RoomFacts.{hears, is_opening};
 ghost use Rattle.request_room.specs.Book.{room_after};
 ghost use Rattle.request_room.specs.declared.events.RoomEvent.TheVariants as event;
@@ -24,6 +24,7 @@ pub fn do_open(
     ensures ok { OnOk result (room.new ≡ spec.room_after_open room.old ask dealers) }
     ensures duties { IfOk result (λ duties. duties.items ≡
         spec.duties_of_open (room_after room.old) at ask dealers moment) }
+    ensures few { IfOk result (λ duties. length duties.items ≤ 9) }
     ensures err { OnErr result (room.new ≡ room.old) }
 {
     if !room.is_vacant() {
@@ -42,8 +43,9 @@ fn shown_then_ready(
     dealers: &AskedDealers,
     moment: Moment,
 ) -> Result<Duties, Memory>
-    ensures { IfOk result (λ duties.
+    ensures items { IfOk result (λ duties.
         duties.items ≡ spec.shown_then_ready at ask.now dealers.now moment) }
+    ensures few { IfOk result (λ duties. length duties.items ≤ 9) }
 {
     let named = dealers.as_slice();
     let mut duties = Duties::with_capacity(alloc, named.len() + 1)?;
@@ -89,6 +91,7 @@ pub fn do_post(
         (event.Post dealer offer.word offer.price offer.valid_until)) }
     ensures duties { IfOk result (λ duties. duties.items ≡
         spec.duties_of_post (room_after room.old) at dealer offer moment) }
+    ensures few { IfOk result (λ duties. length duties.items ≤ 9) }
     ensures err { OnErr result (room.new ≡ room.old) }
 {
     if !hears_dealer(room, dealer) {
@@ -119,6 +122,7 @@ pub fn do_unpost(
         (event.Unpost dealer word)) }
     ensures duties { IfOk result (λ duties. duties.items ≡
         spec.duties_of_unpost (room_after room.old) at dealer word moment) }
+    ensures few { IfOk result (λ duties. length duties.items ≤ 9) }
     ensures err { OnErr result (room.new ≡ room.old) }
 {
     if !hears_dealer(room, dealer) {
@@ -148,6 +152,7 @@ pub fn do_decline(
         (event.Decline dealer)) }
     ensures duties { IfOk result (λ duties. duties.items ≡
         spec.duties_of_decline (room_after room.old) at dealer moment) }
+    ensures few { IfOk result (λ duties. length duties.items ≤ 9) }
     ensures err { OnErr result (room.new ≡ room.old) }
 {
     if !hears_dealer(room, dealer) {
@@ -170,7 +175,8 @@ fn hears_dealer(room: &Room, dealer: u16) -> bool
 fn where_so(mut duties: Duties, follows: bool, duty: Duty) -> Duties
     requires none { duties.items ≡ [] }
     requires room { vec_len duties < vec_capacity duties }
-    ensures { result.items ≡ spec.where_follows follows duty }
+    ensures items { result.items ≡ spec.where_follows follows duty }
+    ensures few { length result.items ≤ 1 }
 {
     if !follows {
         return duties;

@@ -8,4 +8,4 @@ returns-clause-duties g c =
     (hit_duties_are c.args.room.now _ c.args.at c.args.response c.args.word c.args.moment _ _
     c.in-Some.settlement c.in_ok-reply.reply c.with_told.result.items
     (sym c.in-Some.ensures.settlement) c.in_ok-reply.ensures.reply c.in_ok-reply.ensures.ok
-    (rw (sym c.is_award.ensures) c.with_told.ensures))
+    (rw (sym c.is_award.ensures) c.with_told.ensures.items))
