@@ -75,7 +75,7 @@ def bytes_of(text: bytes) -> bytes:
 
 def can_be_own(data: bytes) -> bool:
     """Whether a line `own` says these bytes: a bar would be read as 0x01, a line feed would end the line."""
-    return not any(byte in data for byte in b"|\n\r")
+    return not any(byte in data for byte in b"|\n")
 
 
 def is_said(line: bytes) -> bool:

@@ -154,8 +154,7 @@ closed_back date number how moment short time =
 bar_back : (c : ℕ) → is_unsayable c ≡ false
     → (is_in_line (with_bar c) ≡ true) × (soh_for_bar (with_bar c) ≡ c)
 bar_back c sayable =
-    let parts = or_parts (c == 124) (c == 10)
-    (or_parts ((c == 124) || (c == 10)) (c == 13) sayable).0 in
+    let parts = or_parts (c == 124) (c == 10) sayable in
     elim (cases_Bool (c == 1)) [
       | inl soh ↦ (let same : 1 ≡ c = grind (arith, nat_tests) in rw soh (refl, same))
       | inr other ↦ rw (other, parts.1, parts.0) (refl, refl)

@@ -28,10 +28,10 @@ grid_text grid = if grid == finest_grid then [] else 32 ∷ decimal grid
 unfoldable pub end_text : ℕ → ℕ → List ℕ
 end_text moment grid = time_text moment ++ grid_text grid ++ 10 ∷ []
 
--- a byte that an `own` line can't say of itself: a vertical bar stands there for SOH, a line feed
--- ends the line, and many a program takes a carriage return off its end
+-- a byte that an `own` line can't say of itself: a vertical bar stands there for SOH, and a line
+-- feed ends the line
 abbrev pub is_unsayable : ℕ → Bool
-is_unsayable c = (c == 124) || (c == 10) || (c == 13)
+is_unsayable c = (c == 124) || (c == 10)
 
 -- a message byte by byte, SOH as a vertical bar
 abbrev pub bytes_line : ℕ → List ℕ → List ℕ

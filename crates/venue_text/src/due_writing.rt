@@ -14,8 +14,8 @@ use std::alloc::Global;
 use step_replay::Due;
 
 /// The lines of due text that spell a list, an item each: a message of the dealer's own as an
-/// `own` line, with a vertical bar for each SOH, or, where it has a vertical bar, a line feed or a
-/// carriage return, as a `hex` line; and times with milliseconds. It fails for memory alone.
+/// `own` line, with a vertical bar for each SOH, or, where it has a vertical bar or a line feed, as
+/// a `hex` line; and times with milliseconds. It fails for memory alone.
 pub fn due_lines(alloc: Global, dues: &[Due]) -> Result<Vec<u8>, Memory>
     ensures { IfOk result (λ text. text.items ≡ spec.due_lines dues.now) }
 {
@@ -67,11 +67,11 @@ fn has_unsayable(message: &[u8]) -> bool
     message.iter().any(|c| is_unsayable(*c))
 }
 
-/// A vertical bar, a line feed or a carriage return.
+/// A vertical bar or a line feed.
 fn is_unsayable(c: u8) -> bool
     ensures { result ≡ spec.is_unsayable c }
 {
-    c == b'|' || c == b'\n' || c == b'\r'
+    c == b'|' || c == b'\n'
 }
 
 /// `hex TIME HEX`.
