@@ -25,8 +25,8 @@ use dealer_desk::{limits_are_kept, what_is_asked_is_of_the_day, words_are_asked_
 /// A law: every word that a dealer asks is settled as the dealer view says, in every venue, after
 /// every list of steps. Where a message of its own or a drop asked the word of a quote, the first
 /// settlement that stands behind it is of that quote, and it is *lifted* where a lifting of the
-/// quote that counts stands before it in what was due to the dealer, else *withdrawn*. No other
-/// settlement stands anywhere in the dealer's trail. It does nothing.
+/// quote that counts stands before it in what was due to the dealer, else *withdrawn*. Each
+/// settlement in the dealer's trail is the one that the view gives at its place. It does nothing.
 pub fn words_are_settled_as_the_view_says()
     ensures asked { (config : Configuration) (steps : List Step) (dealer : ℕ) (row : DealerRow)
         (before after : List DealerEntry) (entry : DealerEntry) (quote : ℕ)

@@ -1,0 +1,4 @@
+mod SettledSteps
+mod UnmetTests
+mod UnreadDealer
+mod UnreadInvestor
