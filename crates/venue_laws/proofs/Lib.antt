@@ -1,29 +1,29 @@
 mod AnswerLemmas
 mod BlindDues
-mod Common
+pub mod Common
 mod ComputedDays
-mod ConditionMet
+pub mod ConditionMet
 mod ErasedSteps
 mod Erasing
 mod InvestorVerdicts
-mod KnownDesks
-mod ListLemmas
-mod LiveQuotes
-mod NoticeLemmas
-mod PlainFacts
+pub mod KnownDesks
+pub mod ListLemmas
+pub mod LiveQuotes
+pub mod NoticeLemmas
+pub mod PlainFacts
 mod PricedFields
 mod PricedMessages
-mod ShownRequests
-mod ToldLemmas
-mod VenueDay
-mod VenueDesk
-mod VenueEnds
-mod VenueHits
-mod VenueInvariant
-mod VenueKinds
-mod VenueKnown
-mod VenueMarkets
-mod VenueParts
-mod VenueRooms
-mod VenueSteps
-mod VenueTurns
+pub mod ShownRequests
+pub mod ToldLemmas
+pub mod VenueDay
+pub mod VenueDesk
+pub mod VenueEnds
+pub mod VenueHits
+pub mod VenueInvariant
+pub mod VenueKinds
+pub mod VenueKnown
+pub mod VenueMarkets
+pub mod VenueParts
+pub mod VenueRooms
+pub mod VenueSteps
+pub mod VenueTurns

@@ -1,0 +1,157 @@
+-- A request that an investor's desk accepts is what the investor wrote.
+use Rattle.std.proofs.Common.{◌≡◌, ℕ, ◌+◌, true, false, List, [], ◌∷◌, find, Option, Some}
+use Rattle.std.proofs.Common.{None, refl, sym, ap, ◌∙◌, subst, inl, inr, codes, decimal}
+use Rattle.std.specs.Fmt as fmt
+use Rattle.std.specs.Prelude.{unwrap_or}
+use Rattle.std.proofs.lemmas.Bool.{cases_Bool}
+use Rattle.std.proofs.lemmas.Option.{same_Some}
+use Rattle.fix_fields.specs.Frame.{Field, frame_of, value_of}
+use Rattle.venue_rows.specs.Texts.{same_text}
+use Rattle.venue_rows.specs.declared.bond_rows.BondRow.{BondRow}
+use Rattle.market_terms.specs.Codes.{side_code}
+use Rattle.quote_messages.specs.Arrivals.{investor_arrival}
+use Rattle.quote_messages.specs.SessionChecks.{header_lines, investor_tables, request_lines, request_of}
+use Rattle.quote_messages.specs.SessionChecks.{side_of, types_of}
+use Rattle.quote_messages.specs.SessionLines.{text_at}
+use Rattle.quote_messages.specs.ValueForms.{AnId, OneOf}
+use Rattle.quote_messages.specs.declared.arrivals.Arrival.{Arrival}
+use Rattle.quote_messages.specs.declared.arrivals.Arrival.TheVariants as arrival
+use Rattle.quote_messages.specs.declared.reject_reasons.RequestRejectReason.{RequestRejectReason}
+use Rattle.quote_messages.specs.declared.requests.InvestorMessage.{InvestorMessage}
+use Rattle.quote_messages.specs.declared.requests.InvestorMessage.TheVariants as message
+use Rattle.quote_messages.specs.declared.requests.QuoteHit.{QuoteHit}
+use Rattle.quote_messages.specs.declared.requests.QuoteRequest.{QuoteRequest}
+use Rattle.quote_messages.specs.declared.requests.RequestPass.{RequestPass}
+use Rattle.quote_messages.specs.declared.session_faults.SessionRejectReason.{SessionRejectReason}
+use Rattle.quote_messages.specs.declared.session_faults.SessionRejectReason.TheVariants.{CompIdProblem}
+use Rattle.quote_messages.specs.declared.session_faults.SessionRejectReason.TheVariants.{InvalidMsgType}
+use Rattle.quote_messages.specs.declared.session_faults.SessionRejectReason.TheVariants.{ValueIncorrect}
+use Rattle.investor_desk.specs.InvestorFacts.{InvestorBook, StandingRequest, expected_number}
+use Rattle.investor_desk.specs.InvestorFacts.{offer_named, request_with_id, requests_accepted}
+use Rattle.investor_desk.specs.InvestorRules as rules
+use Rattle.investor_desk.specs.InvestorRules.{InvestorMarket, arrival_verdict, bond_with_id}
+use Rattle.investor_desk.specs.InvestorRules.{hit_verdict, investor_verdict, pass_verdict}
+use Rattle.investor_desk.specs.InvestorRules.{request_answer, request_refusal, request_verdict}
+use Rattle.investor_desk.specs.declared.standing.AcceptedRequest.{AcceptedRequest}
+use Rattle.investor_desk.specs.declared.standing.ShownOffer.{ShownOffer}
+use Rattle.investor_desk.specs.declared.verdicts.InvestorVerdict.{InvestorVerdict}
+use Rattle.investor_desk.specs.declared.verdicts.InvestorVerdict.TheVariants as verdict
+use Rattle.shown_laws.specs.Said.{SaysRequest}
+use Rattle.shown_laws.proofs.Messages.{shows}
+use Rattle.shown_laws.proofs.ReadFields.{Stood, lines_kept, required_as, required_kept, required_moment}
+use Rattle.shown_laws.proofs.ReadFields.{required_quantity, required_stands, text_same}
+use Rattle.shown_laws.proofs.ReadRequests.{ArrivalOk, ReadAs, ReadFrom, arrival_ok}
+
+-- the bond that is found has the identifier that it is found by
+bond_found : (id : List ℕ) (bonds : List BondRow) (bond : BondRow)
+    → find (λ (b : BondRow). same_text b.id id) bonds ≡ Some bond → bond.id ≡ id
+bond_found id [] bond found = cc
+bond_found id (first ∷ bonds) bond found = elim (cases_Bool (same_text first.id id)) [
+  | inl is ↦
+      let same = same_Some first bond (rw is at found) in
+      sym (ap (λ (b : BondRow). b.id) same) ∙ text_same first.id id is
+  | inr isnt ↦ bond_found id bonds bond (rw isnt at found)
+]
+
+-- the side that stands is the one that is read
+side_stands : (date : List ℕ) (reason : SessionRejectReason) (value : Option (List ℕ))
+    → Stood date true (OneOf (codes "1" ∷ codes "2" ∷ []) reason) value
+    → value ≡ Some (decimal (side_code (side_of (unwrap_or value []))))
+unfolding fmt.digits
+side_stands date reason None stood = cc
+side_stands date reason (Some text) stood = elim (cases_Bool (same_text (codes "1") text)) [
+  | inl buys ↦
+      rw buys (ap (λ (t : List ℕ). Some t) (sym (text_same (codes "1") text buys)))
+  | inr sells ↦ elim (cases_Bool (same_text (codes "2") text)) [
+    | inl is ↦ rw sells (ap (λ (t : List ℕ). Some t) (sym (text_same (codes "2") text is)))
+    | inr isnt ↦ cc (rw (sells, isnt) at stood)
+  ]
+]
+
+module _ (market : InvestorMarket) (book : InvestorBook) (moment : ℕ) (bytes : List ℕ) where
+  -- bytes that came are read as a request that is accepted
+  pub record AcceptsRequest (request : AcceptedRequest) : Type 0 where
+    pub fields : List Field
+    pub frame : frame_of bytes ≡ Some fields
+    pub says : SaysRequest market.date market.row.name fields request
+    pub moment_is : request.moment ≡ moment
+    pub number_is : request.number ≡ requests_accepted book + 1
+
+  abbrev pub AcceptOk : InvestorVerdict → Type 0
+  AcceptOk (verdict.RequestAccepted id request) = AcceptsRequest request
+  AcceptOk (verdict.Refused message) = shows message ≡ false
+  AcceptOk other = Unit {0}
+
+  module _ (fields : List Field) (frame : frame_of bytes ≡ Some fields)
+      (read : ReadAs market.date market.row fields (request_of market.date fields)) where
+    -- the request as it is read
+    abbrev request : QuoteRequest
+    request = request_of market.date fields
+
+    request_accepts : (bond : Option BondRow) (refusal : Option RequestRejectReason)
+        → bond_with_id market request.bond ≡ bond
+        → AcceptOk (request_answer market book moment request bond refusal)
+    unfolding bond_with_id
+    request_accepts bond (Some reason) found = refl
+    request_accepts None None found = refl
+    request_accepts (Some bond) None found =
+        let date = market.date in
+        let lines = lines_kept date fields request_lines read.lines in
+        let header = lines_kept date fields
+        (header_lines market.row.name market.row.traders (types_of investor_tables)) read.header in
+        record {
+          fields = fields;
+          frame = frame;
+          says = record {
+            is_request = required_stands date fields 35
+                (OneOf (types_of investor_tables) InvalidMsgType) header.1.1.1.1.0
+                ∙ ap (λ (t : List ℕ). Some t)
+                (sym (text_same (codes "R") (text_at 35 fields) read.type_is));
+            sender = required_as date fields 49 market.row.name CompIdProblem header.0;
+            id = required_stands date fields 131 AnId lines.0;
+            bond = required_stands date fields 48 AnId lines.1.1.0
+                ∙ ap (λ (t : List ℕ). Some t)
+                (sym (bond_found request.bond market.bonds bond found));
+            side = side_stands date ValueIncorrect (value_of 54 fields)
+                (required_kept date fields 54
+                (OneOf (codes "1" ∷ codes "2" ∷ []) ValueIncorrect) lines.1.1.1.1.0);
+            quantity = required_quantity date fields 38 lines.1.1.1.1.1.0;
+            deadline = required_moment date fields 126 lines.1.1.1.1.1.1.0;
+            asker = refl;
+          };
+          moment_is = refl;
+          number_is = refl;
+        }
+
+  hit_accepts : (hit : QuoteHit) (shown : Option ShownOffer) → AcceptOk (rules.hit_of hit shown)
+  hit_accepts hit None = refl
+  hit_accepts hit (Some shown) = tt
+
+  pass_accepts : (pass : RequestPass) (own : Option StandingRequest)
+      → AcceptOk (rules.pass_of pass own)
+  pass_accepts pass None = refl
+  pass_accepts pass (Some own) = tt
+
+  request_said : (said : QuoteRequest) → ReadFrom market.date market.row bytes said
+      → AcceptOk (request_verdict market book moment said)
+  unfolding request_verdict
+  request_said said from =
+      subst (λ (q : QuoteRequest). ReadAs market.date market.row from.fields q
+      → AcceptOk (request_verdict market book moment q)) (sym from.read.request_is)
+      (λ read. request_accepts from.fields from.frame read _ _ refl) from.read
+
+  came_accepts : (came : Arrival InvestorMessage) → ArrivalOk market.date market.row bytes came
+      → AcceptOk (arrival_verdict market book moment came)
+  unfolding hit_verdict pass_verdict
+  came_accepts (arrival.Taken (message.Request said)) from = request_said said from
+  came_accepts (arrival.Taken (message.Hit hit)) from =
+      hit_accepts hit (offer_named book hit.quote)
+  came_accepts (arrival.Taken (message.Pass pass)) from =
+      pass_accepts pass (request_with_id book pass.request)
+  came_accepts other from = tt
+
+  pub verdict_accepts : AcceptOk (investor_verdict market book moment bytes)
+  unfolding investor_verdict
+  verdict_accepts =
+      came_accepts (investor_arrival market.date market.row (expected_number book) bytes)
+      (arrival_ok market.date market.row (expected_number book) bytes)

@@ -1,0 +1,276 @@
+-- The messages of the two sides of a trade, where no duty is left.
+use Rattle.venue_laws.proofs.Common.{List, None, Some, ℕ, [], ap, arith}
+use Rattle.venue_laws.proofs.Common.{inl, inr, length, refl, subst}
+use Rattle.venue_laws.proofs.Common.{sym, true, ◌++◌, ◌∙◌, ◌∷◌, ◌≡◌, ◌≤◌, append_assoc, cases_Bool}
+use Rattle.venue_laws.proofs.Common.{filter_map-append, same_Some, slice_get_within, Ask}
+use Rattle.venue_laws.proofs.Common.{Configuration, dealer_numbered, investor_numbered, DealerRow}
+use Rattle.venue_laws.proofs.Common.{InvestorRow, Told, tells, AcceptedQuote, Asked}
+use Rattle.venue_laws.proofs.Common.{AuditTrail, AtDesk, DealerEntry, facts_of, Each}
+use Rattle.venue_laws.proofs.Common.{all_in, ◌+◌, each_of, In, in_right, AtInvestor, of_dealer}
+use Rattle.venue_laws.proofs.Common.{of_investor, InvestorEntry, next_sent}
+use Rattle.std.proofs.Common.{◌<◌}
+use Rattle.fix_fields.specs.Frame.{Field, frame_text, value_of}
+use Rattle.bond_prices.specs.Price.{price_digits}
+use Rattle.market_terms.specs.declared.asks.Side.{Side}
+use Rattle.market_terms.specs.declared.asks.Side.TheVariants.{Buy, Sell}
+use Rattle.market_terms.specs.declared.closes.Close.TheVariants as closes
+use Rattle.quote_messages.specs.Written.{price_tag, quote_name, written, written_fields}
+use Rattle.quote_messages.specs.declared.out_messages.Head.{Head}
+use Rattle.std.specs.Fmt as fmt
+use Rattle.investor_desk.specs.InvestorFacts.{Closed}
+use Rattle.investor_desk.specs.declared.standing.RequestClose.TheVariants.{Awarded}
+use Rattle.step_replay.specs.AuditTrail.{sent_to}
+use Rattle.step_replay.specs.DealerTrail as dealer_trail
+use Rattle.step_replay.specs.InvestorTrail as investor_trail
+use Rattle.step_replay.specs.PlaceLemmas.{behind_dealers}
+use Rattle.venue_laws.proofs.ListLemmas.{cases_some}
+use Rattle.venue_laws.proofs.ShownRequests.{in_facts}
+use Rattle.venue_laws.proofs.VenueInvariant.{VenueOk}
+use Rattle.trade_laws.specs.LiveDuties.{NoDutyIsLeft}
+use Rattle.trade_laws.specs.SentTrades.{AnswerIsOfTrade, AnswersTrade, NoticeIsOfTrade, NotesTrade}
+use Rattle.trade_laws.specs.SentTrades.{is_answer, is_notice}
+use Rattle.trade_laws.specs.Trades.{Trade, notice_of}
+use Rattle.trade_laws.proofs.BothSides.{trade_of, trade_told}
+use Rattle.trade_laws.proofs.TradeFound.{at_investor_all, at_market, filter_in, in_split}
+use Rattle.trade_laws.proofs.TradeFound.{all_facts}
+use Rattle.trade_laws.proofs.QuoteNumbers.{QuotesFit}
+use Rattle.trade_laws.proofs.SentNotices.{SentFit}
+use Rattle.trade_laws.proofs.TradeParts.{AskedBy, ClosedBy, SentAs, TradeFact, TradeOk}
+
+-- Messages and the entries that send them.
+
+sent_entry : (message : List ℕ) (trail : List DealerEntry) → In message (dealer_trail.sent_by trail)
+    → In (dealer_trail.Sent message) trail
+sent_entry message [] is = absurd is
+sent_entry message (dealer_trail.Sent other ∷ trail) (inl is) = inl (ap dealer_trail.Sent is)
+sent_entry message (dealer_trail.Sent other ∷ trail) (inr is) = inr (sent_entry message trail is)
+sent_entry message (entry ∷ trail) is = inr (sent_entry message trail is)
+
+sent_market : (message : List ℕ) (trail : List InvestorEntry)
+    → In message (investor_trail.sent_by trail) → In (investor_trail.Sent message) trail
+sent_market message [] is = absurd is
+sent_market message (investor_trail.Sent other ∷ trail) (inl is) = inl (ap investor_trail.Sent is)
+sent_market message (investor_trail.Sent other ∷ trail) (inr is) =
+    inr (sent_market message trail is)
+sent_market message (entry ∷ trail) is = inr (sent_market message trail is)
+
+entry_sent : (message : List ℕ) (trail : List InvestorEntry)
+    → In (investor_trail.Sent message) trail → In message (investor_trail.sent_by trail)
+entry_sent message [] is = absurd is
+entry_sent message (investor_trail.Sent other ∷ trail) (inl is) = inl (cc)
+entry_sent message (investor_trail.Sent other ∷ trail) (inr is) = inr (entry_sent message trail is)
+entry_sent message (investor_trail.AtDesk fact ∷ trail) (inl is) = cc
+entry_sent message (investor_trail.AtDesk fact ∷ trail) (inr is) = entry_sent message trail is
+
+next_in : (message : List ℕ) (trail : List DealerEntry) → next_sent trail ≡ Some message
+    → In message (dealer_trail.sent_by trail)
+next_in message [] is = cc
+next_in message (dealer_trail.Sent other ∷ trail) is = inl (same_Some other message is)
+next_in message (AtDesk fact ∷ trail) is = next_in message trail is
+next_in message (dealer_trail.ShownIn room ∷ trail) is = next_in message trail is
+next_in message (dealer_trail.Lifted quote ∷ trail) is = next_in message trail is
+
+-- Firms.
+
+no_dealer : (config : Configuration) (investor : ℕ) (row : InvestorRow)
+    → investor_numbered config investor ≡ Some row → dealer_numbered config investor ≡ None
+no_dealer config investor row is = elim (cases_some (dealer_numbered config investor)) [
+  | inl none ↦ none
+  | inr some ↦
+      let behind : length config.dealers ≤ investor = behind_dealers config investor row is in
+      let within : investor < length config.dealers =
+      slice_get_within config.dealers investor some.0 some.1 in
+      absurd (omega arith)
+]
+
+-- The fields of a notice.
+
+price_said : (head : Head) (number : ℕ) (investor bond : List ℕ) (side : Side)
+    (quantity deadline : ℕ) (ask : Ask) (quote : AcceptedQuote)
+    → value_of (price_tag side)
+    (written_fields head (notice_of number (record ask { side = side }) quote))
+    ≡ Some (price_digits quote.price)
+price_said head number investor bond Buy quantity deadline ask quote = refl
+price_said head number investor bond Sell quantity deadline ask quote = refl
+
+module _ {config : Configuration} (trail : AuditTrail) (trade : Trade config trail.facts)
+    (head : Head) (number : ℕ)
+    (sent : In (written head (notice_of number trade.asked.ask trade.quote))
+    (sent_to config trade.dealer trail)) where
+  notes : NotesTrade trail trade (written_fields head (notice_of number trade.asked.ask trade.quote))
+  unfolding written fmt.digits
+  notes = record {
+    sent = sent;
+    is = refl;
+    request = refl;
+    quote = refl;
+    bond = refl;
+    side = refl;
+    quantity = refl;
+    price = price_said head number [] [] trade.asked.ask.side 0 0 trade.asked.ask trade.quote;
+  }
+
+module _ {config : Configuration} {venue : AuditTrail} (stood : VenueOk config venue)
+    (trades : TradeOk config venue)
+    (fits : (dealer : ℕ) (row : DealerRow) → dealer_numbered config dealer ≡ Some row
+    → QuotesFit (facts_of (of_dealer dealer venue.facts))) (idle : NoDutyIsLeft venue) where
+  -- what a dealer is sent, and an investor
+
+  abbrev dealer_sent : ℕ → List (List ℕ)
+  dealer_sent dealer = dealer_trail.sent_by (of_dealer dealer venue.facts)
+
+  abbrev investor_sent : ℕ → List (List ℕ)
+  investor_sent investor = investor_trail.sent_by (of_investor investor venue.facts)
+
+  to_dealer : (dealer : ℕ) (row : DealerRow) → dealer_numbered config dealer ≡ Some row
+      → sent_to config dealer venue ≡ dealer_sent dealer
+  to_dealer dealer row is = rw is refl
+
+  to_investor : (investor : ℕ) (row : InvestorRow) → investor_numbered config investor ≡ Some row
+      → sent_to config investor venue ≡ investor_sent investor
+  to_investor investor row is = rw (no_dealer config investor row is) refl
+
+  module _ (trade : Trade config venue.facts) where
+    -- the notice of a trade was sent
+    notice_sent : (others : List Field) × NotesTrade venue trade others
+    unfolding written
+    notice_sent =
+        let trail = of_dealer trade.dealer venue.facts in
+        let told : In (AtDesk (Told trade.quote.request closes.Hit trade.moment)) trail =
+        in_facts (Told trade.quote.request closes.Hit trade.moment) trail
+        (filter_in (tells trade.quote.request) (Told trade.quote.request closes.Hit trade.moment)
+        (facts_of trail) (rw (trade.told_once) (inl refl))) in
+        let split = in_split (AtDesk (Told trade.quote.request closes.Hit trade.moment)) trail told in
+        let bears = trade.notice trade.moment split.0 split.1 split.2 in
+        let head : Head = record {
+          date = config.date;
+          firm = trade.row.name;
+          number = length (dealer_trail.sent_by split.0) + 1;
+          moment = trade.moment;
+        } in
+        let message = written head (notice_of bears.0 trade.asked.ask trade.quote) in
+        let told_entry = AtDesk (Told trade.quote.request closes.Hit trade.moment) in
+        let there : In message (dealer_sent trade.dealer) =
+        subst (λ (l : List DealerEntry). In message (dealer_trail.sent_by l)) (sym split.2)
+        (subst (In message) (sym (filter_map-append dealer_trail.message_in split.0
+        (told_entry ∷ split.1)))
+        (in_right message (dealer_trail.sent_by split.0) (dealer_trail.sent_by split.1)
+        (next_in message split.1 bears.1))) in (
+          written_fields head (notice_of bears.0 trade.asked.ask trade.quote),
+          notes venue trade head bears.0
+              (subst (In message) (sym (to_dealer trade.dealer trade.row trade.is_dealer)) there),
+        )
+
+    -- its answer was sent
+    answer_sent : (others : List Field) × AnswersTrade venue trade others
+    answer_sent =
+        let closed : ClosedBy venue.facts trade.investor trade.asked.number trade.shown.number
+        trade.row.name trade.quote.price =
+        at_market stood trades trade.investor
+        (Closed trade.asked.number (Awarded trade.shown.number trade.row.name trade.quote.price))
+        trade.was_answered in
+        let asked : AskedBy config trade.investor trade.asked =
+        at_market stood trades trade.investor (Asked trade.asked) trade.was_asked in (
+          closed.fields,
+          record {
+            sent = subst (In (frame_text closed.fields))
+                (sym (to_investor trade.investor asked.row asked.row_is))
+                (entry_sent (frame_text closed.fields) (of_investor trade.investor venue.facts)
+                closed.sent);
+            is = closed.is.is;
+            quote = closed.is.names;
+          },
+        )
+
+  -- What an investor was sent.
+  pub answer_is : (investor : ℕ) (buyer : InvestorRow) (message : List ℕ)
+      → investor_numbered config investor ≡ Some buyer
+      → In message (sent_to config investor venue)
+      → (fields : List Field) × (message ≡ frame_text fields)
+      × (is_answer fields ≡ true → AnswerIsOfTrade config venue investor fields)
+  answer_is investor buyer message is among =
+      let sent : SentAs venue.facts investor message =
+      all_in (λ entry. TradeFact config (AtInvestor investor entry) venue)
+      (investor_trail.Sent message) (of_investor investor venue.facts)
+      (at_investor_all (λ fact. TradeFact config fact venue) investor venue.facts
+      (all_facts stood trades))
+      (sent_market message (of_investor investor venue.facts)
+      (subst (In message) (to_investor investor buyer is) among)) in (
+        sent.fields,
+        sent.text,
+        λ answers.
+            let closes = sent.closes answers in
+            let made = trade_of stood trades fits idle investor closes.0 closes.1 closes.3 closes.2
+            closes.5 in
+            let notice = notice_sent made.0 in
+            record {
+              trade = made.0;
+              investor_is = made.1;
+              answer = record {
+                sent = subst (λ (i : ℕ). In (frame_text sent.fields) (sent_to config i venue))
+                    (sym made.1)
+                    (subst (λ (m : List ℕ). In m (sent_to config investor venue)) sent.text among);
+                is = answers;
+                quote = closes.4 ∙ ap (λ (n : ℕ). Some (quote_name n)) (sym made.3);
+              };
+              others = notice.0;
+              notice = notice.1;
+            },
+      )
+
+  -- What a dealer was sent.
+  pub notice_is_of : (dealer : ℕ) (seller : DealerRow) (message : List ℕ)
+      → dealer_numbered config dealer ≡ Some seller
+      → Each SentFit [] (of_dealer dealer venue.facts)
+      → In message (sent_to config dealer venue)
+      → (fields : List Field) × (message ≡ frame_text fields)
+      × (is_notice fields ≡ true → NoticeIsOfTrade config venue dealer fields)
+  unfolding written
+  notice_is_of dealer seller message is sents among =
+      let trail = of_dealer dealer venue.facts in
+      let split = in_split (dealer_trail.Sent message) trail
+      (sent_entry message trail (subst (In message) (to_dealer dealer seller is) among)) in
+      let sent = each_of SentFit trail split.0 (dealer_trail.Sent message) split.1 sents split.2 in
+      elim (cases_Bool (is_notice sent.fields)) [
+        | inr other ↦ (sent.fields, sent.text, λ notes_it. cc)
+        | inl hit ↦
+            let told = sent.told hit in
+            let rest = dealer_trail.Sent message ∷ split.1 in
+            let whole : trail ≡ told.0 ++ AtDesk (Told told.1 closes.Hit told.2) ∷ rest =
+            split.2 ∙ ap (λ l. l ++ rest) told.3
+            ∙ append_assoc told.0 (AtDesk (Told told.1 closes.Hit told.2) ∷ []) rest in
+            let fact : In (Told told.1 closes.Hit told.2) (facts_of trail) =
+            subst (λ (l : List DealerEntry). In (Told told.1 closes.Hit told.2) (facts_of l)) (sym whole)
+            (subst (In (Told told.1 closes.Hit told.2)) (sym (filter_map-append dealer_trail.fact_in
+            told.0 (AtDesk (Told told.1 closes.Hit told.2) ∷ rest)))
+            (in_right (Told told.1 closes.Hit told.2) (facts_of told.0)
+            (facts_of (AtDesk (Told told.1 closes.Hit told.2) ∷ rest)) (inl refl))) in
+            let made = trade_told stood trades fits idle dealer seller told.1 told.2 is fact in
+            let trade = made.0 in
+            let bears = trade.notice told.2 told.0 rest
+            (ap (λ (d : ℕ). of_dealer d venue.facts) made.1 ∙ whole
+            ∙ ap (λ (n : ℕ). told.0 ++ AtDesk (Told n closes.Hit told.2) ∷ rest) (sym made.2)) in
+            let head : Head = record {
+              date = config.date;
+              firm = trade.row.name;
+              number = length (dealer_trail.sent_by told.0) + 1;
+              moment = told.2;
+            } in
+            let text : message ≡ written head (notice_of bears.0 trade.asked.ask trade.quote) =
+            same_Some message (written head (notice_of bears.0 trade.asked.ask trade.quote)) bears.1 in
+            let answer = answer_sent trade in (
+              written_fields head (notice_of bears.0 trade.asked.ask trade.quote),
+              text,
+              λ notes_it. record {
+                trade = trade;
+                dealer_is = made.1;
+                notice = notes venue trade head bears.0
+                    (subst (λ (d : ℕ). In (written head
+                    (notice_of bears.0 trade.asked.ask trade.quote)) (sent_to config d venue))
+                    (sym made.1)
+                    (subst (λ (m : List ℕ). In m (sent_to config dealer venue)) text among));
+                others = answer.0;
+                answer = answer.1;
+              },
+            )
+      ]

@@ -1,0 +1,272 @@
+-- The reply to a response brings what stands of trades: by an award the request is closed.
+use Rattle.venue_laws.proofs.Common.{Bool, None, Some, ℕ, [], inl, inr}
+use Rattle.venue_laws.proofs.Common.{refl, subst, sym, true, ◌∷◌, ◌≡◌}
+use Rattle.venue_laws.proofs.Common.{and_parts, HitRefusal, ResponseRef, RoomRef}
+use Rattle.venue_laws.proofs.Common.{investor_numbered, InvestorRow, market_for, InvestorFact}
+use Rattle.venue_laws.proofs.Common.{book_of, knows, InvestorEvent, Effect, done_for, replies_to}
+use Rattle.venue_laws.proofs.Common.{AuditTrail, Every, in_right, ended_as, AtInvestor, nothing}
+use Rattle.venue_laws.proofs.Common.{if◌then◌else◌}
+use Rattle.market_terms.specs.declared.closes.Reply.{Reply}
+use Rattle.market_terms.specs.declared.closes.Reply.TheVariants as reply
+use Rattle.market_terms.specs.declared.duties.Duty.TheVariants as duty
+use Rattle.investor_desk.specs.InvestorFacts.{Closed, request_numbered}
+use Rattle.investor_desk.specs.InvestorOutput.{answer_facts, event_facts}
+use Rattle.investor_desk.specs.declared.events.InvestorEvent.TheVariants as at_investor
+use Rattle.investor_desk.specs.declared.standing.RequestClose.TheVariants.{Awarded}
+use Rattle.step_replay.specs.Actions.{answered_by, at_market}
+use Rattle.step_replay.specs.InvestorTrail.{AtDesk}
+use Rattle.venue_laws.proofs.ListLemmas.{cases_some, some_of}
+use Rattle.venue_laws.proofs.VenueKnown.{known_room}
+use Rattle.venue_laws.proofs.VenueParts.{KnownIn, Later, Still, later_same}
+use Rattle.venue_laws.proofs.VenueParts.{investor_facts, said_later}
+use Rattle.venue_laws.proofs.VenueSteps.{Here, day, to_now}
+use Rattle.venue_laws.proofs.Common.{ap, ◌∙◌, In, List, Option, Some, None, map, ◌++◌, length, ◌+◌, in_left, investor_grown, of_investor}
+use Rattle.fix_fields.specs.Frame.{Field, frame_text}
+use Rattle.quote_messages.specs.Written.{written, written_fields}
+use Rattle.quote_messages.specs.declared.out_messages.Head.{Head}
+use Rattle.quote_messages.specs.declared.out_messages.OutMessage.TheVariants as out
+use Rattle.investor_desk.specs.InvestorOutput.{answer_messages, event_messages, head_of}
+use Rattle.investor_desk.specs.InvestorOutput.{response_message, written_from}
+use Rattle.investor_desk.specs.InvestorFacts.{StandingRequest}
+use Rattle.step_replay.specs.InvestorTrail.{Sent, entries_of, sent_by}
+use Rattle.step_replay.specs.PlaceLemmas.{own_investor}
+use Rattle.trade_laws.proofs.TradeMarkets.{Harmless, harmless_sent, sent_with}
+use Rattle.trade_laws.proofs.TradeMarkets.{desk_facts, event_makes, fact_later, facts_then, market}
+use Rattle.trade_laws.proofs.TradeMarkets.{investor_makes, offer_later}
+use Rattle.trade_laws.proofs.TradeParts.{IsAnswerTo}
+use Rattle.trade_laws.proofs.TradeParts.{AnswerOf, AwardedTo, ClosedBy, TradeDuty}
+use Rattle.trade_laws.proofs.TradeSteps.{DoneNow, FactNow, Makes, when_makes}
+
+-- an award stands
+pub awarded_later : {was now : AuditTrail} → Later was now → (room : RoomRef) (dealer word : ℕ)
+    → AwardedTo was.facts room dealer word → AwardedTo now.facts room dealer word
+awarded_later later room dealer word award = record {
+  end = award.end;
+  end_is = said_later later ended_as room award.end award.end_is;
+  kind_is = award.kind_is;
+  winner_is = award.winner_is;
+}
+
+module _ (h : Here) (room : RoomRef) (response : ResponseRef) (moment : ℕ) where
+  module _ (row : InvestorRow) where
+    abbrev pub replied : Reply → InvestorEvent
+    replied reply = at_investor.Answered room.n response reply moment
+
+    abbrev pub replying : Reply → Effect
+    replying reply = at_market h.venue.facts (market h room.investor row) (replied reply) []
+
+    -- the same where the investor knows the request, and the quote that is meant
+    abbrev is_known : Bool
+    is_known = knows (book_of (desk_facts h room.investor row)) room.n response.k
+
+    abbrev if_known : Reply → Effect
+    if_known reply = if is_known then replying reply else nothing
+
+    -- An award.
+
+    module _ (answer : AnswerOf h.venue.facts room response)
+        (knows_it : KnownIn room response.k h.venue.facts) where
+      abbrev pub closed : InvestorFact
+      closed = Closed room.n (Awarded answer.hit.shown.number answer.hit.shown.offer.dealer
+          answer.hit.shown.offer.price)
+
+      pub closes_it : event_facts (market h room.investor row)
+          (book_of (desk_facts h room.investor row)) (replied reply.Awarded) ≡ closed ∷ []
+      unfolding event_facts
+      closes_it =
+          let own = some_of (request_numbered (book_of (desk_facts h room.investor row)) room.n)
+          (and_parts _ _ knows_it).0 in
+          rw (own.1, answer.hit.response_is, answer.hit.found) refl
+
+      -- what it sends
+      abbrev head : Head
+      head =
+          head_of (market h room.investor row)
+          (length (sent_by (of_investor room.investor h.venue.facts)) + 1) moment
+
+      own : (own : StandingRequest)
+          × (request_numbered (book_of (desk_facts h room.investor row)) room.n ≡ Some own)
+      own =
+          some_of (request_numbered (book_of (desk_facts h room.investor row)) room.n)
+          (and_parts _ _ knows_it).0
+
+      abbrev reply_fields : List Field
+      reply_fields =
+          written_fields head
+          (out.HitReport response.id own.0.request.id answer.hit.shown.number None)
+
+      sends_it : sent_with h room.investor row (replied reply.Awarded) ≡ frame_text reply_fields ∷ []
+      unfolding event_messages written
+      sends_it =
+          ap (written_from (market h room.investor row)
+          (length (sent_by (of_investor room.investor h.venue.facts)) + 1) moment)
+          (ap (answer_messages response reply.Awarded) own.1
+          ∙ ap (λ (k : Option ℕ). response_message own.0 response.id k None ∷ [])
+          answer.hit.response_is)
+
+      -- what stands then
+      closed_then : (now : AuditTrail) → Later (day h (replying reply.Awarded)) now
+          → In closed (investor_facts now.facts room.investor)
+      closed_then now later =
+          fact_later later room.investor closed
+          (rw (facts_then h room.investor row (replied reply.Awarded) [], closes_it)
+          (in_right closed (desk_facts h room.investor row) (closed ∷ []) (inl refl)))
+
+      sent_then : (now : AuditTrail) → Later (day h (replying reply.Awarded)) now
+          → In (Sent (frame_text reply_fields)) (of_investor room.investor now.facts)
+      unfolding entries_of
+      sent_then now later =
+          let trail = of_investor room.investor h.venue.facts in
+          let event = replied reply.Awarded in
+          let entries = entries_of (market h room.investor row) trail event in
+          let there : In (Sent (frame_text reply_fields)) entries =
+          in_right (Sent (frame_text reply_fields))
+          (map AtDesk (event_facts (market h room.investor row)
+          (book_of (desk_facts h room.investor row)) event))
+          (map Sent (sent_with h room.investor row event)) (rw sends_it (inl refl)) in
+          rw (
+            later.facts_are,
+            investor_grown room.investor (day h (replying reply.Awarded)).facts later.more,
+            investor_grown room.investor h.venue.facts (map (AtInvestor room.investor) entries),
+            own_investor room.investor entries,
+          ) (in_left (Sent (frame_text reply_fields)) (trail ++ entries) _
+          (in_right (Sent (frame_text reply_fields)) trail entries there))
+
+      answers_it : IsAnswerTo reply_fields answer.hit.shown.number
+      answers_it = record { is = refl; names = refl }
+
+      closed_by : (now : AuditTrail) → Later (day h (replying reply.Awarded)) now
+          → ClosedBy now.facts room.investor room.n answer.hit.shown.number
+          answer.hit.shown.offer.dealer answer.hit.shown.offer.price
+      closed_by now later = record {
+        shown = answer.hit.shown;
+        winner = answer.winner;
+        found = offer_later (to_now h (replying reply.Awarded) later) room.investor
+            answer.hit.shown.number answer.hit.shown answer.hit.found;
+        request_is = answer.hit.request_is;
+        dealer_is = refl;
+        price_is = refl;
+        award = subst (λ (w : ℕ). AwardedTo now.facts room answer.winner w)
+            (sym answer.hit.word_is)
+            (awarded_later (to_now h (replying reply.Awarded) later) room answer.winner answer.word
+            answer.award);
+        fields = reply_fields;
+        sent = sent_then now later;
+        is = answers_it;
+      }
+
+      award_makes : Makes h (replying reply.Awarded)
+      award_makes =
+          event_makes h room.investor row (replied reply.Awarded)
+          (rw closes_it (λ now later. closed_by now later, tt))
+          (rw sends_it (
+            λ now later. record {
+              fields = reply_fields;
+              text = refl;
+              closes = λ is. (
+                room.n,
+                answer.hit.shown.number,
+                answer.hit.shown.offer.price,
+                answer.hit.shown.offer.dealer,
+                answers_it.names,
+                closed_then now later,
+              );
+            },
+            tt,
+          ))
+
+      award_done : DoneNow h (replying reply.Awarded) (duty.Answer room response reply.Awarded moment)
+      award_done now later = record {
+        quote = answer.hit.shown.number;
+        dealer = answer.hit.shown.offer.dealer;
+        price = answer.hit.shown.offer.price;
+        closed = closed_then now later;
+      }
+
+    -- Any other reply.
+
+    -- a message by which a response is refused
+    refused_harmless : (why : HitRefusal) (own : Option StandingRequest)
+        → Every Harmless (answer_messages response (reply.Refused why) own)
+    refused_harmless why None = tt
+    refused_harmless why (Some own) = (by_response response.k, tt)
+      where
+        by_response : (quote : Option ℕ)
+            → Harmless (response_message own response.id quote (Some why))
+        by_response None head = refl
+        by_response (Some quote) head = refl
+
+    passed_harmless : response.k ≡ None → (own : Option StandingRequest)
+        → Every Harmless (answer_messages response reply.Passed own)
+    passed_harmless none None = tt
+    passed_harmless none (Some own) = rw none (λ head. refl, tt)
+
+    refused_makes : (why : HitRefusal) → Makes h (replying (reply.Refused why))
+    unfolding event_facts event_messages
+    refused_makes why =
+        event_makes h room.investor row (replied (reply.Refused why))
+        (elim (request_numbered (book_of (desk_facts h room.investor row)) room.n)
+        as (λ own. Every
+        (λ fact. FactNow h (replying (reply.Refused why)) (AtInvestor room.investor (AtDesk fact)))
+        (answer_facts (book_of (desk_facts h room.investor row)) room.n response
+        (reply.Refused why) own)) [
+          | None ↦ tt
+          | Some own ↦ tt
+        ])
+        (harmless_sent h (replying (reply.Refused why)) room.investor (market h room.investor row) _
+        moment _ (refused_harmless why
+        (request_numbered (book_of (desk_facts h room.investor row)) room.n)))
+
+    passed_makes : response.k ≡ None → Makes h (replying reply.Passed)
+    unfolding event_facts event_messages
+    passed_makes none =
+        event_makes h room.investor row (replied reply.Passed)
+        (elim (request_numbered (book_of (desk_facts h room.investor row)) room.n)
+        as (λ own. Every
+        (λ fact. FactNow h (replying reply.Passed) (AtInvestor room.investor (AtDesk fact)))
+        (answer_facts (book_of (desk_facts h room.investor row)) room.n response reply.Passed own)) [
+          | None ↦ tt
+          | Some own ↦ rw none (λ now later. tt, tt)
+        ])
+        (harmless_sent h (replying reply.Passed) room.investor (market h room.investor row) _ moment _
+        (passed_harmless none
+        (request_numbered (book_of (desk_facts h room.investor row)) room.n)))
+
+  -- what the duty does
+  abbrev pub effect_of : Reply → Effect
+  effect_of reply =
+      done_for (market_for h.config room.investor)
+      (answered_by h.venue.facts room response reply moment)
+
+  pub answer_makes : (reply : Reply) → replies_to response.k reply ≡ true
+      → KnownIn room response.k h.venue.facts
+      → Still (TradeDuty h.config h.by (duty.Answer room response reply moment)) h.venue
+      → Makes h (effect_of reply) × DoneNow h (effect_of reply)
+      (duty.Answer room response reply moment)
+  answer_makes reply.Awarded replies knows_it answers =
+      let answer = (answers h.venue (later_same h.venue)).1 in
+      elim (cases_some (investor_numbered h.config room.investor)) [
+        | inl none ↦ cc (rw none at (known_room h.stood room response.k knows_it))
+        | inr some ↦ rw (some.1, replies, knows_it) (
+          award_makes some.0 answer knows_it,
+          award_done some.0 answer knows_it,
+        )
+      ]
+  answer_makes reply.Passed replies knows_it answers = (
+    investor_makes h room.investor (answered_by h.venue.facts room response reply.Passed moment)
+        (λ row is. when_makes h (replies_to response.k reply.Passed) (if_known row reply.Passed)
+        (λ test. when_makes h (is_known row) (replying row reply.Passed) (λ also. elim (cases_some response.k) [
+          | inl none ↦ passed_makes row none
+          | inr some ↦ cc (rw (some.1) at replies)
+        ]))),
+    λ now later. tt,
+  )
+  answer_makes (reply.Refused why) replies knows_it answers = (
+    investor_makes h room.investor
+        (answered_by h.venue.facts room response (reply.Refused why) moment)
+        (λ row is. when_makes h (replies_to response.k (reply.Refused why))
+        (if_known row (reply.Refused why)) (λ test.
+        when_makes h (is_known row) (replying row (reply.Refused why))
+        (λ also. refused_makes row why))),
+    λ now later. tt,
+  )

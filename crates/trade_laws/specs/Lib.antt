@@ -1,0 +1,4 @@
+pub mod LiveDuties
+pub mod SentTrades
+pub mod TradeNames
+pub mod Trades

@@ -1,0 +1,26 @@
+//! A law of days whose steps come one by one.
+ghost use Rattle.std.specs.Prelude.{ℕ, List, [], ◌∷◌, ◌++◌};
+ghost use Rattle.venue_rows.specs.Rows.{Configuration};
+ghost use Rattle.step_replay.specs.LiveDays.{Sent, live_trail};
+ghost use Rattle.step_replay.specs.LiveStanding.{Answers, AnswersSweeps};
+ghost use Rattle.step_replay.specs.VenueRooms.{sweeps_at, rooms_of};
+ghost use Rattle.step_replay.specs.declared.live.LiveVenue.{LiveVenue};
+ghost use Rattle.step_replay.specs.declared.steps.Step.{Step};
+ghost use Rattle.trade_laws.specs.LiveDuties.{NoDutyIsLeft};
+
+/// A law: on a live day no duty is left behind a line. Where no actor of a live venue has a duty
+/// left, as at the start of the day, none has one after the next step or sweep that it answered
+/// (`Answers`, `AnswersSweeps`: what `LiveVenue::step` and `LiveVenue::sweep` ensure where they are
+/// Ok). It does nothing.
+pub fn no_duty_is_left_on_a_live_day()
+    ensures start { (config : Configuration) → NoDutyIsLeft (live_trail config []) }
+    ensures step { (config : Configuration) (steps : List Step) (next : Step)
+        (after : LiveVenue) (told : List Sent)
+        → NoDutyIsLeft (live_trail config steps) → Answers config steps next after told
+        → NoDutyIsLeft (live_trail config (steps ++ next ∷ [])) }
+    ensures sweep { (config : Configuration) (steps : List Step) (moment : ℕ)
+        (after : LiveVenue) (told : List Sent)
+        → NoDutyIsLeft (live_trail config steps)
+        → AnswersSweeps config steps moment after told
+        → NoDutyIsLeft (live_trail config (steps ++ sweeps_at moment (rooms_of config))) }
+{}

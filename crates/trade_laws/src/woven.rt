@@ -1,0 +1,42 @@
+//! The two sides of a trade on a day on threads.
+ghost use Rattle.std.specs.Prelude.{◌≡◌, ℕ, List, Some, true};
+ghost use Rattle.fix_fields.specs.Frame.{Field, frame_text};
+ghost use Rattle.venue_rows.specs.Rows.{Configuration, dealer_numbered, investor_numbered};
+ghost use Rattle.venue_rows.specs.declared.dealer_rows.DealerRow.{DealerRow};
+ghost use Rattle.venue_rows.specs.declared.investor_rows.InvestorRow.{InvestorRow};
+ghost use Rattle.step_replay.specs.AuditTrail.{audit_trail};
+ghost use Rattle.step_replay.specs.GrowthLemmas.{In};
+ghost use Rattle.step_replay.specs.declared.steps.Step.{Step};
+ghost use Rattle.recorded_days.specs.Records.{RecordedDay};
+ghost use Rattle.day_weaving.specs.Weaving.{SendAsRecorded, sent_by_record};
+ghost use Rattle.trade_laws.specs.LiveDuties.{NoDutyIsLeft};
+ghost use Rattle.trade_laws.specs.SentTrades.{AnswerIsOfTrade, NoticeIsOfTrade, is_answer, is_notice};
+
+use crate::sent::both_sides_of_a_trade_are_sent_it;
+use step_replay::firms_are_sent_one_list;
+
+/// A law: both sides of a trade are sent it alike on a day on threads, where a list of steps that
+/// leaves no duty sends it as it is recorded, as the steps do into which `weave` makes the day. What
+/// `both_sides_of_a_trade_are_sent_it` says of the messages of a firm, it says of those that stand in
+/// the record. It does nothing.
+pub fn both_sides_of_a_trade_are_sent_it_on_threads()
+    ensures answers { (config : Configuration) (day : RecordedDay) (steps : List Step)
+        (investor : ℕ) (buyer : InvestorRow) (sent : List (List ℕ)) (message : List ℕ)
+        → SendAsRecorded config day steps → NoDutyIsLeft (audit_trail config steps)
+        → investor_numbered config investor ≡ Some buyer
+        → sent_by_record day investor ≡ Some sent → In message sent
+        → (fields : List Field) × (message ≡ frame_text fields)
+        × (is_answer fields ≡ true
+        → AnswerIsOfTrade config (audit_trail config steps) investor fields) }
+    ensures notices { (config : Configuration) (day : RecordedDay) (steps : List Step)
+        (dealer : ℕ) (seller : DealerRow) (sent : List (List ℕ)) (message : List ℕ)
+        → SendAsRecorded config day steps → NoDutyIsLeft (audit_trail config steps)
+        → dealer_numbered config dealer ≡ Some seller
+        → sent_by_record day dealer ≡ Some sent → In message sent
+        → (fields : List Field) × (message ≡ frame_text fields)
+        × (is_notice fields ≡ true
+        → NoticeIsOfTrade config (audit_trail config steps) dealer fields) }
+{
+    both_sides_of_a_trade_are_sent_it();
+    firms_are_sent_one_list();
+}
