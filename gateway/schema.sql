@@ -1,11 +1,13 @@
 -- The log of one day of the gateway: what came, what was sent, and the stores of the FIX sessions.
 -- One text for SQLite and PostgreSQL. Whoever reads it needs SELECT alone; only the gateway writes.
 
--- The form of these tables: one row. A gateway of another form refuses the log.
+-- The form of these tables: one row, the same in SQLite and PostgreSQL. A gateway of another form refuses the
+-- log, so no day has two. (Forms 1, in SQLite, and 2, in PostgreSQL, had no table connection, and neither
+-- received nor connection in entry.)
 CREATE TABLE form (
     number INTEGER NOT NULL
 );
-INSERT INTO form (number) VALUES (1);
+INSERT INTO form (number) VALUES (3);
 
 -- What the venue was given, in its order. Places have no gap.
 --
@@ -21,20 +23,60 @@ INSERT INTO form (number) VALUES (1);
 -- venue's input, C being the lines of the configuration.
 --
 -- The chain: hash is the SHA-256 of the text
---     BEFORE PLACE TERM MOMENT FIRM NUMBER LENGTH
--- (one space between, a line feed after; BEFORE in small hexadecimal digits, FIRM and NUMBER `-` where
--- there is none, LENGTH the bytes of line) and the bytes of line. before is the hash of the place before,
--- and 32 zero bytes at place 0.
+--     BEFORE PLACE TERM MOMENT RECEIVED FIRM NUMBER CONNECTION LENGTH
+-- (one space between, a line feed after; BEFORE in small hexadecimal digits, FIRM, NUMBER and CONNECTION `-`
+-- where there is none, LENGTH the bytes of line) and the bytes of line. before is the hash of the place
+-- before, and 32 zero bytes at place 0. So it covers every column, and which connection a message came on;
+-- who that was stands in connection, whose rows have a chain of their own.
 CREATE TABLE entry (
-    place  INTEGER PRIMARY KEY,
-    term   INTEGER NOT NULL,    -- of the gateway that wrote it (terms.sql); 0 in SQLite, where only one may
-    moment TEXT    NOT NULL,    -- of receipt, HH:MM:SS.sss in UTC, never falling
-    firm   TEXT,                -- whose message it is; NULL at place 0 and in a clock line
-    number INTEGER,             -- MsgSeqNum (34) of the session; NULL where no message came: at place 0, in
-                                -- a clock line, and in a cancel for a dealer that is gone
-    line   BYTEA   NOT NULL,
-    before BYTEA   NOT NULL,
-    hash   BYTEA   NOT NULL
+    place      INTEGER PRIMARY KEY,
+    term       INTEGER NOT NULL, -- of the gateway that wrote it (terms.sql); 0 in SQLite, where only one may
+    moment     TEXT    NOT NULL, -- at which the venue takes it, HH:MM:SS.sss in UTC, never falling
+    received   TEXT    NOT NULL, -- when the last byte of its message was read, HH:MM:SS.ssssss in UTC, and never in
+                                 -- a later millisecond than moment. Of one connection it never falls: where the
+                                 -- machine's clock is set back it stands. From one connection to another it may.
+                                 -- Where no message came: when the line was made, in the millisecond of moment
+    firm       TEXT,             -- whose message it is; NULL at place 0 and in a clock line
+    number     INTEGER,          -- MsgSeqNum (34) of the session; NULL where no message came: at place 0, in
+                                 -- a clock line, and in a cancel for a dealer that is gone
+    connection INTEGER,          -- the number of the connection that the message came on; NULL where number is
+    line       BYTEA   NOT NULL,
+    before     BYTEA   NOT NULL,
+    hash       BYTEA   NOT NULL
+);
+
+-- Who was at the door: what happened to connections, in its order. Places begin at 1 and have no gap.
+--
+-- event is
+--     logon     a Logon of firm was accepted: from now on the connection has a number, and the firm's messages
+--               come on it. It stands here before the first entry that names it
+--     end       of a connection that has a number. A firm has one connection at a time: it ends before the
+--               firm's next one begins, and at the latest when a gateway starts again
+--     refused   a Logon in the name of firm was refused, and its connection ended
+--     stranger  a connection ended without a Logon in a name that this venue has. In the log of each venue
+--     left out  left_out rows with this why were left out, and none has come for a while
+-- Of refused and stranger at most ten rows a minute are put here of each why, whoever connects, however often.
+--
+-- The chain: hash is the SHA-256 of the text
+--     BEFORE PLACE TERM MOMENT ENTRY NUMBER FIRM LEFT_OUT EVENT ADDRESS CERTIFICATE WHY
+-- (one space between, a line feed after; BEFORE in small hexadecimal digits, `-` where there is none; of event,
+-- address, certificate and why the length in bytes) and the bytes of event, address, certificate and why.
+-- before is the hash of the place before, and 32 zero bytes at place 1.
+CREATE TABLE connection (
+    place       INTEGER PRIMARY KEY,
+    term        INTEGER NOT NULL, -- as in entry
+    moment      TEXT    NOT NULL, -- HH:MM:SS.ssssss in UTC, never falling
+    event       TEXT    NOT NULL,
+    entry       INTEGER NOT NULL, -- the last place of entry then: what came on a connection stands behind that
+                                  -- of its Logon, up to that of its end
+    number      INTEGER,          -- of the connection, rising with each Logon; NULL of one whose Logon was not accepted
+    firm        TEXT,             -- NULL in stranger and left out
+    address     TEXT    NOT NULL, -- ADDRESS:PORT of the peer
+    certificate TEXT,             -- the common name of the client's certificate; NULL without one
+    why         TEXT,             -- of its end, or of the refusal: never what a stranger has said; NULL in logon
+    left_out    INTEGER NOT NULL, -- of refused and stranger, how many with this why were left out before it
+    before      BYTEA   NOT NULL,
+    hash        BYTEA   NOT NULL
 );
 
 -- What the venue gave for a firm: its frame as the venue wrote it, SOH as the byte 0x01. number is the

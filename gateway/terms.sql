@@ -1,8 +1,6 @@
 -- Beside schema.sql, in PostgreSQL alone: which gateway speaks. Several may have the log open. One writes it, in a term
 -- of its own, and the others follow; a gateway whose term is over can put nothing there.
 
-UPDATE form SET number = 2;
-
 -- One row. backend and began are the connection of the gateway that speaks, as pg_stat_activity has them, and seen is
 -- when it last said that it is there.
 CREATE TABLE speaker (
@@ -65,11 +63,13 @@ BEGIN
     PERFORM speak(mine);
 END $$;
 
--- Entries of another term than that of now are refused, whoever writes them.
+-- Entries and events of connections of another term than that of now are refused, whoever writes them.
 CREATE FUNCTION refuse_other_terms() RETURNS TRIGGER LANGUAGE plpgsql AS $$
 BEGIN
     PERFORM speak(term) FROM (SELECT DISTINCT term FROM added) AS terms;
     RETURN NULL;
 END $$;
 CREATE TRIGGER one_term AFTER INSERT ON entry REFERENCING NEW TABLE AS added
+    FOR EACH STATEMENT EXECUTE FUNCTION refuse_other_terms();
+CREATE TRIGGER one_term AFTER INSERT ON connection REFERENCING NEW TABLE AS added
     FOR EACH STATEMENT EXECUTE FUNCTION refuse_other_terms();

@@ -48,14 +48,15 @@ def words_of(row: tuple[Any, ...]) -> Words:
 def packed(act: Act) -> bytes:
     """An act as bytes, which this program alone reads again."""
     told = [(one.firm, one.number, one.kind, packed_words(one.words)) for one in act.told]
-    row: Any = (act.place, act.moment, act.actor, act.number, packed_words(act.said), told)
+    said = packed_words(act.said)
+    row: Any = (act.place, act.moment, act.actor, act.number, said, told, act.came_on)
     return marshal.dumps(row)
 
 
 def act_of(data: bytes) -> Act:
-    place, moment, actor, number, said, told = marshal.loads(data)
+    place, moment, actor, number, said, told, came_on = marshal.loads(data)
     notes = tuple(Note(firm, count, kind, words_of(words)) for firm, count, kind, words in told)
-    return Act(place, moment, actor, number, words_of(said), notes)
+    return Act(place, moment, actor, number, words_of(said), notes, came_on)
 
 
 class Book:

@@ -5,6 +5,7 @@ from dataclasses import dataclass, field
 from hashlib import sha256
 from pathlib import Path
 
+from .door import Door, DoorReader
 from .findings import Finding
 from .lines import firm_and_time
 from .log import Log
@@ -19,20 +20,34 @@ NO_NUMBER = (0, 0)
 Numbers = dict[str, tuple[int, int]]  # of each firm, a number of its session, and an entry's place
 
 
-def hashes_of(rows: Iterable[EntryRow]) -> list[bytes]:
+def hashes_of(rows: Iterable[EntryRow], has_door: bool) -> list[bytes]:
     """The hashes that entries must have, from their other columns."""
+    if not has_door:
+        return old_hashes_of(rows)
+    return [
+        sha256(
+            f"{before.hex()} {place} {term} {moment} {received} {firm or '-'} "
+            f"{'-' if number is None else number} {'-' if connection is None else connection} "
+            f"{len(line)}\n".encode() + line
+        ).digest()
+        for place, term, moment, firm, number, line, before, _, received, connection in rows
+    ]
+
+
+def old_hashes_of(rows: Iterable[EntryRow]) -> list[bytes]:
+    """The same of a log that says nothing of connections."""
     return [
         sha256(
             f"{before.hex()} {place} {term} {moment} {firm or '-'} "
             f"{'-' if number is None else number} {len(line)}\n".encode() + line
         ).digest()
-        for place, term, moment, firm, number, line, before, _ in rows
+        for place, term, moment, firm, number, line, before, *_ in rows
     ]
 
 
-def hash_of(entry: EntryRow) -> bytes:
+def hash_of(entry: EntryRow, has_door: bool) -> bytes:
     """The hash that an entry must have."""
-    return hashes_of([entry])[0]
+    return hashes_of([entry], has_door)[0]
 
 
 @dataclass
@@ -46,14 +61,15 @@ class Chained:
     findings: list[Finding] = field(default_factory=list)
     firms: set[str] = field(default_factory=set)  # that entries name
     numbers: Numbers = field(default_factory=dict)  # the greatest, and the last entry with one
+    door: Door | None = None  # of a log that says who connected
 
 
 class ChainReader:
     """Holds each entry against the one before it. Of each kind of fault the first is told."""
 
-    def __init__(self, has_chain: bool) -> None:
+    def __init__(self, has_chain: bool, has_door: bool = False) -> None:
         self.found = Chained()
-        self._has_chain = has_chain
+        self._has_chain, self._has_door = has_chain, has_door
         self._before: Entry | None = None
         self._told: set[str] = set()
 
@@ -106,7 +122,7 @@ class ChainReader:
             return False
         if block.befores != (before.hash, *block.hashes[:-1]) or not are_step_lines(block):
             return False
-        if tuple(hashes_of(block.rows())) != block.hashes:
+        if tuple(hashes_of(block.rows(), self._has_door)) != block.hashes:
             return False
         self.found.numbers = moved
         self._note(block)
@@ -140,7 +156,7 @@ class ChainReader:
             self.tell("term", entry, text % (entry.term, before.term, before.place))
 
     def _check_chain(self, entry: Entry) -> None:
-        if entry.hash != hash_of(entry):
+        if entry.hash != hash_of(entry, self._has_door):
             self.tell("hash", entry, "it was changed: its SHA-256 is another than it says")
         elif entry.before != (NO_HASH if self._before is None else self._before.hash):
             self.tell("before", entry, "it does not follow on the entry before it, as that is now")
@@ -197,12 +213,20 @@ def is_step_line(line: bytes, firm: str | None, moment: str) -> bool:
 
 
 def read_chain(log: Log, step: Step) -> Chained:
-    """One pass over all entries."""
-    reader = ChainReader(log.has_chain)
+    """One pass over all entries, and over what happened to connections beside it."""
+    reader = ChainReader(log.has_chain, log.has_door)
+    door = DoorReader(log.connection_events()) if log.has_door else None
     for block in log.entry_blocks():
         reader.take_block(block)
+        if door is not None:
+            door.take_block(block)
         step(len(block.places))
-    return reader.found
+    found = reader.found
+    if door is not None:
+        found.door = door.end()
+        found.firms |= found.door.firms
+        found.findings += found.door.findings
+    return found
 
 
 def write_day(log: Log, day: Day, path: Path, step: Step) -> None:

@@ -8,7 +8,9 @@ from collections.abc import Iterable
 from dataclasses import dataclass, field
 from typing import Any
 
+from .came_on import with_connections
 from .chain import Chained, Numbers, read_chain, write_day
+from .door import DOOR
 from .faults import Unreadable
 from .findings import Finding
 from .frame import printable
@@ -80,7 +82,14 @@ class Checker:
         verdict = self.begun()
         plan: Plan[Result] = Plan()
         self.add_jobs(plan, verdict)
-        return judged(verdict, self.run(plan, verdict))
+        return self.judge(verdict, self.run(plan, verdict))
+
+    def judge(self, verdict: Verdict, results: Iterable[Result]) -> Verdict:
+        """The verdict with what the jobs found, and on which connection each message came."""
+        judged(verdict, results)
+        with self.source.open() as log:
+            verdict.findings = with_connections(log, verdict.findings)
+        return verdict
 
     def run(self, plan: "Plan[Any]", verdict: Verdict) -> list[Any]:
         """The results of jobs, of which those of a check are some."""
@@ -202,9 +211,9 @@ def once_each(findings: list[Finding]) -> list[Finding]:
 
 
 def report(verdict: Verdict) -> list[str]:
-    """The verdict as lines: the entries, a line a firm, and one verdict."""
+    """The verdict as lines: the entries, the door, a line a firm, and one verdict."""
     day = verdict.day
-    lines = [entries_line(verdict), venue_line(verdict)]
+    lines = [entries_line(verdict), *door_lines(verdict), venue_line(verdict)]
     lines += [firm_line(verdict, firm) for firm in day.firms]
     if verdict.seal:
         lines.append("seal      %s" % verdict.seal)
@@ -221,6 +230,17 @@ def entries_line(verdict: Verdict) -> str:
     if verdict.of("entries"):
         return "entries   %d, NOT AS THEY SHOULD BE" % count
     return "entries   %d, each follows on the one before: %s" % (count, verdict.chained.last.hex())
+
+
+def door_lines(verdict: Verdict) -> list[str]:
+    """Of a log that says who connected."""
+    door = verdict.chained.door
+    if door is None:
+        return []
+    text = "door      %d connections in %d rows, " % (door.connections, door.events)
+    if verdict.of(DOOR):
+        return [text + "NOT AS THEY SHOULD BE"]
+    return [text + "each follows on the one before: " + door.last.hex()]
 
 
 def venue_line(verdict: Verdict) -> str:

@@ -10,7 +10,7 @@ from .frame import barred, printable
 class Finding:
     """One thing that is not as it should be, and where."""
 
-    where: str  # `entries`, or a firm's name
+    where: str  # `entries`, `door`, or a firm's name
     text: str
     place: int | None = None  # of the entry
     number: int | None = None  # the venue's, of the message to the firm
@@ -18,6 +18,7 @@ class Finding:
     found: bytes | None = None  # what does
     given_by: str = "the venue gives"
     found_in: str = "the log has"
+    came_on: str = ""  # of the entry's message, in words: on which connection it came
 
     @property
     def place_words(self) -> str:
@@ -36,3 +37,5 @@ class Finding:
             yield "    %-16s %s" % (self.given_by, barred(self.given))
         if self.found is not None:
             yield "    %-16s %s" % (self.found_in, barred(self.found))
+        if self.came_on:
+            yield printable("    %-16s %s" % ("its message was", self.came_on))

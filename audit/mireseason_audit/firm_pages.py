@@ -8,6 +8,7 @@ from dataclasses import dataclass
 from pathlib import Path
 
 from .book import Book
+from .came_on import CameOn
 from .dictionary import read_dictionary
 from .frame import Fields, barred, fields_of, text_of
 from .lines import came_of
@@ -40,6 +41,7 @@ class FirmJob:
         writer = MessageWriter(read_dictionary(self.dictionary))
         templates = Templates(self.day)
         with self.source.open() as log, closing(Book(self.book)) as book:
+            came_on = CameOn(log.logons(self.firm.name)) if log.has_door else None
             pages = log.last_place() // ENTRIES_A_PAGE + 1
             messages = merged(log, self.firm.name)
             waiting = next(messages, None)
@@ -48,7 +50,7 @@ class FirmJob:
                 parts = []
                 while waiting and (waiting[0] // ENTRIES_A_PAGE <= page or page == pages - 1):
                     about = requests.get(waiting[0], ())
-                    parts.append(writer.html(shown(waiting[1], about)))
+                    parts.append(writer.html(shown(waiting[1], about, came_on)))
                     waiting = next(messages, None)
                 self._write(templates, page, pages, parts)
                 step(len(parts))
@@ -84,8 +86,8 @@ def merged(log: Log, firm: str) -> Iterator[tuple[int, Entry | Sent]]:
             row = next(sent, None)
 
 
-def shown(row: Entry | Sent, requests: tuple[int, ...]) -> Shown:
-    """A row as a message."""
+def shown(row: Entry | Sent, requests: tuple[int, ...], came_on: CameOn | None) -> Shown:
+    """A row as a message, and of one that came, where the log says that, on which connection."""
     if isinstance(row, Sent):
         fields = fields_of(row.bytes)
         moment = text_of(fields, 52).partition("-")[2]
@@ -96,4 +98,6 @@ def shown(row: Entry | Sent, requests: tuple[int, ...]) -> Shown:
     fields = came.fields if came else Fields()
     text = came.text if came else barred(row.line)
     number = text_of(fields, 34)
-    return Shown("e%d" % row.place, True, row.moment, row.place, number, text, fields, requests)
+    words = came_on.words(row) if came_on else ""
+    anchor = "e%d" % row.place
+    return Shown(anchor, True, row.moment, row.place, number, text, fields, requests, words)

@@ -6,21 +6,48 @@ from collections.abc import Iterator, Sequence
 
 from .closing import Closing
 from .faults import Wrong
-from .records import Day, Entries, Entry, Messages, Outgoing, Sent, configured, day_of
+from .records import (
+    ConnectionEvent,
+    Day,
+    Entries,
+    Entry,
+    Messages,
+    Outgoing,
+    Sent,
+    configured,
+    day_of,
+)
 
 
 class Log(Closing):
     """Reads the rows of a log. Every list is read in blocks of some rows, so none is held."""
 
     has_chain: bool = True  # whether the entries have hashes, and the sessions their messages
+    has_door: bool = False  # whether it says who connected, and what came on which connection
 
     @abstractmethod
     def entry_blocks(self) -> Iterator[Entries]:
         """All entries, by their places."""
 
     @abstractmethod
+    def connection_events(self) -> Iterator[ConnectionEvent]:
+        """What happened to connections, by their places; of a log that says it."""
+
+    @abstractmethod
+    def logons(self, firm: str) -> dict[int, ConnectionEvent]:
+        """Of a firm, the Logons that were accepted, by the numbers of their connections."""
+
+    @abstractmethod
+    def event_hash_at(self, place: int) -> bytes:
+        """The hash of what happened to a connection at a place; empty where there is none."""
+
+    @abstractmethod
     def came(self, firm: str) -> Iterator[Entry]:
         """The entries of one firm, by their places."""
+
+    @abstractmethod
+    def entry_at(self, place: int) -> Entry | None:
+        """The entry at a place, if there is one."""
 
     @abstractmethod
     def sent_blocks(self, firm: str) -> Iterator[Messages]:

@@ -21,6 +21,7 @@ class Shown(NamedTuple):
     text: str
     fields: Fields
     requests: tuple[int, ...] = ()
+    came_on: str = ""  # in words: the connection that it came on
 
 
 class MessageWriter:
@@ -38,7 +39,7 @@ class MessageWriter:
         )
         return (
             '<article class="message %s" id="%s"><p class="head"><span class="way">%s</span>'
-            " <b>%s</b> <span>34=%s</span> <span>%s</span> <span>entry %d</span>%s</p>"
+            " <b>%s</b> <span>34=%s</span> <span>%s</span> <span>entry %d</span>%s%s</p>"
             "<code>%s</code><details><summary>%d fields by name</summary><ul>%s</ul></details>"
             "</article>\n"
             % (
@@ -50,6 +51,7 @@ class MessageWriter:
                 escape(shown.moment),
                 shown.place,
                 links,
+                " <span>%s</span>" % escape(shown.came_on) if shown.came_on else "",
                 escape(shown.text),
                 len(shown.fields),
                 "".join([self._field(field) for field in shown.fields]),

@@ -7,8 +7,9 @@ from pathlib import Path
 
 from .book import Book, Fault
 from .certificates import CertificateJob, second_for, seconds_for
-from .check import Checker, Result, Verdict, judged
+from .check import Checker, Result, Verdict
 from .dictionary import read_dictionary
+from .door_pages import DoorJob
 from .faults import Unreadable
 from .findings import Finding
 from .firm_pages import ENTRIES_A_PAGE, FirmJob, page_name
@@ -54,7 +55,7 @@ class Pager:
         results = checker.run(plan, verdict)
         (summary,) = [result for result in results if isinstance(result, Summary)]
         found = [result for result in results if not isinstance(result, Summary)]
-        return judged(verdict, found), summary
+        return checker.judge(verdict, found), summary
 
     def write(self, verdict: Verdict, summary: Summary) -> None:
         """Writes all pages."""
@@ -127,6 +128,10 @@ class Pager:
             )
             for at in range(0, len(requests), ROWS_A_PAGE)
         ]
+        door = verdict.chained.door
+        if door is not None:
+            pages = max(1, pages_of(door.events))
+            jobs.append(DoorJob(source, day, pages, ROWS_A_PAGE, self.folder))
         total = sum(summary.faults.values())
         jobs += [
             FaultsJob(day, total, at, book, self.folder)

@@ -26,9 +26,15 @@ class Entry(NamedTuple):
     line: bytes
     before: bytes
     hash: bytes
+    # Since form 3, None before:
+    received: str | None = None  # to the microsecond
+    connection: int | None = None  # the number of the one that its message came on
 
 
-EntryRow = tuple[int, int, str, str | None, int | None, bytes, bytes, bytes]  # as an Entry has it
+# As an Entry has it.
+EntryRow = tuple[
+    int, int, str, str | None, int | None, bytes, bytes, bytes, str | None, int | None
+]
 
 
 class Entries(NamedTuple):
@@ -42,6 +48,8 @@ class Entries(NamedTuple):
     lines: tuple[bytes, ...]
     befores: tuple[bytes, ...]
     hashes: tuple[bytes, ...]
+    receipts: tuple[str | None, ...]
+    connections: tuple[int | None, ...]
 
     @staticmethod
     def of(rows: Iterable[tuple[Any, ...]]) -> "Entries":
@@ -57,6 +65,29 @@ class Entries(NamedTuple):
 
     def behind_first(self) -> "Entries":
         return Entries._make(column[1:] for column in self)
+
+
+class ConnectionEvent(NamedTuple):
+    """What happened to a connection."""
+
+    place: int
+    term: int
+    moment: str  # to the microsecond
+    event: str
+    entry: int  # the last one before it
+    number: int | None  # of the connection
+    firm: str | None
+    address: str
+    certificate: str | None
+    why: str | None
+    left_out: int
+    before: bytes
+    hash: bytes
+
+    @property
+    def peer(self) -> str:
+        """Who it was, as far as the connection says."""
+        return self.address + (", certificate %s" % self.certificate if self.certificate else "")
 
 
 class Messages(NamedTuple):

@@ -6,10 +6,11 @@ A request has its own name in the messages of its investor (131), and one for ea
 """
 
 from collections import defaultdict
-from collections.abc import Iterator
+from collections.abc import Iterator, Mapping
 from dataclasses import dataclass, field
 from typing import NamedTuple
 
+from .came_on import CameOn
 from .exchanges import Exchange, Told
 from .frame import Fields, text_of
 from .lines import Came
@@ -37,6 +38,7 @@ class Act(NamedTuple):
     number: int | None  # of the actor's session
     said: Words
     told: tuple[Note, ...]
+    came_on: str = ""  # in words: the connection that it came on
 
     def note_to(self, firm: str | None) -> Note | None:
         return next((note for note in self.told if note.firm == firm), None)
@@ -89,9 +91,11 @@ class Names:
 class Requests:
     """Takes the exchanges of a day in their order; answers the acts on each request."""
 
-    def __init__(self, reader: Reader) -> None:
+    def __init__(self, reader: Reader, came_on: Mapping[str, CameOn] | None = None) -> None:
+        """came_on has the connections of each firm, of a log that says who connected."""
         self.all: list[Request] = []
         self._reader = reader
+        self._came_on = came_on or {}
         self._names = Names()
 
     def take(self, exchange: Exchange) -> Iterator[tuple[Request, Act]]:
@@ -183,8 +187,10 @@ class Requests:
             for one in told
         )
         said = reader.said(came.fields) if came else reader.unread(exchange.firm)
-        number = exchange.entry.number
-        return Act(exchange.place, exchange.moment, exchange.firm, number, said, notes)
+        entry = exchange.entry
+        came_on = self._came_on.get(exchange.firm or "")
+        words = came_on.words(entry) if came_on else ""
+        return Act(entry.place, entry.moment, exchange.firm, entry.number, said, notes, words)
 
     def _follow(self, request: Request, act: Act) -> None:
         """What an act changes of its request, by what firms are told."""

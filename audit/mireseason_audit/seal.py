@@ -1,9 +1,9 @@
 """The seal of a log: what stands in it, signed with an Ed25519 key by openssl.
 
 A seal is text. It has the hash of the last entry, from which all others follow, and that of
-each hundredth, so that a log whose chain was made anew is told by its place; of each firm, how
-many messages it was sent, and those of its session, with their SHA-256; and a signature of all
-that in its last line.
+each hundredth, so that a log whose chain was made anew is told by its place; how many rows say
+what happened to connections, with the hash of the last; of each firm, how many messages it was
+sent, and those of its session, with their SHA-256; and a signature of all that in its last line.
 """
 
 import base64
@@ -18,6 +18,7 @@ from pathlib import Path
 from typing import Protocol
 
 from .chain import Chained
+from .door import DOOR
 from .faults import Unreadable, Wrong
 from .findings import Finding
 from .frame import number_in
@@ -54,6 +55,8 @@ def sealed(log: Log, day: Day, chained: Chained) -> Sealed:
     lines.append("configuration day %s" % configuration)
     lines += ["entry %d %s" % item for item in sorted(chained.checkpoints.items())]
     lines.append("last %d %s" % (chained.last_place, chained.last.hex()))
+    if chained.door is not None:
+        lines.append("door rows %d %s" % (chained.door.events, chained.door.last.hex()))
     for firm in day.firms:
         lines.append("sent %s %s" % (firm.name, digest(log.sent_blocks(firm.name))))
         lines.append("session %s %s" % (firm.name, digest(log.outgoing_blocks(firm.name))))
@@ -124,6 +127,9 @@ class Kept(Protocol):
     def hash_at(self, place: int) -> str:
         """The hash of an entry."""
 
+    def event_hash_at(self, place: int) -> str:
+        """The hash of what happened to a connection."""
+
     def first(self, word: str, firm: str, count: int) -> str:
         """The first messages of a firm (`sent`), or of its session, as a seal has them."""
 
@@ -136,6 +142,9 @@ class KeptLog:
 
     def hash_at(self, place: int) -> str:
         return self.log.hash_at(place).hex()
+
+    def event_hash_at(self, place: int) -> str:
+        return self.log.event_hash_at(place).hex()
 
     def first(self, word: str, firm: str, count: int) -> str:
         read = self.log.sent_blocks if word == "sent" else self.log.outgoing_blocks
@@ -153,8 +162,21 @@ def first_of(blocks: Iterable[Messages], count: int) -> Iterator[Messages]:
 def compared(seal: Sealed, now: Sealed, kept: Kept) -> Iterator[Finding]:
     """What a log is now, against what its seal says."""
     if seal != now:
-        found = [*compared_entries(seal, now, kept), *compared_messages(seal, now, kept)]
+        found = [*compared_entries(seal, now, kept), *compared_door(seal, now, kept)]
+        found += compared_messages(seal, now, kept)
         yield from found or [Finding("entries", "the log is not the one that was sealed")]
+
+
+def compared_door(seal: Sealed, now: Sealed, kept: Kept) -> Iterator[Finding]:
+    """What happened to connections, where it is not what was sealed, or not that alone."""
+    before, after = (one.values("door").get("rows", "") for one in (seal, now))
+    if before != after:
+        first, _, last = before.partition(" ")
+        more = count_of(after) - count_of(before)
+        text = "its rows are not those that were sealed"
+        if more > 0 and (first == "0" or kept.event_hash_at(count_of(before)) == last):
+            text = "its rows go on behind those that were sealed: %d more" % more
+        yield Finding(DOOR, text)
 
 
 def compared_messages(seal: Sealed, now: Sealed, kept: Kept) -> Iterator[Finding]:

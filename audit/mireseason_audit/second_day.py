@@ -42,9 +42,10 @@ class MovedDay:
         """
         with path.open("wb", buffering=1 << 20) as file:
             file.write(day.head)
-            for place, _, _, _, _, line, _, _ in log.entries():
-                if place > 0:
-                    moved = self._line(place, line, move) if is_with(line, part) else line
+            for entry in log.entries():
+                if entry.place > 0:
+                    line = entry.line
+                    moved = self._line(entry.place, line, move) if is_with(line, part) else line
                     file.write(moved + b"\n")
 
     def _line(self, place: int, line: bytes, move: Move) -> bytes:

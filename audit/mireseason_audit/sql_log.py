@@ -6,9 +6,17 @@ from typing import Any
 
 from .faults import Unreadable
 from .log import Log
-from .records import Entries, Entry, EntryRow, Messages
+from .records import ConnectionEvent, Entries, Entry, EntryRow, Messages
 
-ENTRY = "SELECT place, term, moment, firm, number, line, before, hash FROM entry"
+DOOR_FORM = 3  # of the tables: since it, a log says who connected
+ENTRY = "SELECT place, term, moment, firm, number, line, before, hash, %s FROM entry"
+DOOR_COLUMNS, NO_DOOR_COLUMNS = "received, connection", "NULL, NULL"
+EVENT = (
+    "SELECT place, term, moment, event, entry, number, firm, address, certificate, why, left_out,"
+    " before, hash FROM connection"
+)
+EVENTS = EVENT + " ORDER BY place"
+LOGONS = EVENT + " WHERE event = 'logon' AND firm = ? ORDER BY place"
 LINES = "SELECT line FROM entry WHERE place > 0 ORDER BY place"
 SENT = "SELECT number, place, bytes FROM sent WHERE firm = ? ORDER BY number"
 OUTGOING = "SELECT number, sent, bytes FROM outgoing WHERE firm = ? ORDER BY number"
@@ -21,7 +29,9 @@ FIRMS = """WITH RECURSIVE found(firm) AS (SELECT min(firm) FROM TABLE_ UNION ALL
 
 Types = Sequence[set[type]]  # of each column, those that its values may have
 NONE: type = type(None)
-ENTRY_TYPES: Types = ({int}, {int}, {str}, {str, NONE}, {int, NONE}, {bytes}, {bytes}, {bytes})
+OLD_TYPES: Types = ({int}, {int}, {str}, {str, NONE}, {int, NONE}, {bytes}, {bytes}, {bytes})
+DOOR_TYPES: Types = (*OLD_TYPES, {str}, {int, NONE})
+NO_DOOR_TYPES: Types = (*OLD_TYPES, {NONE}, {NONE})
 SENT_TYPES: Types = ({int}, {int}, {bytes})
 OUTGOING_TYPES: Types = ({int}, {int, NONE}, {bytes})
 
@@ -45,27 +55,69 @@ class SqlLog(Log):
         for rows in self.blocks(query, *values):
             yield from rows
 
+    def _query(self, rest: str) -> str:
+        """A SELECT of entries."""
+        columns = DOOR_COLUMNS if self.has_door else NO_DOOR_COLUMNS
+        return "%s %s" % (ENTRY % columns, rest)
+
     def entry_blocks(self) -> Iterator[Entries]:
-        return map(self._as_entries, self.blocks(ENTRY + " ORDER BY place"))
+        return map(self._as_entries, self.blocks(self._query("ORDER BY place")))
 
     def came(self, firm: str) -> Iterator[Entry]:
-        for rows in self.blocks(ENTRY + " WHERE firm = ? ORDER BY place", firm):
+        for rows in self.blocks(self._query("WHERE firm = ? ORDER BY place"), firm):
             yield from map(Entry._make, self._as_entries(rows).rows())
+
+    def entry_at(self, place: int) -> Entry | None:
+        for rows in self.blocks(self._query("WHERE place = ?"), place):
+            return self._as_entries(rows).entry(0)
+        return None
 
     def _as_entries(self, rows: Rows) -> Entries:
         """The rows with each column as it should be."""
         block = Entries.of(rows)
-        if are_of(block, ENTRY_TYPES):
+        if are_of(block, DOOR_TYPES if self.has_door else NO_DOOR_TYPES):
             return block
         return Entries.of(self._entry(*row) for row in rows)
 
     def _entry(
         self, place: int, term: int, moment: Any, firm: Any, number: int | None, *data: Any
     ) -> EntryRow:
-        check_numbers("entry", place, place, term, *(() if number is None else (number,)))
-        line, before, hash_ = map(self.bytes_of, data)
-        firm = None if firm is None else as_text(firm)
-        return place, term, as_text(moment), firm, number, line, before, hash_
+        *texts, received, connection = data
+        numbers = (one for one in (number, connection) if one is not None)
+        check_numbers("entry", place, place, term, *numbers)
+        line, before, hash_ = map(self.bytes_of, texts)
+        if self.has_door:
+            received = as_text(received)
+        row = place, term, as_text(moment), text_or_none(firm), number, line, before, hash_
+        return *row, received, connection
+
+    def connection_events(self) -> Iterator[ConnectionEvent]:
+        return (self._event(*row) for row in self.rows(EVENTS))
+
+    def logons(self, firm: str) -> dict[int, ConnectionEvent]:
+        events = (self._event(*row) for row in self.rows(LOGONS, firm)) if self.has_door else ()
+        return {event.number: event for event in events if event.number is not None}
+
+    def _event(self, *row: Any) -> ConnectionEvent:
+        """An event with each column as it should be."""
+        event = ConnectionEvent(*row)
+        numbers = (event.term, event.entry, event.left_out)
+        given = () if event.number is None else (event.number,)
+        check_numbers("connection", event.place, event.place, *numbers, *given)
+        return event._replace(
+            moment=as_text(event.moment),
+            event=as_text(event.event),
+            firm=text_or_none(event.firm),
+            address=as_text(event.address),
+            certificate=text_or_none(event.certificate),
+            why=text_or_none(event.why),
+            before=self.bytes_of(event.before),
+            hash=self.bytes_of(event.hash),
+        )
+
+    def event_hash_at(self, place: int) -> bytes:
+        rows = self.rows("SELECT hash FROM connection WHERE place = ?", place)
+        return next((self.bytes_of(hash_) for hash_, in rows), b"")
 
     def sent_blocks(self, firm: str) -> Iterator[Messages]:
         return self._messages(SENT, "sent", firm, SENT_TYPES)
@@ -141,16 +193,22 @@ def are_of(columns: Any, types: Types) -> bool:
     return all(set(map(type, column)) <= wanted for column, wanted in zip(columns, types))
 
 
-def check_form(name: str, rows: Rows, form: int) -> None:
-    """The one row of the table `form`."""
-    if [tuple(row) for row in rows] != [(form,)]:
-        raise Unreadable("%s: the form of its tables is not %d" % (name, form))
+def form_of(name: str, rows: Rows, old: int) -> int:
+    """The one row of the table `form`: the form of old logs in this database, or that of now."""
+    for form in (old, DOOR_FORM):
+        if [tuple(row) for row in rows] == [(form,)]:
+            return form
+    raise Unreadable("%s: the form of its tables is neither %d nor %d" % (name, old, DOOR_FORM))
 
 
 def check_numbers(table: str, row: object, *values: object) -> None:
     for value in values:
         if type(value) is not int:
             raise Unreadable("%s %s: %r stands where a number should" % (table, row, value))
+
+
+def text_or_none(value: object) -> str | None:
+    return None if value is None else as_text(value)
 
 
 def as_text(value: object) -> str:

@@ -8,9 +8,9 @@ from typing import Any
 
 from .faults import Unreadable
 from .log import Log, Source
-from .sql_log import Rows, SqlLog, check_form
+from .sql_log import DOOR_FORM, Rows, SqlLog, form_of
 
-FORM = 1  # of the tables, as gateway/schema.sql has it
+OLD_FORM = 1  # of the tables: without connections
 # So few rows, and pages of the file, that a processor's cache holds them and what is made of them.
 ROWS_AT_A_TIME = 128
 PAGES = "PRAGMA cache_size = -256"  # kilobytes
@@ -45,7 +45,7 @@ class SqliteLog(SqlLog):
             forms = self._connection.execute("SELECT number FROM form").fetchall()
         except sqlite3.Error as fault:
             raise Unreadable("%s is no log of the gateway: %s" % (source.path, fault)) from None
-        check_form(str(source.path), forms, FORM)
+        self.has_door = form_of(str(source.path), forms, OLD_FORM) == DOOR_FORM
 
     def blocks(self, query: str, *values: object) -> Iterator[Rows]:
         try:

@@ -57,6 +57,11 @@ class Story:
         """The investor and the dealers that it asked, in its order."""
         return [self.request.investor, *self.request.dealers]
 
+    @property
+    def has_door(self) -> bool:
+        """Whether the log says on which connection any of it came."""
+        return any(act.came_on for act in self.acts)
+
     def quotes_of(self, dealer: str) -> list[Quote]:
         return [quote for quote in self.quotes if quote.dealer == dealer]
 

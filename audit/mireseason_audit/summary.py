@@ -8,6 +8,7 @@ from dataclasses import dataclass, field
 from pathlib import Path
 
 from .book import Book, Fault
+from .came_on import CameOn, connections_of
 from .dictionary import Dictionary
 from .exchanges import Exchange, exchanges
 from .log import Source
@@ -67,10 +68,12 @@ class Summary:
 class Summarizer:
     """Takes the exchanges of a day."""
 
-    def __init__(self, day: Day, reader: Reader, book: Book) -> None:
+    def __init__(
+        self, day: Day, reader: Reader, book: Book, came_on: dict[str, CameOn] | None = None
+    ) -> None:
         self.summary = Summary(firms={firm.name: FirmCounts() for firm in day.firms})
         self._reader, self._book = reader, book
-        self._requests = Requests(reader)
+        self._requests = Requests(reader, came_on)
         self.summary.requests = self._requests.all
 
     def take(self, exchange: Exchange) -> None:
@@ -119,7 +122,8 @@ class SummaryJob:
 
     def __call__(self, step: Step) -> Summary:
         with closing(Book(self.book, write=True)) as book, self.source.open() as log:
-            summarizer = Summarizer(self.day, Reader(self.dictionary), book)
+            came_on = connections_of(log, self.day)
+            summarizer = Summarizer(self.day, Reader(self.dictionary), book, came_on)
             for exchange in exchanges(log, self.day):
                 summarizer.take(exchange)
             book.finish()

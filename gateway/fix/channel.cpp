@@ -54,6 +54,9 @@ TlsServer::TlsServer(const std::string &certificate, const std::string &key,
     SSL_CTX_set_num_tickets(context_.get(), 0);
     SSL_CTX_set_mode(context_.get(),
                      SSL_MODE_ENABLE_PARTIAL_WRITE | SSL_MODE_ACCEPT_MOVING_WRITE_BUFFER);
+    // A read comes back after each record that brings no bytes: or one who sends nothing but such
+    // ones, as TLS 1.3's updates of keys, would keep its connection for ever.
+    SSL_CTX_clear_mode(context_.get(), SSL_MODE_AUTO_RETRY);
     require(SSL_CTX_use_certificate_chain_file(context_.get(), certificate.c_str()) == 1,
             certificate);
     require(SSL_CTX_use_PrivateKey_file(context_.get(), key.c_str(), SSL_FILETYPE_PEM) == 1, key);
@@ -159,12 +162,17 @@ std::size_t Channel::write_at_once(const char *bytes, std::size_t size) const {
     return result > 0 ? static_cast<std::size_t>(result) : 0;
 }
 
+void Channel::end_writing() {
+    ::shutdown(socket_.number(), SHUT_WR);
+}
+
 void Channel::shut() {
     ::shutdown(socket_.number(), SHUT_RDWR);
 }
 
 std::string Channel::common_name() const {
-    if (!tls_) {
+    // Before the end of the handshake the client has not shown that it has the key.
+    if (!tls_ || SSL_is_init_finished(tls_.get()) != 1) {
         return {};
     }
     const std::unique_ptr<X509, FreeCertificate> certificate(SSL_get1_peer_certificate(tls_.get()));

@@ -51,13 +51,16 @@ class Channel {
     // Writes what the socket takes at once, and returns how much that is; nothing where there is
     // TLS. Any thread may call it, one at a time, while no other writes.
     std::size_t write_at_once(const char *bytes, std::size_t size) const;
+    // No more is written: the peer sees that this side has said all.
+    void end_writing();
     // Both directions end. Any thread may call it.
     void shut();
 
     int number() const { return socket_.number(); }
     // Why it ended, as far as it is known.
     const std::string &fault() const { return fault_; }
-    // The common name of the client's certificate, empty without one.
+    // The common name of the client's certificate, empty without one and until it has proved that
+    // it has the key.
     std::string common_name() const;
 
   private:

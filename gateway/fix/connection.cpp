@@ -1,6 +1,6 @@
 #include "connection.h"
 
-#include "session.h"
+#include "refusal_words.h"
 
 #include <array>
 #include <cerrno>
@@ -17,50 +17,37 @@ namespace {
 using std::chrono::milliseconds;
 using std::chrono::seconds;
 
-// How long a connection that ends may take to write what waits.
+// How long a connection that ends may take to write what waits, and its peer to take it.
 constexpr auto last_words = seconds(2);
 
-// How often a session looks at its clock.
+// How often a session looks at its clock, and a Logon whether the old connection of its firm is
+// gone.
 constexpr auto tick = milliseconds(500);
-
-// So many of the messages before a Logon may be none: each is told, and whoever connects may send
-// them.
-constexpr unsigned most_broken = 10;
-
-// The value of a tag in a message, empty without one.
-std::string value_in(const std::string &message, const char *tag) {
-    const std::string mark = std::string("\x01") + tag + "=";
-    const std::size_t begin = message.find(mark);
-    if (begin == std::string::npos) {
-        return {};
-    }
-    const std::size_t from = begin + mark.size();
-    return message.substr(from, message.find('\x01', from) - from);
-}
+constexpr auto look = milliseconds(20);
 
 } // namespace
 
-Connection::Connection(Descriptor socket, std::string peer, const TlsServer *tls,
-                       const SessionMap &sessions, const EngineSettings &settings,
+Connection::Connection(Descriptor socket, std::string peer, const TlsServer *tls, StrangerSlot slot,
+                       const Sessions &sessions, const EngineSettings &settings,
                        EngineEvents &events)
-    : peer_(std::move(peer)), tls_(tls != nullptr), sessions_(sessions), settings_(settings),
-      events_(events), channel_(std::move(socket), tls),
-      bell_(::eventfd(0, EFD_CLOEXEC | EFD_NONBLOCK)), cutter_(settings.message_bytes),
-      opened_(Clock::now()), progress_(opened_), ticked_(opened_) {
+    : peer_(std::move(peer)), given_(slot.number()), tls_(tls != nullptr), settings_(settings),
+      events_(events), slot_(std::move(slot)), channel_(std::move(socket), tls),
+      bell_(::eventfd(0, EFD_CLOEXEC | EFD_NONBLOCK)), opened_(Clock::now()),
+      conversation_(sessions, events, *this), progress_(opened_), ticked_(opened_) {
     if (bell_.number() < 0) {
         throw std::runtime_error(std::string("no event descriptor: ") + std::strerror(errno));
     }
     events_.connection_opened(peer_);
     try {
         thread_ = std::thread([this] { run(); });
-    } catch (const std::exception &fault) {
-        events_.connection_closed(peer_, fault.what());
+    } catch (const std::exception &) {
+        events_.connection_closed(peer_);
         throw;
     }
 }
 
 Connection::~Connection() {
-    shut("the gateway ends it");
+    shut("the gateway stops");
     thread_.join();
 }
 
@@ -95,12 +82,15 @@ bool Connection::send(const std::string &bytes) {
     return true;
 }
 
-void Connection::disconnect() {
+void Connection::finish(const std::string &why) {
     {
         const std::lock_guard<std::mutex> lock(mutex_);
-        if (!closing_) {
-            closing_ = true;
-            close_at_ = Clock::now() + last_words;
+        if (!finishing_) {
+            finishing_ = true;
+            finish_at_ = Clock::now() + last_words;
+        }
+        if (why_.empty()) {
+            why_ = "the session ended it: " + why;
         }
     }
     wake();
@@ -118,6 +108,22 @@ void Connection::shut(const std::string &why) {
     wake();
 }
 
+void Connection::shut_stranger(const std::string &why) {
+    if (!admitted_) {
+        shut(why);
+    }
+}
+
+bool Connection::is_ending() const {
+    const std::lock_guard<std::mutex> lock(mutex_);
+    return shut_ || finishing_;
+}
+
+std::string Connection::why() const {
+    const std::lock_guard<std::mutex> lock(mutex_);
+    return why_;
+}
+
 void Connection::wake() {
     const std::uint64_t one = 1;
     // A bell that is full rings already.
@@ -125,28 +131,37 @@ void Connection::wake() {
     static_cast<void>(written);
 }
 
+ConnectionFacts Connection::facts() const {
+    return {peer_, channel_.common_name(), tls_};
+}
+
 void Connection::run() {
     owner_ = std::this_thread::get_id();
     try {
-        if (shake_hands()) {
-            while (!shut_) {
-                turn();
-            }
-        }
+        talk();
     } catch (const std::exception &fault) {
         shut(fault.what());
     }
-    if (session_ != nullptr) {
-        session_->detach(*this);
+    try {
+        conversation_.end(why());
+    } catch (const std::exception &fault) {
+        // The log takes nothing any more, and has told it.
+        events_.refused("connection", peer_ + ": " + fault.what());
     }
+    slot_.give_back();
+    linger();
     channel_.shut();
-    std::string why;
-    {
-        const std::lock_guard<std::mutex> lock(mutex_);
-        why = why_;
-    }
-    events_.connection_closed(peer_, why);
+    events_.connection_closed(peer_);
     ended_ = true;
+}
+
+void Connection::talk() {
+    if (!shake_hands()) {
+        return;
+    }
+    while (!is_ending()) {
+        turn();
+    }
 }
 
 bool Connection::shake_hands() {
@@ -156,8 +171,7 @@ bool Connection::shake_hands() {
             return true;
         }
         if (progress == Channel::Progress::ended) {
-            events_.refused("tls", peer_ + ": " + channel_.fault());
-            shut("no TLS: " + channel_.fault());
+            conversation_.turn_away(stranger_words::no_tls, channel_.fault());
             return false;
         }
         wants_write_ = progress == Channel::Progress::wants_write;
@@ -168,14 +182,24 @@ bool Connection::shake_hands() {
 }
 
 void Connection::turn() {
-    wait(true);
-    read();
+    if (conversation_.waits()) {
+        // What it sends meanwhile is left where it is.
+        wait(false);
+        conversation_.look_again();
+    } else {
+        wait(true);
+        read();
+    }
+    if (!admitted_ && conversation_.is_admitted()) {
+        admitted_ = true;
+        slot_.give_back();
+    }
     write();
-    if (session_ != nullptr && Clock::now() - ticked_ >= tick) {
+    if (admitted_ && Clock::now() - ticked_ >= tick) {
         // What the firm said while this thread had to wait for the log is no silence of it.
         read();
         ticked_ = Clock::now();
-        session_->tick();
+        conversation_.tick();
         write();
     }
     keep_time();
@@ -187,7 +211,8 @@ void Connection::wait(bool reads) {
     set[0].events = static_cast<short>((reads ? POLLIN : 0) | (wants_write_ ? POLLOUT : 0));
     set[1].fd = bell_.number();
     set[1].events = POLLIN;
-    ::poll(set.data(), set.size(), static_cast<int>(tick.count()));
+    const milliseconds limit = conversation_.waits() ? look : tick;
+    ::poll(set.data(), set.size(), static_cast<int>(limit.count()));
     if ((set[1].revents & POLLIN) != 0) {
         std::uint64_t rung = 0;
         const ssize_t count = ::read(bell_.number(), &rung, sizeof rung);
@@ -196,6 +221,9 @@ void Connection::wait(bool reads) {
 }
 
 void Connection::read() {
+    if (is_ending()) {
+        return;
+    }
     std::array<char, 65536> bytes;
     std::size_t count = 0;
     const Channel::Progress progress = channel_.read(bytes.data(), bytes.size(), count);
@@ -206,72 +234,12 @@ void Connection::read() {
     if (progress != Channel::Progress::done) {
         return;
     }
+    const auto at = std::chrono::system_clock::now();
     if (channel_.holds_more()) {
         // It does not show in poll().
         wake();
     }
-    cutter_.add(bytes.data(), count);
-    take_messages();
-    if (session_ != nullptr) {
-        session_->all_taken();
-    }
-}
-
-void Connection::take_messages() {
-    std::string message;
-    while (!shut_) {
-        const Cutter::Result result = cutter_.next(message);
-        if (result == Cutter::Result::more) {
-            return;
-        }
-        if (result == Cutter::Result::too_long) {
-            events_.dropped("too long", peer_);
-            shut("a message of more than " + std::to_string(settings_.message_bytes) + " bytes");
-            return;
-        }
-        take(message);
-    }
-}
-
-void Connection::take(const std::string &message) {
-    {
-        const std::lock_guard<std::mutex> lock(mutex_);
-        // The session has ended the connection: what comes after that is not looked at.
-        if (closing_) {
-            return;
-        }
-    }
-    if (session_ == nullptr && !find_session(message)) {
-        return;
-    }
-    session_->take(message);
-}
-
-bool Connection::find_session(const std::string &logon) {
-    const std::string firm = value_in(logon, "49");
-    if (value_in(logon, "35") != "A" || value_in(logon, "56") != "VENUE") {
-        events_.refused("no logon", peer_);
-        shut("the first message is no Logon to VENUE");
-        return false;
-    }
-    auto found = sessions_.find(session_name(value_in(logon, "57"), firm));
-    if (found == sessions_.end()) {
-        found = sessions_.find(firm);
-    }
-    if (found == sessions_.end()) {
-        events_.refused("unknown firm", peer_ + ": " + firm.substr(0, 40));
-        shut("an unknown firm");
-        return false;
-    }
-    if (!found->second->admit(*this, logon)) {
-        if (++broken_ == most_broken && !shut_) {
-            events_.refused("no logon", peer_);
-            shut("message after message that is none");
-        }
-        return false;
-    }
-    session_ = found->second.get();
-    return true;
+    conversation_.hear(bytes.data(), count, at);
 }
 
 void Connection::write() {
@@ -316,21 +284,32 @@ void Connection::drain() {
 
 void Connection::keep_time() {
     const Clock::time_point now = Clock::now();
-    bool over = false;
-    {
-        const std::lock_guard<std::mutex> lock(mutex_);
-        over = closing_ && (unwritten_ == 0 || now >= close_at_);
-    }
-    if (over) {
-        // Nobody else has it ended so.
-        shut("the session ended it: " + session_->last_event());
-    } else if (wants_write_ && session_ != nullptr &&
-               now - progress_ >= seconds(settings_.send_seconds)) {
-        shut("the firm takes no byte");
-    } else if ((session_ == nullptr || !session_->has_logged_on()) &&
+    if (admitted_) {
+        if (wants_write_ && now - progress_ >= seconds(settings_.send_seconds)) {
+            shut("the firm takes no byte");
+        }
+    } else if (!conversation_.waits() && !is_ending() &&
                now - opened_ >= seconds(settings_.logon_seconds)) {
-        events_.refused("no logon", peer_);
-        shut("no Logon in time");
+        conversation_.turn_away(stranger_words::no_logon_in_time, "");
+    }
+}
+
+// Writes what waits, ends its own direction, and passes over what the peer still sends until that
+// has ended too: a socket that is closed with bytes unread would take the last words away again.
+void Connection::linger() {
+    std::array<char, 65536> bytes;
+    std::size_t count = 0;
+    bool is_written = false;
+    while (!shut_ && Clock::now() < finish_at_) {
+        write();
+        if (!wants_write_ && !is_written) {
+            is_written = true;
+            channel_.end_writing();
+        }
+        if (channel_.read(bytes.data(), bytes.size(), count) == Channel::Progress::ended) {
+            return;
+        }
+        wait(true);
     }
 }
 

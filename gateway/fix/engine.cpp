@@ -2,7 +2,10 @@
 
 #include "check_settings.h"
 #include "connection.h"
+#include "refusal_words.h"
 #include "session.h"
+#include "sessions.h"
+#include "strangers.h"
 
 #include <algorithm>
 #include <cerrno>
@@ -15,6 +18,7 @@
 #include <netinet/tcp.h>
 #include <poll.h>
 #include <sys/eventfd.h>
+#include <sys/resource.h>
 #include <sys/socket.h>
 
 namespace gateway {
@@ -38,10 +42,14 @@ std::runtime_error fault_of(const std::string &what) {
     return std::runtime_error(what + ": " + std::strerror(errno));
 }
 
-std::string text_of(const sockaddr_in &address) {
+// So many connections may wait to be taken.
+constexpr int backlog = 1024;
+
+// Without the port.
+std::string host_of(const sockaddr_in &address) {
     char text[INET_ADDRSTRLEN] = "";
     ::inet_ntop(AF_INET, &address.sin_addr, text, sizeof text);
-    return std::string(text) + ":" + std::to_string(ntohs(address.sin_port));
+    return text;
 }
 
 void set_option(const Descriptor &socket, int level, int option, int value) {
@@ -81,6 +89,27 @@ std::unique_ptr<TlsServer> tls_of(const EngineSettings &settings) {
                                              settings.authorities, settings.client_certificates);
 }
 
+// Has the process open as many files as it may, and looks whether that is enough: each connection
+// takes two, strangers that make room have theirs until they have ended, and there is the rest.
+void allow_descriptors(std::size_t strangers, std::size_t sessions) {
+    constexpr std::size_t others = 64;
+    const std::size_t needed = 2 * (2 * strangers + sessions) + others;
+    rlimit limit{};
+    if (::getrlimit(RLIMIT_NOFILE, &limit) != 0) {
+        throw fault_of("the limit of open files");
+    }
+    limit.rlim_cur = limit.rlim_max;
+    if (::setrlimit(RLIMIT_NOFILE, &limit) != 0) {
+        throw fault_of("the limit of open files");
+    }
+    if (limit.rlim_cur < needed) {
+        throw std::runtime_error("the process may open " + std::to_string(limit.rlim_cur) +
+                                 " files, and needs " + std::to_string(needed) + " for " +
+                                 std::to_string(strangers) + " strangers and " +
+                                 std::to_string(sessions) + " sessions");
+    }
+}
+
 Descriptor listen_at(const EngineSettings &settings) {
     const sockaddr_in at = address_of(settings);
     Descriptor socket(::socket(AF_INET, SOCK_STREAM | SOCK_CLOEXEC | SOCK_NONBLOCK, 0));
@@ -88,7 +117,7 @@ Descriptor listen_at(const EngineSettings &settings) {
     if (socket.number() < 0 ||
         ::setsockopt(socket.number(), SOL_SOCKET, SO_REUSEADDR, &yes, sizeof yes) != 0 ||
         ::bind(socket.number(), reinterpret_cast<const sockaddr *>(&at), sizeof at) != 0 ||
-        ::listen(socket.number(), 64) != 0) {
+        ::listen(socket.number(), backlog) != 0) {
         throw fault_of(where(settings));
     }
     return socket;
@@ -101,38 +130,26 @@ void check_settings(const EngineSettings &settings) {
     tls_of(settings);
 }
 
-std::string session_name(const std::string &venue, const std::string &firm) {
-    return venue.empty() ? firm : venue + "/" + firm;
-}
-
 class Engine::Parts {
   public:
     Parts(const EngineSettings &settings, const std::vector<SessionStart> &starts,
           EngineEvents &events)
         : settings_(settings), events_(events), bell_(::eventfd(0, EFD_CLOEXEC | EFD_NONBLOCK)),
-          tls_(tls_of(settings_)) {
+          tls_(tls_of(settings_)), strangers_(settings_.strangers, settings_.strangers_per_address),
+          sessions_(starts, events_) {
         if (bell_.number() < 0) {
             throw fault_of("no event descriptor");
-        }
-        for (const SessionStart &start : starts) {
-            sessions_[session_name(start.venue, start.firm)] =
-                std::make_unique<FirmSession>(start, settings_, events_);
         }
     }
     ~Parts() { stop(""); }
 
     void listen() {
+        allow_descriptors(settings_.strangers, sessions_.count());
         socket_ = listen_at(settings_);
         thread_ = std::thread([this] { run(); });
     }
 
-    FirmSession &session(const std::string &name) const {
-        const auto found = sessions_.find(name);
-        if (found == sessions_.end()) {
-            throw std::runtime_error("no session " + name);
-        }
-        return *found->second;
-    }
+    const Sessions &sessions() const { return sessions_; }
 
     void stop(const std::string &reason) {
         stopping_ = true;
@@ -151,9 +168,10 @@ class Engine::Parts {
 
   private:
     void say_farewell(const std::string &reason) {
-        for (const auto &session : sessions_) {
-            session.second->log_out(reason);
+        for (const auto &connection : connections_) {
+            connection->shut_stranger("the gateway stops");
         }
+        sessions_.log_out(reason);
         const auto latest = std::chrono::steady_clock::now() + farewell;
         const auto all_ended = [this] {
             return std::all_of(
@@ -186,18 +204,39 @@ class Engine::Parts {
             not_accepted(errno);
             return;
         }
-        const std::string peer = text_of(address);
-        if (connections_.size() >= settings_.connections) {
-            events_.refused("too many connections", peer);
-            return;
-        }
+        const std::string host = host_of(address);
+        const std::string peer = host + ":" + std::to_string(ntohs(address.sin_port));
         try {
-            set_option(socket, IPPROTO_TCP, TCP_NODELAY, 1);
-            watch_peer(socket);
-            connections_.push_back(std::make_unique<Connection>(std::move(socket), peer, tls_.get(),
-                                                                sessions_, settings_, events_));
+            take_in(std::move(socket), host, peer);
         } catch (const std::exception &fault) {
             events_.refused("connection", peer + ": " + fault.what());
+        }
+    }
+
+    void take_in(Descriptor socket, const std::string &host, const std::string &peer) {
+        const Strangers::Entry entry = strangers_.take(host);
+        if (entry.slot == 0) {
+            socket.close();
+            events_.stranger({peer, "", tls_ != nullptr},
+                             entry.is_address ? stranger_words::too_many_of_address
+                                              : stranger_words::too_many,
+                             "");
+            return;
+        }
+        // The connection gives it back, and this where there is none.
+        StrangerSlot slot(strangers_, entry.slot);
+        make_room(entry.makes_room);
+        set_option(socket, IPPROTO_TCP, TCP_NODELAY, 1);
+        watch_peer(socket);
+        connections_.push_back(std::make_unique<Connection>(
+            std::move(socket), peer, tls_.get(), std::move(slot), sessions_, settings_, events_));
+    }
+
+    void make_room(Strangers::Slot slot) {
+        for (const auto &connection : connections_) {
+            if (slot != 0 && connection->slot() == slot) {
+                connection->shut_stranger(stranger_words::made_room);
+            }
         }
     }
 
@@ -215,7 +254,8 @@ class Engine::Parts {
     EngineEvents &events_;
     Descriptor bell_;
     std::unique_ptr<TlsServer> tls_;
-    SessionMap sessions_;
+    Strangers strangers_;
+    const Sessions sessions_;
     Descriptor socket_;
     std::list<std::unique_ptr<Connection>> connections_; // of the accepting thread, then of stop()
     std::atomic<bool> stopping_{false};
@@ -233,19 +273,19 @@ void Engine::listen() {
 }
 
 void Engine::deliver(const Delivery &delivery) {
-    parts_->session(delivery.session).deliver(delivery);
+    parts_->sessions().deliver(delivery);
 }
 
 bool Engine::deliver_at_once(const Delivery &delivery) {
-    return parts_->session(delivery.session).deliver_at_once(delivery);
+    return parts_->sessions().of(delivery.session).deliver_at_once(delivery);
 }
 
 std::chrono::steady_clock::time_point Engine::settles_until(const std::string &session) const {
-    return parts_->session(session).settles_until();
+    return parts_->sessions().of(session).settles_until();
 }
 
 void Engine::disconnect(const std::string &session) {
-    parts_->session(session).shut();
+    parts_->sessions().of(session).shut();
 }
 
 void Engine::stop(const std::string &reason) {

@@ -12,6 +12,8 @@
 
 namespace gateway {
 
+struct WireMessage; // wire/message.h
+
 // A message of the venue on its way to a firm.
 struct Delivery {
     std::string session; // its name
@@ -23,13 +25,36 @@ struct Delivery {
     std::string body;         // all that stands after the header on the wire
 };
 
+// A connection, as the log tells of it.
+struct ConnectionFacts {
+    std::string address;     // ADDRESS:PORT of the peer
+    std::string certificate; // the common name of the client's certificate, empty without one
+    bool over_tls = false;
+};
+
 // What a Logon says of who sent it.
 struct LogonFacts {
-    std::string firm;
-    std::string username;
-    std::string password;
+    std::string firm;     // 49; nobody's, perhaps
+    std::string username; // 553
+    std::string password; // 554
     bool over_tls = false;
-    std::string certificate; // the common name of the client's certificate, if it has shown one
+    std::string certificate; // the common name of the client's certificate, empty without one
+};
+
+// Why the sender of a Logon is refused: told to the operator and the log, and never to the sender.
+enum class Refusal {
+    none,
+    unknown_name,      // no firm of the venue has the name in 49
+    no_access,         // the firm has no credentials
+    wrong_name,        // 553
+    wrong_password,    // 554
+    wrong_certificate, // it is another's, or none was shown
+};
+
+// Where and when a firm's message came.
+struct Receipt {
+    std::uint32_t connection = 0;               // as logon_accepted() numbered it, never 0
+    std::chrono::system_clock::time_point at{}; // when its last byte was read from the socket
 };
 
 struct StoredMessage {
@@ -45,16 +70,27 @@ class SessionHost {
   public:
     virtual ~SessionHost() = default;
 
-    // Why a Logon is refused; empty where it is not.
-    virtual std::string refusal_of(const LogonFacts &facts) = 0;
+    // Whether the sender of a Logon is who it says. Takes as long for every name, known or not, and
+    // whatever is wrong.
+    virtual Refusal judge(const LogonFacts &facts) = 0;
+    // A Logon of the firm was accepted on this connection: returns the connection's number in the
+    // log. Called before the answer leaves.
+    virtual std::uint32_t logon_accepted(const std::string &firm, const ConnectionFacts &facts) = 0;
+    // A Logon in the firm's name was refused, and its connection ends; `why` is one of a few fixed
+    // words (fix/refusal_words.h). Whoever connects may have this called.
+    virtual void logon_refused(const std::string &firm, const ConnectionFacts &facts,
+                               const std::string &why) = 0;
+    // The end of a connection whose Logon was accepted, under its number.
+    virtual void connection_ended(const std::string &firm, std::uint32_t connection,
+                                  const std::string &why) = 0;
     virtual void logged_on(const std::string &firm) = 0;
     virtual void logged_off(const std::string &firm) = 0;
     // The firm's session settles no more: what waited for that may be delivered.
     virtual void settled(const std::string &firm) = 0;
-    // A message of the application, with its session number, as it came. Returns the tag at fault
-    // where it is no frame of the venue's, or 0: then it is the log's.
-    virtual int received(const std::string &firm, std::uint32_t number,
-                         const std::string &bytes) = 0;
+    // A message of the application, the next one of its session. Returns the tag at fault where it
+    // is no frame of the venue's, or 0: then it is the log's.
+    virtual int received(const std::string &firm, const WireMessage &message,
+                         const Receipt &receipt) = 0;
     // No more of them is there now: they are to be committed.
     virtual void all_received() = 0;
 
@@ -85,8 +121,16 @@ class EngineEvents {
   public:
     virtual ~EngineEvents() = default;
 
+    // For counters, of every connection. What a connection's end means is told by stranger(), or by
+    // logon_refused() or connection_ended() of its session's host: by one of the three.
     virtual void connection_opened(const std::string &peer) = 0;
-    virtual void connection_closed(const std::string &peer, const std::string &why) = 0;
+    virtual void connection_closed(const std::string &peer) = 0;
+    // A connection that ended without a Logon in a firm's name, or was not taken; `why` is one of a
+    // few fixed words (fix/refusal_words.h), `text` what else is known, which may be the sender's
+    // own words: of any length, and with any bytes. Whoever connects may have this called.
+    virtual void stranger(const ConnectionFacts &facts, const std::string &why,
+                          const std::string &text) = 0;
+    // The system gives no connection.
     virtual void refused(const std::string &what, const std::string &text) = 0;
     virtual void dropped(const std::string &what, const std::string &text) = 0;
     virtual void session_event(const std::string &firm, const std::string &text) = 0;
@@ -101,11 +145,12 @@ struct EngineSettings {
     std::string authorities;
     bool client_certificates = false;
 
-    std::size_t connections = 256;
+    // Connections without an accepted Logon at one time, TLS's handshakes too: of all, and of one
+    // address. A firm that has logged on takes no room from them, nor they from it.
+    std::size_t strangers = 256;
+    std::size_t strangers_per_address = 16;
     unsigned logon_seconds = 10;
     unsigned send_seconds = 10;
-    std::size_t message_bytes = 16384;
-    std::size_t gap_messages = 1024;
     std::size_t waiting_bytes = 4194304;
 };
 

@@ -1,48 +1,51 @@
-// What the session itself rejects: the engine counts it.
-#include "fields.h"
+// What the session itself rejects, and what it counts without handing it to the engine.
 #include "session.h"
 
 namespace gateway {
 
-// What is ahead of a gap comes again, and is rejected then.
-void FirmSession::reject(const FIX::Header &header, int tag, int reason, const std::string &text) {
-    const int number = number_in(header, FIX::FIELD::MsgSeqNum);
-    const int expected = session_->getExpectedTargetNum();
-    if (number < 1) {
-        // As the engine does where this field alone lacks.
-        end("a message without a number");
-        return;
-    }
-    if (number > expected) {
-        events_.dropped("gap", name_);
-        return;
-    }
+namespace {
+
+// MsgType (35) as a RefMsgType (372): what is none is not repeated.
+bool is_type(const std::string &text) {
+    return !text.empty() && text.size() <= 4 &&
+           text.find_first_not_of(
+               "0123456789ABCDEFGHIJKLMNOPQRSTUVWXYZabcdefghijklmnopqrstuvwxyz") ==
+               std::string::npos;
+}
+
+} // namespace
+
+// Counted first: so its row is committed before the Reject leaves, and the firm is never asked for
+// the message again, which might pass then.
+void FirmSession::reject(const WireMessage &message, const Fault &fault) {
+    count_if_expected(message.number);
     FIX::Message reject;
     reject.getHeader().setField(FIX::MsgType(FIX::MsgType_Reject));
-    reject.setField(FIX::RefSeqNum(number));
-    reject.setField(FIX::RefTagID(tag));
-    reject.setField(FIX::RefMsgType(text_in(header, FIX::FIELD::MsgType)));
-    reject.setField(FIX::SessionRejectReason(reason));
-    reject.setField(FIX::Text(text));
+    reject.setField(FIX::RefSeqNum(static_cast<int>(message.number)));
+    if (fault.tag != 0) {
+        reject.setField(FIX::RefTagID(fault.tag));
+    }
+    const std::string type = message.value(FIX::FIELD::MsgType);
+    if (is_type(type)) {
+        reject.setField(FIX::RefMsgType(type));
+    }
+    reject.setField(FIX::SessionRejectReason(fault.reason));
+    reject.setField(FIX::Text(fault.text));
     session_->send(reject);
-    if (number == expected) {
-        pass_over(number);
+    // One that may miss messages is told no more than that.
+    if (fault.ends && has_answered()) {
+        leave(fault.text);
     }
 }
 
-// To the engine it is a gap that is filled: it counts it, and goes on with what it keeps after it.
-void FirmSession::pass_over(int number) {
-    FIX::Message fill;
-    FIX::Header &header = fill.getHeader();
-    header.setField(FIX::BeginString("FIXT.1.1"));
-    header.setField(FIX::MsgType(FIX::MsgType_SequenceReset));
-    header.setField(FIX::SenderCompID(firm_));
-    header.setField(FIX::TargetCompID("VENUE"));
-    header.setField(FIX::MsgSeqNum(number));
-    header.setField(FIX::SendingTime(FIX::UtcTimeStamp(), 3));
-    fill.setField(FIX::GapFillFlag(true));
-    fill.setField(FIX::NewSeqNo(number + 1));
-    next(fill);
+void FirmSession::count(std::uint32_t number) {
+    session_->setNextTargetMsgSeqNum(static_cast<int>(number) + 1);
+}
+
+void FirmSession::count_if_expected(std::uint32_t number) {
+    if (number == expected()) {
+        count(number);
+    }
 }
 
 } // namespace gateway

@@ -130,7 +130,9 @@ void SessionStore::incrNextSenderMsgSeqNum() throw(FIX::IOException) {
 }
 
 void SessionStore::incrNextTargetMsgSeqNum() throw(FIX::IOException) {
-    setNextTargetMsgSeqNum(target_ + 1);
+    if (!keeps_target_) {
+        setNextTargetMsgSeqNum(target_ + 1);
+    }
 }
 
 // The day of the log is the session's; the engine's own idea of a day is not asked.

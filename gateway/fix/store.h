@@ -25,6 +25,10 @@ class SessionStore final : public FIX::MessageStore {
     // The message of the venue that is sent next, by this thread; null for none.
     void carry(const Delivery *delivery) { carried_ = delivery; }
 
+    // While it keeps it, the number that is expected of the firm stays as it is, whatever the
+    // engine counts.
+    void keep_target(bool keeps) { keeps_target_ = keeps; }
+
     // A message of the venue that get() gave last, by its session number: its type and its body.
     struct Carried {
         std::string type;
@@ -56,6 +60,7 @@ class SessionStore final : public FIX::MessageStore {
     // The session's own lock lies over every call.
     int sender_;
     int target_;
+    bool keeps_target_ = false;
     std::atomic<int> last_carried_; // which any thread may ask
     std::uint64_t unsafe_ = 0; // the ticket of a message of the session that is not on disk yet
     mutable std::map<int, Carried> read_;

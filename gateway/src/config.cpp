@@ -354,11 +354,10 @@ class ConfigReader {
     void read_limits() {
         Section limits = section("limits");
         EngineSettings &engine = config_.engine;
-        engine.connections = limits.number("connections", 256, 1, 65536);
+        engine.strangers = limits.number("strangers", 256, 1, 65536);
+        engine.strangers_per_address = limits.number("strangers_per_address", 16, 1, 65536);
         engine.logon_seconds = static_cast<unsigned>(limits.number("logon_seconds", 10, 1, 600));
         engine.send_seconds = static_cast<unsigned>(limits.number("send_seconds", 10, 1, 600));
-        engine.message_bytes = limits.number("message_bytes", 16384, 4096, 1048576);
-        engine.gap_messages = limits.number("gap_messages", 1024, 1, 1048576);
         engine.waiting_bytes = limits.number("waiting_bytes", 4194304, 65536, 1073741824);
         config_.waiting_entries = limits.number("waiting_entries", 4096, 1, 1048576);
         config_.waiting_messages = limits.number("waiting_messages", 16384, 16, 1048576);

@@ -9,18 +9,22 @@
 #include <span>
 #include <stdexcept>
 
+#include <fmt/format.h>
+
 namespace gateway {
 
 // Rows that are put into the log by one transaction. A session's row takes the place of its old
 // one.
 struct Batch {
+    std::vector<ConnectionEvent> connections;
     std::vector<Entry> entries;
     std::vector<Sent> sent;
     std::vector<Outgoing> outgoing;
     std::map<std::string, SessionRow> sessions;
 
     bool empty() const {
-        return entries.empty() && sent.empty() && outgoing.empty() && sessions.empty();
+        return connections.empty() && entries.empty() && sent.empty() && outgoing.empty() &&
+               sessions.empty();
     }
 };
 
@@ -32,6 +36,23 @@ struct FirmState {
     std::uint32_t sent = 0;        // messages of the venue
     std::uint32_t outgoing = 0;    // messages of its session
     std::uint32_t carried = 0;     // the last message of the venue that one of these carries
+};
+
+// The form of the tables that this gateway reads and writes (schema.sql).
+constexpr std::uint32_t form_of_log = 3;
+
+// Why a log whose tables are of another form is not gone on with.
+inline std::string another_form(const std::string &log, std::uint32_t form) {
+    return fmt::format("{} has tables of form {}, and this gateway's are of form {}: no day spans "
+                       "two forms, so it ends with the version of the gateway that began it",
+                       log, form, form_of_log);
+}
+
+// How far the log is for connections.
+struct ConnectionState {
+    std::optional<ConnectionEvent> last;
+    std::uint32_t greatest = 0;        // number that a connection has
+    std::vector<ConnectionEvent> open; // the Logons of connections that have no end
 };
 
 // Reads through a connection of its own; one thread at a time. Every call throws
@@ -52,6 +73,7 @@ class LogReader {
                                            std::uint32_t last) = 0;
     // The state of every firm that stands anywhere in the log.
     virtual std::map<std::string, FirmState> states() = 0;
+    virtual ConnectionState connections() = 0;
 };
 
 // Writes through a connection of its own; one thread at a time.
@@ -104,6 +126,25 @@ struct PostgresPlace {
 
 // A schema of a PostgreSQL database, which is made where there is none.
 std::unique_ptr<Database> open_postgres(PostgresPlace place);
+
+// The columns of two tables, in the order in which they are read and written, and a SELECT of them
+// with what stands behind FROM and the table.
+constexpr std::string_view entry_columns =
+    "place, term, moment, received, firm, number, connection, line, before, hash";
+constexpr std::string_view connection_columns =
+    "place, term, moment, event, entry, number, firm, address, certificate, why, left_out, before, "
+    "hash";
+inline std::string select_entry(std::string_view rest) {
+    return fmt::format("SELECT {} FROM entry {}", entry_columns, rest);
+}
+inline std::string select_connection(std::string_view rest) {
+    return fmt::format("SELECT {} FROM connection {}", connection_columns, rest);
+}
+
+// Of the table `connection`: the Logons of connections that have no end.
+constexpr std::string_view open_connections =
+    "WHERE event = 'logon' AND NOT EXISTS (SELECT 1 FROM connection AS later "
+    "WHERE later.event = 'end' AND later.number = connection.number) ORDER BY place";
 
 // The texts of schema.sql and of terms.sql.
 const char *schema_text();

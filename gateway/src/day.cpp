@@ -81,7 +81,9 @@ Entry begin_log(const Day &day, Database &database, std::optional<std::uint32_t>
     }
     Entry first;
     first.term = *term;
-    first.moment = text_of(clock.now());
+    const ExactMoment now = clock.exact_now();
+    first.moment = text_of(now.cut());
+    first.received = text_of(now);
     first.line = line_of(day);
     first.hash = hash_of(first);
     Batch batch;

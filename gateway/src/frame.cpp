@@ -45,18 +45,6 @@ std::string framed(std::string_view body) {
     return frame;
 }
 
-bool is_body_tag(std::string_view tag) {
-    if (tag.empty() || tag.size() > 9 || tag[0] == '0') {
-        return false;
-    }
-    for (const char c : tag) {
-        if (c < '0' || c > '9') {
-            return false;
-        }
-    }
-    return tag != "8" && tag != "9" && tag != "10";
-}
-
 std::string hexadecimal(std::string_view bytes) {
     static constexpr std::string_view digits = "0123456789ABCDEF";
     std::string text;

@@ -31,10 +31,6 @@ std::optional<std::string_view> value_of(const std::vector<Field> &fields, std::
 // A body in its frame: 8, 9, the body, 10.
 std::string framed(std::string_view body);
 
-// Whether a tag may stand in the venue's frames: 1 to 9 digits, the first not 0, and none of 8,
-// 9, 10.
-bool is_body_tag(std::string_view tag);
-
 // Capital hexadecimal digits, two a byte.
 std::string hexadecimal(std::string_view bytes);
 

@@ -12,8 +12,14 @@ Gateway::Gateway(std::vector<Config> configs, std::shared_ptr<spdlog::logger> ev
     : configs_(std::move(configs)), events_(std::move(events)),
       metrics_(configs_.front().metrics_port), status_(events_), engine_events_(metrics_, events_) {
     for (const Config &config : configs_) {
-        days_.push_back(std::make_unique<VenueDay>(config, metrics_, status_, events_));
+        days_.push_back(
+            std::make_unique<VenueDay>(config, metrics_, status_, events_, engine_events_));
     }
+    engine_events_.tell_strangers_to([this](const ConnectionFacts &facts, const std::string &why) {
+        for (const auto &day : days_) {
+            day->put_stranger(facts, why);
+        }
+    });
 }
 
 Gateway::~Gateway() {
@@ -72,9 +78,11 @@ void Gateway::ask_to_stop(const std::string &why) {
 
 std::optional<std::string> Gateway::run() {
     while (!status_.wait(1s)) {
+        engine_events_.tell_rest();
         for (const auto &day : days_) {
             day->look_for_silence();
             day->look_at_clock();
+            day->put_rest();
         }
     }
     if (const auto failure = status_.failure()) {
@@ -83,6 +91,7 @@ std::optional<std::string> Gateway::run() {
     events_->info("stop cause=\"{}\"", status_.why());
     if (engine_) {
         engine_->stop(status_.why());
+        engine_events_.tell_last_rest();
         for (const auto &day : days_) {
             day->finish();
         }

@@ -38,16 +38,23 @@ Log::Log(Database &database, Committed &committed, DayClock &clock, Metrics &met
          std::function<void(const std::string &)> failed)
     : entries_(committed), clock_(clock), metrics_(metrics), failed_(std::move(failed)),
       writer_(database.writer()), limit_(start.waiting), sessions_(std::move(start.sessions)),
-      next_place_(start.last.place + 1), committed_place_(start.last.place), term_(start.term),
-      before_(start.last.hash), thread_([this](const std::stop_token &stop) { write(stop); }) {}
+      next_place_(start.last.place + 1), committed_place_(start.last.place),
+      last_event_(start.connections.last ? start.connections.last->place : 0),
+      last_connection_(start.connections.greatest), term_(start.term), before_(start.last.hash),
+      event_before_(start.connections.last ? start.connections.last->hash : Digest{}),
+      thread_([this](const std::stop_token &stop) { write(stop); }) {}
 
 Log::~Log() = default;
 
-Log::Ticket Log::append_message(const std::string &firm, std::optional<std::uint32_t> number,
+Log::Ticket Log::append_message(const std::string &firm, const std::optional<Came> &came,
                                 std::string_view frame, Committer committer) {
     Entry entry;
     entry.firm = firm;
-    entry.number = number;
+    if (came) {
+        entry.number = came->number;
+        entry.connection = came->connection;
+        entry.received = text_of(clock_.moment_at(came->at));
+    }
     const std::string verb = fmt::format("hex {} ", firm);
     const std::string rest = fmt::format(" {}", hexadecimal(frame));
     const auto received = std::chrono::steady_clock::now();
@@ -100,8 +107,13 @@ Log::Ticket Log::append_here(Entry entry, std::string_view verb, std::string_vie
                              std::chrono::steady_clock::time_point received, Committer committer) {
     entry.place = next_place_;
     entry.term = term_;
-    // Under the lock, so that places and moments rise together.
-    entry.moment = text_of(clock_.now());
+    // Under the lock, so that places and moments rise together. The clock knows of the receipt:
+    // the moment is not before it.
+    const ExactMoment now = clock_.exact_now();
+    entry.moment = text_of(now.cut());
+    if (entry.received.empty()) {
+        entry.received = text_of(now);
+    }
     entry.line.reserve(verb.size() + entry.moment.size() + rest.size());
     entry.line.append(verb).append(entry.moment).append(rest);
     const std::size_t bytes = entry.line.size();
@@ -117,6 +129,23 @@ Log::Ticket Log::append_here(Entry entry, std::string_view verb, std::string_vie
         work_.notify_one();
     }
     return filling_ticket_;
+}
+
+std::uint32_t Log::put_connection(ConnectionEvent event) {
+    const std::lock_guard lock(mutex_);
+    throw_if_failed();
+    const bool is_logon = event.event == connection_events::logon;
+    event.place = last_event_ + 1;
+    event.term = term_;
+    event.moment = text_of(clock_.exact_now());
+    event.entry = next_place_ - 1;
+    if (is_logon) {
+        event.number = last_connection_ + 1;
+    }
+    filling_.rows.connections.push_back(std::move(event));
+    ++last_event_;
+    ++filling_.size;
+    return is_logon ? ++last_connection_ : 0;
 }
 
 Log::Ticket Log::put(Outgoing outgoing, std::optional<Sent> carried) {
@@ -268,8 +297,10 @@ Log::Filling Log::take(bool all) {
     Filling entries;
     entries.is_whole = false;
     entries.rows.entries.swap(filling_.rows.entries);
+    // An entry names its connection.
+    entries.rows.connections.swap(filling_.rows.connections);
     entries.received.swap(filling_.received);
-    filling_.size -= entries.rows.entries.size();
+    filling_.size -= entries.rows.entries.size() + entries.rows.connections.size();
     filling_.bytes = 0;
     return entries;
 }
@@ -297,6 +328,11 @@ void Log::write_rows(Filling &filling) {
         entry.before = before_;
         entry.hash = hash_of(entry);
         before_ = entry.hash;
+    }
+    for (ConnectionEvent &event : filling.rows.connections) {
+        event.before = event_before_;
+        event.hash = hash_of(event);
+        event_before_ = event.hash;
     }
     if (filling.rows.empty()) {
         return;

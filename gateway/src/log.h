@@ -30,7 +30,8 @@ class Log {
     using Ticket = std::uint64_t;
 
     struct Start {
-        Entry last;             // the last entry of the log
+        Entry last; // the last entry of the log
+        ConnectionState connections;
         std::uint32_t term = 0; // in which this gateway writes
         std::map<std::string, SessionRow> sessions;
         std::size_t waiting = 4096; // rows that may wait
@@ -49,9 +50,16 @@ class Log {
     // a little later.
     enum class Committer { thread, caller };
 
-    // A message of a firm: the next place and the moment are given here. number is the session's,
-    // or nothing where the gateway speaks for the firm.
-    Ticket append_message(const std::string &firm, std::optional<std::uint32_t> number,
+    // What is known of a message that came.
+    struct Came {
+        std::uint32_t number = 0; // the session's
+        std::uint32_t connection = 0;
+        std::chrono::system_clock::time_point at; // of its receipt
+    };
+
+    // A message of a firm: the next place and the moment are given here. came is nothing where the
+    // gateway speaks for the firm.
+    Ticket append_message(const std::string &firm, const std::optional<Came> &came,
                           std::string_view frame, Committer committer = Committer::thread);
     // Commits the entries that wait; where another thread is committing they are left to the log's.
     void commit();
@@ -71,6 +79,10 @@ class Log {
         Log &log_;
     };
 
+    // What happened to a connection: its place, the moment, and the last entry are given here. To
+    // one whose Logon was accepted its number is given, too, and returned: it is on disk no later
+    // than the first entry that names it. Waits for nothing.
+    std::uint32_t put_connection(ConnectionEvent event);
     // A message of a session, with the venue's message that it carries.
     Ticket put(Outgoing outgoing, std::optional<Sent> carried);
     void put_target(const std::string &firm, std::uint32_t target);
@@ -99,7 +111,7 @@ class Log {
         bool is_whole = true;  // not its entries alone
     };
 
-    // The lock is held.
+    // The lock is held. When its message was received stands in it, or now does.
     Ticket append_here(Entry entry, std::string_view verb, std::string_view rest,
                        std::chrono::steady_clock::time_point received, Committer committer);
     bool has_room() const;
@@ -140,7 +152,7 @@ class Log {
     std::chrono::steady_clock::time_point whole_at_; // when a whole batch was taken last
     bool held_ = false;
     std::size_t waiting_ = 0; // messages that have no place yet
-    bool writing_ = false; // some thread has the writer
+    bool writing_ = false;    // some thread has the writer
     std::chrono::steady_clock::time_point writing_since_;
     Ticket filling_ticket_ = 1;
     Ticket committed_ = 0;
@@ -148,9 +160,13 @@ class Log {
     std::map<std::string, SessionRow> sessions_;
     std::uint32_t next_place_;
     std::uint32_t committed_place_;
+    std::uint32_t last_event_; // place of what happened to a connection
+    std::uint32_t last_connection_;
     const std::uint32_t term_;
 
-    Digest before_; // of whoever has the writer
+    // Of whoever has the writer.
+    Digest before_;
+    Digest event_before_{};
     std::jthread thread_;
 };
 

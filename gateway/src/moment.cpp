@@ -9,6 +9,7 @@ namespace gateway {
 
 namespace {
 
+using std::chrono::microseconds;
 using std::chrono::milliseconds;
 
 // By how much more or less than was measured a clock may have gone on until it was set.
@@ -44,6 +45,10 @@ std::string text_of(Moment moment) {
                        moment.milliseconds % 1000);
 }
 
+std::string text_of(ExactMoment moment) {
+    return fmt::format("{}{:03}", text_of(moment.cut()), moment.microseconds % 1000);
+}
+
 std::optional<Moment> moment_of(std::string_view text) {
     if (text.size() != 12 || text[2] != ':' || text[5] != ':' || text[8] != '.') {
         return std::nullopt;
@@ -63,15 +68,29 @@ std::optional<Moment> moment_of(std::string_view text) {
                   (last - '0')};
 }
 
+std::optional<ExactMoment> exact_moment_of(std::string_view text) {
+    constexpr std::size_t milliseconds_end = 12;
+    if (text.size() != milliseconds_end + 3) {
+        return std::nullopt;
+    }
+    const auto moment = moment_of(text.substr(0, milliseconds_end));
+    const auto tens = two_digits(text.substr(milliseconds_end));
+    const char last = text.back();
+    if (!moment || !tens || last < '0' || last > '9') {
+        return std::nullopt;
+    }
+    return ExactMoment{std::int64_t{moment->milliseconds} * 1000 + *tens * 10 + (last - '0')};
+}
+
 DayClock::DayClock(std::string date) : date_(std::move(date)) {
     day();
 }
 
 DayClock::Reading DayClock::read() {
-    const auto now = std::chrono::floor<milliseconds>(std::chrono::system_clock::now());
+    const auto now = std::chrono::floor<microseconds>(std::chrono::system_clock::now());
     const auto day = std::chrono::floor<std::chrono::days>(now);
-    return {date_of(day), now.time_since_epoch(), measured_now(),
-            Moment{static_cast<int>((now - day).count())}};
+    return {date_of(day), std::chrono::floor<milliseconds>(now.time_since_epoch()), measured_now(),
+            ExactMoment{(now - day).count()}};
 }
 
 DayClock::Day DayClock::day_of(const Reading &now) {
@@ -89,7 +108,7 @@ DayClock::Day DayClock::day() {
     return day_of(read());
 }
 
-Moment DayClock::now() {
+ExactMoment DayClock::exact_now() {
     const std::lock_guard lock(mutex_);
     const Reading now = read();
     switch (day_of(now)) {
@@ -98,7 +117,7 @@ Moment DayClock::now() {
         break;
     case Day::over:
         // There is no moment of another day: it stands at the end of this one.
-        latest_ = Moment{Moment::last};
+        latest_ = ExactMoment{ExactMoment::last};
         break;
     case Day::set:
         break;
@@ -106,7 +125,19 @@ Moment DayClock::now() {
     return latest_;
 }
 
-void DayClock::not_before(Moment moment) {
+ExactMoment DayClock::moment_at(std::chrono::system_clock::time_point time) {
+    const auto exact = std::chrono::floor<microseconds>(time);
+    const auto day = std::chrono::floor<std::chrono::days>(exact);
+    const std::lock_guard lock(mutex_);
+    if (date_of(day) != date_) {
+        return latest_;
+    }
+    const ExactMoment moment{(exact - day).count()};
+    latest_ = std::max(latest_, moment);
+    return moment;
+}
+
+void DayClock::not_before(ExactMoment moment) {
     const std::lock_guard lock(mutex_);
     latest_ = std::max(latest_, moment);
 }

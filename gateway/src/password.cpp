@@ -3,6 +3,7 @@
 #include <memory>
 #include <semaphore>
 #include <stdexcept>
+#include <string_view>
 
 #include <crypt.h>
 #include <openssl/crypto.h>
@@ -43,13 +44,31 @@ std::string crypt(const std::string &password, const std::string &setting) {
 } // namespace
 
 bool has_hash(const std::string &password, const std::string &hash) {
-    // A password with a zero byte would be read up to it.
-    if (password.find('\0') != std::string::npos) {
-        return false;
-    }
-    const std::string own = crypt(password, hash);
-    return !own.empty() && own.size() == hash.size() &&
+    // One that is longer is refused before it is hashed, and one with a zero byte would be read up
+    // to it: another is hashed in its place, so that it takes as long.
+    const bool may_be =
+        password.size() < CRYPT_MAX_PASSPHRASE_SIZE && password.find('\0') == std::string::npos;
+    const std::string own = crypt(may_be ? password : "", hash);
+    return may_be && !own.empty() && own.size() == hash.size() &&
            CRYPTO_memcmp(own.data(), hash.data(), own.size()) == 0;
+}
+
+// $METHOD$SALT$HASH, $METHOD$COST$SALT$HASH, and two in which the salt follows on the cost.
+std::string setting_of(const std::string &hash) {
+    constexpr std::size_t of_bcrypt = std::string_view("$2b$12$").size();
+    constexpr std::size_t of_scrypt = std::string_view("$7$CU..../....").size();
+    if (hash.starts_with("$2")) {
+        return hash.substr(0, of_bcrypt);
+    }
+    if (hash.starts_with("$7$")) {
+        return hash.substr(0, of_scrypt);
+    }
+    const std::size_t before_hash = hash.rfind('$');
+    if (before_hash == 0 || before_hash == std::string::npos) {
+        return hash;
+    }
+    const std::size_t before_salt = hash.rfind('$', before_hash - 1);
+    return hash.substr(0, before_salt + 1);
 }
 
 // Without the dollar it would be one of DES, for which any two letters are a salt: a password that

@@ -10,6 +10,9 @@ namespace gateway {
 // whatever the answer is.
 bool has_hash(const std::string &password, const std::string &hash);
 
+// What of a hash says how long it takes: its method and its cost, all that stands before its salt.
+std::string setting_of(const std::string &hash);
+
 // Whether a text is a hash that any password can have.
 bool is_hash(const std::string &text);
 

@@ -114,6 +114,7 @@ class WritingConnection {
     void commit(const Batch &batch) {
         pqxx::work work(*connection_);
         check_connection();
+        add_connections(work, batch.connections);
         add_entries(work, batch.entries);
         add_sent(work, batch.sent);
         add_outgoing(work, batch.outgoing);
@@ -150,10 +151,9 @@ class WritingConnection {
         make_tables(work, schema);
         work.exec(fmt::format("SET search_path TO {}", work.quote_name(schema)));
         const pqxx::result form = work.exec("SELECT number FROM form");
-        if (form.size() != 1 || number_of(form[0][0]) != 2) {
+        if (form.size() != 1 || number_of(form[0][0]) != form_of_log) {
             throw std::runtime_error(
-                fmt::format("{} has tables of form {}, and this gateway's are of form 2", schema,
-                            form.empty() ? 0 : number_of(form[0][0])));
+                another_form(schema, form.empty() ? 0 : number_of(form[0][0])));
         }
         connection_->prepare("session",
                              "INSERT INTO session (firm, target, logged_on) VALUES ($1, $2, $3) "
@@ -203,12 +203,34 @@ class WritingConnection {
             return;
         }
         Rows rows(work, "entry",
-                  {"place", "term", "moment", "firm", "number", "line", "before", "hash"});
+                  {"place", "term", "moment", "received", "firm", "number", "connection", "line",
+                   "before", "hash"});
         for (const Entry &entry : entries) {
             const Nullable firm(entry.firm);
             const Nullable number(entry.number);
-            rows.add(entry.place, entry.term, entry.moment, firm.text(), number.text(),
-                     bytea(entry.line), bytea(entry.before), bytea(entry.hash));
+            const Nullable connection(entry.connection);
+            rows.add(entry.place, entry.term, entry.moment, entry.received, firm.text(),
+                     number.text(), connection.text(), bytea(entry.line), bytea(entry.before),
+                     bytea(entry.hash));
+        }
+        rows.end();
+    }
+
+    static void add_connections(pqxx::work &work, const std::vector<ConnectionEvent> &events) {
+        if (events.empty()) {
+            return;
+        }
+        Rows rows(work, "connection",
+                  {"place", "term", "moment", "event", "entry", "number", "firm", "address",
+                   "certificate", "why", "left_out", "before", "hash"});
+        for (const ConnectionEvent &event : events) {
+            const Nullable number(event.number);
+            const Nullable firm(event.firm);
+            const Nullable certificate(event.certificate);
+            const Nullable why(event.why);
+            rows.add(event.place, event.term, event.moment, event.event, event.entry, number.text(),
+                     firm.text(), event.address, certificate.text(), why.text(), event.left_out,
+                     bytea(event.before), bytea(event.hash));
         }
         rows.end();
     }

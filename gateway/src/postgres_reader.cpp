@@ -18,32 +18,53 @@ Digest digest_of(const pqxx::field &field) {
     return digest;
 }
 
+std::optional<std::string> text_or_null(const pqxx::field &field) {
+    return field.is_null() ? std::nullopt : std::optional(field.as<std::string>());
+}
+
+std::optional<std::uint32_t> number_or_null(const pqxx::field &field) {
+    return field.is_null() ? std::nullopt : std::optional(number_of(field));
+}
+
 Entry read_entry(const pqxx::row &row) {
     Entry entry;
     entry.place = number_of(row[0]);
     entry.term = number_of(row[1]);
     entry.moment = row[2].as<std::string>();
-    if (!row[3].is_null()) {
-        entry.firm = row[3].as<std::string>();
-    }
-    if (!row[4].is_null()) {
-        entry.number = number_of(row[4]);
-    }
-    entry.line = bytes_of(row[5]);
-    entry.before = digest_of(row[6]);
-    entry.hash = digest_of(row[7]);
+    entry.received = row[3].as<std::string>();
+    entry.firm = text_or_null(row[4]);
+    entry.number = number_or_null(row[5]);
+    entry.connection = number_or_null(row[6]);
+    entry.line = bytes_of(row[7]);
+    entry.before = digest_of(row[8]);
+    entry.hash = digest_of(row[9]);
     return entry;
+}
+
+ConnectionEvent read_connection(const pqxx::row &row) {
+    ConnectionEvent event;
+    event.place = number_of(row[0]);
+    event.term = number_of(row[1]);
+    event.moment = row[2].as<std::string>();
+    event.event = row[3].as<std::string>();
+    event.entry = number_of(row[4]);
+    event.number = number_or_null(row[5]);
+    event.firm = text_or_null(row[6]);
+    event.address = row[7].as<std::string>();
+    event.certificate = text_or_null(row[8]);
+    event.why = text_or_null(row[9]);
+    event.left_out = number_of(row[10]);
+    event.before = digest_of(row[11]);
+    event.hash = digest_of(row[12]);
+    return event;
 }
 
 class PostgresReader final : public LogReader {
   public:
     PostgresReader(const std::string &connection, const std::string &schema)
         : connection_(connect(connection, schema)) {
-        connection_->prepare("entries",
-                             "SELECT place, term, moment, firm, number, line, before, "
-                             "hash FROM entry WHERE place >= $1 ORDER BY place LIMIT $2");
-        connection_->prepare("last", "SELECT place, term, moment, firm, number, line, before, hash "
-                                     "FROM entry ORDER BY place DESC LIMIT 1");
+        connection_->prepare("entries", select_entry("WHERE place >= $1 ORDER BY place LIMIT $2"));
+        connection_->prepare("last", select_entry("ORDER BY place DESC LIMIT 1"));
         connection_->prepare("sent", "SELECT number, place, bytes FROM sent "
                                      "WHERE firm = $1 AND number >= $2 ORDER BY number LIMIT $3");
         connection_->prepare("outgoing",
@@ -125,6 +146,23 @@ class PostgresReader final : public LogReader {
                 state.carried = number_of(row[2]);
             }
             return all;
+        });
+    }
+
+    ConnectionState connections() override {
+        return told("connections", [&] {
+            pqxx::nontransaction work(*connection_);
+            ConnectionState state;
+            const pqxx::result last = work.exec(select_connection("ORDER BY place DESC LIMIT 1"));
+            if (!last.empty()) {
+                state.last = read_connection(last[0]);
+            }
+            state.greatest =
+                number_of(work.exec("SELECT coalesce(max(number), 0) FROM connection")[0][0]);
+            for (const pqxx::row &row : work.exec(select_connection(open_connections))) {
+                state.open.push_back(read_connection(row));
+            }
+            return state;
         });
     }
 

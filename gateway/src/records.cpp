@@ -43,6 +43,10 @@ Digest digest_of(std::string_view digits) {
     return digest;
 }
 
+std::string or_dash(const std::optional<std::uint32_t> &number) {
+    return number ? std::to_string(*number) : "-";
+}
+
 constexpr std::string_view end_of_head = "%%\n";
 
 struct FreeMethod {
@@ -83,10 +87,22 @@ std::string text_of(const Digest &digest) {
 
 Digest hash_of(const Entry &entry) {
     std::string text =
-        fmt::format("{} {} {} {} {} {} {}\n", text_of(entry.before), entry.place, entry.term,
-                    entry.moment, entry.firm.value_or("-"),
-                    entry.number ? std::to_string(*entry.number) : "-", entry.line.size());
+        fmt::format("{} {} {} {} {} {} {} {} {}\n", text_of(entry.before), entry.place, entry.term,
+                    entry.moment, entry.received, entry.firm.value_or("-"), or_dash(entry.number),
+                    or_dash(entry.connection), entry.line.size());
     text += entry.line;
+    return sha256(text);
+}
+
+Digest hash_of(const ConnectionEvent &event) {
+    const auto length = [](const std::optional<std::string> &text) {
+        return text ? std::to_string(text->size()) : "-";
+    };
+    std::string text = fmt::format(
+        "{} {} {} {} {} {} {} {} {} {} {} {}\n", text_of(event.before), event.place, event.term,
+        event.moment, event.entry, or_dash(event.number), event.firm.value_or("-"), event.left_out,
+        event.event.size(), event.address.size(), length(event.certificate), length(event.why));
+    text += event.event + event.address + event.certificate.value_or("") + event.why.value_or("");
     return sha256(text);
 }
 

@@ -17,12 +17,40 @@ struct Entry {
     std::uint32_t place = 0;
     std::uint32_t term = 0;
     std::string moment;
+    std::string received;
     std::optional<std::string> firm;
     std::optional<std::uint32_t> number;
+    std::optional<std::uint32_t> connection;
     std::string line;
     Digest before{};
     Digest hash{};
 };
+
+// What happened to a connection.
+struct ConnectionEvent {
+    std::uint32_t place = 0;
+    std::uint32_t term = 0;
+    std::string moment;
+    std::string event; // one of connection_events
+    std::uint32_t entry = 0;
+    std::optional<std::uint32_t> number;
+    std::optional<std::string> firm;
+    std::string address;
+    std::optional<std::string> certificate;
+    std::optional<std::string> why;
+    std::uint32_t left_out = 0;
+    Digest before{};
+    Digest hash{};
+};
+
+// The events of the table `connection`.
+namespace connection_events {
+constexpr const char *logon = "logon";
+constexpr const char *end = "end";
+constexpr const char *refused = "refused";
+constexpr const char *stranger = "stranger";
+constexpr const char *left_out = "left out";
+} // namespace connection_events
 
 struct Sent {
     std::string firm;
@@ -49,8 +77,9 @@ Digest sha256(std::string_view bytes);
 // Small hexadecimal digits.
 std::string text_of(const Digest &digest);
 
-// The hash that an entry must have, from its other columns.
+// The hash that a row must have, from its other columns.
 Digest hash_of(const Entry &entry);
+Digest hash_of(const ConnectionEvent &event);
 
 // Holds an entry against the place that it must have and the hash of the one before it. Throws
 // std::runtime_error that names the place.

@@ -27,27 +27,44 @@ Entry read_entry(const Statement &row) {
     entry.place = row.number(0);
     entry.term = row.number(1);
     entry.moment = row.bytes(2);
-    if (!row.is_null(3)) {
-        entry.firm = row.bytes(3);
-    }
-    if (!row.is_null(4)) {
-        entry.number = row.number(4);
-    }
-    entry.line = row.bytes(5);
-    entry.before = row.digest(6);
-    entry.hash = row.digest(7);
+    entry.received = row.bytes(3);
+    entry.firm = row.text_or_null(4);
+    entry.number = row.number_or_null(5);
+    entry.connection = row.number_or_null(6);
+    entry.line = row.bytes(7);
+    entry.before = row.digest(8);
+    entry.hash = row.digest(9);
     return entry;
+}
+
+ConnectionEvent read_connection(const Statement &row) {
+    ConnectionEvent event;
+    event.place = row.number(0);
+    event.term = row.number(1);
+    event.moment = row.bytes(2);
+    event.event = row.bytes(3);
+    event.entry = row.number(4);
+    event.number = row.number_or_null(5);
+    event.firm = row.text_or_null(6);
+    event.address = row.bytes(7);
+    event.certificate = row.text_or_null(8);
+    event.why = row.text_or_null(9);
+    event.left_out = row.number(10);
+    event.before = row.digest(11);
+    event.hash = row.digest(12);
+    return event;
 }
 
 class SqliteReader final : public LogReader {
   public:
     explicit SqliteReader(const std::string &path)
         : connection_(connect(path, SQLITE_OPEN_READONLY)),
-          entries_(connection_.get(),
-                   "SELECT place, term, moment, firm, number, line, before, hash "
-                   "FROM entry WHERE place >= ? ORDER BY place LIMIT ?"),
-          last_(connection_.get(), "SELECT place, term, moment, firm, number, line, before, hash "
-                                   "FROM entry ORDER BY place DESC LIMIT 1"),
+          entries_(connection_.get(), select_entry("WHERE place >= ? ORDER BY place LIMIT ?")),
+          last_(connection_.get(), select_entry("ORDER BY place DESC LIMIT 1")),
+          last_connection_(connection_.get(), select_connection("ORDER BY place DESC LIMIT 1")),
+          open_connections_(connection_.get(), select_connection(open_connections)),
+          greatest_connection_(connection_.get(),
+                               "SELECT coalesce(max(number), 0) FROM connection"),
           sent_(connection_.get(), "SELECT number, place, bytes FROM sent "
                                    "WHERE firm = ? AND number >= ? ORDER BY number LIMIT ?"),
           outgoing_(connection_.get(), "SELECT number, sent, bytes FROM outgoing "
@@ -122,10 +139,27 @@ class SqliteReader final : public LogReader {
         return all;
     }
 
+    ConnectionState connections() override {
+        ConnectionState state;
+        while (last_connection_.step()) {
+            state.last = read_connection(last_connection_);
+        }
+        while (greatest_connection_.step()) {
+            state.greatest = greatest_connection_.number(0);
+        }
+        while (open_connections_.step()) {
+            state.open.push_back(read_connection(open_connections_));
+        }
+        return state;
+    }
+
   private:
     ConnectionPointer connection_;
     Statement entries_;
     Statement last_;
+    Statement last_connection_;
+    Statement open_connections_;
+    Statement greatest_connection_;
     Statement sent_;
     Statement outgoing_;
     Statement session_;
@@ -166,9 +200,12 @@ class SqliteWriter final : public LogWriter {
     explicit SqliteWriter(const std::string &path)
         : connection_(connect_synchronised(path)), begin_(connection_.get(), "BEGIN IMMEDIATE"),
           commit_(connection_.get(), "COMMIT"),
-          entry_(connection_.get(),
-                 "INSERT INTO entry (place, term, moment, firm, number, line, before, hash) "
-                 "VALUES (?, ?, ?, ?, ?, ?, ?, ?)"),
+          entry_(connection_.get(), fmt::format("INSERT INTO entry ({}) VALUES (?, ?, ?, ?, ?, ?, "
+                                                "?, ?, ?, ?)",
+                                                entry_columns)),
+          event_(connection_.get(), fmt::format("INSERT INTO connection ({}) VALUES (?, ?, ?, ?, "
+                                                "?, ?, ?, ?, ?, ?, ?, ?, ?)",
+                                                connection_columns)),
           sent_(connection_.get(),
                 "INSERT INTO sent (firm, number, place, bytes) VALUES (?, ?, ?, ?)"),
           outgoing_(connection_.get(),
@@ -180,10 +217,11 @@ class SqliteWriter final : public LogWriter {
 
     void commit(const Batch &batch) override {
         begin_.run();
+        for (const ConnectionEvent &event : batch.connections) {
+            put(event);
+        }
         for (const Entry &entry : batch.entries) {
-            entry_.bind(std::int64_t{entry.place}).bind(std::int64_t{entry.term});
-            entry_.bind(entry.moment).bind(entry.firm).bind(entry.number);
-            entry_.bind_bytes(entry.line).bind_bytes(entry.before).bind_bytes(entry.hash).run();
+            put(entry);
         }
         for (const Sent &row : batch.sent) {
             sent_.bind(row.firm).bind(std::int64_t{row.number}).bind(std::int64_t{row.place});
@@ -215,6 +253,19 @@ class SqliteWriter final : public LogWriter {
     void be_seen() override {}
 
   private:
+    void put(const Entry &entry) {
+        entry_.bind(std::int64_t{entry.place}).bind(std::int64_t{entry.term}).bind(entry.moment);
+        entry_.bind(entry.received).bind(entry.firm).bind(entry.number).bind(entry.connection);
+        entry_.bind_bytes(entry.line).bind_bytes(entry.before).bind_bytes(entry.hash).run();
+    }
+    void put(const ConnectionEvent &event) {
+        event_.bind(std::int64_t{event.place}).bind(std::int64_t{event.term}).bind(event.moment);
+        event_.bind(event.event).bind(std::int64_t{event.entry}).bind(event.number);
+        event_.bind(event.firm).bind(event.address).bind(event.certificate).bind(event.why);
+        event_.bind(std::int64_t{event.left_out});
+        event_.bind_bytes(event.before).bind_bytes(event.hash).run();
+    }
+
     static ConnectionPointer connect_synchronised(const std::string &path) {
         ConnectionPointer connection = connect(path, SQLITE_OPEN_READWRITE);
         execute(connection.get(), "PRAGMA synchronous = FULL");
@@ -232,6 +283,7 @@ class SqliteWriter final : public LogWriter {
     Statement begin_;
     Statement commit_;
     Statement entry_;
+    Statement event_;
     Statement sent_;
     Statement outgoing_;
     Statement session_;
@@ -276,9 +328,8 @@ class Sqlite final : public Database {
         }
         Statement form(connection_.get(), "SELECT number FROM form");
         const std::uint32_t number = form.step() ? form.number(0) : 0;
-        if (number != 1) {
-            throw std::runtime_error(fmt::format(
-                "{} has tables of form {}, and this gateway's are of form 1", path, number));
+        if (number != form_of_log) {
+            throw std::runtime_error(another_form(path, number));
         }
     }
 

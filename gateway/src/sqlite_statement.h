@@ -92,6 +92,12 @@ class Statement {
     std::uint32_t number(int column) const {
         return static_cast<std::uint32_t>(sqlite3_column_int64(statement_.get(), column));
     }
+    std::optional<std::uint32_t> number_or_null(int column) const {
+        return is_null(column) ? std::nullopt : std::optional(number(column));
+    }
+    std::optional<std::string> text_or_null(int column) const {
+        return is_null(column) ? std::nullopt : std::optional(bytes(column));
+    }
     std::string bytes(int column) const {
         const void *data = sqlite3_column_blob(statement_.get(), column);
         const int size = sqlite3_column_bytes(statement_.get(), column);

@@ -2,7 +2,6 @@
 
 #include "frame.h"
 
-#include <charconv>
 #include <stdexcept>
 
 #include <fmt/format.h>
@@ -24,12 +23,6 @@ std::string_view cut_to_milliseconds(std::string_view moment) {
     return moment.substr(0, with_milliseconds);
 }
 
-int tag_number(std::string_view tag) {
-    int number = 0;
-    std::from_chars(tag.data(), tag.data() + tag.size(), number);
-    return number;
-}
-
 // The tag before which TransactTime (60) stands; none where it stands after all others.
 std::string_view stands_before_time(std::string_view type) {
     if (type == "S") {
@@ -44,28 +37,26 @@ std::string_view stands_before_time(std::string_view type) {
 
 } // namespace
 
-std::variant<std::string, NoFrame> for_venue(std::string_view message, unsigned number) {
-    const auto fields = fields_of(message);
-    if (!fields || fields->size() < 4) {
-        return NoFrame{9};
-    }
+std::variant<std::string, NoFrame> for_venue(const WireMessage &message, unsigned number) {
     std::string body;
-    body.reserve(message.size() + 8);
-    // 8 and 9 stand first, 10 last.
-    for (std::size_t at = 2; at + 1 < fields->size(); ++at) {
-        const Field &field = (*fields)[at];
-        if (!is_body_tag(field.tag)) {
-            return NoFrame{tag_number(field.tag)};
-        }
-        if (field.tag == "43" || field.tag == "97" || field.tag == "122") {
-            continue;
-        }
-        if (field.tag == "34") {
-            add_field(body, field.tag, std::to_string(number));
-        } else if (field.tag == "52") {
-            add_field(body, field.tag, cut_to_milliseconds(field.value));
-        } else {
-            add_field(body, field.tag, field.value);
+    body.reserve(message.bytes.size() + 8);
+    const std::string_view bytes = message.bytes;
+    for (const WireField &field : message.fields) {
+        const std::string tag = std::to_string(field.tag);
+        const std::string_view value = bytes.substr(field.begin, field.end - field.begin);
+        switch (field.tag) {
+        case 43:
+        case 97:
+        case 122:
+            break;
+        case 34:
+            add_field(body, tag, std::to_string(number));
+            break;
+        case 52:
+            add_field(body, tag, cut_to_milliseconds(value));
+            break;
+        default:
+            add_field(body, tag, value);
         }
     }
     std::string frame = framed(body);

@@ -2,6 +2,8 @@
 #ifndef GATEWAY_TRANSLATION_H
 #define GATEWAY_TRANSLATION_H
 
+#include "message.h"
+
 #include <string>
 #include <string_view>
 #include <variant>
@@ -15,9 +17,9 @@ struct NoFrame {
 
 // A firm's message for the venue: framed anew, 34 the venue's count for that firm, 52 cut to
 // milliseconds, and 43 (PossDupFlag), 97 (PossResend) and 122 (OrigSendingTime) left out. Every
-// other field stands as it came, in its order and with every byte. What would be no frame of the
-// venue's, and so be dropped by it without an answer, is refused here.
-std::variant<std::string, NoFrame> for_venue(std::string_view message, unsigned number);
+// other field stands as it came, in its order and with every byte. One that is too long for a frame
+// of the venue's, and so would be dropped by it without an answer, is refused here.
+std::variant<std::string, NoFrame> for_venue(const WireMessage &message, unsigned number);
 
 // The cancel of all quotes (35=Z, 298=4) of a dealer that is gone. moment is that of 52, with its
 // date.

@@ -39,8 +39,8 @@ std::unique_ptr<Database> open_database(const Config &config, DayClock &clock) {
 } // namespace
 
 VenueDay::VenueDay(const Config &config, Metrics &metrics, Status &status,
-                   std::shared_ptr<spdlog::logger> events)
-    : config_(config), metrics_(metrics), status_(status), events_(std::move(events)),
+                   std::shared_ptr<spdlog::logger> events, OperatorEvents &told)
+    : config_(config), metrics_(metrics), status_(status), events_(std::move(events)), told_(told),
       clock_(config_.firms.date), database_(open_database(config_, clock_)),
       stored_(*database_, status_.stopping()), comparison_(*database_, status_.stopping()),
       ahead_(config_.waiting_messages), silence_(events_, of_venue()), stall_(events_, of_venue()) {
@@ -189,8 +189,13 @@ void VenueDay::open_log(std::uint32_t term) {
     for (const auto &[name, state] : states_) {
         start.sessions[name] = state.session;
     }
+    start.connections = database_->reader()->connections();
+    lost_ = start.connections.open;
     if (const auto latest = moment_of(last_.moment)) {
-        clock_.not_before(*latest);
+        clock_.not_before(ExactMoment::end_of(*latest));
+    }
+    if (start.connections.last) {
+        clock_.not_before(exact_moment_of(start.connections.last->moment).value_or(ExactMoment{}));
     }
     log_ = std::make_unique<Log>(*database_, *committed_, clock_, metrics_, std::move(start),
                                  [this](const std::string &cause) { status_.fail(cause); });
@@ -210,6 +215,7 @@ void VenueDay::open_firms() {
             firm.last_number = state->second.last_number;
         }
     }
+    note_hashes();
     for (const auto &[name, state] : states_) {
         if (!firms_.contains(name)) {
             throw std::runtime_error(fmt::format("the log has {}, which the venue has not", name));
@@ -252,6 +258,7 @@ void VenueDay::open_mailboxes(Engine &engine) {
 void VenueDay::start(Engine &engine) {
     open_mailboxes(engine);
     if (begin_to_speak()) {
+        end_lost_connections();
         withdraw_for_lost_sessions();
         sweeper_ = std::make_unique<Sweeper>(answers_, *log_, clock_);
     }
@@ -289,6 +296,7 @@ void VenueDay::finish() {
 void VenueDay::end() {
     venue_->stop();
     wait_until_handed_over();
+    put_rest(rows_.last_rest());
     log_->flush();
     events_->info("ended{} entries={}", of_venue(), log_->last_place());
 }

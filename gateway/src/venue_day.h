@@ -13,6 +13,7 @@
 #include "mailbox.h"
 #include "metrics.h"
 #include "moment.h"
+#include "operator_events.h"
 #include "patient_reader.h"
 #include "silence.h"
 #include "status.h"
@@ -35,7 +36,7 @@ class VenueDay final : private SessionHost, private VenueListener {
   public:
     // Throws std::runtime_error where the log can't be served.
     VenueDay(const Config &config, Metrics &metrics, Status &status,
-             std::shared_ptr<spdlog::logger> events);
+             std::shared_ptr<spdlog::logger> events, OperatorEvents &told);
     // Commits what waits. The engine has to be gone.
     ~VenueDay() override;
 
@@ -67,6 +68,12 @@ class VenueDay final : private SessionHost, private VenueListener {
 
     // Ends the gateway where the day does not go on; to be called each second.
     void look_at_clock();
+
+    // Puts a stranger into the log, as often as its rows may be.
+    void put_stranger(const ConnectionFacts &facts, const std::string &why);
+    // Puts how many rows were left out of which none came for a while; to be called each second.
+    void put_rest();
+
     std::size_t firms() const { return firms_.size(); }
 
   private:
@@ -76,9 +83,12 @@ class VenueDay final : private SessionHost, private VenueListener {
         bool may_log_on = false;
         std::unique_ptr<Mailbox> mailbox;
 
-        std::mutex mutex;              // of the next two
+        std::mutex mutex;              // of what follows
         std::uint32_t entries = 0;     // messages of the firm in the log, each with a number
         std::uint32_t last_number = 0; // the session's, of the last message in the log
+        // The row of the Logon of the connection that it has.
+        std::optional<ConnectionEvent> connection;
+        std::chrono::system_clock::time_point last_receipt; // on that one
     };
 
     void begin_venue(std::optional<std::uint32_t> term);
@@ -92,17 +102,32 @@ class VenueDay final : private SessionHost, private VenueListener {
     bool begin_to_speak();
     void hand_over(Delivery delivery);
     void wait_until_handed_over();
+    void end_lost_connections();
     void withdraw_for_lost_sessions();
     void cancel_all_of(const std::string &name, Firm &firm);
     std::string of_venue() const;
     Firm &firm_of(const std::string &name);
 
+    void note_hashes();
+    bool has_password(const Firm *firm, const std::string &password) const;
+    void put_limited(ConnectionEvent row);
+    void put_rest(const std::vector<Limiter::Rest> &rest);
+    void end_connection(const ConnectionEvent &logon, const std::string &why);
+    // The firm's lock is held.
+    static std::string words_of_connection(const Firm &firm);
+
     // SessionHost
-    std::string refusal_of(const LogonFacts &facts) override;
+    Refusal judge(const LogonFacts &facts) override;
+    std::uint32_t logon_accepted(const std::string &firm, const ConnectionFacts &facts) override;
+    void logon_refused(const std::string &firm, const ConnectionFacts &facts,
+                       const std::string &why) override;
+    void connection_ended(const std::string &firm, std::uint32_t connection,
+                          const std::string &why) override;
     void logged_on(const std::string &firm) override;
     void logged_off(const std::string &firm) override;
     void settled(const std::string &firm) override;
-    int received(const std::string &firm, std::uint32_t number, const std::string &bytes) override;
+    int received(const std::string &firm, const WireMessage &message,
+                 const Receipt &receipt) override;
     void all_received() override;
     std::uint64_t store_outgoing(const std::string &firm, std::uint32_t number,
                                  const std::string &bytes, const Delivery *delivery) override;
@@ -123,10 +148,14 @@ class VenueDay final : private SessionHost, private VenueListener {
     Metrics &metrics_;
     Status &status_;
     std::shared_ptr<spdlog::logger> events_;
+    OperatorEvents &told_;
+    Limiter rows_; // about strangers, in the log
     DayClock clock_;
     std::unique_ptr<Database> database_;
     std::map<std::string, FirmState> states_; // as the log had them at the start
     std::map<std::string, Firm> firms_;
+    std::map<std::string, std::string> hashes_; // of each setting, one that has it
+    std::vector<ConnectionEvent> lost_;         // connections that the log had open at the start
     Digest first_hash_{};
 
     // Over the next one, over what the venue gave until then, and over the begin of each process.

@@ -1,31 +1,21 @@
 // What the firms' sessions need of their venue's day.
 #include "venue_day.h"
 
-#include "password.h"
 #include "translation.h"
 
+#include <algorithm>
 #include <stdexcept>
+
+#include <fmt/format.h>
 
 namespace gateway {
 
-std::string VenueDay::refusal_of(const LogonFacts &facts) {
-    const Firm &firm = firm_of(facts.firm);
-    // The same text for all three: nobody learns which of them it was.
-    static constexpr const char *refusal = "username or password is wrong";
-    if (!firm.may_log_on) {
-        return refusal;
-    }
-    if (config_.engine.client_certificates && facts.certificate != facts.firm) {
-        return "the certificate is another firm's";
-    }
-    const bool right = has_hash(facts.password, firm.credentials.password_hash);
-    return right && facts.username == firm.credentials.username ? "" : refusal;
-}
-
-void VenueDay::logged_on(const std::string &firm) {
-    log_->put_logged_on(firm, true);
+void VenueDay::logged_on(const std::string &name) {
+    log_->put_logged_on(name, true);
     metrics_.logged_on();
-    events_->info("logged on firm={}{}", firm, of_venue());
+    Firm &firm = firm_of(name);
+    const std::lock_guard lock(firm.mutex);
+    events_->info("logged on firm={}{}{}", name, of_venue(), words_of_connection(firm));
 }
 
 void VenueDay::logged_off(const std::string &firm) {
@@ -43,20 +33,28 @@ void VenueDay::settled(const std::string &firm) {
     firm_of(firm).mailbox->settled();
 }
 
-int VenueDay::received(const std::string &name, std::uint32_t number, const std::string &bytes) {
+int VenueDay::received(const std::string &name, const WireMessage &message,
+                       const Receipt &receipt) {
     Firm &firm = firm_of(name);
     const std::lock_guard lock(firm.mutex);
-    if (number <= firm.last_number) {
+    if (!firm.connection || firm.connection->number != receipt.connection) {
+        throw std::runtime_error(
+            fmt::format("{}: a message on a connection that has no Logon", name));
+    }
+    if (message.number <= firm.last_number) {
         // It came before, and is in the log.
         return 0;
     }
-    const auto frame = for_venue(bytes, firm.entries + 1);
+    const auto frame = for_venue(message, firm.entries + 1);
     if (const auto *none = std::get_if<NoFrame>(&frame)) {
-        return none->tag == 0 ? 9 : none->tag;
+        return none->tag;
     }
-    log_->append_message(name, number, std::get<std::string>(frame), Log::Committer::caller);
+    // On one connection nothing comes before what came before it, also where the clock is set back.
+    firm.last_receipt = std::max(firm.last_receipt, receipt.at);
+    const Log::Came came{message.number, receipt.connection, firm.last_receipt};
+    log_->append_message(name, came, std::get<std::string>(frame), Log::Committer::caller);
     ++firm.entries;
-    firm.last_number = number;
+    firm.last_number = message.number;
     return 0;
 }
 

@@ -49,7 +49,8 @@ class BenchLog {
         Waits waits;
         for (std::uint32_t number = 1; Clock::now() < end; ++number) {
             const auto begin = Clock::now();
-            log_->wait(log_->append_message(firm, number, frame));
+            log_->wait(log_->append_message(
+                firm, Log::Came{number, 1, std::chrono::system_clock::now()}, frame));
             waits.push_back(
                 std::chrono::duration<double, std::milli>(Clock::now() - begin).count());
         }

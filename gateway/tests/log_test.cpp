@@ -1,9 +1,10 @@
-// The log: places without a gap from many threads, commits together, the chain, a commit that
-// fails, a message for which there is no memory, and what a crash left.
+// The log: places without a gap from many threads, commits together, the chains, connections and
+// their numbers, times of receipt, a commit that fails, a message for which there is no memory,
+// what a crash left, and tables of another form.
 //
 // usage: log_test FOLDER [CONNECTION]    SQLite in the folder, or a PostgreSQL database
 #include "check.h"
-#include "log.h"
+#include "log_days.h"
 #include "sqlite_statement.h"
 
 #include <cstdlib>
@@ -81,18 +82,6 @@ void check_chain(LogReader &reader, std::uint32_t count) {
     }
 }
 
-Entry begin_day(Database &database) {
-    Entry first;
-    first.term = database.take_over().value();
-    first.moment = "00:00:00.000";
-    first.line = line_of({"program 1", Digest{}, "version = 1\n"});
-    first.hash = hash_of(first);
-    Batch batch;
-    batch.entries.push_back(first);
-    database.writer()->commit(batch);
-    return first;
-}
-
 constexpr std::uint32_t threads = 4;
 constexpr std::uint32_t messages = 200;
 
@@ -101,7 +90,7 @@ void write_from(Log &log, std::uint32_t thread) {
     const std::string firm = fmt::format("F{}", thread);
     const auto committer = thread % 2 == 0 ? Log::Committer::thread : Log::Committer::caller;
     for (std::uint32_t number = 1; number <= messages; ++number) {
-        log.append_message(firm, number, "x", committer);
+        log.append_message(firm, came(number), "x", committer);
         if (committer == Log::Committer::caller && number % 3 == 0) {
             log.commit();
         }
@@ -149,28 +138,6 @@ void many_threads(Database &database) {
     check_rows(*database.reader());
 }
 
-// A log after the last entry of a day.
-struct DayThatGoesOn {
-    explicit DayThatGoesOn(Database &database)
-        : start(start_of(database)), last(start.last.place),
-          log(database, committed, clock, metrics, Log::Start(start),
-              [](const std::string &cause) { std::cerr << cause << '\n'; }) {}
-
-    static Log::Start start_of(Database &database) {
-        Log::Start start;
-        start.last = database.reader()->last_entry().value();
-        start.term = start.last.term;
-        return start;
-    }
-
-    const Log::Start start;
-    const std::uint32_t last;
-    DayClock clock{today()};
-    Metrics metrics{0};
-    Committed committed{last};
-    Log log;
-};
-
 // While messages are held a sweep is not, and they come after it.
 void a_held_log(Database &database) {
     DayThatGoesOn day(database);
@@ -179,7 +146,7 @@ void a_held_log(Database &database) {
     std::jthread writer;
     {
         const Log::Hold hold(log);
-        writer = std::jthread([&log] { log.append_message("F0", messages + 1, "x"); });
+        writer = std::jthread([&log] { log.append_message("F0", came(messages + 1), "x"); });
         // Until it waits, or has a place, where it is not held.
         while (log.waiting() == 0 && log.last_place() == last) {
             std::this_thread::yield();
@@ -198,11 +165,11 @@ void a_message_alone(Database &database) {
     DayThatGoesOn day(database);
     Log &log = day.log;
     const std::uint32_t last = day.last;
-    log.append_message("F0", messages + 2, "x", Log::Committer::caller);
+    log.append_message("F0", came(messages + 2), "x", Log::Committer::caller);
     log.commit();
     same(last + 1, day.committed.last_place(), "the place that was committed");
     same<std::size_t>(1, database.reader()->entries(last + 1, 9).size(), "entries in the log");
-    log.append_message("F0", messages + 3, "x", Log::Committer::caller);
+    log.append_message("F0", came(messages + 3), "x", Log::Committer::caller);
     log.flush();
     same(last + 2, day.committed.last_place(), "the place that was left to the log");
 }
@@ -214,7 +181,7 @@ bool is_taken(Log &log, std::uint32_t number, int most) {
     allocations = most;
     bool taken = true;
     try {
-        log.append_message(firm, number, frame);
+        log.append_message(firm, came(number), frame);
     } catch (const std::bad_alloc &) {
         taken = false;
     }
@@ -245,8 +212,8 @@ void a_commit_that_fails() {
         Committed committed(0);
         Log log(database, committed, clock, metrics, Log::Start{},
                 [&told](const std::string &cause) { told = cause; });
-        log.wait(log.append_message("F", 1, "x"));
-        const auto ticket = log.append_message("F", 2, "x");
+        log.wait(log.append_message("F", came(1), "x"));
+        const auto ticket = log.append_message("F", came(2), "x");
         std::string thrown;
         try {
             log.wait(ticket);
@@ -256,7 +223,7 @@ void a_commit_that_fails() {
         same<std::string>("the log could not be written: no room", thrown, "the cause");
         thrown.clear();
         try {
-            log.append_message("F", 3, "x");
+            log.append_message("F", came(3), "x");
         } catch (const std::runtime_error &fault) {
             thrown = fault.what();
         }
@@ -274,7 +241,7 @@ void a_commit_that_fails_at_its_caller() {
         Committed committed(0);
         Log log(database, committed, clock, metrics, Log::Start{},
                 [&told](const std::string &cause) { told = cause; });
-        log.append_message("F", 1, "x", Log::Committer::caller);
+        log.append_message("F", came(1), "x", Log::Committer::caller);
         log.commit();
         check(!log.failure().empty(), "the log has not failed");
         check(committed.is_closed() && committed.last_place() == 0, "the venue is given something");
@@ -288,6 +255,8 @@ void changed_entries() {
     entry.moment = "09:00:00.000";
     entry.firm = "DLR1";
     entry.number = 3;
+    entry.received = "09:00:00.000001";
+    entry.connection = 2;
     entry.line = "hex DLR1 09:00:00.000 00";
     entry.hash = hash_of(entry);
     check_link(entry, 7, Digest{});
@@ -299,13 +268,16 @@ void changed_entries() {
         }
         return false;
     };
-    std::vector<Entry> changed(6, entry);
+    std::vector<Entry> changed(9, entry);
     changed[0].line[5] = 'X';
     changed[1].moment = "09:00:00.001";
     changed[2].firm = "DLR2";
     changed[3].number.reset();
     changed[4].place = 8;
     changed[5].term = 1;
+    changed[6].received = "09:00:00.000002";
+    changed[7].connection = 3;
+    changed[8].connection.reset();
     for (const Entry &each : changed) {
         check(told(each), "a change that is not seen");
     }
@@ -322,13 +294,6 @@ void no_first_entry() {
         told = fault.what();
     }
     same<std::string>("the log has no entry 0: behind the begin comes entry 1", told, "the cause");
-}
-
-std::string fresh(const std::filesystem::path &file) {
-    for (const char *suffix : {"", "-wal", "-shm", ".lock"}) {
-        std::filesystem::remove(file.string() + suffix);
-    }
-    return file.string();
 }
 
 // What a gateway that was killed left beside its file stands in the file itself once the log is
@@ -349,21 +314,22 @@ void after_a_crash(const std::filesystem::path &folder) {
     same(1U, rows.step() ? rows.number(0) : 0, "entries in the file");
 }
 
+void tried_on(Database &database) {
+    many_threads(database);
+    a_held_log(database);
+    a_message_alone(database);
+    no_memory(database);
+}
+
 void run(const std::vector<std::string> &arguments) {
     const std::filesystem::path folder = arguments.at(0);
     if (arguments.size() > 1) {
         const auto database =
             open_postgres({arguments[1], fmt::format("log_test_{}", ::getpid()), "log_test"});
-        many_threads(*database);
-        a_held_log(*database);
-        a_message_alone(*database);
-        no_memory(*database);
+        tried_on(*database);
     } else {
         const auto database = open_sqlite(fresh(folder / "log_test.db"));
-        many_threads(*database);
-        a_held_log(*database);
-        a_message_alone(*database);
-        no_memory(*database);
+        tried_on(*database);
         after_a_crash(folder);
     }
     a_commit_that_fails();

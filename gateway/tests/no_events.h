@@ -11,7 +11,8 @@ namespace gateway::tests {
 class NoEvents : public EngineEvents {
   public:
     void connection_opened(const std::string &) override {}
-    void connection_closed(const std::string &, const std::string &) override {}
+    void connection_closed(const std::string &) override {}
+    void stranger(const ConnectionFacts &, const std::string &, const std::string &) override {}
     void refused(const std::string &, const std::string &) override {}
     void dropped(const std::string &, const std::string &) override {}
     void session_event(const std::string &, const std::string &) override {}

@@ -53,7 +53,7 @@ class MemoryDatabase final : public Database {
 // A log whose venue has answered place 1, and told a deadline that has come.
 struct DayWithADeadline {
     DayWithADeadline() {
-        log.append_message("F", 1, "x");
+        log.append_message("F", Log::Came{1, 1, {}}, "x");
         answers.begin(0);
         answers.put(1, Moment{0});
     }
@@ -124,7 +124,7 @@ class BusyFirm {
   private:
     void run() {
         while (!is_over_) {
-            day_.log.append_message("F", ++last_, "x");
+            day_.log.append_message("F", Log::Came{++last_, 1, {}}, "x");
             day_.log.flush();
         }
     }
@@ -139,7 +139,7 @@ class BusyFirm {
 // one of them is in the log.
 void a_venue_that_does_not_answer() {
     DayWithADeadline day;
-    day.log.append_message("F", 2, "x");
+    day.log.append_message("F", Log::Came{2, 1, {}}, "x");
     const Sweeper sweeper(day.answers, day.log, day.clock);
     BusyFirm firm(day);
     check(comes([&] { return firm.held_behind().has_value(); }), "no message is held");
@@ -152,7 +152,7 @@ void a_venue_that_does_not_answer() {
 // Messages go on after a sweep: the venue may not answer it before one of them is in the log.
 void a_sweep_that_is_not_answered() {
     DayWithADeadline day;
-    day.log.append_message("F", 2, "x");
+    day.log.append_message("F", Log::Came{2, 1, {}}, "x");
     const Sweeper sweeper(day.answers, day.log, day.clock);
     BusyFirm firm(day);
     // The venue answers what it has while a message is held, so the sweep comes before that one.

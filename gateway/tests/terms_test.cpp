@@ -104,12 +104,26 @@ void terms_rise(Schema &schema) {
 }
 
 void tables_refuse(Schema &schema) {
-    const std::string row = "INSERT INTO entry VALUES (9, {}, '', NULL, NULL, '', '', '')";
-    const std::string old = thrown_by([&] { schema.run(fmt::format(fmt::runtime(row), 2)); });
-    check(old.find("term 2 is over: third speaks in term 3") != std::string::npos,
-          "an old entry: " + old);
-    same<std::string>("", thrown_by([&] { schema.run(fmt::format(fmt::runtime(row), 3)); }),
-                      "an entry of the term of now");
+    for (const char *row :
+         {"entry VALUES (9, {}, '', '', NULL, NULL, NULL, '', '', '')",
+          "connection VALUES (9, {}, '', '', 0, NULL, NULL, '', NULL, NULL, 0, '', '')"}) {
+        const std::string insert = std::string("INSERT INTO ") + row;
+        const auto put = [&](int term) { schema.run(fmt::format(fmt::runtime(insert), term)); };
+        const std::string old = thrown_by([&] { put(2); });
+        check(old.find("term 2 is over: third speaks in term 3") != std::string::npos,
+              "a row of an old term: " + old);
+        same<std::string>("", thrown_by([&] { put(3); }), "a row of the term of now");
+    }
+}
+
+// A gateway of another version has begun the day.
+void another_form(Schema &schema) {
+    schema.run("UPDATE form SET number = 2");
+    const std::string told = thrown_by([&] { schema.open("fourth")->take_over(); });
+    schema.run("UPDATE form SET number = 3");
+    check(told.find("has tables of form 2, and this gateway's are of form 3: no day spans") !=
+              std::string::npos,
+          "told of another form: " + told);
 }
 
 // A gateway that has looked at the row for a commit that does not come: the row is locked, and its
@@ -240,6 +254,7 @@ int main(int count, char **words) {
         one_speaks(schema);
         terms_rise(schema);
         tables_refuse(schema);
+        another_form(schema);
         hangs_in_a_transaction(schema);
         hangs_behind_its_work(schema);
         if (given.size() == 2) {

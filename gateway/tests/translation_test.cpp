@@ -2,6 +2,7 @@
 #include "check.h"
 #include "frame.h"
 #include "moment.h"
+#include "reader.h"
 #include "translation.h"
 
 #include <iostream>
@@ -10,9 +11,19 @@ namespace gateway::tests {
 
 namespace {
 
+// A message as it came, of this body.
+WireMessage read(const std::string &body) {
+    const std::string bytes = framed(body);
+    Reader reader;
+    reader.add(bytes.data(), bytes.size());
+    WireMessage message;
+    check(reader.next(message) && message.heard == Heard::message, "no message: " + message.why);
+    return message;
+}
+
 // Reads what for_venue() gave; a refusal is told by its tag.
-std::string given(const std::string &message, unsigned number) {
-    const auto result = for_venue(with_soh(message), number);
+std::string given(const std::string &body, unsigned number) {
+    const auto result = for_venue(read(with_soh(body)), number);
     if (const auto *none = std::get_if<NoFrame>(&result)) {
         return fmt::format("tag {}", none->tag);
     }
@@ -25,11 +36,15 @@ void a_quote() {
     const std::string venue =
         "8=FIXT.1.1|9=109|35=S|49=DLR1|56=VENUE|34=1|52=20250314-09:00:10.000|50=T1|131=R1|117=a1|"
         "48=BONDA0000001|22=4|133=99.50390625|10=039|";
-    same(venue, given(venue, 1), "a quote as it is");
     same(venue,
-         given("8=FIXT.1.1|9=0|35=S|49=DLR1|56=VENUE|34=712|43=Y|52=20250314-09:00:10.000123|"
+         given("35=S|49=DLR1|56=VENUE|34=1|52=20250314-09:00:10.000|50=T1|131=R1|117=a1|"
+               "48=BONDA0000001|22=4|133=99.50390625|",
+               1),
+         "a quote as it is");
+    same(venue,
+         given("35=S|49=DLR1|56=VENUE|34=712|43=Y|52=20250314-09:00:10.000123|"
                "122=20250314-09:00:09|97=Y|50=T1|131=R1|117=a1|48=BONDA0000001|22=4|"
-               "133=99.50390625|10=000|",
+               "133=99.50390625|",
                1),
          "a quote of an engine");
 }
@@ -40,24 +55,21 @@ void every_byte() {
             continue;
         }
         const std::string field = std::string("58=a") + static_cast<char>(byte) + "z\x01";
-        const auto result =
-            for_venue(with_soh("8=FIXT.1.1|9=0|35=Z|34=9|") + field + with_soh("10=000|"), 3);
+        const auto result = for_venue(read(with_soh("35=Z|34=9|") + field), 3);
         const auto *frame = std::get_if<std::string>(&result);
         check(frame != nullptr && frame->find(field) != std::string::npos,
               fmt::format("58 with the byte {}", byte));
     }
 }
 
-void no_frames() {
-    same<std::string>("tag 117", given("8=FIXT.1.1|9=0|35=Z|34=9|0117=x|10=000|", 1), "a zero");
-    same<std::string>("tag 8", given("8=FIXT.1.1|9=0|35=Z|34=9|8=x|10=000|", 1), "a second 8");
-    // 4,096 bytes are a frame, and one more is none: 8=FIXT.1.1|9=4071|, the body and 10=ccc|.
-    const std::string begin = "8=FIXT.1.1|9=0|35=Z|34=1|58=";
-    const std::size_t text = 4071 - std::string("35=Z|34=1|58=|").size();
-    same(longest_frame, given(begin + std::string(text, 'x') + "|10=000|", 1).size(),
-         "the longest");
-    same<std::string>("tag 9", given(begin + std::string(text + 1, 'x') + "|10=000|", 1),
-                      "one byte more");
+void the_longest() {
+    // 4,096 bytes are a frame, and one more is none: 8=FIXT.1.1|9=4071|, the body and 10=ccc|. The
+    // venue's number may have more digits than the firm's.
+    const std::string begin = "35=Z|34=1|58=";
+    const std::size_t text = 4071 - (begin + "|").size();
+    const std::string body = begin + std::string(text, 'x') + "|";
+    same(longest_frame, given(body, 1).size(), "the longest");
+    same<std::string>("tag 9", given(body, 10), "one byte more");
 }
 
 void cancel_of_one_that_is_gone() {
@@ -107,7 +119,7 @@ int main(int count, char **words) {
     return run_with(count, words, 0, 0, "translation_test", [](std::span<char *>) {
         a_quote();
         every_byte();
-        no_frames();
+        the_longest();
         cancel_of_one_that_is_gone();
         to_firms();
         moments();

@@ -4,7 +4,6 @@
 // usage: venue_day_test FOLDER
 #include "check.h"
 #include "day.h"
-#include "no_events.h"
 #include "password.h"
 #include "sqlite_statement.h"
 #include "venue_day.h"
@@ -69,6 +68,7 @@ void put_message(const Config &config) {
     second.place = 1;
     second.firm = "F";
     second.number = 2;
+    second.connection = 1;
     second.line = "hex F 00:00:00.000 00";
     second.before = first.hash;
     second.hash = hash_of(second);
@@ -109,11 +109,11 @@ void given_again_before_sessions(const std::filesystem::path &folder) {
     Metrics metrics(0);
     const auto events = std::make_shared<spdlog::logger>("none");
     Status status(events);
-    NoEvents engine_events;
-    VenueDay day(config, metrics, status, events);
+    OperatorEvents told(metrics, events);
+    VenueDay day(config, metrics, status, events, told);
     day.follow([] { return true; });
     end_venue(folder);
-    Engine engine(config.engine, day.session_starts(), engine_events);
+    Engine engine(config.engine, day.session_starts(), told);
     day.start(engine);
     const bool stored = is_stored(config);
     day.close();

@@ -16,6 +16,7 @@ import random
 import subprocess
 from collections.abc import Callable
 from dataclasses import dataclass, field
+from functools import partial
 from pathlib import Path
 
 from ledger import Fields, Ledger, fields_of, frame, time_text
@@ -89,6 +90,7 @@ class Market:
 
     def __init__(self, path: Path, seed: int, noise: int, firms: Firms, venue: list[str]) -> None:
         self.draw, self.noise, self.firms = random.Random(seed), noise, firms
+        self.door = random.Random("door %d" % seed)  # its own: the day is the same without it
         self.ledger = Ledger(path, DATE, configuration(firms))
         self.venue = subprocess.Popen(
             [*venue, "live", "--frames", "--marks"], stdin=subprocess.PIPE, stdout=subprocess.PIPE
@@ -178,6 +180,7 @@ class Market:
                 when = last + 15_000
             self.later(when, self.ask)
             last = when
+        self.come_to_the_door()
         while self.coming or self.deadline is not None:
             moment = self.coming[0][0] if self.coming else CLOSING
             if self.deadline is not None and self.deadline <= moment:
@@ -192,6 +195,22 @@ class Market:
         assert self.venue.stdin is not None
         self.venue.stdin.close()
         self.venue.wait()
+
+    # ------------------------------------------------------------ the door
+
+    def come_to_the_door(self) -> None:
+        """Each firm loses its connection once or twice, and others come who are not let in."""
+        for firm in self.firms.all:
+            for _ in range(self.door.choice([1, 1, 2])):
+                self.at_some_time(partial(self.ledger.log_on_again, firm))
+        for _ in range(3):
+            firm, left_out = self.door.choice(list(self.firms.all)), self.door.choice([0, 0, 44])
+            self.at_some_time(partial(self.ledger.refuse, firm, left_out))
+        for _ in range(2):
+            self.at_some_time(self.ledger.stranger)
+
+    def at_some_time(self, act: Callable[[int], None]) -> None:
+        self.later(self.door.randrange(OPENING + 60_000, CLOSING - 1_200_000), act)
 
     # ------------------------------------------------------------ investors
 

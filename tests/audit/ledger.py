@@ -1,5 +1,5 @@
-"""Writes a log as the gateway does: entries with their chain, what the venue gave, and the
-sessions that carried it.
+"""Writes a log as the gateway does: entries with their chain, what happened to connections, what
+the venue gave, and the sessions that carried it.
 
 It is written from gateway/README.md and gateway/schema.sql, and shares nothing with the audit.
 """
@@ -25,6 +25,11 @@ def time_text(moment: int) -> str:
     return "%02d:%02d:%02d.%03d" % (hours, minutes, seconds, milliseconds)
 
 
+def exact_text(microseconds: int) -> str:
+    milliseconds, rest = divmod(microseconds, 1000)
+    return "%s%03d" % (time_text(milliseconds), rest)
+
+
 def frame(fields: Fields) -> bytes:
     body = "".join("%s=%s\x01" % pair for pair in fields)
     head = "8=FIXT.1.1\x019=%d\x01%s" % (len(body), body)
@@ -43,6 +48,9 @@ class Session:
     sent: int = 0
     came: int = 0
     messages: int = 0  # of the venue
+    connection: int | None = None
+    peer: tuple[str, str | None] = "", None  # its address and certificate
+    received: int = 0  # microseconds, the last message on it
 
 
 @dataclass
@@ -55,6 +63,10 @@ class Ledger:
     place: int = -1
     before: bytes = bytes(32)
     sessions: dict[str, Session] = field(default_factory=dict)
+    events: int = 0
+    connections: int = 0
+    before_event: bytes = bytes(32)
+    clock_at: int = 0  # microseconds, the last that it said
 
     def __post_init__(self) -> None:
         self.database = sqlite3.connect(self.path, isolation_level=None)
@@ -65,27 +77,112 @@ class Ledger:
         line = (head % (VERSION, PROGRAM, digest)).encode() + self.configuration
         self.entry(time_text(28_800_000), None, None, line)
 
-    def entry(self, moment: str, firm: str | None, number: int | None, line: bytes) -> int:
-        """Puts an entry behind the others; answers its place."""
+    def entry(
+        self, moment: str, firm: str | None, number: int | None, line: bytes, received: str = ""
+    ) -> int:
+        """Puts an entry behind the others; answers its place. What is not said to have been
+        received the gateway makes, in the millisecond of the moment.
+        """
         self.place += 1
-        shown = [self.before.hex(), self.place, 0, moment, firm or "-", number or "-", len(line)]
+        received = received or self.made_in(moment)
+        connection = None if number is None or firm is None else self.sessions[firm].connection
+        shown = [self.before.hex(), self.place, 0, moment, received, firm or "-", number or "-"]
+        shown += [connection or "-", len(line)]
         text = " ".join(str(part) for part in shown).encode() + b"\n" + line
         digest = hashlib.sha256(text).digest()
-        row = (self.place, 0, moment, firm, number, line, self.before, digest)
-        self.database.execute("INSERT INTO entry VALUES (?, ?, ?, ?, ?, ?, ?, ?)", row)
+        row = (self.place, 0, moment, received, firm, number, connection, line)
+        self.database.execute(
+            "INSERT INTO entry VALUES (?, ?, ?, ?, ?, ?, ?, ?, ?, ?)", (*row, self.before, digest)
+        )
         self.before = digest
         return self.place
 
+    def made_in(self, moment: str) -> str:
+        """A time of this millisecond, not before the last that the clock said."""
+        hours, minutes, seconds = moment.split(":")
+        whole, _, milliseconds = seconds.partition(".")
+        at = (int(hours) * 60 + int(minutes)) * 60 + int(whole)
+        self.clock_at = max(self.clock_at, at * 1_000_000 + int(milliseconds) * 1000)
+        return exact_text(self.clock_at)
+
+    def received_by(self, firm: str, moment: int) -> str:
+        """When a message was received that is an entry of this moment: not before the one before
+        it on its connection, and on some days a while before it was an entry.
+        """
+        session = self.sessions[firm]
+        waited = (0, 120, 2_500)[self.place % 3]  # microseconds
+        at = moment * 1000 + self.place * 7919 % 1000 - waited
+        session.received = max(session.received, at)
+        self.clock_at = max(self.clock_at, session.received)
+        return exact_text(session.received)
+
+    # ------------------------------------------------------------ connections
+
+    def event(
+        self, event: str, moment: int, firm: str | None, number: int | None,
+        peer: tuple[str, str | None], why: str | None, left_out: int = 0,
+    ) -> None:
+        """Something that happened to a connection."""
+        self.events += 1
+        self.clock_at = max(self.clock_at, moment * 1000)
+        texts = [event, peer[0], peer[1], why]
+        lengths = ["-" if text is None else len(text.encode()) for text in texts]
+        shown = [self.before_event.hex(), self.events, 0, exact_text(self.clock_at), self.place]
+        shown += [number or "-", firm or "-", left_out, *lengths]
+        data = " ".join(str(part) for part in shown) + "\n" + "".join(one or "" for one in texts)
+        digest = hashlib.sha256(data.encode()).digest()
+        row = (self.events, 0, exact_text(self.clock_at), event, self.place, number, firm, *peer)
+        self.database.execute(
+            "INSERT INTO connection VALUES (?, ?, ?, ?, ?, ?, ?, ?, ?, ?, ?, ?, ?)",
+            (*row, why, left_out, self.before_event, digest),
+        )
+        self.before_event = digest
+
+    def begin_connection(self, firm: str, moment: int) -> None:
+        self.connections += 1
+        session = self.sessions.setdefault(firm, Session())
+        session.connection, session.received = self.connections, 0
+        has_certificate = self.connections % 4 != 0
+        session.peer = "192.0.2.%d:%d" % (len(self.sessions), 40_000 + self.connections), None
+        if has_certificate:
+            session.peer = session.peer[0], firm
+        self.event("logon", moment, firm, self.connections, session.peer, None)
+
+    def end_connection(self, firm: str, moment: int, why: str) -> None:
+        session = self.sessions[firm]
+        self.event("end", moment, firm, session.connection, session.peer, why)
+        session.connection = None
+
+    def refuse(self, firm: str, left_out: int, moment: int) -> None:
+        """A Logon in a firm's name, of somebody who has not its password."""
+        peer = "198.51.100.7:41000", None
+        self.event("refused", moment, firm, None, peer, "wrong password", left_out)
+
+    def stranger(self, moment: int) -> None:
+        """Somebody who is nobody, and others whose rows were left out."""
+        peer = "198.51.100.8:41001", "<b>nobody</b>"
+        self.event("stranger", moment, None, None, peer, "no Logon")
+        self.event("left out", moment, None, None, ("", None), "no Logon", 490)
+
+    # ------------------------------------------------------------ sessions
+
     def log_on(self, firm: str, moment: int) -> None:
         """The Logon of a firm, and the TestRequest behind it."""
-        session = self.sessions.setdefault(firm, Session())
+        self.begin_connection(firm, moment)
+        session = self.sessions[firm]
         session.came += 2
         self.session_message(firm, "A", moment, [("98", "0"), ("108", "30"), ("1137", "9")])
         self.session_message(firm, "1", moment, [("112", "MIRESEASON-1")])
 
+    def log_on_again(self, firm: str, moment: int) -> None:
+        """Its connection is lost, and it has another one."""
+        self.end_connection(firm, moment, "Connection reset by peer")
+        self.log_on(firm, moment)
+
     def log_off(self, firm: str, moment: int) -> None:
         self.sessions[firm].came += 1
         self.session_message(firm, "5", moment, [])
+        self.end_connection(firm, moment, "the firm has closed it")
         row = (firm, self.sessions[firm].came + 1)
         self.database.execute("INSERT INTO session VALUES (?, ?, 0)", row)
 
@@ -100,12 +197,13 @@ class Ledger:
         self.database.execute("INSERT INTO outgoing VALUES (?, ?, ?, ?)", row)
 
     def came(self, firm: str, moment: int, data: bytes, number: bool = True) -> int:
-        """A message of a firm."""
+        """A message of a firm; without a number the gateway's own, for a firm that is gone."""
         session = self.sessions[firm]
         session.came += 1 if number else 0
         line = "hex %s %s %s" % (firm, time_text(moment), data.hex().upper())
         count = session.came if number else None
-        return self.entry(time_text(moment), firm, count, line.encode())
+        received = self.received_by(firm, moment) if number else ""
+        return self.entry(time_text(moment), firm, count, line.encode(), received)
 
     def clock(self, moment: int) -> int:
         return self.entry(time_text(moment), None, None, b"clock " + time_text(moment).encode())

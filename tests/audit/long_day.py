@@ -122,7 +122,8 @@ def write(path: Path, frames: int, venue: list[str]) -> None:
                 ledger.sessions[speaker].came += 1
             number = None if speaker is None else ledger.sessions[speaker].came
             answered.append(number)
-            ledger.entry(time_text(moment), speaker, number, line)
+            received = "" if speaker is None else ledger.received_by(speaker, moment)
+            ledger.entry(time_text(moment), speaker, number, line, received)
         day.flush()
         with open(day.name, "rb") as file:
             words = [*venue, "live", "--frames", "--marks"]

@@ -20,6 +20,12 @@ if [ "${1:-}" = short ]; then
     : "${CHANGES:=40}" "${FRAMES:=3000}"
     export CHANGES FRAMES
 fi
+# With whole paths: the tests run in a folder of their own.
+# shellcheck disable=SC2086 # its words
+VENUE=$(for word in $VENUE; do
+    [ ! -f "$word" ] || word=$(realpath "$word")
+    printf '%s ' "$word"
+done)
 program=${VENUE%% *}
 if ! command -v "$program" >/dev/null; then
     echo "there is no venue $program: run 'rt run' in crates/rfq_venue first," \

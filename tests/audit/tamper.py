@@ -12,8 +12,11 @@ from dataclasses import dataclass
 from pathlib import Path
 from typing import Any
 
-Row = tuple[int, int, str, str | None, int | None, bytes, bytes, bytes]
-ENTRIES = "SELECT place, term, moment, firm, number, line, before, hash FROM entry ORDER BY place"
+Row = tuple[
+    int, int, str, str | None, int | None, bytes, bytes, bytes, str, int | None
+]
+COLUMNS = "place, term, moment, firm, number, line, before, hash, received, connection"
+ENTRIES = "SELECT %s FROM entry ORDER BY place" % COLUMNS
 CARRIED = "SELECT firm, number, sent FROM outgoing WHERE sent IS NOT NULL"
 LAST_OF = "SELECT max(number) FROM outgoing WHERE firm = ?"
 
@@ -33,8 +36,9 @@ class Change:
 
 def hash_of(row: Row, before: bytes) -> bytes:
     """The hash of a row as gateway/schema.sql has it."""
-    place, term, moment, firm, number, line = row[:6]
-    parts = [before.hex(), place, term, moment, firm or "-", number or "-", len(line)]
+    place, term, moment, firm, number, line, _, _, received, connection = row
+    parts = [before.hex(), place, term, moment, received, firm or "-", number or "-"]
+    parts += [connection or "-", len(line)]
     return hashlib.sha256(" ".join(map(str, parts)).encode() + b"\n" + line).digest()
 
 
@@ -62,10 +66,10 @@ class Tamperer:
     def do(self, query: str, *values: object) -> None:
         self.connection.execute(query, values)
 
-    def change(self) -> Change:
+    def change(self, kinds: "list[Kind]") -> Change:
         """One change, of a kind that is drawn."""
         with closing(self.connection):
-            return self.draw.choice(KINDS)(self)
+            return self.draw.choice(kinds)(self)
 
     # ------------------------------------------------------------ entries
 
@@ -88,6 +92,8 @@ class Tamperer:
             ("moment", "23:59:59.999"),
             ("firm", "NOBODY"),
             ("number", (row[4] or 0) + 1),
+            ("received", "07:59:59.999999"),
+            ("connection", (row[9] or 0) + 1),
         ])
         self.do("UPDATE entry SET %s = ? WHERE place = ?" % column, value, row[0])
         what = "%s of entry %d" % (column, row[0])
@@ -131,8 +137,8 @@ class Tamperer:
         row = self.some_entry()
         self.shift(row[0] - 1)
         before = self.rows("SELECT hash FROM entry WHERE place = ?", row[0] - 1)[0][0]
-        made = (row[0], row[1], row[2], row[3], row[4], row[5], before, b"")
-        self.insert((*made[:7], hash_of(made, before)))
+        made = (*row[:6], before, b"", *row[8:])
+        self.insert((*row[:6], before, hash_of(made, before), *row[8:]))
         pattern = CHANGED % (row[0] + 1)
         return Change("an entry put in at %d" % row[0], pattern)
 
@@ -142,7 +148,8 @@ class Tamperer:
         self.do("UPDATE entry SET place = 1 - place WHERE place < 0")
 
     def insert(self, row: Row) -> None:
-        self.do("INSERT INTO entry VALUES (?, ?, ?, ?, ?, ?, ?, ?)", *row)
+        query = "INSERT INTO entry (%s) VALUES (?, ?, ?, ?, ?, ?, ?, ?, ?, ?)"
+        self.do(query % COLUMNS, *row)
 
     # ------------------------------------------------------------ the chain made anew
 
@@ -335,7 +342,8 @@ SENT_KINDS = types(b"3", b"R", b"AI", b"AJ", b"S", b"AG")
 OUTGOING_KINDS = SENT_KINDS + types(b"A", b"1", b"5")
 CAME_KINDS = types(b"R", b"S", b"Z", b"AG", b"AJ")
 ENTRY_KINDS = [b"clock", *(kind.hex().upper().encode() for kind in CAME_KINDS)]
-KINDS: list[Callable[[Tamperer], Change]] = [
+Kind = Callable[[Tamperer], Change]
+KINDS: list[Kind] = [
     Tamperer.entry_byte,
     Tamperer.entry_byte,
     Tamperer.entry_column,

@@ -3,6 +3,7 @@ verdict.
 """
 
 import os
+import re
 import shlex
 import subprocess
 import unittest
@@ -30,6 +31,10 @@ class Example(unittest.TestCase):
             (log,) = Path(name).glob("day/day-*.db")
             ran = audit("check", log)
             self.assertEqual(ran.status, 0, ran.text)
+            # Each firm logs on, on a busy machine perhaps again, and each message came on one of its
+            # connections.
+            door = re.search(r"(?m)^door +(\d+) connections in \d+ rows, each follows on", ran.out)
+            self.assertGreaterEqual(int(door[1]) if door else 0, 3, ran.out)
             ran = audit("page", log, Path(name) / "pages")
             self.assertEqual(ran.status, 0, ran.text)
             index = read_page(Path(name) / "pages" / "index.html")
@@ -40,6 +45,14 @@ class Example(unittest.TestCase):
             self.assertEqual(texts[2], "INV1")
             self.assertEqual(texts[4:9], ["buys", "2 000 000", "BONDA0000001", "2", "2"])
             self.assertEqual(texts[9:], ["◆ awarded", "DLR2", "99-14 99.4375", "DLR1"])
+            # Of each firm a message came; what is no message of it the gateway made, at its end.
+            on_one = r"received [0-9:.]{15} on connection [0-9]+ from 127\.0\.0\.1:[0-9]+, since "
+            for firm in ("DLR1", "DLR2", "INV1"):
+                page = read_page(Path(name) / "pages" / "firms" / (firm + "-1.html"))
+                heads = [one.all("p")[0].text for one in page.all("article", "came")]
+                self.assertTrue([head for head in heads if re.search(on_one, head)], heads)
+                for head in heads:
+                    self.assertRegex(head, on_one + "|made by the gateway")
 
 
 if __name__ == "__main__":

@@ -1,4 +1,6 @@
-"""The same log in PostgreSQL: a server of this test alone, in a folder of its own."""
+"""The same logs in PostgreSQL, one of the form of now and one of an old form: a server of this test
+alone, in a folder of its own.
+"""
 
 import os
 import shutil
@@ -11,12 +13,15 @@ from pathlib import Path
 from typing import Any
 
 import psycopg2
-from common import DAY, ROOT, Folder, audit, folder
+from common import DAY, HERE, ROOT, Folder, audit, folder, venue_words
 from wait import LONG, until
 
 SERVERS = sorted(Path("/usr/lib/postgresql").glob("*/bin/initdb"))
-SCHEMA = "day_20261125"
-TABLES = ("entry", "sent", "outgoing", "session")
+SCHEMA, OLD_SCHEMA = "day_20261125", "day_of_form_2"
+TABLES = ("entry", "connection", "sent", "outgoing", "session")
+# What the tables of form 2 lacked: the stored day is of form 1, which has the same columns.
+TO_FORM_2 = """DROP TABLE connection; ALTER TABLE entry DROP COLUMN received, DROP COLUMN connection;
+    UPDATE form SET number = 2"""
 # A server ends with the test that started it, however that ends.
 AS_USER = "setpriv --reuid=postgres --regid=postgres --clear-groups --pdeathsig=QUIT --".split()
 
@@ -35,6 +40,7 @@ def is_root() -> bool:
 class Postgres(unittest.TestCase):
     kept: Folder
     place: Path
+    day: Path
     connection: str
 
     @classmethod
@@ -55,18 +61,25 @@ class Postgres(unittest.TestCase):
         cls.addClassCleanup(end, server)
         cls.connection = "host=%s user=postgres dbname=postgres" % cls.place
         until("PostgreSQL answers", LONG, lambda: has_ended(server) or answers(cls.connection))
-        fill(cls.connection)
+        cls.day = cls.place / "day.db"
+        draw = ["/usr/bin/python3", str(HERE / "draw_day.py"), str(cls.day), "--requests", "7"]
+        run([*draw, "--seed", "3", "--", *venue_words()])
+        make_tables(cls.connection, SCHEMA)
+        fill(cls.connection, SCHEMA, cls.day)
+        make_tables(cls.connection, OLD_SCHEMA, TO_FORM_2)
+        fill(cls.connection, OLD_SCHEMA, DAY)
 
-    def check(self) -> tuple[int, str]:
-        ran = audit("check", "postgres:" + self.connection, "--schema", SCHEMA)
+    def check(self, schema: str = SCHEMA) -> tuple[int, str]:
+        ran = audit("check", "postgres:" + self.connection, "--schema", schema)
         return ran.status, ran.text
 
     def change(self, query: str) -> None:
         execute(self.connection, "SET search_path TO %s; %s" % (SCHEMA, query))
 
     def test_it_says_what_it_says_of_the_file(self) -> None:
-        status, text = self.check()
-        self.assertEqual((status, text), (0, audit("check", DAY).text))
+        for schema, day in ((SCHEMA, self.day), (OLD_SCHEMA, DAY)):
+            status, text = self.check(schema)
+            self.assertEqual((status, text), (0, audit("check", day).text))
 
     def test_a_change_and_its_place(self) -> None:
         self.change("UPDATE sent SET place = place + 1 WHERE firm = 'ALPHA' AND number = 1")
@@ -74,6 +87,15 @@ class Postgres(unittest.TestCase):
         self.change("UPDATE sent SET place = place - 1 WHERE firm = 'ALPHA' AND number = 1")
         self.assertEqual(status, 1)
         self.assertRegex(text, r"ALPHA: entry \d+, number 1: it is given for entry")
+
+    def test_a_change_of_who_it_was(self) -> None:
+        where = "WHERE place = 2"
+        ((address,),) = rows(self.connection, "SELECT address FROM %s.connection %s" % (SCHEMA, where))
+        self.change("UPDATE connection SET address = '203.0.113.9:1' " + where)
+        status, text = self.check()
+        self.change("UPDATE connection SET address = '%s' %s" % (address, where))
+        self.assertEqual(status, 1)
+        self.assertIn("\ndoor: row 2: it was changed", text)
 
     def test_what_cannot_be_read(self) -> None:
         here = "postgres:" + self.connection
@@ -85,9 +107,9 @@ class Postgres(unittest.TestCase):
     def test_tables_of_another_form(self) -> None:
         self.change("UPDATE form SET number = 1")
         status, text = self.check()
-        self.change("UPDATE form SET number = 2")
+        self.change("UPDATE form SET number = 3")
         self.assertEqual(status, 2)
-        self.assertIn("the form of its tables is not 2", text)
+        self.assertIn("the form of its tables is neither 2 nor 3", text)
 
 
 def run(words: list[str]) -> None:
@@ -120,17 +142,30 @@ def execute(connection: str, query: str, rows: list[Any] | None = None) -> None:
         opened.commit()
 
 
-def fill(connection: str) -> None:
-    """The gateway's tables with the rows of the stored day."""
+def rows(connection: str, query: str) -> list[Any]:
+    with closing(psycopg2.connect(connection)) as opened, opened.cursor() as cursor:
+        cursor.execute(query)
+        return list(cursor.fetchall())
+
+
+def make_tables(connection: str, schema: str, more: str = "") -> None:
+    """The gateway's tables."""
     files = [ROOT / "gateway" / name for name in ("schema.sql", "terms.sql")]
     tables = "".join(file.read_text() for file in files)
-    execute(connection, "CREATE SCHEMA %s; SET search_path TO %s; %s" % (SCHEMA, SCHEMA, tables))
-    with closing(sqlite3.connect(DAY)) as stored:
+    words = (schema, schema, tables, more)
+    execute(connection, "CREATE SCHEMA %s; SET search_path TO %s; %s; %s" % words)
+
+
+def fill(connection: str, schema: str, day: Path) -> None:
+    """The rows of a day in a file."""
+    with closing(sqlite3.connect(day)) as stored:
+        there = {name for name, in stored.execute("SELECT name FROM sqlite_schema")}
         for table in TABLES:
-            rows = stored.execute("SELECT * FROM " + table).fetchall()
-            marks = ", ".join(["%s"] * len(rows[0]))
-            words = "SET search_path TO %s; INSERT INTO %s VALUES (%s)"
-            execute(connection, words % (SCHEMA, table, marks), rows)
+            if table in there:
+                found = stored.execute("SELECT * FROM " + table).fetchall()
+                marks = ", ".join(["%s"] * len(found[0]))
+                words = "SET search_path TO %s; INSERT INTO %s VALUES (%s)"
+                execute(connection, words % (schema, table, marks), found)
 
 
 if __name__ == "__main__":

@@ -27,8 +27,9 @@ def carries(data: bytes, number: int, frame: bytes, firm: str) -> bool:
 
 
 def entry(place: int, moment: str, line: bytes, before: bytes, **other: Any) -> Entry:
-    made = Entry(place, 0, moment, None, None, line, before, b"")._replace(**other)
-    return made._replace(hash=hash_of(made))
+    received = moment + "000"
+    made = Entry(place, 0, moment, None, None, line, before, b"", received)._replace(**other)
+    return made._replace(hash=hash_of(made, True))
 
 
 SPOILT: list[tuple[str, Any]] = [  # a column of an entry, and what stands there
@@ -39,19 +40,30 @@ SPOILT: list[tuple[str, Any]] = [  # a column of an entry, and what stands there
 
 class Chains(unittest.TestCase):
     def test_the_hash_is_that_of_the_schema(self) -> None:
-        """The text of gateway/schema.sql: BEFORE PLACE TERM MOMENT FIRM NUMBER LENGTH, a line
-        feed, the line.
+        """The text of gateway/schema.sql: BEFORE PLACE TERM MOMENT RECEIVED FIRM NUMBER CONNECTION
+        LENGTH, a line feed, the line.
         """
-        line = b"hex DLR1 09:00:10.000 00"
-        made = Entry(7, 2, "09:00:10.000", "DLR1", 5, line, bytes(range(32)), b"")
-        text = bytes(range(32)).hex() + " 7 2 09:00:10.000 DLR1 5 %d\n" % len(line)
-        self.assertEqual(hash_of(made), hashlib.sha256(text.encode() + line).digest())
+        line, before = b"hex DLR1 09:00:10.000 00", bytes(range(32))
+        moments = "09:00:10.000", "09:00:09.999876"
+        made = Entry(7, 2, moments[0], "DLR1", 5, line, before, b"", moments[1], 3)
+        text = before.hex() + " 7 2 09:00:10.000 09:00:09.999876 DLR1 5 3 %d\n" % len(line)
+        self.assertEqual(hash_of(made, True), hashlib.sha256(text.encode() + line).digest())
+        made = made._replace(firm=None, number=None, connection=None)
+        text = text.replace("DLR1 5 3", "- - -")
+        self.assertEqual(hash_of(made, True), hashlib.sha256(text.encode() + line).digest())
+
+    def test_the_hash_of_old_logs(self) -> None:
+        """Before form 3: BEFORE PLACE TERM MOMENT FIRM NUMBER LENGTH, a line feed, the line."""
+        line, before = b"hex DLR1 09:00:10.000 00", bytes(range(32))
+        made = Entry(7, 2, "09:00:10.000", "DLR1", 5, line, before, b"")
+        text = before.hex() + " 7 2 09:00:10.000 DLR1 5 %d\n" % len(line)
+        self.assertEqual(hash_of(made, False), hashlib.sha256(text.encode() + line).digest())
         made = made._replace(firm=None, number=None)
         text = text.replace("DLR1 5", "- -")
-        self.assertEqual(hash_of(made), hashlib.sha256(text.encode() + line).digest())
+        self.assertEqual(hash_of(made, False), hashlib.sha256(text.encode() + line).digest())
 
     def found(self, *entries: Entry) -> list[str]:
-        reader = ChainReader(has_chain=True)
+        reader = ChainReader(has_chain=True, has_door=True)
         for one in entries:
             reader.take(one)
         return [finding.text for finding in reader.found.findings]
@@ -108,7 +120,7 @@ class Chains(unittest.TestCase):
         for at in range(2, 40):
             for name, value in SPOILT:
                 spoilt = rows[at]._replace(**{name: value})
-                for made in (spoilt, spoilt._replace(hash=hash_of(spoilt))):
+                for made in (spoilt, spoilt._replace(hash=hash_of(spoilt, True))):
                     changed = [*rows[:at], made, *rows[at + 1 :]]
                     found = self.found(*changed)
                     self.assertEqual(bool(found), made != rows[at], (at, name))
@@ -116,7 +128,7 @@ class Chains(unittest.TestCase):
                         self.assertEqual(self.in_blocks(changed, size), found, (at, name))
 
     def in_blocks(self, rows: list[Entry], size: int) -> list[str]:
-        reader = ChainReader(has_chain=True)
+        reader = ChainReader(has_chain=True, has_door=True)
         for at in range(0, len(rows), size):
             reader.take_block(Entries.of(rows[at : at + size]))
         return [finding.text for finding in reader.found.findings]
@@ -252,6 +264,9 @@ class KeptTexts:
 
     def hash_at(self, place: int) -> str:
         return self.texts.get(("hash", place), "")
+
+    def event_hash_at(self, place: int) -> str:
+        return self.texts.get(("door", place), "")
 
     def first(self, word: str, firm: str, count: int) -> str:
         return self.texts.get((word + " " + firm, count), "")

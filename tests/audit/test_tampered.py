@@ -14,7 +14,8 @@ from pathlib import Path
 from unittest.mock import patch
 
 from common import HERE, Folder, audit, folder, keys, venue_words
-from tamper import Tamperer
+from tamper import KINDS, Tamperer
+from tamper_door import DOOR_KINDS
 
 from mireseason_audit import sqlite_log, streams
 from mireseason_audit.check import report
@@ -97,7 +98,8 @@ class Sealed:
         """Changes a copy; answers what was not found of it."""
         path = self.place / ("tampered-%d.db" % number)
         shutil.copyfile(self.log, path)
-        change = Tamperer(path, random.Random("%d %d" % (SEED, number))).change()
+        log = Tamperer(path, random.Random("%d %d" % (SEED, number)))
+        change = log.change(KINDS + DOOR_KINDS)
         rows, size = BLOCKS[number % len(BLOCKS)]
         with patch.object(sqlite_log, "ROWS_AT_A_TIME", rows), patch.object(streams, "BLOCK", size):
             status, text = self.check(path)

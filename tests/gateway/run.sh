@@ -1,9 +1,10 @@
 #!/bin/sh
 # Tries the gateway: days of stock QuickFIX initiators in which gateway, venue and initiators are ended
-# again and again, with the log in SQLite and in PostgreSQL; faults that are put in by hand; and a disk that
-# is full or cut back. README.md says what is looked at.
+# again and again, with the log in SQLite and in PostgreSQL; faults that are put in by hand; a disk that
+# is full or cut back; what comes over the network, beside the proved reader; and a minute of the fuzzer.
+# README.md says what is looked at.
 #
-#     tests/packages.sh $(gateway/packages.sh) openssl postgresql
+#     tests/packages.sh $(gateway/packages.sh) openssl postgresql clang libclang-rt-dev
 #     tests/gateway/run.sh [short]
 #
 # VENUE has the words of the venue's program: crates/rfq_venue/out/rfq_venue if it is not set, which
@@ -17,10 +18,12 @@ venue=${VENUE:-$root/crates/rfq_venue/out/rfq_venue}
 days="--days 3 --messages 2000 --ends 40"
 in_postgres="--days 1 --messages 2000 --ends 40"
 quick=
+draws=200000
 if [ "${1:-}" = short ]; then
     days="--days 1 --messages 400 --ends 8"
     in_postgres="--days 1 --messages 200 --ends 4"
     quick=--quick
+    draws=20000
 fi
 seed="--seed ${SEED:-1}"
 
@@ -30,7 +33,8 @@ if ! command -v "$program" >/dev/null; then
     exit 2
 fi
 work=$(mktemp -d)
-trap 'rm -rf "$work"' EXIT
+beside=
+trap '[ -z "$beside" ] || kill "$beside" 2>/dev/null; rm -rf "$work"' EXIT
 trap 'exit 143' HUP INT TERM
 gateway=${GATEWAY:-}
 if [ -z "$gateway" ]; then
@@ -59,12 +63,18 @@ in_terms() {
 }
 # shellcheck disable=SC2086 # the words of $days, $keep, $quick, $seed and $venue
 {
+    # The fuzzer takes a processor, and the others mostly wait.
+    part fuzz "$here/fuzz.sh" &
+    beside=$!
     part tried python3 "$here/tried.py" "$gateway" "$work/player" "$work/shim.so" $keep $quick --jobs 3 -- $venue
     part sqlite python3 "$here/play.py" "$gateway" "$work/player" $days $seed $keep -- $venue
     part postgres "$here/postgres.sh" python3 "$here/play.py" "$gateway" "$work/player" $in_postgres $seed $keep \
         --postgres '{}' -- $venue
     part terms in_terms "$(dirname "$gateway")/terms_test"
+    part yardstick "$here/yardstick/run.sh" "$draws"
+    wait "$beside"
+    beside=
 }
 tail -qn 1 "$work"/*.part |
     awk '$2 == "passed," { passed += $1; failed += $3; ++parts }
-         END { if (parts < 4) ++failed; print passed + 0 " passed, " failed + 0 " failed"; exit failed > 0 }'
+         END { if (parts < 6) ++failed; print passed + 0 " passed, " failed + 0 " failed"; exit failed > 0 }'

@@ -20,13 +20,17 @@ sys.dont_write_bytecode = True
 sys.path.insert(0, str(ROOT / "tests" / "model"))
 
 import tried_away
+import tried_certificates
 import tried_configuration
 import tried_connections
 import tried_disk
 import tried_gaps
+import tried_intruders
 import tried_log
 import tried_logon
 import tried_messages
+import tried_no_frames
+import tried_strangers
 from door import programs_of
 from midnight import wait_for_room
 from stage import Stage, Tools, Wrong
@@ -83,6 +87,7 @@ def main() -> None:
     tools = Tools(programs, words.player.resolve(), DICTIONARIES, words.shim.resolve(), not words.sanitized)
     tests = tried_configuration.TRIED + tried_log.TRIED + tried_connections.TRIED + tried_logon.TRIED
     tests += tried_messages.TRIED + tried_gaps.TRIED + tried_away.TRIED
+    tests += tried_strangers.TRIED + tried_certificates.TRIED + tried_intruders.TRIED + tried_no_frames.TRIED
     tests += tried_disk.QUICK if words.quick else tried_disk.TRIED
     chosen = [test for test in tests if words.only in test.__name__]
     with ThreadPoolExecutor(words.jobs) as jobs:

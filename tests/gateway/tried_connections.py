@@ -1,11 +1,15 @@
 """Connections that never become a session, and more of them than there is room for."""
 
 import resource
+import select
+import socket
+import threading
 from collections.abc import Callable
+from concurrent.futures import ThreadPoolExecutor
 from pathlib import Path
 
 from stage import DEALER, LOGON_SECONDS, Stage, check
-from tried_logon import SLACK
+from tried_logon import SLACK, refused_for
 from wait import LONG, until
 from wire import Wire
 
@@ -38,20 +42,59 @@ def endless_logon(stage: Stage) -> None:
 
 
 def many_connections(stage: Stage) -> None:
-    """As many silent connections as the limit allows, and more: a firm logs on once they have ended."""
-    stage.door.limits["connections"] = 40
-    stage.open(stage.other)
+    """More silent connections of one address than it may have: the others are closed at once, firms that are logged on notice nothing,
+    and another logs on once there is room."""
+    stage.door.limits |= {"strangers_per_address": 8, "logon_seconds": int(LONG)}
+    stage.open(stage.other, stage.dealer)
     wires = [Wire(stage.door.port) for _ in range(100)]
+    until("those past the limit are closed", LONG, lambda: sum(wire.closed_within(0.001) for wire in wires) == 92)
+    until("they are counted", LONG, lambda: stage.counters().get(refused_for("too many strangers of an address")) == 92)
     stage.ping(stage.other)
+    stage.ping(stage.dealer)
     for wire in wires:
-        check(wire.closed_within(LOGON_SECONDS + SLACK), "a silent connection stays")
         wire.socket.close()
-    stage.log_on(stage.dealer)
+    stage.log_on(stage.investor)
     stage.ping(stage.dealer)
 
 
+def silent_ones_of_another_address(stage: Stage) -> None:
+    """256 silent connections of one address, opened again as they are closed, keep nobody of another address out."""
+    stage.open()
+    again, over = threading.Event(), threading.Event()
+    with ThreadPoolExecutor(1) as attacker:
+        done = attacker.submit(knock_until, over, again, stage.door.port)
+        try:
+            check(again.wait(LONG), "the gateway ends none of 256 silent connections of one address")
+            for firm in stage.firms:
+                stage.log_on(firm)
+            stage.auction()
+        finally:
+            over.set()
+        done.result()
+
+
+def knock_until(over: threading.Event, again: threading.Event, port: int) -> None:
+    """Keeps 256 silent connections from 127.0.0.2 open, a round of them every quarter of a second, until it is over; from
+    the second round on it says so."""
+    wires: list[socket.socket] = []
+    rounds = 0
+    while not over.wait(0.25):
+        for _ in range(256 - len(wires)):
+            wires.append(socket.create_connection(("127.0.0.1", port), timeout=LONG, source_address=("127.0.0.2", 0)))
+        rounds += 1
+        if rounds > 1:
+            again.set()
+        ended = select.select(wires, [], [], 0)[0]
+        for wire in ended:
+            wire.close()
+        wires = [wire for wire in wires if wire not in ended]
+    for wire in wires:
+        wire.close()
+
+
 def many_passwords(stage: Stage) -> None:
-    """As many Logons at once as connections: their passwords take memory and time in turns, and a firm logs on meanwhile."""
+    """Many Logons at once: their passwords take memory and time in turns, and a firm logs on meanwhile."""
+    stage.door.limits["strangers_per_address"] = 64
     stage.open(stage.other)
     before = stage.memory()
     wires = [Wire(stage.door.port) for _ in range(60)]
@@ -114,4 +157,4 @@ def nothing_left(stage: Stage) -> None:
     until("what they had is given back: %r" % (before,), LONG, lambda: all(now <= was for now, was in zip(held(stage), before)))
 
 
-TRIED = [half_a_logon, endless_logon, many_connections, many_passwords, no_descriptor_left, nothing_left]
+TRIED = [half_a_logon, endless_logon, many_connections, silent_ones_of_another_address, many_passwords, no_descriptor_left, nothing_left]

@@ -10,14 +10,19 @@ GAP = 'mireseason_dropped_total{reason="gap"}'
 
 
 def number_without_end(stage: Stage) -> None:
-    """A SequenceReset past 1,000,000,000 ends the connection, and the number that is expected stands."""
+    """A SequenceReset past 999,999,999 is rejected, a message under such a number ends the session, and the number that is expected is
+    the next one."""
     stage.open(stage.other, stage.investor)
     number = 1
-    for past in (1_000_000_001, 2**31 - 1):
+    for past in (1_000_000_000, 2**31 - 1, 2**32 + 100):
         with on_a_wire(stage, number) as wire:
             number = wire.number
             wire.raw(wire.message(b"4", b"DLR1", [(36, b"%d" % past)]))
+            reject = wire.read_until(lambda message: message.value(45) == b"%d" % number)
+            check(reject is not None and (reject.value(371), reject.value(373)) == (b"36", b"6"), "no Reject of 36=%d" % past)
+            number = wire.number
             wire.raw(wire.message(b"Z", b"DLR1", cancel(b"far"), number=past))
+            check(wire.read_kind(b"5") is not None, "no Logout")
             check(wire.closed_within(LONG), "the connection stays")
     check(stage.entries_of(stage.dealer) == 0, "a message under such a number is in the log")
     with on_a_wire(stage, number) as wire:
@@ -67,16 +72,15 @@ def ahead_of_a_gap(stage: Stage) -> None:
 
 
 def gap_without_end(stage: Stage) -> None:
-    """Messages of the session itself that come ahead of one that never does: no more are kept than `gap_messages`."""
-    kept, count = 64, 3000
-    stage.door.limits["gap_messages"] = kept
+    """Messages of the session itself that come ahead of one that never does: none is kept."""
+    count = 3000
     stage.open(stage.other, stage.investor)
     with on_a_wire(stage) as wire:
         before = stage.memory()
         wire.number += 1
-        check(wire.raw(b"".join(wire.message(b"1", b"DLR1", [(112, b"x" * 15000)]) for _ in range(count))), "they are not read")
-        until("the others are dropped", LONG, lambda: stage.counters().get(GAP, 0) == count - kept)
-        check(stage.memory() - before < 32 * 2**20, "%d bytes of memory more" % (stage.memory() - before))
+        check(wire.raw(b"".join(wire.message(b"1", b"DLR1", [(112, b"x" * 1000)]) for _ in range(count))), "they are not read")
+        until("they are dropped", LONG, lambda: stage.counters().get(GAP, 0) == count)
+        check(stage.memory() - before < 16 * 2**20, "%d bytes of memory more" % (stage.memory() - before))
     stage.ping(stage.other)
     stage.whole()
 
@@ -137,6 +141,7 @@ def sent_on_another_day(stage: Stage) -> None:
             reject = wire.read_until(lambda message: message.value(45) == b"%d" % number)
             check(reject is not None and (reject.kind, reject.value(1181)) == (b"3", None), "no Reject of the session")
             check((reject.value(371), reject.value(373)) == (b"122", b"5"), "it is %r" % reject.raw)
+        again(wire, b"4", 3, [(123, b"Y"), (36, b"%d" % wire.number)])
         wire.raw(wire.message(b"Z", b"DLR1", cancel(b"new")))
         check(answered(wire, b"new").value(297) == b"9", "the next is not answered as ever")
     check(stage.entries_of(stage.dealer) == 1, "%d entries" % stage.entries_of(stage.dealer))
@@ -144,7 +149,8 @@ def sent_on_another_day(stage: Stage) -> None:
 
 
 def broken_within_a_gap(stage: Stage) -> None:
-    """One of the messages that were asked for can't be read when it comes: it is asked for again."""
+    """One of the messages that were asked for can't be read when it comes: it is asked for again, with all after it, of which none
+    was kept."""
     stage.open(stage.other, stage.investor)
     with Wire(stage.door.port) as wire:
         wire.number = 4
@@ -156,6 +162,7 @@ def broken_within_a_gap(stage: Stage) -> None:
         check(answered(wire, b"one").value(297) == b"9", "the first is not answered as ever")
         check(asked_from(wire) == 2, "another one is asked for")
         again(wire, b"Z", 2, cancel(b"two"))
+        again(wire, b"Z", 3, cancel(b"three"))
         for name in (b"two", b"three"):
             check(answered(wire, name).value(297) == b"9", "%r is not answered as ever" % name)
     numbers = [entry.number for entry in stage.door.ledger().messages_of("DLR1")]

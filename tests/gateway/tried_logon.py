@@ -4,30 +4,32 @@ import ssl
 import subprocess
 from pathlib import Path
 
-from firm import Firm, Identity, Received
+from firm import Firm, Identity
 from stage import DEALER, INVESTOR, LOGON_SECONDS, OTHER, Stage, check, quiet
 from wait import LONG, until, within
 from wire import Wire, a_while_ago, framed, now
 
 SLACK = LONG  # that a limit of the gateway may be late on a busy machine
-REFUSED = 'mireseason_refused_total{reason="logon"}'
-NO_MESSAGE, SECOND = 'mireseason_dropped_total{reason="no message"}', 'mireseason_refused_total{reason="second connection"}'
 
 
-def is_logout(message: Received) -> bool:
-    return message.kind == b"5" and bool(message.value(58))
+def refused_for(reason: str) -> str:
+    """The counter of connections that were refused for this reason."""
+    return 'mireseason_refused_total{reason="%s"}' % reason
+
+
+WRONG_PASSWORD, NO_LOGON, SECOND = refused_for("wrong password"), refused_for("no Logon"), refused_for("second connection")
 
 
 def wrong_password(stage: Stage) -> None:
-    """A stock initiator is logged out with a text, again and again, and never on."""
+    """A stock initiator is disconnected without an answer, again and again, and never logged on."""
     stage.open(stage.other)
-    before = stage.counters()
     stage.dealer = stage.firm(Identity(DEALER.name, DEALER.trader, "another"))
     stage.dealer.start()
-    until("a Logout with a text", LONG, lambda: stage.dealer.look() is None and any(map(is_logout, stage.dealer.admin)))
+    until("it is refused again", LONG, lambda: stage.counters().get(WRONG_PASSWORD, 0) >= 2)
+    stage.dealer.look()
     check(stage.dealer.times_on == 0, "it was logged on")
+    check(not any(message.kind in (b"5", b"A") for message in stage.dealer.admin), "it is told something")
     check(stage.entries_of(stage.dealer) == 0, "something of it is in the log")
-    check(grown(before, stage.counters()), "no counter has grown")
     stage.dealer.kill()
     stage.dealer = stage.firm(DEALER)
     stage.log_on(stage.dealer)
@@ -35,15 +37,14 @@ def wrong_password(stage: Stage) -> None:
 
 
 def wrong_password_of_one_away(stage: Stage) -> None:
-    """Messages wait for a firm that is refused. It is not told why: a stock engine would count that Logout in the place of
-    the first of them. So it has them all once its password is right."""
+    """Messages wait for a firm whose password is wrong. It has them all once that is right."""
     stage.open(*stage.firms)
     stage.log_off(stage.dealer)
     stage.ask_of([stage.dealer, stage.other])
     stage.answer(stage.other, "a request", lambda message: message.kind == b"R")
     stage.dealer.who = Identity(DEALER.name, DEALER.trader, "another")
     stage.dealer.start()
-    until("it is refused again", LONG, lambda: stage.counters().get(REFUSED, 0) >= 2)
+    until("it is refused again", LONG, lambda: stage.counters().get(WRONG_PASSWORD, 0) >= 2)
     stage.dealer.kill()
     stage.dealer.who = DEALER
     stage.log_on(stage.dealer)
@@ -59,19 +60,39 @@ def grown(before: dict[str, float], after: dict[str, float]) -> list[str]:
 
 
 def refused_without_end(stage: Stage) -> None:
-    """Wrong passwords one after the other: some are told of in a minute, and the others closed, so that no stranger fills the log."""
+    """A firm's own Logons at fault, one after the other: some are told why in a minute, and the others closed, so that an engine that
+    tries without end does not fill the log."""
     stage.open(stage.other)
-    told = 0
-    while told == stage.counters().get(REFUSED, 0):
+    reason, told = refused_for("heartbeat"), 0
+    while told == stage.counters().get(reason, 0):
         check(told < 200, "all are told of")
         with Wire(stage.door.port) as wire:
-            wire.logon(DEALER.name.encode(), b"wrong")
+            wire.logon(DEALER.name.encode(), DEALER.password.encode(), heartbeat=b"0")
             told += wire.read_kind(b"5") is not None
             check(wire.closed_within(SLACK), "the connection stays")
     check(told > 0, "none is told of")
     stage.ping(stage.other)
     stage.log_on(stage.dealer)
     stage.ping(stage.dealer)
+
+
+def wrong_passwords_cost_nothing(stage: Stage) -> None:
+    """Logons with a wrong password are told nothing, and use up no number, whether or not something waits for the firm."""
+    stage.open(stage.other, stage.investor)
+    for waits in (False, True):
+        if waits:
+            stage.ask_of([stage.dealer, stage.other])
+            until("the dealer's is in the log", LONG, lambda: len(stage.door.ledger().sent.get(DEALER.name, [])) == 1)
+        for _ in range(12):
+            with Wire(stage.door.port) as wire:
+                wire.logon(DEALER.name.encode(), b"wrong")
+                check(wire.closed_within(SLACK), "the connection stays")
+                check(wire.waiting == b"", "it is told %r" % wire.waiting)
+    with Wire(stage.door.port) as wire:
+        wire.logon(DEALER.name.encode(), DEALER.password.encode())
+        answer = wire.read_kind(b"A")
+        check(answer is not None and answer.session_number == 2, "a wrong password has used up a number")
+    until("all are counted", LONG, lambda: stage.counters().get(WRONG_PASSWORD) == 24)
 
 
 def wrong_words(stage: Stage) -> None:
@@ -81,9 +102,10 @@ def wrong_words(stage: Stage) -> None:
     for password, user in tries:
         with Wire(stage.door.port) as wire:
             wire.logon(DEALER.name.encode(), password, user)
-            message = wire.read_kind(b"5")
-            check(message is not None and message.value(58), "no Logout with a text for %r" % password)
             check(wire.closed_within(SLACK), "the connection stays for %r" % password)
+            check(wire.waiting == b"", "it is told %r for %r" % (wire.waiting, password))
+    counted = {"wrong password": 3, "wrong name": 2}
+    until("the operator is told which it was", LONG, lambda: all(stage.counters().get(refused_for(why)) == count for why, count in counted.items()))
     stage.ping(stage.other)
     stage.log_on(stage.dealer)
     stage.ping(stage.dealer)
@@ -97,7 +119,7 @@ def unknown_firm(stage: Stage) -> None:
             wire.logon(name, b"secret")
             check(wire.closed_within(LOGON_SECONDS + SLACK), "the connection of %r stays" % name)
             check(wire.waiting == b"", "%r was told %r" % (name, wire.waiting))
-        check(grown(before, stage.counters()), "no counter has grown for %r" % name)
+        until("a counter has grown for %r" % name, LONG, lambda: grown(before, stage.counters()))
     stage.ping(stage.other)
 
 
@@ -107,42 +129,28 @@ def words_of_a_stranger(stage: Stage) -> None:
     with Wire(stage.door.port) as wire:
         wire.logon(b"NOBODY\nstop \x1b[2J", b"secret")
         check(wire.closed_within(LOGON_SECONDS + SLACK), "the connection stays")
-    lines = stage.door.told.read_bytes().split(b"\n")
-    check(any(b"NOBODY?stop ?[2J" in line for line in lines), "it is not told")
-    check(not any(line.startswith(b"stop") for line in lines), "a line of a stranger")
+    until("it is told", LONG, lambda: b"NOBODY?stop ?[2J" in stage.door.told.read_bytes())
+    check(not any(line.startswith(b"stop") for line in stage.door.told.read_bytes().split(b"\n")), "a line of a stranger")
 
 
 def stranger_in_a_firms_name(stage: Stage) -> None:
-    """A Logon in a firm's name that is no message, or has a wrong password, keeps the firm out for no time."""
+    """A Logon in a firm's name that is no message ends its connection at once, one with a wrong password as soon as it is judged, and
+    half a one keeps the firm out for no time."""
     stage.door.limits["logon_seconds"] = int(3 * LONG)
     stage.open(stage.other)
-    before = stage.counters().get(NO_MESSAGE, 0)
-    with Wire(stage.door.port) as wrong_sum, Wire(stage.door.port) as no_field:
+    with Wire(stage.door.port) as wrong_sum, Wire(stage.door.port) as no_field, Wire(stage.door.port) as half, Wire(stage.door.port) as wrong:
         frame = wrong_sum.message(b"A", DEALER.name.encode(), [(98, b"0"), (108, b"30"), (1137, b"9")])
+        half.raw(frame[:-8])
         wrong_sum.raw(frame[:-4] + b"999\x01")
         no_field.raw(framed(b"35=A\x0149=DLR1\x0156=VENUE\x0134=1\x0152=%s\x01nothing\x01" % now()))
-        until("both are counted", LONG, lambda: stage.counters().get(NO_MESSAGE, 0) == before + 2)
+        wrong.logon(DEALER.name.encode(), b"wrong")
+        for wire in (wrong_sum, no_field, wrong):
+            check(wire.closed_within(SLACK), "a Logon that is none, or has a wrong password, stays")
+            check(wire.waiting == b"", "it is told %r" % wire.waiting)
+        until("they are counted", LONG, lambda: stage.counters().get(NO_LOGON) == 2)
         stage.log_on(stage.dealer)
         stage.ping(stage.dealer)
         check(SECOND not in stage.counters(), "the firm was refused as a second connection")
-        wrong_sum.logon(DEALER.name.encode(), b"wrong")
-        check(wrong_sum.closed_within(SLACK), "a wrong password waits for the firm to be gone")
-    stage.ping(stage.dealer)
-
-
-def broken_without_end(stage: Stage) -> None:
-    """Logons in a firm's name that are no messages, one after the other: so many are told, and then the connection is closed, long
-    before its time for a Logon is over."""
-    stage.door.limits["logon_seconds"] = int(3 * LONG)
-    stage.open(stage.other)
-    before = stage.counters().get(NO_MESSAGE, 0)
-    with Wire(stage.door.port) as wire:
-        frame = wire.message(b"A", DEALER.name.encode(), [(98, b"0"), (108, b"30"), (1137, b"9")])
-        wire.raw((frame[:-4] + b"999\x01") * 1000)
-        check(wire.closed_within(SLACK), "the connection stays")
-    told = stage.counters().get(NO_MESSAGE, 0) - before
-    check(told == 10, "%d are told" % told)
-    stage.log_on(stage.dealer)
     stage.ping(stage.dealer)
 
 
@@ -195,20 +203,19 @@ def reset_behind_messages(stage: Stage) -> None:
     stage.answer(stage.dealer, "a request", lambda message: message.kind == b"R")
     stage.ping(stage.dealer)
     stage.log_off(stage.dealer)
-    before = stage.counters().get(REFUSED, 0)
     stage.dealer.start()
-    until("it is refused", LONG, lambda: stage.counters().get(REFUSED, 0) > before)
+    until("it is refused", LONG, lambda: stage.counters().get(refused_for("number"), 0) > 0)
 
 
 def reset_behind_a_refusal(stage: Stage) -> None:
-    """The first Logon of the day had a wrong password, whoever sent it: one with 141=Y is still an ordinary Logon, for a stock engine
-    too."""
+    """The first Logon of the day was refused: one with 141=Y is still an ordinary Logon, for a stock engine too."""
     stage.open(stage.other)
     with Wire(stage.door.port) as wire:
-        wire.logon(DEALER.name.encode(), b"wrong", more=[(141, b"Y")])
+        wire.logon(DEALER.name.encode(), DEALER.password.encode(), more=[(141, b"Y")], heartbeat=b"0")
         check(wire.read_kind(b"5") is not None, "no Logout")
+        check(wire.closed_within(SLACK), "the connection stays")
     with Wire(stage.door.port) as wire:
-        wire.logon(INVESTOR.name.encode(), b"wrong")
+        wire.logon(INVESTOR.name.encode(), INVESTOR.password.encode(), heartbeat=b"0")
         check(wire.read_kind(b"5") is not None, "no Logout")
         check(wire.closed_within(SLACK), "the connection stays")
     with Wire(stage.door.port) as wire:
@@ -222,7 +229,7 @@ def reset_behind_a_refusal(stage: Stage) -> None:
 def heartbeats(stage: Stage) -> None:
     """108 is 1 to 300."""
     stage.open(stage.other)
-    for interval in (b"0", b"301", b"-1", b"x"):
+    for interval in (b"0", b"301", b"-1", b"x", b"4294967326"):
         with Wire(stage.door.port) as wire:
             wire.logon(DEALER.name.encode(), DEALER.password.encode(), heartbeat=interval)
             message = wire.read_kind(b"5")
@@ -340,13 +347,11 @@ def certificate_of_another_firm(stage: Stage) -> None:
     """The right password with another firm's certificate."""
     with_tls(stage)
     stage.open(stage.investor)
-    before = stage.counters()
     with Wire(stage.door.port, context(stage.folder, OTHER.name)) as wire:
         wire.logon(DEALER.name.encode(), DEALER.password.encode())
-        message = wire.read_kind(b"5")
-        check(message is not None and message.value(58), "no Logout with a text")
         check(wire.closed_within(LOGON_SECONDS + SLACK), "the connection stays")
-    check(grown(before, stage.counters()), "no counter has grown")
+        check(wire.waiting == b"", "it is told %r" % wire.waiting)
+    until("it is counted", LONG, lambda: stage.counters().get(refused_for("wrong certificate")) == 1)
     stage.log_on(stage.dealer, stage.other)
     stage.auction()
 
@@ -392,7 +397,7 @@ def plain_to_tls(stage: Stage) -> None:
     check(INVESTOR.name == stage.investor.name and stage.investor.is_on, "another session was disturbed")
 
 
-TRIED = [wrong_password, wrong_password_of_one_away, refused_without_end, wrong_words, unknown_firm, words_of_a_stranger,
-         stranger_in_a_firms_name, broken_without_end, second_connection, numbers_are_not_reset, reset_as_the_first, reset_behind_messages,
-         reset_behind_a_refusal, heartbeats, late_logon, logon_at_fault, by_tls, tls_begun_anew, certificate_of_another_firm,
-         certificate_of_another_authority, plain_to_tls]
+TRIED = [wrong_password, wrong_password_of_one_away, refused_without_end, wrong_passwords_cost_nothing, wrong_words, unknown_firm,
+         words_of_a_stranger, stranger_in_a_firms_name, second_connection, numbers_are_not_reset, reset_as_the_first,
+         reset_behind_messages, reset_behind_a_refusal, heartbeats, late_logon, logon_at_fault, by_tls, tls_begun_anew,
+         certificate_of_another_firm, certificate_of_another_authority, plain_to_tls]

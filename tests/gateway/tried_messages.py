@@ -208,29 +208,31 @@ def fields_of_no_use(stage: Stage) -> None:
 
 
 def no_frames(stage: Stage) -> None:
-    """What can't be parsed never reaches the log; the session goes on with the number that was not used."""
+    """A wrong sum is passed over, and its number not used; what is no frame otherwise is rejected by the session, and its number is
+    used. None of it is in the log, and the session goes on."""
     stage.open(stage.other, stage.investor)
-    odd = [
-        lambda wire: wire.message(b"Z", b"DLR1", cancel(b"x"), number=wire.number)[:-4] + b"999\x01",  # a wrong sum
-        lambda wire: framed(b"35=Z\x0149=DLR1\x0156=VENUE\x0134=%d\x0152=%s\x01nothing\x01" % (wire.number, now())),
-        lambda wire: framed(b"35=Z\x0149=DLR1\x0156=VENUE\x0134=%d\x0152=%s\x01=x\x01" % (wire.number, now())),
-    ]
-    number = 1
-    for place, bytes_of in enumerate(odd):
-        before = stage.entries_of(stage.dealer)
-        with on_a_wire(stage, number) as wire:
-            wire.raw(bytes_of(wire))
+    head = b"35=Z\x0149=DLR1\x0156=VENUE\x0134=%d\x0152=%s\x01"
+    odd: list[tuple[bytes, tuple[bytes | None, bytes]]] = [
+        (b"nothing\x01", (b"52", b"17")), (b"=x\x01", (None, b"0")), (b"58=a\x01b\x01", (b"58", b"17")), (b"35=0\x01", (b"35", b"13")),
+        (b"8=FIX.4.2\x01", (b"8", b"13")), (b"58=x", (b"58", b"6"))]
+    with on_a_wire(stage) as wire:
+        wire.raw(wire.message(b"Z", b"DLR1", cancel(b"x"), number=wire.number)[:-4] + b"999\x01")
+        for place, (tail, fault) in enumerate(odd):
+            number, wire.number = wire.number, wire.number + 1
+            wire.raw(framed(head % (number, now()) + tail))
+            reject = wire.read_until(lambda message: message.value(45) == b"%d" % number)
+            check(reject is not None and (reject.kind, reject.value(1181)) == (b"3", None), "no Reject of the session for %r" % tail)
+            check((reject.value(371), reject.value(373)) == fault, "it is %r" % reject.raw)
             wire.raw(wire.message(b"Z", b"DLR1", cancel(b"n%d" % place)))
-            check(answered(wire, b"n%d" % place).value(297) == b"9", "the message after no frame %d is not answered" % place)
-            number = wire.number
-        check(stage.entries_of(stage.dealer) == before + 1, "no frame %d is in the log" % place)
+            check(answered(wire, b"n%d" % place).value(297) == b"9", "the message after %r is not answered" % tail)
+    check(stage.entries_of(stage.dealer) == len(odd), "%d entries" % stage.entries_of(stage.dealer))
     stage.whole()
 
 
 def no_numbers_of_the_venue(stage: Stage) -> None:
-    """What is no frame of the venue's uses up no number of its own: a 34 more, tags that are no tags."""
+    """What is no frame of the venue's uses up no number of its own: tags that are no tags, and those of a frame."""
     stage.open(stage.other, stage.investor)
-    tails = [b"34=5\x01", b"0117=x\x01", b"1234567890=x\x01", b"8=x\x01", b"9=5\x01", b"5000=\x01"]
+    tails = [b"0117=x\x01", b"1234567890=x\x01", b"8=x\x01", b"9=5\x01", b"5000=\x01"]
     with on_a_wire(stage) as wire:
         for place, tail in enumerate(tails):
             wire.raw(wire.message(b"Z", b"DLR1", cancel(b"x"), tail=tail))
@@ -241,6 +243,23 @@ def no_numbers_of_the_venue(stage: Stage) -> None:
     ledger = stage.door.ledger()
     wanted = answers(list(stage.door.programs.venue), ledger.day())["DLR1"]
     check(not any(b"\x01371=34\x01" in frame for frame in wanted), "the venue was given a number that it does not expect")
+    stage.whole()
+
+
+def no_number(stage: Stage) -> None:
+    """A message without a number, with two, or with one that is none: the session is logged out with a text, and no number is used."""
+    stage.open(stage.other, stage.investor)
+    number = 1
+    for numbers in (b"", b"34=%d\x0134=%d\x01", b"34=x%d\x01", b"34=429496729%d\x01", b"34=-%d\x01"):
+        with on_a_wire(stage, number) as wire:
+            number = wire.number
+            told = numbers % ((number,) * numbers.count(b"%d"))
+            wire.raw(framed(b"35=Z\x0149=DLR1\x0156=VENUE\x01" + told + b"52=%s\x0150=T1\x01298=4\x01" % now()))
+            wire.raw(wire.message(b"Z", b"DLR1", cancel(b"behind"), number=number))
+            message = wire.read_kind(b"5")
+            check(message is not None and message.value(58), "no Logout with a text for %r" % told)
+            check(wire.closed_within(LONG), "the connection stays for %r" % told)
+    check(stage.entries_of(stage.dealer) == 0, "%d entries" % stage.entries_of(stage.dealer))
     stage.whole()
 
 
@@ -277,8 +296,8 @@ def faster_than_the_log(stage: Stage) -> None:
     stage.whole()
 
 
-def longer_than_the_limit(stage: Stage) -> None:
-    """A message past `message_bytes` ends the connection, and memory does not grow with it."""
+def longer_than_may_be(stage: Stage) -> None:
+    """A message past 65,536 bytes ends the connection with a Logout, and memory does not grow with it."""
     stage.open(stage.other, stage.investor)
     with on_a_wire(stage) as wire:
         before = stage.memory()
@@ -326,4 +345,4 @@ def asks_and_does_not_read(stage: Stage) -> None:
 
 TRIED = [every_byte_in_text, another_firms_words, five_thousand_bytes, about_the_longest_frame, microseconds,
          wrong_clock, poss_resend, unknown_trader, poss_dup, fields_of_no_use, no_frames, no_numbers_of_the_venue,
-         no_header_field, faster_than_the_log, longer_than_the_limit, one_that_does_not_read, asks_and_does_not_read]
+         no_number, no_header_field, faster_than_the_log, longer_than_may_be, one_that_does_not_read, asks_and_does_not_read]

@@ -30,10 +30,11 @@ def framed(body: bytes) -> bytes:
 
 
 class Wire:
-    def __init__(self, port: int, context: ssl.SSLContext | None = None, begun: ssl.SSLSession | None = None) -> None:
-        """`begun` is a session of TLS that it would resume."""
+    def __init__(self, port: int, context: ssl.SSLContext | None = None, begun: ssl.SSLSession | None = None,
+                 source: str = "127.0.0.1") -> None:
+        """`begun` is a session of TLS that it would resume, `source` the address of the loopback that it comes from."""
         # Of sendall() this is the limit for all bytes together.
-        plain = socket.create_connection(("127.0.0.1", port), timeout=2 * LONG)
+        plain = socket.create_connection(("127.0.0.1", port), timeout=2 * LONG, source_address=(source, 0))
         plain.setsockopt(socket.IPPROTO_TCP, socket.TCP_NODELAY, 1)
         self.socket = context.wrap_socket(plain, server_hostname="localhost", session=begun) if context else plain
         self.name, self.number, self.waiting, self.is_over = b"", 1, b"", False

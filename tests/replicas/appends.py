@@ -3,8 +3,8 @@
 
 usage: appends.py OUT [--seconds N] [--images FOLDER]
 
-Runs terms_test and log_test of OUT, the folder in which the gateway was built, on the primary, and
-log_bench with one, two and four logs.
+Runs terms_test, log_test and connection_log_test of OUT, the folder in which the gateway was built,
+on the primary, and log_bench with one, two and four logs.
 """
 
 import argparse
@@ -35,7 +35,8 @@ def tried(machine: Machine, out: Path, seconds: int) -> int:
     """Runs the tests and the measurement; how many tests failed."""
     inside = machine.network.words(GATEWAYS[0].name)
     failed, connection = 0, connection_to(machine.site)
-    for test in (["terms_test"], ["log_test", str(machine.folder)]):
+    folder = str(machine.folder)
+    for test in (["terms_test"], ["log_test", folder], ["connection_log_test", folder]):
         words = [*inside, str(out / test[0]), *test[1:], connection]
         status = subprocess.run(words, check=False).returncode
         print("%s: %s" % (test[0], "failed" if status else "passed"), flush=True)

@@ -9,11 +9,13 @@ from parts.run import Fault
 WITHOUT_TERMS = """
 SET search_path TO {schema};
 DROP TRIGGER one_term ON entry;
+DROP TRIGGER one_term ON connection;
 CREATE OR REPLACE FUNCTION speak(mine INTEGER) RETURNS VOID LANGUAGE SQL AS '';
 CREATE OR REPLACE FUNCTION take_over(name TEXT)
     RETURNS TABLE (new_term INTEGER, old_backend INTEGER, old_began TIMESTAMPTZ)
     LANGUAGE SQL AS $$ SELECT 1, 0, now() $$;
 ALTER TABLE entry DROP CONSTRAINT entry_pkey;
+ALTER TABLE connection DROP CONSTRAINT connection_pkey;
 ALTER TABLE sent DROP CONSTRAINT sent_pkey;
 ALTER TABLE outgoing DROP CONSTRAINT outgoing_pkey;
 """

@@ -1,0 +1,54 @@
+#include "sessions.h"
+
+#include "session.h"
+
+#include <stdexcept>
+
+namespace gateway {
+
+std::string session_name(const std::string &venue, const std::string &firm) {
+    return venue.empty() ? firm : venue + "/" + firm;
+}
+
+Sessions::Sessions(const std::vector<SessionStart> &starts, EngineEvents &events) {
+    for (const SessionStart &start : starts) {
+        sessions_[session_name(start.venue, start.firm)] =
+            std::make_unique<FirmSession>(start, events);
+    }
+}
+
+Sessions::~Sessions() = default;
+
+// One by one: two names together may be another pair's, too.
+FirmSession *Sessions::named_by(const std::string &firm, const std::string &venue) const {
+    for (const auto &session : sessions_) {
+        if (session.second->is_named(firm, venue)) {
+            return session.second.get();
+        }
+    }
+    return nullptr;
+}
+
+FirmSession *Sessions::any() const {
+    return sessions_.empty() ? nullptr : sessions_.begin()->second.get();
+}
+
+FirmSession &Sessions::of(const std::string &name) const {
+    const auto found = sessions_.find(name);
+    if (found == sessions_.end()) {
+        throw std::runtime_error("no session " + name);
+    }
+    return *found->second;
+}
+
+void Sessions::deliver(const Delivery &delivery) const {
+    of(delivery.session).deliver(delivery);
+}
+
+void Sessions::log_out(const std::string &reason) const {
+    for (const auto &session : sessions_) {
+        session.second->log_out(reason);
+    }
+}
+
+} // namespace gateway

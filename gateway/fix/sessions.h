@@ -1,0 +1,51 @@
+// All sessions of a gateway.
+#ifndef GATEWAY_FIX_SESSIONS_H
+#define GATEWAY_FIX_SESSIONS_H
+
+#include "engine.h"
+#include "turns.h"
+
+#include <map>
+#include <memory>
+#include <string>
+#include <vector>
+
+namespace gateway {
+
+class FirmSession;
+
+// One a firm and venue, for as long as this stands.
+class Sessions {
+  public:
+    Sessions(const std::vector<SessionStart> &starts, EngineEvents &events);
+    ~Sessions();
+    Sessions(const Sessions &) = delete;
+    Sessions &operator=(const Sessions &) = delete;
+
+    // The session that a Logon with this SenderCompID (49) and TargetSubID (57) names; null where
+    // it names none.
+    FirmSession *named_by(const std::string &firm, const std::string &venue) const;
+    std::size_t count() const { return sessions_.size(); }
+    // One of them, whichever; null where there is none.
+    FirmSession *any() const;
+    // Turns at the judging of passwords, of whoever connects.
+    Turns &turns() const { return turns_; }
+    // By session_name(). Throws std::runtime_error where there is none.
+    FirmSession &of(const std::string &name) const;
+
+    // Gives a message to its session, as Engine::deliver().
+    void deliver(const Delivery &delivery) const;
+    // Has all that are logged on log out, at their next tick.
+    void log_out(const std::string &reason) const;
+
+  private:
+    // Each hash takes 16 MB, and a processor for tens of milliseconds.
+    static constexpr std::size_t judged_at_once = 4;
+
+    mutable Turns turns_{judged_at_once};
+    std::map<std::string, std::unique_ptr<FirmSession>> sessions_; // by session_name()
+};
+
+} // namespace gateway
+
+#endif

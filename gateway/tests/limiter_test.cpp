@@ -1,0 +1,146 @@
+// What anybody may cause is told ten times a minute of each kind, and counted; and as what it may
+// stand in a line.
+//
+// usage: limiter_test
+#include "check.h"
+#include "limiter.h"
+#include "operator_events.h"
+#include "printable.h"
+
+#include <sstream>
+
+#include <spdlog/sinks/ostream_sink.h>
+
+namespace gateway::tests {
+
+namespace {
+
+using namespace std::chrono_literals;
+
+// A clock that goes on when it is told to.
+struct Time {
+    Limiter::Clock::time_point now{};
+    Limiter limiter{[this] { return now; }};
+
+    // How many of so many are told.
+    unsigned told_of(unsigned count, const std::string &kind) {
+        unsigned told = 0;
+        for (unsigned each = 0; each < count; ++each) {
+            told += limiter.ask(kind).told ? 1 : 0;
+        }
+        return told;
+    }
+};
+
+void ten_a_minute() {
+    Time time;
+    same(10U, time.told_of(100, "a"), "of a hundred at once");
+    same(10U, time.told_of(15, "b"), "of another kind");
+    time.now += 59s;
+    same(0U, time.told_of(5, "a"), "before the minute is over");
+    time.now += 1s;
+    const Limiter::Answer answer = time.limiter.ask("a");
+    check(answer.told, "none is told after a minute");
+    same(95U, answer.left_out, "left out before it");
+    same(0U, time.limiter.ask("a").left_out, "left out after that");
+}
+
+// Whatever minute is looked at: one a second for ten minutes.
+void any_minute() {
+    Time time;
+    std::deque<int> told;
+    for (int second = 0; second < 600; ++second) {
+        if (time.limiter.ask("a").told) {
+            told.push_back(second);
+        }
+        time.now += 1s;
+    }
+    check(told.size() > 90, fmt::format("{} are told of ten minutes", told.size()));
+    for (std::size_t at = 10; at < told.size(); ++at) {
+        check(told[at] - told[at - 10] >= 60, fmt::format("eleven up to second {}", told[at]));
+    }
+}
+
+// Nothing more of a kind comes, and its count is told all the same: once, and as one of the ten.
+void the_rest() {
+    Time time;
+    time.told_of(12, "a");
+    time.told_of(10, "b");
+    check(time.limiter.rest().empty(), "the rest is told at once");
+    time.now += 60s;
+    const auto rest = time.limiter.rest();
+    same<std::size_t>(1, rest.size(), "kinds of which some were left out");
+    check(rest[0].kind == "a" && rest[0].left_out == 2, "the rest is another");
+    same(9U, time.told_of(20, "a"), "beside the rest");
+    const auto last = time.limiter.last_rest();
+    check(last.size() == 1 && last[0].left_out == 11, "the last rest is another");
+    check(time.limiter.last_rest().empty(), "the last rest is told twice");
+}
+
+// Whoever has always another kind.
+void many_kinds() {
+    Time time;
+    unsigned told = 0;
+    for (int kind = 0; kind < 100'000; ++kind) {
+        told += time.limiter.ask(std::to_string(kind)).told ? 1 : 0;
+    }
+    check(told <= 64 * 10, fmt::format("{} are told of as many kinds", told));
+}
+
+void texts() {
+    same<std::string>("a|b'c?d?",
+                      printable("a\x01"
+                                "b\"c\nd\xff",
+                                20),
+                      "a text");
+    same<std::string>("abcdef", printable("abcdef", 6), "one that fits");
+    same<std::string>("abc...", printable("abcdefg", 6), "one that does not");
+    same<std::string>("ab", printable("abc", 2), "one without room for dots");
+}
+
+// Lines about strangers, as the operator reads them.
+void lines() {
+    std::ostringstream written;
+    auto events = std::make_shared<spdlog::logger>(
+        "test", std::make_shared<spdlog::sinks::ostream_sink_mt>(written));
+    events->set_pattern("%Y-%m-%dT%H:%M:%S.%eZ %l %v");
+    Metrics metrics(0);
+    OperatorEvents told(metrics, events);
+    unsigned strangers = 0;
+    told.tell_strangers_to([&](const ConnectionFacts &, const std::string &) { ++strangers; });
+    const ConnectionFacts facts{"[2001:db8:1111:2222:3333:4444:5555:6666]:65535",
+                                std::string(5000, 'C'), true};
+    for (int count = 0; count < 1000; ++count) {
+        told.stranger(facts, "too many strangers of an address", std::string(9000, '\n'));
+        told.logon_refused("DEALERS1", facts, "wrong password");
+    }
+    told.tell_last_rest();
+    same(1000U, strangers, "strangers that the log is told of");
+    std::istringstream lines(written.str());
+    unsigned count = 0;
+    for (std::string line; std::getline(lines, line); ++count) {
+        check(line.size() <= 200, fmt::format("a line of {} bytes", line.size()));
+    }
+    same(22U, count, "lines");
+    const std::string text = written.str();
+    for (const char *part : {"refused what=\"wrong password\" firm=DEALERS1 address=[2001:db8:",
+                             "left out what=\"wrong password\" lines=990", "certificate=\"CCC"}) {
+        check(text.find(part) != std::string::npos, std::string("no line has ") + part);
+    }
+}
+
+} // namespace
+
+} // namespace gateway::tests
+
+int main(int count, char **words) {
+    using namespace gateway::tests;
+    return run_with(count, words, 0, 0, "limiter_test", [](std::span<char *>) {
+        ten_a_minute();
+        any_minute();
+        the_rest();
+        many_kinds();
+        texts();
+        lines();
+    });
+}

@@ -1,0 +1,319 @@
+// Who a venue's day lets in, and what it puts into its log of them: Logons judged, connections and
+// the messages that came on them, strangers, and connections that their gateway left open.
+//
+// usage: who_it_was_test FOLDER
+#include "check.h"
+#include "frame.h"
+#include "message.h"
+#include "password.h"
+#include "reader.h"
+#include "refusal_words.h"
+#include "sqlite_statement.h"
+#include "translation.h"
+#include "venue_day.h"
+
+#include <chrono>
+#include <csignal>
+#include <ctime>
+#include <filesystem>
+#include <fstream>
+#include <memory>
+
+#include <crypt.h>
+
+namespace gateway::tests {
+
+namespace {
+
+using namespace std::chrono_literals;
+
+// A venue that says nothing but that it has read each line.
+constexpr const char *venue_text = R"sh(
+lines=0 begun=
+while IFS= read -r line; do
+    lines=$((lines + 1))
+    case $begun$line in
+    %%) begun=+ ;;
+    +*) echo "done $lines" ;;
+    esac
+done
+)sh";
+
+Config config_of(const std::filesystem::path &folder) {
+    std::filesystem::remove_all(folder);
+    std::filesystem::create_directories(folder);
+    std::ofstream(folder / "venue.sh") << venue_text;
+    Config config;
+    config.command = {"sh", (folder / "venue.sh").string()};
+    config.program = "/bin/sh";
+    config.configuration = "version = 1\n";
+    config.firms = {today(), {"F", "G", "NOPASS"}};
+    config.sqlite = folder / "day.db";
+    config.credentials["F"] = {"fred", new_hash("right"), ""};
+    config.credentials["G"] = {"gail", new_hash("other"), ""};
+    return config;
+}
+
+// A gateway's day up to where its engine would take connections.
+struct OpenedDay {
+    explicit OpenedDay(const Config &given)
+        : config(given), engine({}, {}, told), day(config, metrics, status, events, told) {
+        told.tell_strangers_to([this](const ConnectionFacts &facts, const std::string &why) {
+            day.put_stranger(facts, why);
+        });
+        day.follow([] { return true; });
+        host = day.session_starts().at(0).host;
+        day.start(engine);
+    }
+
+    const Config config;
+    Metrics metrics{0};
+    std::shared_ptr<spdlog::logger> events = std::make_shared<spdlog::logger>("none");
+    Status status{events};
+    OperatorEvents told{metrics, events};
+    Engine engine;
+    VenueDay day;
+    SessionHost *host = nullptr;
+};
+
+struct JudgedLogon {
+    LogonFacts facts; // firm, username, password, over_tls, certificate
+    Refusal refusal;
+};
+
+void judged(const std::filesystem::path &folder) {
+    Config config = config_of(folder);
+    config.engine.client_certificates = true;
+    OpenedDay opened(config);
+    for (const JudgedLogon &each : {
+             JudgedLogon{{"F", "fred", "right", true, "F"}, Refusal::none},
+             JudgedLogon{{"NOBODY", "fred", "right", true, "F"}, Refusal::unknown_name},
+             JudgedLogon{{"", "", "", true, ""}, Refusal::unknown_name},
+             JudgedLogon{{"NOPASS", "fred", "right", true, "NOPASS"}, Refusal::no_access},
+             JudgedLogon{{"F", "gail", "right", true, "F"}, Refusal::wrong_name},
+             JudgedLogon{{"F", "fred", "other", true, "F"}, Refusal::wrong_password},
+             JudgedLogon{{"F", "fred", "", true, "F"}, Refusal::wrong_password},
+             JudgedLogon{{"F", "fred", std::string("right\0x", 7), true, "F"},
+                         Refusal::wrong_password},
+             JudgedLogon{{"F", "fred", "right", true, "G"}, Refusal::wrong_certificate},
+             JudgedLogon{{"F", "fred", "right", true, ""}, Refusal::wrong_certificate},
+             JudgedLogon{{"F", "fred", "other", true, "G"}, Refusal::wrong_password},
+         }) {
+        const Refusal refusal = opened.host->judge(each.facts);
+        check(refusal == each.refusal,
+              fmt::format("{} {} {}: refusal {}", each.facts.firm, each.facts.username,
+                          each.facts.certificate, static_cast<int>(refusal)));
+    }
+}
+
+// Of this thread's processor, so that other processes do not matter much: the least of some.
+std::chrono::nanoseconds work_of(SessionHost &host, const LogonFacts &facts) {
+    const auto spent = [] {
+        timespec now{};
+        ::clock_gettime(CLOCK_THREAD_CPUTIME_ID, &now);
+        return std::chrono::seconds(now.tv_sec) + std::chrono::nanoseconds(now.tv_nsec);
+    };
+    auto least = std::chrono::nanoseconds::max();
+    for (int count = 0; count < 5; ++count) {
+        const auto begin = spent();
+        host.judge(facts);
+        least = std::min(least, spent() - begin);
+    }
+    return least;
+}
+
+// A name that nobody has is as much work as one that somebody has, a wrong username as much as a
+// wrong password, and a password as much as any other, also one that crypt(5) does not take.
+void as_long_for_every_name(const std::filesystem::path &folder) {
+    OpenedDay opened(config_of(folder));
+    const auto right = work_of(*opened.host, {"F", "fred", "right", false, ""});
+    std::vector<LogonFacts> all;
+    for (const std::size_t length : {0, 511, 512, 513, 3000}) {
+        all.push_back({"F", "fred", std::string(length, 'x'), false, ""});
+        all.push_back({"NOBODY", "fred", std::string(length, 'x'), false, ""});
+    }
+    all.push_back({"F", "fred", std::string("right\0x", 7), false, ""});
+    all.push_back({"F", "fred", std::string("\0", 1), false, ""});
+    all.push_back({"NOBODY", "fred", "right", false, ""});
+    all.push_back({"NOPASS", "fred", "right", false, ""});
+    all.push_back({"F", "x", "right", false, ""});
+    for (const LogonFacts &facts : all) {
+        check(opened.host->judge(facts) != Refusal::none, "a wrong one is let in");
+        const auto work = work_of(*opened.host, facts);
+        check(work > right / 2 && work < right * 2,
+              fmt::format("{} {}, {} bytes: {} ns, and {} ns of one that is right", facts.firm,
+                          facts.username, facts.password.size(), work.count(), right.count()));
+    }
+}
+
+// A hash of a method and a cost of crypt(5), `$6$` or `$2b$`.
+std::string hash_by(const char *method, unsigned long cost, const char *password) {
+    char setting[CRYPT_GENSALT_OUTPUT_SIZE] = "";
+    check(::crypt_gensalt_rn(method, cost, nullptr, 0, setting, sizeof setting) != nullptr,
+          std::string("no salt of ") + method);
+    const auto data = std::make_unique<crypt_data>();
+    return ::crypt_r(password, setting, data.get());
+}
+
+// Also where firms' passwords are hashed by several methods, one at several costs.
+void as_long_with_several_methods(const std::filesystem::path &folder) {
+    Config config = config_of(folder);
+    config.credentials["F"].password_hash = hash_by("$6$", 90'000, "right");
+    config.credentials["G"].password_hash = hash_by("$2b$", 8, "other");
+    OpenedDay opened(config);
+    check(opened.host->judge({"F", "fred", "right", false, ""}) == Refusal::none &&
+              opened.host->judge({"G", "gail", "other", false, ""}) == Refusal::none,
+          "a right password is refused");
+    check(opened.host->judge({"F", "fred", "other", false, ""}) == Refusal::wrong_password &&
+              opened.host->judge({"G", "gail", "right", false, ""}) == Refusal::wrong_password,
+          "another firm's password is taken");
+    const auto right = work_of(*opened.host, {"F", "fred", "right", false, ""});
+    for (const char *name : {"G", "NOPASS", "NOBODY", "NOBODY2", "NOBODY8", "A", ""}) {
+        const auto work = work_of(*opened.host, {name, "fred", "right", false, ""});
+        check(work > right / 2 && work < right * 2,
+              fmt::format("{}: {} ns, and {} ns of F", name, work.count(), right.count()));
+    }
+}
+
+void settings() {
+    for (const auto &[hash, setting] : std::vector<std::pair<std::string, std::string>>{
+             {"$y$j9T$abc./$hash", "$y$j9T$"},
+             {"$6$salt$hash", "$6$"},
+             {"$6$rounds=90000$salt$hash", "$6$rounds=90000$"},
+             {"$2b$12$abcdefghijklmnopqrstuuhash", "$2b$12$"},
+             {"$7$CU..../....salt$hash", "$7$CU..../...."},
+             {"$1$salt$hash", "$1$"},
+             {"$", "$"},
+             {"", ""},
+         }) {
+        same(setting, setting_of(hash), "the setting of " + hash);
+    }
+    check(setting_of(new_hash("a")) == setting_of(new_hash("b")), "two settings of new hashes");
+}
+
+WireMessage message_of(std::uint32_t number) {
+    const std::string body = with_soh(
+        fmt::format("35=Z|49=F|56=VENUE|34={}|52=20250314-09:00:00.000|50=T|298=4|", number));
+    const std::string bytes = framed(body);
+    Reader reader;
+    reader.add(bytes.data(), bytes.size());
+    WireMessage message;
+    check(reader.next(message) && message.heard == Heard::message, "no message: " + message.why);
+    return message;
+}
+
+// Whether a message of F is taken on a connection.
+bool is_taken(SessionHost &host, std::uint32_t number, const Receipt &receipt) {
+    try {
+        return host.received("F", message_of(number), receipt) == 0;
+    } catch (const std::runtime_error &) {
+        return false;
+    }
+}
+
+// What the log has of its connections, a line each: all but times and hashes.
+std::vector<std::string> rows_of(const Config &config) {
+    const auto connection = sqlite::connect(config.sqlite.string(), SQLITE_OPEN_READONLY);
+    sqlite::Statement row(connection.get(),
+                          "SELECT event || ' ' || entry || ' ' || coalesce(number, '-') || ' ' || "
+                          "coalesce(firm, '-') || ' ' || address || ' ' || "
+                          "coalesce(certificate, '-') || ' ' || coalesce(why, '-') || ' ' || "
+                          "left_out FROM connection ORDER BY place");
+    std::vector<std::string> rows;
+    while (row.step()) {
+        rows.push_back(row.bytes(0));
+    }
+    return rows;
+}
+
+void same_rows(const Config &config, const std::vector<std::string> &wanted) {
+    same(fmt::format("{}", fmt::join(wanted, "\n")),
+         fmt::format("{}", fmt::join(rows_of(config), "\n")), "the rows of connections");
+}
+
+const ConnectionFacts at_f{"10.0.0.1:4001", "F", true};
+
+// Messages come on a connection from its Logon to its end, and on no other.
+void on_a_connection(const std::filesystem::path &folder) {
+    const Config config = config_of(folder);
+    {
+        OpenedDay opened(config);
+        SessionHost &host = *opened.host;
+        const auto now = std::chrono::system_clock::now();
+        check(!is_taken(host, 2, {1, now}), "a message is taken before a Logon");
+        same(1U, host.logon_accepted("F", at_f), "the number of the first connection");
+        check(is_taken(host, 2, {1, now}), "a message is not taken after its Logon");
+        check(!is_taken(host, 3, {2, now}) && !is_taken(host, 3, {0, now}),
+              "a message is taken on another connection");
+        host.connection_ended("F", 1, "Connection\nreset");
+        check(!is_taken(host, 3, {1, now}), "a message is taken after its connection's end");
+        same(2U, host.logon_accepted("F", {"10.0.0.1:4002", "", false}), "of the second");
+        // The clock is set back.
+        check(is_taken(host, 3, {2, now}) && is_taken(host, 4, {2, now - 1s}),
+              "a message of the second is not taken");
+        // The one that has it says so late.
+        same(3U, host.logon_accepted("F", at_f), "of the third");
+        host.connection_ended("F", 2, "late");
+        host.all_received();
+        opened.day.finish();
+        opened.day.end();
+    }
+    same_rows(config,
+              {"logon 0 1 F 10.0.0.1:4001 F - 0", "end 1 1 F 10.0.0.1:4001 F Connection?reset 0",
+               "logon 1 2 F 10.0.0.1:4002 - - 0", "end 3 2 F 10.0.0.1:4002 - another one began 0",
+               "logon 3 3 F 10.0.0.1:4001 F - 0"});
+    const auto entries = open_sqlite(config.sqlite.string())->reader()->entries(1, 9);
+    same<std::size_t>(3, entries.size(), "entries");
+    same(1U, entries[0].connection.value_or(0), "the first one's connection");
+    same(2U, entries[1].connection.value_or(0), "the second one's");
+    same(entries[1].received, entries[2].received, "a receipt on one connection that falls");
+    OpenedDay again(config);
+    same(4U, again.host->logon_accepted("G", at_f), "after a start");
+    again.day.end();
+    const auto rows = rows_of(config);
+    same<std::string>("end 3 3 F 10.0.0.1:4001 F its gateway was gone 0", rows.at(5),
+                      "the end of the one that was open");
+}
+
+// However often strangers come: ten rows of each kind, and a count.
+void strangers(const std::filesystem::path &folder) {
+    const Config config = config_of(folder);
+    {
+        OpenedDay opened(config);
+        for (int count = 0; count < 500; ++count) {
+            opened.told.stranger(
+                {"10.0.0.9:1", std::string("\xff\x01", 2) + std::string(900, 'x'), true},
+                stranger_words::no_logon, "not to be kept");
+            opened.host->logon_refused("F", {"10.0.0.9:2", "", false},
+                                       refusal_words::wrong_password);
+        }
+        opened.day.finish();
+        opened.day.end();
+    }
+    std::vector<std::string> wanted;
+    for (int count = 0; count < 10; ++count) {
+        wanted.push_back("stranger 0 - - 10.0.0.9:1 ?|" + std::string(195, 'x') + "... no Logon 0");
+        wanted.push_back("refused 0 - F 10.0.0.9:2 - wrong password 0");
+    }
+    wanted.push_back("left out 0 - -  - no Logon 490");
+    wanted.push_back("left out 0 - -  - wrong password 490");
+    same_rows(config, wanted);
+}
+
+} // namespace
+
+} // namespace gateway::tests
+
+int main(int count, char **words) {
+    using namespace gateway::tests;
+    return run_with(count, words, 1, 1, "who_it_was_test FOLDER", [](std::span<char *> given) {
+        std::signal(SIGPIPE, SIG_IGN);
+        const std::filesystem::path folder = std::filesystem::path(given[0]) / "who_it_was";
+        judged(folder);
+        as_long_for_every_name(folder);
+        as_long_with_several_methods(folder);
+        settings();
+        on_a_connection(folder);
+        strangers(folder);
+    });
+}
