@@ -8,8 +8,9 @@ refused.
 Each function that a wrong body changes is put beside the real one under a name of its own, with its
 proof files, and one `rt check` is asked for all of them and for the real ones, which have to be
 proved. What is refused is taken out of must-fail. What stays there is for `rt must-fail` to try: a
-wrong body that is proved, one whose refusal says only that a name is gone, and what can't stand
-beside (a definition, the clause of a law, a method of a trait, a change of several functions).
+wrong body that is proved, one that no goal refuses (a proof file names what is gone, or rewrites
+what is not there), and what can't stand beside (a definition, the clause of a law, a method of a
+trait, a change of several functions).
 Sources are as before in the end.
 """
 
@@ -26,7 +27,11 @@ from pathlib import Path
 FUNCTION = re.compile(r"^( *)(?:pub(?:\([a-z]+\))? )?(?:const )?fn (\w+)", re.MULTILINE)
 OWNER = re.compile(r"^impl\b(?:<(?:[^<>]|<[^<>]*>)*>)? *(.*?) *\{$", re.MULTILINE)
 ABOVE = re.compile(r" *(///|//|#\[)")
-GONE = re.compile(r"has no field|is not in scope|has no `|was not admitted")
+NO_GOAL = re.compile(
+    r"has no field|is not in scope|has no `|was not admitted"
+    r"|no occurrence of the path|rewrites nothing in the goal"
+)
+UNPROVED = re.compile(r"note: (?:\./)?(src/[^:]+):(\d+):\d+: it is not proved")
 REJECTED = re.compile(r"\berror\[[\w-]+\]")
 
 
@@ -76,6 +81,16 @@ class Twin:
     body: WrongBody
     real: Function
     name: str
+    lines: range = range(0)  # of its source, once it stands there
+
+    @property
+    def file(self) -> str:
+        return self.body.changes[0][0]
+
+    def goals(self, told: list[str]) -> list[str]:
+        """The goals in its source that a check did not prove."""
+        found = [(UNPROVED.match(line), line) for line in told]
+        return [line for at, line in found if at and at[1] == self.file and int(at[2]) in self.lines]
 
 
 def module_of(crate: Path, file: Path) -> list[str]:
@@ -146,7 +161,7 @@ def put_twins(crate: Path, twins: list[Twin]) -> None:
     """Writes the twins beside the real functions, with their proof files."""
     by_file: dict[str, list[Twin]] = {}
     for twin in twins:
-        by_file.setdefault(twin.body.changes[0][0], []).append(twin)
+        by_file.setdefault(twin.file, []).append(twin)
     for file, some in by_file.items():
         path = crate / file
         text = path.read_text(encoding="utf-8")
@@ -158,8 +173,20 @@ def put_twins(crate: Path, twins: list[Twin]) -> None:
             own = re.sub(rf"\bfn {twin.real.name}\b", f"fn {twin.name}", own, count=1)
             text = f"{text[: twin.real.ends]}\n{own}{text[twin.real.ends :]}"
         path.write_text(text, encoding="utf-8")
+        for twin in some:
+            twin.lines = lines_of(crate, text, twin)
     for twin in twins:
         put_proofs(crate, twin)
+
+
+def lines_of(crate: Path, text: str, twin: Twin) -> range:
+    """The lines of a twin in its source, which has this text."""
+    named = re.search(rf"\bfn {twin.name}\b", text)
+    place = function_at(crate, twin.file, text, named.start()) if named else None
+    if place is None:
+        return range(0)
+    first, behind = (text.count("\n", 0, at) + 1 for at in (place.begins, place.ends))
+    return range(first, behind)
 
 
 def put_proofs(crate: Path, twin: Twin) -> None:
@@ -197,8 +224,8 @@ def verdict_of(lines: list[str], twin: Twin) -> str:
     if not said.startswith(("not proved", "no proof")):
         return f"not tried: {said}"
     errors = [line for line in lines if f"/{twin.name}/" in line and ": error: " in line]
-    if errors and all(GONE.search(line) for line in errors):
-        return "a name of the proof is gone"
+    if errors and all(NO_GOAL.search(line) for line in errors) and not twin.goals(lines):
+        return "no goal refuses it"
     return "refused"
 
 
