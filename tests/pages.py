@@ -1,7 +1,7 @@
 #!/usr/bin/env python3
 """Checks the pages (.md) of this repository.
 
-    tests/pages.py [--venue PROGRAM]     names, links, commands, and what scripts write into pages
+    tests/pages.py [--venue PROGRAM]     names, links, commands, clauses, and what scripts write
     tests/pages.py --words               how many words a person wrote, page by page
 
 PROGRAM is a built rfq_venue, or words as "python3 tests/model/program.py"; without it the commands
@@ -15,6 +15,7 @@ import argparse
 import sys
 from pathlib import Path
 
+from page_checks.clauses import check_clauses
 from page_checks.commands import check_commands
 from page_checks.links import check_links
 from page_checks.names import check_names
@@ -39,6 +40,7 @@ def check_pages(root: Path, files: list[str], pages: list[Page], program: str | 
     checked.add(check_names(pages, words))
     checked.add(check_links(pages, words))
     checked.add(check_written(root))
+    checked.add(check_clauses(root))
     return checked
 
 

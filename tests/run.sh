@@ -5,13 +5,17 @@
 #
 #     tests/run.sh                 the gate first
 #     tests/run.sh --beside        the short forms alone, with the program that stands
+#     tests/run.sh --quick         ten minutes from a fresh clone, with `rt` or without: the second
+#                                  implementation of the venue stands in the program's place, and
+#                                  nothing is proved
 #
 # Each short form tells that it begins, and what it installs, and prints a line of its own with its seed
 # and its time; one that fails is counted, its last lines are printed, and the others go on. Its limit of
 # time is many times what it takes, also on two processors that have other work: one that is not done by
 # then hangs, has failed, and ends with all that it started. What a machine can't do (a package that can't be
-# had, no root) is told as not run, and counts neither as passed nor as failed. The day of a gateway ends at
-# midnight in UTC: what would come too near to it waits for the next day, on top of its limit of time.
+# had, no root) is told as not run, and counts neither as passed nor as failed; nor does a test that is
+# skipped, and the form's line says why it was. The day of a gateway ends at midnight in UTC: what would
+# come too near to it waits for the next day, on top of its limit of time.
 #
 # SEED is the seed of all (1), JOBS how many processors they take (all). GATEWAY has a gateway that is
 # built already. MINUTES is the time for everything (no limit): a form that can't be done in what is left
@@ -26,45 +30,73 @@ most=$((${MINUTES:-1440} * 60))
 least=300 # seconds: no form is begun with less
 in_day=1500 # seconds: so near to midnight in UTC a test waits for it at most, by gateway/midnight.py
 program=$root/crates/rfq_venue/out/rfq_venue
-gateway=${GATEWAY:-}
+gateway=${GATEWAY:-$root/gateway/out/mireseason-gateway}
+passes='s/^\([0-9]*\) passed, 0 failed$/\1/p'
+unittests='/^Ran /h; /^OK$/{x;s/^Ran \([0-9]*\) tests* in .*/\1/p;}' # with none skipped
 work=$(mktemp -d) || exit 2
 images=
 child=
-passed=0
-failed=0
+asides=
 end() {
-    [ -z "$child" ] || kill "$child" 2>/dev/null
+    # shellcheck disable=SC2086 # a word for each process
+    kill $child $asides 2>/dev/null
     rm -rf "$work" ${images:+"$images"}
 }
 trap end EXIT
 trap 'exit 143' HUP INT TERM
 exec </dev/null
 : >"$work/absent"
+: >"$work/counts"
 export LC_ALL=C.UTF-8
 # Compilers, databases and browsers want a place of their own.
 [ -n "${HOME:-}" ] && [ -w "$HOME" ] || export HOME="$work"
 
 # count GOOD BAD
 count() {
-    passed=$((passed + $1))
-    failed=$((failed + $2))
+    echo "$1 $2" >>"$work/counts"
 }
 
-# in_time SECONDS COMMAND ..: so that a signal to this script ends the command too. cut says whether its time is over.
+# total: the last line, of all that was counted.
+total() {
+    awk -v more="${1:-}" '{ passed += $1; failed += $2 }
+        END { print passed + 0 " passed, " failed + 0 " failed" more; exit failed > 0 }' "$work/counts"
+}
+
+# debians_python: the one Python for all, since it alone has Debian's modules.
+debians_python() {
+    first=$(command -v python3)
+    [ -n "$first" ] && [ "$(readlink -f "$first")" != "$(readlink -f /usr/bin/python3)" ] || return 0
+    echo "python3: $first is first on the PATH; the tests take /usr/bin/python3, which has Debian's modules" >&2
+    mkdir "$work/bin" && ln -s /usr/bin/python3 "$work/bin/python3" && export PATH="$work/bin:$PATH"
+}
+
+# aside COMMAND ..: beside the others.
+aside() {
+    (
+        child=
+        trap '[ -z "$child" ] || kill "$child" 2>/dev/null' EXIT
+        trap 'exit 143' HUP INT TERM
+        "$@"
+    ) &
+    asides="$asides $!"
+}
+
+# in_time SECONDS COMMAND ..: so that a signal to this script ends the command too. cut says whether its time is over,
+# and the file $told has what the command said.
 in_time() {
     seconds=$1 status=0 cut=
     shift
     since=$(date +%s)
-    timeout -k 60 "$seconds" "$@" >"$work/told" 2>&1 &
+    timeout -k 60 "$seconds" "$@" >"$told" 2>&1 &
     child=$!
     wait "$child" || status=$?
     # By SIGTERM, or by SIGKILL where that did not end it.
     if [ "$status" = 124 ] || [ "$status" = 137 ] && [ $(($(date +%s) - since)) -ge "$seconds" ]; then
         cut=yes
         kill -KILL "-$child" 2>/dev/null # who is left of its processes
-        echo "not done in $seconds s" >>"$work/told"
+        echo "not done in $seconds s" >>"$told"
     elif [ "$status" != 0 ]; then
-        echo "ended with status $status" >>"$work/told" # over 128: by a signal
+        echo "ended with status $status" >>"$told" # over 128: by a signal
     fi
     child=
     return "$status"
@@ -80,20 +112,26 @@ what_is_left() {
 can_have() {
     seconds=$1
     shift
-    ! printf '%s\n' "$@" | grep -xF -f "$work/absent" >"$work/lacking" || return 1
-    ! timeout "$seconds" tests/packages.sh "$@" 2>"$work/packages" || return 0
-    sed -n 's/ is not installed.*//p' "$work/packages" | tee "$work/lacking" >>"$work/absent"
+    ! printf '%s\n' "$@" | grep -xF -f "$work/absent" >"$told.lacking" || return 1
+    ! timeout "$seconds" tests/packages.sh "$@" 2>"$told.packages" || return 0
+    sed -n 's/ is not installed.*//p' "$told.packages" | tee "$told.lacking" >>"$work/absent"
     return 1
 }
 
-# form NAME SECONDS PACKAGES COUNT COMMAND ..: COUNT is a sed script that prints how many were tried.
+# skips: what the tests of $told have skipped, how often and why.
+skips() {
+    sed -n -e "s/.* \.\.\. skipped ['\"]\(.*\)['\"]\$/\1/p" -e 's/: its part is left out$//p' "$told" | sort | uniq -c |
+        while read -r times why; do printf ', %s skipped: %s' "$times" "$why"; done
+}
+
+# form NAME SECONDS PACKAGES COUNT COMMAND ..: COUNT is a sed script that prints how many passed.
 form() {
-    name=$1 limit=$2 packages=$3 tried=$4
+    name=$1 limit=$2 packages=$3 tried=$4 told=$work/$1
     shift 4
     left=$(what_is_left)
     # shellcheck disable=SC2086 # a word for each package
     if [ "$left" -ge "$least" ] && ! can_have "$left" $packages; then
-        echo "$name: not run: can't be installed: $(paste -sd ' ' "$work/lacking")"
+        echo "$name: not run: can't be installed: $(paste -sd ' ' "$told.lacking")"
         return
     fi
     began=$(date +%s)
@@ -105,21 +143,22 @@ form() {
     [ "$limit" -lt "$left" ] || limit=$left
     echo "$name: begins, $limit s at most" >&2
     good=
-    ! in_time "$limit" "$@" || good=$(sed -n "$tried" "$work/told" | tail -n 1)
+    ! in_time "$limit" "$@" || good=$(sed -n "$tried" "$told" | tail -n 1)
     took=$(($(date +%s) - began))
     if [ -n "$cut" ] && [ "$limit" = "$left" ]; then
         echo "$name: not run to its end: $left s were left"
         return
     fi
+    sed -n '/^[a-z_]*: not run: /p' "$told" # parts of it
     if [ -n "$good" ]; then
-        echo "$name: $good passed, seed $seed, $took s"
+        echo "$name: $good passed$(skips), seed $seed, $took s"
         count "$good" 0
         return
     fi
-    tail -n 30 "$work/told"
-    good=$(sed -n 's/^\([0-9]*\) passed, [1-9][0-9]* failed$/\1/p' "$work/told" | tail -n 1)
-    bad=$(sed -n 's/^[0-9]* passed, \([1-9][0-9]*\) failed$/\1/p' "$work/told" | tail -n 1)
-    echo "$name: ${good:-0} passed, ${bad:-1} failed, seed $seed, $took s"
+    good=$(sed -n 's/^\([0-9]*\) passed, [1-9][0-9]* failed$/\1/p' "$told" | tail -n 1)
+    bad=$(sed -n 's/^[0-9]* passed, \([1-9][0-9]*\) failed$/\1/p' "$told" | tail -n 1)
+    tail -n 30 "$told" >"$told.end"
+    echo "$name: ${good:-0} passed, ${bad:-1} failed$(skips), seed $seed, $took s" | cat "$told.end" -
     count "${good:-0}" "${bad:-1}"
 }
 
@@ -142,19 +181,64 @@ day_form() {
 
 gate() {
     rt ci | tee "$work/gate"
-    told=$(sed -n 's/^\([0-9]*\) passed, \([0-9]*\) failed$/\1 \2/p' "$work/gate" | tail -n 1)
-    told=${told:-0 1}
-    echo "gate: ${told% *} passed, ${told#* } failed"
-    count "${told% *}" "${told#* }"
+    verdict=$(sed -n 's/^\([0-9]*\) passed, \([0-9]*\) failed$/\1 \2/p' "$work/gate" | tail -n 1)
+    verdict=${verdict:-0 1}
+    echo "gate: ${verdict% *} passed, ${verdict#* } failed"
+    count "${verdict% *}" "${verdict#* }"
+    if ! tests/edits/remarks.sh "$work/gate" >"$work/remarks"; then
+        echo "gate: no goal refuses these wrong bodies, so they show nothing: change a value, and keep the names"
+        cat "$work/remarks"
+        count 0 "$(wc -l <"$work/remarks")"
+    fi
+}
+
+try_pages() {
+    form pages 1800 python3 "$passes" python3 tests/pages.py --venue "$program"
+    form page_checks 1800 python3 "$unittests" env PYTHONPATH=tests python3 -m unittest page_checks.test_checks
+}
+
+# What the gateway's tests stand on.
+try_midnight() {
+    form midnight 1800 python3 "$unittests" env PYTHONPATH=tests/gateway python3 -m unittest test_midnight
+}
+
+try_engines() {
+    form engines 1800 "g++ libquickfix-dev" '$s/.*/1/p' tests/engines/run.sh "$program"
 }
 
 build_gateway() {
-    [ -z "$gateway" ] || return
-    gateway=$root/gateway/out/mireseason-gateway
+    [ -z "${GATEWAY:-}" ] || return
     # shellcheck disable=SC2016 # of the inner shell
     day_form build 7200 "$(gateway/packages.sh)" 's/^100% tests passed, 0 tests failed out of \([0-9]*\)$/\1/p' \
         sh -c 'cmake -S gateway -B gateway/out && cmake --build gateway/out -j "$1" &&
             python3 tests/gateway/midnight.py && ctest --test-dir gateway/out --output-on-failure' build "$jobs"
+}
+
+try_gateway() {
+    day_form gateway 5400 "$(gateway/packages.sh) openssl postgresql clang libclang-rt-dev" "$passes" \
+        env VENUE="$program" GATEWAY="$gateway" SEED="$seed" tests/gateway/run.sh short
+}
+
+try_audit() {
+    told=$work/browser
+    [ "$(what_is_left)" -lt "$least" ] || can_have "$(what_is_left)" chromium ||
+        echo "audit: without a browser: chromium can't be installed"
+    day_form audit 5400 "python3 python3-jinja2 python3-psycopg2 openssl sqlite3 postgresql" "$passes" \
+        env VENUE="$program" GATEWAY="$gateway" SEED="$seed" tests/audit/run.sh short
+}
+
+# The text cases of the crates, by a program that is compiled without its proofs. It checks each step, so days at their
+# limits would take it more minutes than all else.
+try_cases() {
+    if ! command -v rt >/dev/null; then
+        echo "cases: not run: there is no rt on the PATH"
+        return
+    fi
+    long='commands-greatest|commands-limits|commands-long_days|dealer-full-days|due-limits|investor-full-days'
+    files=$(cd crates/all_cases && printf '%s\n' data/*.cases | grep -vE "/($long)\.cases")
+    echo "cases: not run: $(echo "$long" | tr '|' ' '): days at their limits, which the gate runs"
+    # shellcheck disable=SC2086 # a word for each file
+    form cases 1800 python3 "$passes" env -C crates/all_cases nice rt try --seconds 900 -- $files
 }
 
 # It runs tests of crates, too, as the gate has built them.
@@ -179,29 +263,28 @@ try_replicas() {
         images=$work/images
     fi
     day_form replicas 3600 "$(gateway/packages.sh) postgresql patroni etcd-server etcd-client iproute2" \
-        's/^\([0-9]*\) passed, 0 failed$/\1/p' env VENUE="$program" GATEWAY="$gateway" \
+        "$passes" env VENUE="$program" GATEWAY="$gateway" \
         tests/replicas/run.sh short --messages 200 --faults 4 --seed "$seed" --images "$images"
     rm -rf "$images"
 }
 
 beside() {
     if ! [ -x "$program" ]; then
-        echo "there is no program $program: nothing beside the gate can be tried"
+        echo "there is no program $program: nothing beside the gate can be tried." \
+            "examples/prove_venue.py proves and builds it (37 minutes on four processors);" \
+            "tests/run.sh --quick does without it"
         count 0 1
         return
     fi
     began_beside=$(date +%s)
-    form pages 1800 python3 's/^\([0-9]*\) passed, 0 failed$/\1/p' \
-        python3 tests/pages.py --venue "$program"
-    form page_checks 1800 python3 's/^Ran \([0-9]*\) tests in .*/\1/p' \
-        env PYTHONPATH=tests python3 -m unittest page_checks.test_checks
-    form midnight 1800 python3 's/^Ran \([0-9]*\) tests in .*/\1/p' \
-        env PYTHONPATH=tests/gateway python3 -m unittest test_midnight
-    form engines 1800 "g++ libquickfix-dev" '$s/.*/1/p' tests/engines/run.sh "$program"
+    try_pages
+    try_midnight
+    try_engines
     form model 1800 python3 's/^\([0-9]*\) inputs, .*: no difference$/\1/p' \
         python3 tests/model/compare.py "$program" 1000 "$seed" "$jobs"
-    form threads 1800 python3 's/^\([0-9]*\) passed, 0 failed$/\1/p' \
-        python3 tests/model/lawful.py "$program" 40 "$seed"
+    form threads 1800 python3 "$passes" python3 tests/model/lawful.py "$program" 40 "$seed"
+    form trades 1800 python3 "$passes" python3 tests/model/trades.py replay "$program" 300 "$seed"
+    form trades_on_threads 1800 python3 "$passes" python3 tests/model/trades.py threads "$program" 40 "$seed"
     form isolation 1800 python3 's/^seeds .*: \([0-9]*\) pairs with equal due lists.*/\1/p' \
         python3 tests/isolation/pairs.py "$program" 1000 "$seed" "$jobs"
     form investors 1800 python3 's/^seeds .*: \([0-9]*\) pairs with equal lists.*/\1/p' \
@@ -214,27 +297,46 @@ beside() {
         python3 tests/hostile/full_day.py run "$program" 3
     try_refused_memory
     build_gateway
-    day_form gateway 5400 "$(gateway/packages.sh) openssl postgresql" 's/^\([0-9]*\) passed, 0 failed$/\1/p' \
-        env VENUE="$program" GATEWAY="$gateway" SEED="$seed" tests/gateway/run.sh short
-    [ "$(what_is_left)" -lt "$least" ] || tests/packages.sh chromium 2>"$work/packages" ||
-        echo "audit: without a browser: chromium can't be installed"
-    day_form audit 5400 "python3 python3-jinja2 python3-psycopg2 openssl sqlite3 postgresql" \
-        's/^Ran \([0-9]*\) tests* in .*/\1/p' \
-        env VENUE="$program" GATEWAY="$gateway" SEED="$seed" tests/audit/run.sh short
+    try_gateway
+    try_audit
     try_replicas
     echo "beside the gate: $(($(date +%s) - began_beside)) s"
 }
 
+# The second implementation stands in the program's place. What needs no gateway is tried while it is built.
+quick() {
+    program="python3 tests/model/program.py"
+    told=$work/all
+    # shellcheck disable=SC2046 # a word for each package
+    can_have "$(what_is_left)" $(gateway/packages.sh) openssl postgresql python3-jinja2 python3-psycopg2 sqlite3 chromium ||
+        echo "can't be installed: $(paste -sd ' ' "$told.lacking")"
+    export PROVE=no # no part of the gateway's tests does
+    aside try_cases
+    aside try_pages
+    aside try_midnight
+    build_gateway
+    aside try_gateway
+    aside try_engines
+    try_audit
+    wait
+    echo "quick: $(($(date +%s) - start)) s"
+}
+
+debians_python
 case "${1:-}" in
 '')
     gate
     beside
     ;;
 --beside) beside ;;
+--quick)
+    quick
+    total " (nothing was proved)"
+    exit
+    ;;
 *)
     sed -n '/^#     tests/,/^set/s/^# \{0,1\}//p' "$0" | sed '$d' >&2
     exit 2
     ;;
 esac
-echo "$passed passed, $failed failed"
-[ "$failed" = 0 ]
+total

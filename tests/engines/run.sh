@@ -1,26 +1,41 @@
 #!/bin/sh
 # Tries the data dictionary and the venue's program with QuickFIX, an engine that others wrote. README.md says what is
 # looked at. usage: tests/engines/run.sh [PROGRAM]
+# PROGRAM is a file, or a command of several words, as "python3 tests/model/program.py", the second implementation.
 set -eu
 
 here=$(cd "$(dirname "$0")" && pwd)
 root=$(cd "$here/../.." && pwd)
-program=${1:-$root/crates/rfq_venue/out/rfq_venue}
+command=${1:-$root/crates/rfq_venue/out/rfq_venue}
 dictionary=$root/fix/MIRESEASON.xml
 venue=$root/examples/three-dealers.toml
 
-if [ ! -x "$program" ]; then
-    echo "there is no program $program: run 'rt run' in crates/rfq_venue first, or name one" >&2
+# The words of the program, with whole paths, as one file that is started.
+if [ -f "$command" ]; then
+    set -- "$(realpath "$command")"
+else
+    # shellcheck disable=SC2086 # its words
+    set -- $command
+fi
+if ! command -v "$1" >/dev/null; then
+    echo "there is no program $command: 'rt run' in crates/rfq_venue builds it;" \
+        "or name one, as \"python3 tests/model/program.py\"" >&2
     exit 2
 fi
-case $program in
-/*) ;;
-*) program=$(pwd)/$program ;;
-esac
-
 work=$(mktemp -d)
 trap 'rm -rf "$work"' EXIT
 mkdir "$work/inputs" "$work/frames"
+program=$work/program
+{
+    echo '#!/bin/sh'
+    printf exec
+    for word in "$@"; do
+        [ ! -f "$word" ] || word=$(realpath "$word")
+        printf " '%s'" "$word"
+    done
+    echo ' "$@"'
+} >"$program"
+chmod +x "$program"
 
 # One input for each list of what is due and each day of the venue. A day is a file that has its configuration, or
 # steps alone: then its configuration is a file of the same name, or that of the examples.

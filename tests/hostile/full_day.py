@@ -16,12 +16,15 @@ usage: full_day.py write [REQUESTS] > DAY              REQUESTS of each investor
 import subprocess
 import sys
 from collections.abc import Iterable
+from pathlib import Path
 from typing import NamedTuple
 
 sys.dont_write_bytecode = True
+sys.path.insert(0, str(Path(__file__).resolve().parents[1] / "model"))
 
 from full_market import ASKED, ASKED_AT_ONCE, DEADLINE, HIT, HITS, INVESTORS, QUOTED, QUOTES
 from full_market import REQUESTS, Ask, Fields, Quote, asked_of, day, quotes_of
+from venue_command import words_of
 
 
 SHAPES = REQUESTS, REQUESTS // 4, REQUESTS // 16  # requests of an investor on a day
@@ -290,9 +293,9 @@ def taken(lines: Iterable[str], requests: int) -> Market:
     return Market(dealers, investors)
 
 
-def run(program: str, requests: int) -> dict[str, int]:
+def run(program: list[str], requests: int) -> dict[str, int]:
     """A day, and how much there was of what; Unlawful where it is not by the rules."""
-    words, text = [program, "day", "--woven"], day(requests).encode()
+    words, text = [*program, "day", "--woven"], day(requests).encode()
     ran = subprocess.run(words, input=text, capture_output=True, timeout=600)
     told = ran.stderr.decode(errors="replace")
     check(ran.returncode == 0 and told == "", "status", ran.returncode, told)
@@ -310,7 +313,7 @@ def main() -> None:
     if mode == "write":
         sys.stdout.write(day(int(words[0]) if words else REQUESTS))
         return
-    program, days = words[0], int(words[1]) if len(words) > 1 else len(SHAPES)
+    program, days = words_of(words[0]), int(words[1]) if len(words) > 1 else len(SHAPES)
     hits = 0
     for number in range(days):
         try:

@@ -24,8 +24,9 @@ import sys
 import time
 
 ROOT = os.path.dirname(os.path.dirname(os.path.dirname(os.path.abspath(__file__))))
-sys.path.insert(0, os.path.join(ROOT, "tests", "isolation"))
+sys.path[:0] = [os.path.join(ROOT, "tests", folder) for folder in ("isolation", "model")]
 from dealer_days import Day, Story  # noqa: E402
+from venue_command import words_of  # noqa: E402
 
 MEMORY = 400_000_000
 SECONDS = 10  # of a processor
@@ -46,7 +47,7 @@ def limited():
 def answered(program, words, text):
     """Runs the program; answers what became of it in a word, or ends with what went wrong."""
     try:
-        run = subprocess.run([program] + words, input=text, capture_output=True, timeout=PATIENCE, preexec_fn=limited)
+        run = subprocess.run([*program, *words], input=text, capture_output=True, timeout=PATIENCE, preexec_fn=limited)
     except subprocess.TimeoutExpired:
         return None, "no end after %d seconds" % PATIENCE
     if run.returncode == -signal.SIGXCPU:
@@ -78,7 +79,7 @@ def lawful(program, draw):
     configuration, steps = days(draw)
     text = configuration + "\n%%\n" + steps + "\n"
     if what == "alone":
-        due = subprocess.run([program, "due", "DLR1"], input=text.encode(), capture_output=True)
+        due = subprocess.run([*program, "due", "DLR1"], input=text.encode(), capture_output=True)
         return ["alone"] + frames, due.stdout
     if what == "compare":
         return ["compare", "DLR1"], (text + "%%\n" + "\n%%\n".join(days(draw)) + "\n").encode()
@@ -205,8 +206,9 @@ def large_inputs(program):
 
 
 if __name__ == "__main__":
+    venue = words_of(sys.argv[1])
     if sys.argv[2] == "large":
-        large_inputs(sys.argv[1])
+        large_inputs(venue)
     else:
         more = [int(word) for word in sys.argv[4:]]
-        spoilt_inputs(sys.argv[1], int(sys.argv[3]), *(more + [1, 2][len(more) :]))
+        spoilt_inputs(venue, int(sys.argv[3]), *(more + [1, 2][len(more) :]))

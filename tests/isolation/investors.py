@@ -20,6 +20,7 @@ from investor_days import Day, Story
 from lines import message_line  # of tests/model, as investor_days has it
 from pairs import difference
 from replay import investor_alone, seen_by
+from venue_command import words_of
 
 
 class Compared(NamedTuple):
@@ -32,18 +33,18 @@ class Compared(NamedTuple):
     fault: str
 
 
-def printed(program: str, day: Day) -> bytes:
+def printed(program: list[str], day: Day) -> bytes:
     """What the program prints of INV1; RuntimeError where it tells a fault."""
-    words = [program, "replay", "INV1", "--frames"]
+    words = [*program, "replay", "INV1", "--frames"]
     run = subprocess.run(words, input=day.text().encode(), capture_output=True, timeout=120)
     if run.returncode != 0:
         raise RuntimeError("status %d: %s" % (run.returncode, run.stderr.decode()))
     return run.stdout
 
 
-def told(program: str, one: Day, other: Day) -> bytes:
+def told(program: list[str], one: Day, other: Day) -> bytes:
     """What the program says of the two days, for INV1."""
-    words = [program, "compare", "--investor", "INV1"]
+    words = [*program, "compare", "--investor", "INV1"]
     both = one.text() + "%%\n" + other.text()
     return subprocess.run(words, input=both.encode(), capture_output=True, timeout=120).stdout
 
@@ -54,7 +55,7 @@ def viewed(day: Day) -> bytes:
     return b"".join(message_line(b"INV1", fields, True) + b"\n" for fields in desk.sent)
 
 
-def compared(work: tuple[str, int]) -> Compared:
+def compared(work: tuple[list[str], int]) -> Compared:
     program, seed = work
     days = [Day(Story(random.Random(seed)), random.Random("%d/%d" % (seed, n))) for n in (1, 2)]
     one, other = days
@@ -81,7 +82,7 @@ def compared(work: tuple[str, int]) -> Compared:
 
 
 def main() -> None:
-    program, pairs = sys.argv[1], int(sys.argv[2])
+    program, pairs = words_of(sys.argv[1]), int(sys.argv[2])
     first = int(sys.argv[3]) if len(sys.argv) > 3 else 1
     processes = int(sys.argv[4]) if len(sys.argv) > 4 else 2
     equal = other = messages = size = 0

@@ -24,6 +24,7 @@ from configuration import read_configuration
 from dealer_days import Day, Story
 from lines import StepReader, message_line
 from replay import Venue, alone
+from venue_command import words_of
 
 
 class Whole(NamedTuple):
@@ -70,19 +71,19 @@ def take(venue: Venue, kind: str, *step: object) -> None:
         times -= 1
 
 
-def printed(program: str, day: Whole) -> bytes:
+def printed(program: list[str], day: Whole) -> bytes:
     """What the program prints of DLR1; RuntimeError where it tells a fault."""
-    words = [program, "replay", "DLR1", "--frames"]
+    words = [*program, "replay", "DLR1", "--frames"]
     run = subprocess.run(words, input=day.text(), capture_output=True, timeout=120)
     if run.returncode != 0:
         raise RuntimeError("status %d: %s" % (run.returncode, run.stderr.decode()))
     return run.stdout
 
 
-def told(program: str, one: Whole, other: Whole) -> bytes:
+def told(program: list[str], one: Whole, other: Whole) -> bytes:
     """What the program says of the two days, for DLR1."""
     both = one.text() + b"%%\n" + other.text()
-    words = [program, "compare", "DLR1"]
+    words = [*program, "compare", "DLR1"]
     return subprocess.run(words, input=both, capture_output=True, timeout=120).stdout
 
 
@@ -100,7 +101,7 @@ def viewed(day: Whole) -> bytes:
     return b"".join(message_line(b"DLR1", fields, True) + b"\n" for fields in sent)
 
 
-def fault_of(program: str, days: Sequence[Whole], outs: Sequence[bytes]) -> str:
+def fault_of(program: list[str], days: Sequence[Whole], outs: Sequence[bytes]) -> str:
     """What is wrong with a pair and what was printed of each; empty where nothing is."""
     one, other = days
     if one.head == other.head or one.lines == other.lines:
@@ -117,7 +118,7 @@ def fault_of(program: str, days: Sequence[Whole], outs: Sequence[bytes]) -> str:
     return "" if told(program, one, other) == b"row equal\n" + due + sent else "another comparison"
 
 
-def compared(work: tuple[str, int]) -> Compared:
+def compared(work: tuple[list[str], int]) -> Compared:
     program, seed = work
     drawn = (Day(Story(random.Random(seed)), random.Random("%d/%d" % (seed, n))) for n in (1, 2))
     days = [whole(day) for day in drawn]
@@ -129,7 +130,7 @@ def compared(work: tuple[str, int]) -> Compared:
 
 
 def main() -> None:
-    program, pairs = sys.argv[1], int(sys.argv[2])
+    program, pairs = words_of(sys.argv[1]), int(sys.argv[2])
     first = int(sys.argv[3]) if len(sys.argv) > 3 else 1
     processes = int(sys.argv[4]) if len(sys.argv) > 4 else 2
     equal = other = messages = size = 0

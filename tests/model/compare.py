@@ -25,6 +25,7 @@ from investor_lines import investor_text
 from investor_lists import MadeUpInvestor
 from lines import due_text
 from replay import seen_by
+from venue_command import words_of
 
 
 # ---------------------------------------------------------------- the inputs of a seed
@@ -222,7 +223,7 @@ def model_answer(words, data):
 
 
 def program_answer(program, words, data):
-    run = subprocess.run([program, *words], input=data, capture_output=True)
+    run = subprocess.run([*program, *words], input=data, capture_output=True)
     return run.returncode, run.stdout, run.stderr
 
 
@@ -294,7 +295,7 @@ def main():
     words = sys.argv[1:]
     if words[0] == "--write":
         return write_inputs(int(words[1]))
-    program, wanted = words[0], int(words[1])
+    program, wanted = words_of(words[0]), int(words[1])
     first = int(words[2]) if len(words) > 2 else 1
     processes = int(words[3]) if len(words) > 3 else 1
     total, kinds = 0, collections.Counter()

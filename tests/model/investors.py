@@ -26,6 +26,7 @@ from lines import LineFault, StepReader
 from live import LiveDay
 from prices import price_text
 from replay import Venue, investor_alone, seen_by
+from venue_command import words_of
 
 Lines = list[bytes]
 BONDS = ("BONDA0000001", "BONDB0000002")
@@ -298,7 +299,7 @@ class Found(Search):
         return ended
 
 
-def threads(program: str, seed: int) -> tuple[int, list[str]]:
+def threads(program: list[str], seed: int) -> tuple[int, list[str]]:
     """How many messages the investors of a day on threads were sent, and those whose view differs."""
     try:
         configuration, inboxes, wanted = ran(program, seed)
@@ -321,7 +322,7 @@ TRIALS: dict[str, Callable[[int], tuple[int, list[str]]]] = {"views": views, "si
 
 def main() -> None:
     words = sys.argv[1:]
-    trial = partial(threads, words[3]) if words[0] == "threads" else TRIALS[words[0]]
+    trial = partial(threads, words_of(words[3])) if words[0] == "threads" else TRIALS[words[0]]
     count, first = int(words[1]), int(words[2]) if len(words) > 2 else 1
     found = failed = 0
     for seed in range(first, first + count):

@@ -27,6 +27,7 @@ from days import Day, Draw
 from frames import SOH, moment_text, read_frame
 from lines import LineFault, StepReader
 from replay import CLOCK, Venue
+from venue_command import words_of
 
 Actor = int | str
 Place = tuple[str, object]
@@ -289,18 +290,18 @@ def sent_in(configuration: Configuration, output: bytes) -> list[list[Message]]:
     return wanted
 
 
-def ran(program: str, seed: int) -> tuple[Configuration, Inboxes, list[list[Message]]]:
+def ran(program: list[str], seed: int) -> tuple[Configuration, Inboxes, list[list[Message]]]:
     """The day of this seed and what each firm was sent on it; ValueError where the program tells a fault."""
     head, lines = day_of(seed)
     configuration = read_configuration("\n".join(head).encode())
     text = joined("\n".join(head).encode(), b"\n".join(lines))
-    run = subprocess.run([program, "day", "--frames"], input=text, capture_output=True, timeout=600)
+    run = subprocess.run([*program, "day", "--frames"], input=text, capture_output=True, timeout=600)
     if run.returncode != 0:
         raise ValueError("status %d: %s" % (run.returncode, run.stderr.decode()))
     return configuration, inboxes_of(configuration, lines), sent_in(configuration, run.stdout)
 
 
-def held(program: str, seed: int) -> tuple[str, int]:
+def held(program: list[str], seed: int) -> tuple[str, int]:
     """What is wrong with the day of this seed, or nothing; and how many messages it had."""
     configuration, inboxes, wanted = ran(program, seed)
     search = Search(inboxes, wanted)
@@ -312,7 +313,7 @@ def held(program: str, seed: int) -> tuple[str, int]:
 
 
 def main() -> None:
-    program, count = sys.argv[1], int(sys.argv[2])
+    program, count = words_of(sys.argv[1]), int(sys.argv[2])
     first = int(sys.argv[3]) if len(sys.argv) > 3 else 1
     failed, messages = 0, 0
     for seed in range(first, first + count):

@@ -21,14 +21,15 @@ from days import Day, Draw
 from investor_lines import investor_text, read_investor_text
 from lines import due_text, read_due_text
 from replay import seen_by
+from venue_command import words_of
 
 Answer = tuple[int, bytes, bytes]
 Ask = Callable[[list[str], bytes], Answer]
 
 
-def asker(program: str | None) -> Ask:
+def asker(program: list[str] | None) -> Ask:
     def of_program(words: list[str], data: bytes) -> Answer:
-        run = subprocess.run([program, *words], input=data, capture_output=True)
+        run = subprocess.run([*program, *words], input=data, capture_output=True)
         return run.returncode, run.stdout, run.stderr
 
     return model_answer if program is None else of_program
@@ -94,7 +95,7 @@ def unread(day: Day) -> Iterator[str]:
 
 
 def main() -> None:
-    count, ask = int(sys.argv[1]), asker(sys.argv[2] if len(sys.argv) > 2 else None)
+    count, ask = int(sys.argv[1]), asker(words_of(sys.argv[2]) if len(sys.argv) > 2 else None)
     failed = 0
     for seed in range(1, count + 1):
         day = Day(Draw(seed))

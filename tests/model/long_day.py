@@ -21,6 +21,7 @@ from typing import BinaryIO
 sys.dont_write_bytecode = True
 
 from frames import SOH, moment_text, time_text, write_frame
+from venue_command import words_of
 
 DATE = b"20250314"
 DEALERS, INVESTORS = [b"DLR%d" % n for n in range(1, 9)], [b"INV%d" % n for n in range(1, 5)]
@@ -149,12 +150,12 @@ def run(words: list[str], day: Path) -> Told:
 
 
 def main() -> None:
-    program = sys.argv[1]
+    program = words_of(sys.argv[1])
     megabytes, seed = [int(word) for word in (sys.argv[2:] + ["100", "1"][len(sys.argv) - 2 :])]
     with tempfile.NamedTemporaryFile() as file:
         count = write_day(file, megabytes * 1_000_000, seed)
-        live = run([program, "live", "--frames", "--marks"], Path(file.name))
-        replay = run([program, "replay", "--live", "--frames"], Path(file.name))
+        live = run([*program, "live", "--frames", "--marks"], Path(file.name))
+        replay = run([*program, "replay", "--live", "--frames"], Path(file.name))
     sent = sum(live.counts.values())
     print("%d lines, %d messages to %d firms; live took %d MB, replay --live %d MB, %d bytes a message" % (
         count, sent, len(live.counts), live.memory // 1000, replay.memory // 1000, (replay.memory - live.memory) * 1000 // max(1, sent)))

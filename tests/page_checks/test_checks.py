@@ -5,12 +5,14 @@ Run: cd tests && python3 -m unittest page_checks.test_checks
 
 from __future__ import annotations
 
+import tempfile
 import unittest
 from pathlib import Path
 
 from promises import FileReader
 from reading_list import cited_by, lines_of
 
+from .clauses import BEGIN, END, HEAD, check_clauses
 from .commands import check_commands
 from .links import check_links
 from .names import check_names
@@ -89,6 +91,37 @@ class Checks(unittest.TestCase):
                  "<!-- written by tests/x.py -->", "nine", "<!-- end of what is written -->",
                  "last"]
         self.assertEqual(Page("a.md", lines).words(), 3)
+
+
+class Clauses(unittest.TestCase):
+    """The table of clauses names what there is."""
+
+    def found(self, *carried: str) -> list[str]:
+        """What is found of rows that say what carries them, over a crate of one law and one type."""
+        source = ("pub fn prices_rise()\n    ensures twice { true }\n{}\n\nimpl Desk {\n"
+                  "    pub fn ask(&self) -> u32\n        requires open { true }\n    {\n        1\n"
+                  "    }\n}\n")
+        with tempfile.TemporaryDirectory() as folder:
+            root = Path(folder)
+            for path in ("crates/desk/src", "docs"):
+                (root / path).mkdir(parents=True)
+            (root / "crates/desk/src/lib.rt").write_text(
+                "mod desk;\npub use desk::{Desk, prices_rise};\n", encoding="utf-8")
+            (root / "crates/desk/src/desk.rt").write_text(source, encoding="utf-8")
+            rows = [f"| prices rise | {words} |" for words in carried]
+            page = "\n".join([BEGIN, "", HEAD, "|---|---|", *rows, "", END, ""])
+            (root / "docs/PROOFS.md").write_text(page, encoding="utf-8")
+            return [finding.text for finding in check_clauses(root).findings]
+
+    def test_clauses(self) -> None:
+        self.assertEqual(self.found("`desk::prices_rise` (`twice`)", "`desk::prices_rise`",
+                                    "by no clause: a test"), [])
+        self.assertEqual(self.found("`desk::prices_rise` (`once`)"),
+                         ["desk::prices_rise has no clause once"])
+        self.assertEqual(self.found("`desk::prices_fall`"), ["desk gives out no prices_fall"])
+        self.assertEqual(self.found("`desk::Desk::ask`"), ["desk::Desk::ask ensures nothing"])
+        self.assertEqual(self.found("`room::prices_rise`"), ["there is no crate room"])
+        self.assertEqual(self.found(""), ["nothing carries this sentence"])
 
 
 class Written(unittest.TestCase):

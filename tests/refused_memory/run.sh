@@ -11,7 +11,7 @@ model=$root/tests/model/program.py
 examples=$root/examples
 
 if [ ! -x "$program" ]; then
-    echo "there is no built program: run 'rt run' in crates/rfq_venue first" >&2
+    echo "there is no built program $program, whose memory could be refused: 'rt run' in crates/rfq_venue builds it" >&2
     exit 2
 fi
 

@@ -4,7 +4,9 @@ use super::fixtures::{VENUE, are_views, day_text, is_woven, name_of, runs};
 use super::forced_days::{
     ForcedDay, GONE_BEFORE_A_HIT, HIT_BEFORE_A_CANCEL, WITHDRAWN_BEFORE_A_HIT,
 };
-use super::forced_ends::{AWARDED_AND_SWEPT, DECLINED_AND_TOO_LATE, DROPPED_OR_LIFTED};
+use super::forced_ends::{
+    AWARDED_AND_SWEPT, BOTH_DROPPED, DECLINED_AND_TOO_LATE, DROPPED_OR_LIFTED,
+};
 use super::scripts::{Script, kind_name};
 use fix_fields::time_text;
 use market_terms::RoomRef;
@@ -181,6 +183,7 @@ fn each_forced_day_goes_so(rt: HostRuntime) -> Result<(), Fail> {
         &HIT_BEFORE_A_CANCEL,
         &DECLINED_AND_TOO_LATE,
         &DROPPED_OR_LIFTED,
+        &BOTH_DROPPED,
         &AWARDED_AND_SWEPT,
     ] {
         goes_so(&rt, day)?;

@@ -136,6 +136,71 @@ pub(crate) const DROPPED_OR_LIFTED: ForcedDay = ForcedDay {
     ],
 };
 
+/// Two quotes that a cancel of all drops, which nobody hits: both are withdrawn.
+pub(crate) const BOTH_DROPPED: ForcedDay = ForcedDay {
+    name: "two drops that withdraw",
+    marks: &[
+        "before INV1 In",
+        "after INV1 Ready",
+        "before INV2 In",
+        "after INV2 Ready",
+        "before DLR2 In",
+        "before DLR2 Drop",
+        "after DLR2 Drop",
+        "before DLR2 Drop",
+        "after DLR2 Drop",
+    ],
+    lines: &[
+        INV1_ASKS_DLR2,
+        "say INV2 T9 09:00:00 R 131=B|146=1|48=BONDA0000001|22=4|54=1|38=2000000|126=20250314-09:05:00|453=1|448=DLR2|447=D|452=35",
+        DLR2_QUOTES,
+        "say DLR2 T2 09:00:20 S 117=a2|131=R2|48=BONDA0000001|22=4|133=99.25",
+        "say DLR2 T2 09:00:30 Z 298=4",
+    ],
+    sent: &[
+        DLR2_IS_SHOWN,
+        "DLR2 2 09:00:00.000 R 131=R2|146=1|55=[N/A]|48=BONDA0000001|22=4|54=1|38=2000000|126=20250314-09:05:00.000|453=1|448=INV2|447=D|452=13",
+        "DLR2 3 09:00:10.000 AI 131=R1|117=a1|297=0",
+        "DLR2 4 09:00:20.000 AI 131=R2|117=a2|297=0",
+        "DLR2 5 09:00:30.000 AI 117=a1|297=17",
+        "DLR2 6 09:00:30.000 AI 117=a2|297=17",
+        INV1_IS_ACCEPTED,
+        INV1_IS_QUOTED,
+        "INV1 3 09:00:30.000 AI 131=A|117=Q1|297=17",
+        "INV2 1 09:00:00.000 AI 131=B|297=0",
+        "INV2 2 09:00:20.000 S 131=B|117=Q1|55=[N/A]|48=BONDA0000001|22=4|54=1|133=99.25|135=2000000|537=1|453=1|448=DLR2|447=D|452=35",
+        "INV2 3 09:00:30.000 AI 131=B|117=Q1|297=17",
+    ],
+    done: &[
+        "DLR2 1 In 09:00:10.000",
+        "DLR2 2 Post 09:00:10.000",
+        "DLR2 3 Relay 09:00:10.000",
+        "DLR2 4 In 09:00:20.000",
+        "DLR2 5 Post 09:00:20.000",
+        "DLR2 6 Relay 09:00:20.000",
+        "DLR2 7 In 09:00:30.000",
+        "DLR2 8 Drop 09:00:30.000 4 withdrawn",
+        "DLR2 9 Unpost 09:00:30.000",
+        "DLR2 10 Drop 09:00:30.000 5 withdrawn",
+        "DLR2 11 Gone 09:00:30.000",
+        "DLR2 12 Unpost 09:00:30.000",
+        "DLR2 13 Gone 09:00:30.000",
+        "INV1 1 In 09:00:00.000",
+        "INV1 2 Open 09:00:00.000",
+        "INV1 3 Show 09:00:00.000",
+        "INV1 4 Ready 09:00:00.000",
+        "INV2 1 In 09:00:00.000",
+        "INV2 2 Open 09:00:00.000",
+        "INV2 3 Show 09:00:00.000",
+        "INV2 4 Ready 09:00:00.000",
+        "desk DLR2: INV1 3, INV2 3, DLR2 1, DLR2 4, DLR2 7, DLR2 8, DLR2 10",
+        "desk INV1: INV1 1, DLR2 3, DLR2 11",
+        "desk INV2: INV2 1, DLR2 6, DLR2 13",
+        "room INV1 1: INV1 2, INV1 4, DLR2 2, DLR2 9",
+        "room INV2 1: INV2 2, INV2 4, DLR2 5, DLR2 12",
+    ],
+};
+
 /// One request is awarded, with a cover and a dealer that is done away; the other expires at the
 /// second of its sweeps, and what follows comes before the third.
 pub(crate) const AWARDED_AND_SWEPT: ForcedDay = ForcedDay {
