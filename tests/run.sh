@@ -284,6 +284,7 @@ beside() {
         python3 tests/model/compare.py "$program" 1000 "$seed" "$jobs"
     form threads 1800 python3 "$passes" python3 tests/model/lawful.py "$program" 40 "$seed"
     form trades 1800 python3 "$passes" python3 tests/model/trades.py replay "$program" 300 "$seed"
+    form live_trades 1800 python3 "$passes" python3 tests/model/trades.py live "$program" 300 "$seed"
     form trades_on_threads 1800 python3 "$passes" python3 tests/model/trades.py threads "$program" 40 "$seed"
     form isolation 1800 python3 's/^seeds .*: \([0-9]*\) pairs with equal due lists.*/\1/p' \
         python3 tests/isolation/pairs.py "$program" 1000 "$seed" "$jobs"

@@ -1,10 +1,10 @@
 #!/usr/bin/env python3
 """Holds the laws on trades against days of a program, by what the two firms of each trade wrote and were sent.
 
-usage: trades.py replay|threads PROGRAM DAYS [FIRST_SEED]
+usage: trades.py replay|live|threads PROGRAM DAYS [FIRST_SEED]
 
-`replay` draws days of steps, half of which leave no duty; `threads` runs `PROGRAM day`. No rule of the market stands
-here. For each investor and each dealer, only their own messages are looked at:
+`replay` draws days of steps, half of which leave no duty; `live` takes them line by line, so that none is left;
+`threads` runs `PROGRAM day`. No rule of the market stands here. For each investor and each dealer, only their own messages are looked at:
 
 - what the venue showed the dealer in a QuoteRequest (35=R) is what the investor wrote;
 - each Quote (35=S) that it showed the investor is one that the dealer wrote and the venue accepted, with its price,
@@ -386,6 +386,15 @@ def quotes_among_others(draw: Draw, name: str, requests: int) -> Iterator[str]:
         yield "say %s T1 09:00:05 S 117=q%d|131=R%d|48=BONDA0000001|22=4|%s%s" % (name, n, request, price, until)
 
 
+def lived(program: list[str], seed: int) -> Played:
+    """A day that is taken line by line: no duty is left behind a line, and so none at its end."""
+    day = Day(Draw(seed))
+    configuration = read_configuration("\n".join(day.head).encode())
+    lines = [line for line in day.lines if not line.startswith(b"turn ")]
+    output = output_of(program, ["replay", "--live", "--frames"], day.head, lines)
+    return Played(configuration, inboxes_of(configuration, lines), sent_in(configuration, output), True)
+
+
 def threaded(program: list[str], seed: int) -> Played:
     head, lines = raced(Draw(seed)) if seed % 2 else day_of(seed)
     configuration = read_configuration("\n".join(head).encode())
@@ -395,7 +404,7 @@ def threaded(program: list[str], seed: int) -> Played:
 
 def main() -> None:
     kind, command, days, *rest = sys.argv[1:]
-    play = {"replay": replayed, "threads": threaded}[kind]
+    play = {"replay": replayed, "live": lived, "threads": threaded}[kind]
     program, first = words_of(command), int(rest[0]) if rest else 1
     failed, trades, unclear = 0, 0, 0
     for seed in range(first, first + int(days)):
