@@ -1,4 +1,5 @@
 mod ActorOrderLemmas
+mod CountedOrders
 mod DayFormLemmas
 mod InboxLemmas
 mod ListPlaces

@@ -8,7 +8,8 @@
 //!
 //! [`weave`] makes a list of steps of a record, which sends every firm what the record says: so
 //! what is promised of days that are replayed holds of that day. The order of these steps keeps
-//! what came before what ([`orders_keep_what_is_before`]). Memory aside, a record is refused as
+//! what came before what ([`orders_keep_what_is_before`]): it has each action once, behind all that
+//! are directly before it, and it counts them ([`orders_are_kept_by_counting`]). Memory aside, a record is refused as
 //! malformed exactly where it is of no day ([`well_formed_days_are_not_malformed`]). A day that has
 //! such an order is never called a cycle ([`days_with_an_order_are_no_cycle`]).
 #![tactic(auto)]
@@ -29,6 +30,7 @@ mod weaving;
 mod woven_steps;
 
 pub use order_laws::{
-    days_with_an_order_are_no_cycle, orders_keep_what_is_before, well_formed_days_are_not_malformed,
+    days_with_an_order_are_no_cycle, orders_are_kept_by_counting, orders_keep_what_is_before,
+    well_formed_days_are_not_malformed,
 };
 pub use weaving::{WeaveFault, weave};

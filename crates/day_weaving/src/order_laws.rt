@@ -1,6 +1,7 @@
 //! Laws of the orders that keep what is directly before what: what is true of every such order of
 //! every recorded day.
 ghost use Rattle.std.specs.Prelude.{◌≡◌, true, List, is_some};
+ghost use Rattle.std.specs.List.{AllZip};
 ghost use Rattle.venue_rows.specs.Rows.{Configuration};
 ghost use Rattle.day_weaving.specs.DayForm as form;
 ghost use Rattle.day_weaving.specs.DayOrder as spec;
@@ -10,6 +11,7 @@ ghost use Rattle.recorded_days.specs.Records.{ActionRef, RecordedDay};
 ghost use Rattle.day_weaving.specs.Weaving as weaving;
 ghost use Rattle.day_weaving.specs.declared.weave_plan.Slot.{Slot};
 ghost use Rattle.day_weaving.specs.declared.weaving.WeaveFault.{WeaveFault};
+ghost use Rattle.step_replay.specs.declared.steps.Step.{Step};
 
 /// A law: an order that keeps what is directly before what names each action of the day exactly
 /// once. Where the orders of the desks and rooms name each action exactly once too, as they do on
@@ -25,6 +27,25 @@ pub fn orders_keep_what_is_before()
         → spec.IsDirectlyBefore day one other → order.ComesBefore slots one other }
     ensures circle { (day : RecordedDay) (slots : List Slot) (actions : List ActionRef)
         → form.AreNamedOnce day → spec.IsCircle day actions → spec.KeepsOrder day slots → ⊥ }
+{}
+
+/// A law: what is kept by counting is an order by what is directly before what. Where the orders of
+/// the desks and rooms name each action exactly once, a list of actions has each in its turn, as
+/// [`weave`](crate::weave) counts them, exactly where it has each action of the day once, behind all
+/// that are directly before it. So the steps of a day that is woven are its actions in such an
+/// order, and where of some actions each has another of them directly before it, there is no such
+/// order. It does nothing.
+pub fn orders_are_kept_by_counting()
+    ensures kept { (day : RecordedDay) (slots : List Slot) → form.AreNamedOnce day
+        → spec.KeepsOrder day slots → order.IsOrder day slots }
+    ensures counted { (day : RecordedDay) (slots : List Slot) → form.AreNamedOnce day
+        → order.IsOrder day slots → spec.KeepsOrder day slots }
+    ensures woven { (config : Configuration) (day : RecordedDay) (steps : List Step)
+        → weaving.AreWoven config day steps
+        → (slots : List Slot) × order.IsOrder day slots
+        × AllZip (weaving.IsStepOf day) slots steps }
+    ensures circle { (day : RecordedDay) (slots : List Slot) (actions : List ActionRef)
+        → form.AreNamedOnce day → spec.IsCircle day actions → order.IsOrder day slots → ⊥ }
 {}
 
 /// A law: a record that is of a day of a venue is not malformed. So no malformed record is woven.
