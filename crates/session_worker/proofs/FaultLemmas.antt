@@ -1,27 +1,15 @@
 -- Which firm a fault names, and of what it is true.
 use Rattle.std.proofs.Common.{◌≡◌, ◌≢◌, ◌⊎◌, inl, inr, refl, ◌∙◌, sym, ap, subst, ℕ, suc, ◌+◌, ◌<◌}
-use Rattle.std.proofs.Common.{◌≤◌, min, Bool, true, false, cond, not, List, [], ◌∷◌, length}
-use Rattle.std.proofs.Common.{position, Option, Some, None, Result, Ok, Err, IfErr, IsErrAnd, IsOk}
-use Rattle.std.proofs.Common.{arith}
+use Rattle.std.proofs.Common.{◌≤◌, min, List, length, Result, Ok, Err, IfErr, IsErrAnd, IsOk, arith}
 use Rattle.std.proofs.lemmas.Bool.{cases_lt, false≢true}
-use Rattle.std.proofs.lemmas.Iterator.Adapters.{position_from-zero}
-use Rattle.std.proofs.lemmas.List.{length-map}
-use Rattle.std.specs.List.{position_from}
-use Rattle.std.specs.Option.{option_map, option_or}
-use Rattle.std.proofs.lemmas.Option.{same_Some}
 use Rattle.venue_rows.specs.Rows.{Configuration}
-use Rattle.recorded_days.specs.Records.{DealerLists, InvestorLists, RecordedDay}
 use Rattle.recorded_days.specs.declared.actions.Inbound.{Inbound}
 use Rattle.recorded_days.specs.declared.actions.Sweep.{Sweep}
-use Rattle.session_worker.specs.DayActions.{first_unleft, is_dealer_left, is_investor_left}
 use Rattle.session_worker.specs.DayActions.{number_at}
-use Rattle.session_worker.specs.DayFaults.{IsFaultOf, IsFirstOf, IsFirstUnleft, IsInboxAmong}
-use Rattle.session_worker.specs.DayFaults.{IsJoinedOf, JoinedDay, record_of}
-use Rattle.session_worker.specs.KeptDays.{without_rooms}
+use Rattle.session_worker.specs.DayFaults.{IsFaultOf, IsFirstOf, IsInboxAmong, IsJoinedOf, JoinedDay}
 use Rattle.session_worker.specs.declared.faults.DayFault.{DayFault}
 use Rattle.session_worker.specs.declared.faults.DayFault.TheVariants as fault
 use Rattle.session_worker.specs.declared.left_responses.LeftResponse.{LeftResponse}
-use Rattle.session_worker.proofs.LockLemmas.{some_is_none}
 
 -- what is said of the fault behind a `?` is said of the fault that it returns
 pub same_fault : {X : Type 0} (P : DayFault → Type 0) (r : Result X DayFault) (e : DayFault)
@@ -62,6 +50,7 @@ named_or_not firm (fault.Sweep room) = inr (λ is. cc)
 named_or_not firm (fault.Shown dealer) = inr (λ is. cc)
 named_or_not firm (fault.Relayed room) = inr (λ is. cc)
 named_or_not firm (fault.Answered room) = inr (λ is. cc)
+named_or_not firm (fault.Acted named) = inr (λ is. cc)
 named_or_not firm fault.Memory = inr (λ is. cc)
 
 module _ (X : Type 0) (why : DayFault) where
@@ -145,6 +134,7 @@ one_among first count firm low high (fault.Sweep room) e = e
 one_among first count firm low high (fault.Shown dealer) e = e
 one_among first count firm low high (fault.Relayed room) e = e
 one_among first count firm low high (fault.Answered room) e = e
+one_among first count firm low high (fault.Acted named) e = e
 one_among first count firm low high fault.Memory e = tt
 
 -- A fault of the whole day.
@@ -160,6 +150,7 @@ dealer_is_of config inboxes sweeps count all (fault.Sweep room) e = absurd e
 dealer_is_of config inboxes sweeps count all (fault.Shown dealer) e = absurd e
 dealer_is_of config inboxes sweeps count all (fault.Relayed room) e = absurd e
 dealer_is_of config inboxes sweeps count all (fault.Answered room) e = absurd e
+dealer_is_of config inboxes sweeps count all (fault.Acted firm) e = absurd e
 dealer_is_of config inboxes sweeps count all fault.Memory e = tt
 
 -- a firm of the investors
@@ -173,70 +164,8 @@ investor_is_of config inboxes sweeps first count from all (fault.Sweep room) e =
 investor_is_of config inboxes sweeps first count from all (fault.Shown dealer) e = absurd e
 investor_is_of config inboxes sweeps first count from all (fault.Relayed room) e = absurd e
 investor_is_of config inboxes sweeps first count from all (fault.Answered room) e = absurd e
+investor_is_of config inboxes sweeps first count from all (fault.Acted firm) e = absurd e
 investor_is_of config inboxes sweeps first count from all fault.Memory e = tt
-
--- the first place of a list that passes a test is one of it
-place_here : (test : Bool) (i found count : ℕ) (rest : Option ℕ)
-    → cond test (Some i) rest ≡ Some found → (rest ≡ Some found → found < i + 1 + count)
-    → found < i + suc count
-place_here true i found count rest e behind =
-    let is : i ≡ found = same_Some i found e in omega (arith, is)
-place_here false i found count rest e behind =
-    let below : found < i + 1 + count = behind e in omega (arith, below)
-
-place_below : {A : Type 0} (test : A → Bool) (i : ℕ) (xs : List A) (found : ℕ)
-    → position_from test i xs ≡ Some found → found < i + length xs
-place_below test i [] found e = absurd (some_is_none found (sym e))
-place_below test i (x ∷ xs) found e =
-    place_here (test x) i found (length xs) (position_from test (i + 1) xs) e
-    (λ behind. place_below test (i + 1) xs found behind)
-
-position_below : {A : Type 0} (test : A → Bool) (xs : List A) (found : ℕ)
-    → position test xs ≡ Some found → found < length xs
-position_below test xs found e =
-    let below : found < 0 + length xs =
-    place_below test 0 xs found (sym (position_from-zero test xs) ∙ e) in
-    omega (arith, below)
-
--- the number of a place in one of two lists
-number_below : (first second : Option ℕ) (dealers investors firm : ℕ)
-    → ((p : ℕ) → first ≡ Some p → p < dealers) → ((p : ℕ) → second ≡ Some p → p < investors)
-    → option_map number_at (option_or first (option_map (λ p. dealers + p) second)) ≡ Some firm
-    → firm < dealers + investors
-number_below (Some p) second dealers investors firm one other e =
-    let is : min p 65535 ≡ firm = same_Some (min p 65535) firm e in
-    let below : p < dealers = one p refl in
-    omega (arith, is, below)
-number_below None (Some p) dealers investors firm one other e =
-    let is : min (dealers + p) 65535 ≡ firm = same_Some (min (dealers + p) 65535) firm e in
-    let below : p < investors = other p refl in
-    omega (arith, is, below)
-number_below None None dealers investors firm one other e =
-    absurd (some_is_none firm (sym e))
-
--- the first firm of a day with an event that is not that of an action is one of the day
-unleft_below : (day : RecordedDay) (firm : ℕ)
-    → option_map number_at (first_unleft day) ≡ Some firm
-    → firm < length day.dealers + length day.investors
-unleft_below day firm e =
-    let at_dealer = λ (dealer : DealerLists). not (is_dealer_left day dealer) in
-    let at_investor = λ (investor : InvestorLists). not (is_investor_left day investor) in
-    number_below (position at_dealer day.dealers) (position at_investor day.investors)
-    (length day.dealers) (length day.investors) firm
-    (λ p is. position_below at_dealer day.dealers p is)
-    (λ p is. position_below at_investor day.investors p is) e
-
--- of a joined day, it is one of the venue
-unleft_is_of : (config : Configuration) (inboxes : List (List Inbound)) (joined : JoinedDay)
-    (firm : ℕ) → IsJoinedOf config inboxes joined → IsFirstUnleft config joined firm
-    → firm < length config.dealers + length config.investors
-unleft_is_of config inboxes joined firm of_day e =
-    let below : firm < length joined.dealers + length e.whole =
-    unleft_below (record_of joined e.whole) firm e.firm_is in
-    let same : length e.whole ≡ length joined.investors =
-    sym (length-map e.whole without_rooms) ∙ ap length e.have_rooms.alike
-    ∙ length-map joined.investors without_rooms in
-    omega (arith, below, same, of_day.dealers_are, of_day.investors_are)
 
 -- the first fault of a joined day of the venue
 pub first_is_of : (config : Configuration) (inboxes : List (List Inbound)) (sweeps : List Sweep)
@@ -245,13 +174,14 @@ pub first_is_of : (config : Configuration) (inboxes : List (List Inbound)) (swee
 first_is_of config inboxes sweeps joined of_day (fault.Told dealer) e =
     record { joined = joined; joined_of = of_day; first = e }
 first_is_of config inboxes sweeps joined of_day (fault.Sweep room) e =
-    record { joined = joined; joined_of = of_day; first = e }
+    inl (record { joined = joined; joined_of = of_day; first = e })
 first_is_of config inboxes sweeps joined of_day (fault.Shown dealer) e =
     record { joined = joined; joined_of = of_day; first = e }
 first_is_of config inboxes sweeps joined of_day (fault.Relayed room) e =
     record { joined = joined; joined_of = of_day; first = e }
 first_is_of config inboxes sweeps joined of_day (fault.Answered room) e =
     record { joined = joined; joined_of = of_day; first = e }
-first_is_of config inboxes sweeps joined of_day (fault.Inbox firm) e =
-    unleft_is_of config inboxes joined firm of_day e.5
+first_is_of config inboxes sweeps joined of_day (fault.Acted firm) e =
+    record { joined = joined; joined_of = of_day; first = e }
+first_is_of config inboxes sweeps joined of_day (fault.Inbox firm) e = absurd e
 first_is_of config inboxes sweeps joined of_day fault.Memory e = tt

@@ -1,8 +1,9 @@
 -- Why a day on threads has no record: which fault is the first, and of what it is true.
-use Rattle.std.specs.Prelude.{◌≡◌, ℕ, ◌+◌, ◌<◌, ◌≤◌, List, ◌++◌, length, map, Option, Some, None}
+use Rattle.std.specs.Prelude.{◌≡◌, ◌⊎◌, ℕ, ◌+◌, ◌<◌, ◌≤◌, Bool, not, List, ◌++◌, length, map, find}
+use Rattle.std.specs.Prelude.{Option, Some, None}
 use Rattle.std.specs.Option.{option_map}
 use Rattle.market_terms.specs.declared.rooms.RoomRef.{RoomRef}
-use Rattle.venue_rows.specs.Rows.{Configuration}
+use Rattle.venue_rows.specs.Rows.{Configuration, has_room}
 use Rattle.recorded_days.specs.Records.{DealerLists, InvestorLists, RecordedDay}
 use Rattle.recorded_days.specs.declared.actions.Action.{Action}
 use Rattle.recorded_days.specs.declared.actions.Inbound.{Inbound}
@@ -97,13 +98,14 @@ IsFirstOf config sweeps joined (fault.Answered room) =
     × (first_unshown joined.rooms joined.dealers ≡ None)
     × (unrelayed_of config joined ≡ None)
     × (unanswered_of config joined ≡ Some room)
-IsFirstOf config sweeps joined (fault.Inbox firm) =
+IsFirstOf config sweeps joined (fault.Acted firm) =
     (first_untold joined.rooms joined.dealers ≡ None)
     × (first_unswept sweeps joined.rooms ≡ None)
     × (first_unshown joined.rooms joined.dealers ≡ None)
     × (unrelayed_of config joined ≡ None)
     × (unanswered_of config joined ≡ None)
     × IsFirstUnleft config joined firm
+IsFirstOf config sweeps joined (fault.Inbox firm) = ⊥
 IsFirstOf config sweeps joined fault.Memory = Unit {0}
 
 -- Under a lock may lie anything that its type lets lie there, so of a fault that was found while
@@ -117,6 +119,7 @@ IsInboxAmong first count (fault.Sweep room) = ⊥
 IsInboxAmong first count (fault.Shown dealer) = ⊥
 IsInboxAmong first count (fault.Relayed room) = ⊥
 IsInboxAmong first count (fault.Answered room) = ⊥
+IsInboxAmong first count (fault.Acted firm) = ⊥
 IsInboxAmong first count fault.Memory = Unit {0}
 
 -- What was joined is a day of the venue to which these messages came, an inbox for each firm: it
@@ -139,21 +142,34 @@ pub record IsOfJoined (config : Configuration) (inboxes : List (List Inbound))
   pub joined_of : IsJoinedOf config inboxes joined
   pub first : IsFirstOf config sweeps joined why
 
+-- whether a sweep is of a room that the venue does not have
+abbrev pub is_foreign : Configuration → Sweep → Bool
+is_foreign config sweep = not (has_room config sweep.room.investor sweep.room.n)
+
+-- the room of the first sweep of a room that the venue does not have
+abbrev pub first_foreign : Configuration → List Sweep → Option RoomRef
+first_foreign config sweeps =
+    option_map (λ (sweep : Sweep). sweep.room) (find (is_foreign config) sweeps)
+
 -- Why there is no record of the day of a venue to which these messages came, and whose clock had
 -- these sweeps to make: a dealer's notices, a room's sweeps, the requests that a dealer was shown,
--- or the quotes or replies that came from a room, are the first fault of a joined day; a firm that
--- is named is one of the venue.
+-- the quotes or replies that came from a room, or the actions of a firm, are the first fault of a
+-- joined day; or the clock was to sweep a room that the venue does not have; a firm whose inbox is
+-- named is one of the venue.
 abbrev pub IsFaultOf : Configuration → List (List Inbound) → List Sweep → DayFault → Type 0
 IsFaultOf config inboxes sweeps (fault.Told dealer) =
     IsOfJoined config inboxes sweeps (fault.Told dealer)
 IsFaultOf config inboxes sweeps (fault.Sweep room) =
     IsOfJoined config inboxes sweeps (fault.Sweep room)
+    ⊎ (first_foreign config sweeps ≡ Some room)
 IsFaultOf config inboxes sweeps (fault.Shown dealer) =
     IsOfJoined config inboxes sweeps (fault.Shown dealer)
 IsFaultOf config inboxes sweeps (fault.Relayed room) =
     IsOfJoined config inboxes sweeps (fault.Relayed room)
 IsFaultOf config inboxes sweeps (fault.Answered room) =
     IsOfJoined config inboxes sweeps (fault.Answered room)
+IsFaultOf config inboxes sweeps (fault.Acted firm) =
+    IsOfJoined config inboxes sweeps (fault.Acted firm)
 IsFaultOf config inboxes sweeps (fault.Inbox firm) =
     firm < length config.dealers + length config.investors
 IsFaultOf config inboxes sweeps fault.Memory = Unit {0}

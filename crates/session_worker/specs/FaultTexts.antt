@@ -8,7 +8,7 @@ abbrev pub fault_text : DayFault → List ℕ
 fault_text fault.Memory = codes "out of memory"
 fault_text (fault.Inbox firm) =
     codes "the desk of firm " ++ decimal firm
-    ++ codes " does not have its messages, their answers or its actions"
+    ++ codes " does not have its messages or their answers"
 fault_text (fault.Told dealer) =
     codes "dealer " ++ decimal dealer ++ codes " was not told how its requests ended"
 fault_text (fault.Sweep room) =
@@ -22,3 +22,6 @@ fault_text (fault.Relayed room) =
 fault_text (fault.Answered room) =
     codes "request " ++ decimal room.n ++ codes " of firm " ++ decimal room.investor
     ++ codes " did not get the replies of its room"
+fault_text (fault.Acted firm) =
+    codes "firm " ++ decimal firm
+    ++ codes " has an event of no action, at its desk or in its rooms"

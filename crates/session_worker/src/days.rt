@@ -1,6 +1,9 @@
 //! A day on threads, from the configuration to the record.
-ghost use Rattle.std.specs.Prelude.{◌≡◌, ◌≢◌, ◌≤◌, ◌+◌, length, map, min, Err, IfErr, IfOk};
+ghost use Rattle.std.specs.Prelude.{◌≡◌, ◌≢◌, ◌≤◌, ◌+◌, length, map, min, find, Err, IfErr, IfOk};
+ghost use Rattle.std.specs.Prelude.{IfSome};
+ghost use Rattle.std.specs.Option.{option_copied};
 ghost use Rattle.quote_word.specs.SettleLog.{IsLegal};
+ghost use Rattle.session_worker.specs.DayFaults as spec;
 ghost use Rattle.session_worker.specs.DayFaults.{Agrees, IsFaultOf, IsFirstOf};
 ghost use Rattle.session_worker.specs.KeptDays.{KeepsDay, names_of, rooms_of_venue};
 ghost use Rattle.session_worker.specs.declared.faults.DayFault.TheVariants as fault;
@@ -20,6 +23,7 @@ use crate::swept_rooms::sweep_fault;
 use crate::threads::work;
 use crate::venue::SharedVenue;
 use fix_fields::Memory;
+use market_terms::RoomRef;
 use quote_word::{Board, BoardSeen};
 use recorded_days::{Action, DayRecord, DealerDay, Inbound, InvestorDay, Sweep};
 use std::alloc::Global;
@@ -33,7 +37,8 @@ use venue_rows::VenueConfig;
 /// clock, which makes the sweeps. It waits for all of them, then looks whether what lies under the
 /// locks agrees, and returns the record of the day. With more or fewer inboxes than firms there is
 /// none: the fault is a [`DayFault::Inbox`] of the first firm that has no inbox, or, where there
-/// are too many, of the number behind the last firm's.
+/// are too many, of the number behind the last firm's. Nor is there one with a sweep of a room that
+/// the venue does not have: the fault is a [`DayFault::Sweep`] of the first such room.
 pub fn run_day<R: Threads + Wait + Sync, G: Gate>(
     rt: &R,
     alloc: Global,
@@ -50,9 +55,14 @@ pub fn run_day<R: Threads + Wait + Sync, G: Gate>(
         → result ≡ Err (fault.Inbox
         (min (length inboxes.items) (length config.dealers + length config.investors))) }
 
-    // Else a dealer's notices, a room's sweeps, the requests that a dealer was shown, or the quotes
-    // or replies that came from a room, are the first fault of a joined day of the venue with these
-    // inboxes, and a firm that is named is one of the venue.
+    // With a sweep of a room that the venue does not have there is none either.
+    ensures no_room { length inboxes.items ≡ length config.dealers + length config.investors
+        → IfSome (spec.first_foreign config sweeps.items) (λ room.
+        result ≡ Err (fault.Sweep room)) }
+
+    // Else a dealer's notices, a room's sweeps, the requests that a dealer was shown, the quotes or
+    // replies that came from a room, or the actions of a firm, are the first fault of a joined day
+    // of the venue with these inboxes, and a firm whose inbox is named is one of the venue.
     ensures true_of { length inboxes.items ≡ length config.dealers + length config.investors
         → IfErr result
         (IsFaultOf config (map (λ inbox. inbox.items) inboxes.items) sweeps.items) }
@@ -61,9 +71,34 @@ pub fn run_day<R: Threads + Wait + Sync, G: Gate>(
     if inboxes.len() != firms {
         return Err(DayFault::Inbox(inboxes.len().min(firms) as u16));
     }
+    if let Some(foreign) = foreign_room(&config, sweeps.as_slice()) {
+        return Err(DayFault::Sweep(foreign));
+    }
     let (board, seen) = Board::open(alloc, words_of(&config))?;
     let record = run_named::<Brand, R, G>(rt, alloc, config, board, seen, inboxes, sweeps, gate)?;
     Ok(record)
+}
+
+/// The room of the first of these sweeps that is of a room which the venue does not have.
+fn foreign_room(config: &VenueConfig, sweeps: &[Sweep]) -> Option<RoomRef>
+    ensures { result ≡ spec.first_foreign config.now sweeps.now }
+{
+    let sweep = foreign_sweep(config, sweeps)?;
+    Some(sweep.room)
+}
+
+/// The first of these sweeps that is of a room which the venue does not have.
+fn foreign_sweep<'a>(config: &VenueConfig, sweeps: &'a [Sweep]) -> Option<&'a Sweep>
+    ensures { option_copied result ≡ find (spec.is_foreign config.now) sweeps.entry.now }
+{
+    sweeps.iter().find(|sweep| is_foreign(config, sweep))
+}
+
+/// Whether a sweep is of a room which the venue does not have.
+fn is_foreign(config: &VenueConfig, sweep: &Sweep) -> bool
+    ensures { result ≡ spec.is_foreign config.now sweep.now }
+{
+    !config.has_room(sweep.room.investor, sweep.room.n)
 }
 
 /// The same of a board that was opened for the day.
@@ -202,7 +237,7 @@ fn agreed(
     }
     let investors = with_rooms(alloc, config, investors, rooms)?;
     if let Some(firm) = action_fault(&dealers, &investors, &clock) {
-        return Err(DayFault::Inbox(firm));
+        return Err(DayFault::Acted(firm));
     }
     Ok(DayRecord::new(dealers, investors, clock))
 }

@@ -16,14 +16,13 @@ pub enum DayFault {
     Memory,
     /// The desk of the firm with this number is another firm's, a room of its requests is another
     /// request's, its own events are not its inbox, or, of an investor, what its desk was answered
-    /// are not the responses that its messages left. Of several such firms it is the first. Also,
-    /// looked at last: an event at its desk, or in a room of its requests, is not that of an action
-    /// there.
+    /// are not the responses that its messages left. Of several such firms it is the first.
     Inbox(u16),
     /// The closing notices of the dealer with this number do not agree with how the rooms of its
     /// requests ended.
     Told(u16),
-    /// The expire events of this room are not its sweeps in their order.
+    /// The expire events of this room are not its sweeps in their order, or the clock was to sweep
+    /// it, and the venue does not have it.
     Sweep(RoomRef),
     /// The requests that the dealer with this number was shown are not those that name it, each
     /// once and as it was asked.
@@ -34,6 +33,9 @@ pub enum DayFault {
     /// The replies to the hits and passes in this room are not those that its investor was
     /// answered, in their order, or it was not told once that the request expired, where it did.
     Answered(RoomRef),
+    /// An event at the desk of the firm with this number, or in a room of its requests, is not that
+    /// of an action there. Of several such firms it is the first.
+    Acted(u16),
 }
 
 impl fmt::Display for DayFault {
@@ -46,7 +48,7 @@ impl fmt::Display for DayFault {
             DayFault::Memory => write!(f, "out of memory"),
             DayFault::Inbox(firm) => write!(
                 f,
-                "the desk of firm {firm} does not have its messages, their answers or its actions"
+                "the desk of firm {firm} does not have its messages or their answers"
             ),
             DayFault::Told(dealer) => {
                 write!(f, "dealer {dealer} was not told how its requests ended")
@@ -69,6 +71,12 @@ impl fmt::Display for DayFault {
                 "request {} of firm {} did not get the replies of its room",
                 room.n, room.investor
             ),
+            DayFault::Acted(firm) => {
+                write!(
+                    f,
+                    "firm {firm} has an event of no action, at its desk or in its rooms"
+                )
+            }
         }
     }
 }

@@ -8,6 +8,8 @@ use Rattle.recorded_days.specs.Records.{RecordedDay}
 use Rattle.recorded_days.specs.declared.actions.Inbound.{Inbound}
 use Rattle.recorded_days.specs.declared.actions.Sweep.{Sweep}
 use Rattle.step_replay.specs.declared.steps.Step.{Step}
+use Rattle.day_weaving.specs.Weaving.{FaultIsTrue}
+use Rattle.day_weaving.specs.declared.weaving.WeaveFault.{WeaveFault}
 use Rattle.session_worker.specs.DayFaults.{IsFaultOf}
 use Rattle.session_worker.specs.declared.faults.DayFault.{DayFault}
 use Rattle.input_lines.specs.ResultSteps.{◌>>=◌}
@@ -19,7 +21,7 @@ use Rattle.venue_text.specs.ArrivingDays.{ArrivingDay, arrivals_of, arriving, ar
 use Rattle.venue_text.specs.ArrivingDays.{arriving_in, inbox_of, inboxes_of}
 use Rattle.venue_text.specs.AskedDays.{sized}
 use Rattle.venue_text.specs.RecordText.{record_text}
-use Rattle.venue_commands.specs.ThreadedDays.{IsDay, IsDayFault, IsLast, IsRecordOf, unkept}
+use Rattle.venue_commands.specs.ThreadedDays.{IsDay, IsDayFault, IsLast, IsRecordOf, unkept, unwoven}
 use Rattle.venue_text.proofs.ArrivalLemmas.{names_count}
 
 nothing_last : (woven : Bool) (config : Configuration) (day : RecordedDay) → woven ≡ false → IsLast woven config day []
@@ -36,6 +38,20 @@ day_unwoven with_frames woven input text config day printed unasked recorded = r
   last_is = nothing_last woven config day unasked;
   printed = printed ∙ sym (append-nil (record_text with_frames config day));
 }
+
+-- what is told of a day that is not woven, which was asked for
+pub day_not_woven : (woven : Bool) (input : List ℕ) (config : Configuration) (day : RecordedDay) (why : WeaveFault)
+    (told : ProgramFault) → woven ≡ true → IsRecordOf input config day → told ≡ unwoven why → FaultIsTrue config day why
+    → IsDayFault woven input told
+day_not_woven woven input config day why told asked recorded is is_true = inr (inr (record {
+  asked = asked;
+  config = config;
+  day = day;
+  recorded = recorded;
+  why = why;
+  fault_is = is;
+  is_true = is_true;
+}))
 
 -- An inbox for each firm.
 

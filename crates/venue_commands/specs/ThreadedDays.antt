@@ -62,11 +62,12 @@ unkept (threaded.Sweep room) = program.Day Swept
 unkept (threaded.Shown dealer) = program.Day Shown
 unkept (threaded.Relayed room) = program.Day Relayed
 unkept (threaded.Answered room) = program.Day Answered
+unkept (threaded.Acted firm) = program.Day Inbox
 
 -- Something does not agree after the day, and the input has no fault. What is told is so: a
--- dealer's notices, a room's sweeps, the requests that a dealer was shown, or the quotes or replies
--- that came from a room, are the first fault of a joined day that has the venue's firms and rooms
--- and these inboxes.
+-- dealer's notices, a room's sweeps, the requests that a dealer was shown, the quotes or replies
+-- that came from a room, or the actions of a firm, are the first fault of a joined day that has the
+-- venue's firms and rooms and these inboxes; of an inbox it is so that the venue has the firm.
 pub record IsUnkept (input : List ℕ) (fault : ProgramFault) : Type 0 where
   pub config : Configuration
   pub inboxes : List (List Inbound)

@@ -91,5 +91,6 @@ fn unkept(fault: DayFault) -> ProgramFault
         DayFault::Shown(_) => ProgramFault::Day(UnkeptDay::Shown),
         DayFault::Relayed(_) => ProgramFault::Day(UnkeptDay::Relayed),
         DayFault::Answered(_) => ProgramFault::Day(UnkeptDay::Answered),
+        DayFault::Acted(_) => ProgramFault::Day(UnkeptDay::Inbox),
     }
 }

@@ -18,8 +18,9 @@
 //! - [`run_program`]: nothing is printed before the whole input is read (`live` alone prints as it
 //!   reads) and, where it is not taken line by line, found lawful; and then the command's text as
 //!   `venue_text` and `investor_texts` have it. Each fault of an input is its first, by a total
-//!   function of its bytes, and one of a day on threads is true of a day that the input spells.
-//!   Arguments that are no command print a help, or nothing but why they are wrong.
+//!   function of its bytes, and one of a day on threads is true of a day that the input spells (of
+//!   `day: Inbox` proved is no more than that the venue has a firm). Arguments that are no command
+//!   print a help, or nothing but why they are wrong.
 //!   [`these_arguments_are_commands`] and [`arguments_have_these_faults`] say which are which.
 //!   [`inputs_have_these_limits`] says each limit of an input as a number.
 //! - [`run_process`]: the exit status of the process is that of its run, and an argument that is no

@@ -150,6 +150,7 @@ fn fault_name(fault: DayFault) -> &'static str {
         DayFault::Shown(_) => "a request that is shown",
         DayFault::Relayed(_) => "a quote that is relayed",
         DayFault::Answered(_) => "a reply",
+        DayFault::Acted(_) => "an action",
     }
 }
 
