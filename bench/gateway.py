@@ -10,20 +10,16 @@ the venue answer it. Both take turns; of each figure the best round is printed, 
 import argparse
 import contextlib
 import subprocess
-import sys
 import tempfile
 from collections.abc import Iterator
 from dataclasses import dataclass
 from pathlib import Path
 
+from tests.gateway.door import Door, Programs, free_port, programs_of
+from tests.gateway.firm import Identity, Places, settings_text
+from tests.gateway.market import moment_in
+
 ROOT = Path(__file__).resolve().parent.parent
-sys.dont_write_bytecode = True
-sys.path[:0] = [str(ROOT / "tests" / "gateway"), str(ROOT / "tests" / "model")]
-
-from door import Door, Programs, free_port, programs_of
-from firm import Identity, Places, settings_text
-from market import moment_in
-
 DEALER, INVESTOR = Identity("DLR1", "T1", "dealer-1-secret"), Identity("INV1", "V1", "investor-1-secret")
 DICTIONARIES = (ROOT / "fix" / "FIXT11.xml", ROOT / "fix" / "MIRESEASON.xml")
 

@@ -19,4 +19,4 @@ if [ "$1" = - ]; then
     g++ -std=c++20 -O2 -Wall -Wextra -Werror -o "$make/venue" "$here/gateway_venue.cpp"
     set -- "$make/venue"
 fi
-python3 "$here/gateway.py" "$gateway" "$make/load" -- "$@"
+PYTHONPATH="$root" python3 -m bench.gateway "$gateway" "$make/load" -- "$@"

@@ -19,7 +19,6 @@ done before and behind them. Takes a minute at most.
 import argparse
 import os
 import subprocess
-import sys
 import tempfile
 import time
 from collections.abc import Iterator

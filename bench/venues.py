@@ -1,7 +1,7 @@
 #!/usr/bin/env python3
 """How many quotes a second several venues behind one gateway answer, all of them at once.
 
-usage: venues.py GATEWAY LOAD [--burst N] [--folder FOLDER] -- VENUE WORDS ..
+usage: python3 -m bench.venues GATEWAY LOAD [--burst N] [--folder FOLDER] -- VENUE WORDS ..
 
 LOAD is made of gateway_load.cpp. Each venue has a dealer that sends a burst of quotes on one request, each answered by a
 297=0, a log in a file of SQLite, and a process. One, two and four venues are tried; logs are made in FOLDER.
@@ -11,19 +11,15 @@ import argparse
 import contextlib
 import os
 import subprocess
-import sys
 import tempfile
 from dataclasses import dataclass
 from pathlib import Path
 
+from tests.gateway.door import Programs, free_port, programs_of, quoted, venue_text
+from tests.gateway.firm import Identity, Places, settings_text
+from tests.gateway.market import moment_in
+
 ROOT = Path(__file__).resolve().parent.parent
-sys.dont_write_bytecode = True
-sys.path[:0] = [str(ROOT / "tests" / "gateway"), str(ROOT / "tests" / "model")]
-
-from door import Programs, free_port, programs_of, quoted, venue_text
-from firm import Identity, Places, settings_text
-from market import moment_in
-
 DEALER, INVESTOR = Identity("DLR1", "T1", "dealer-1-secret"), Identity("INV1", "V1", "investor-1-secret")
 DICTIONARIES = (ROOT / "fix" / "FIXT11.xml", ROOT / "fix" / "MIRESEASON.xml")
 COUNTS = (1, 2, 4)

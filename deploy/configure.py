@@ -12,10 +12,6 @@ import argparse
 import sys
 from pathlib import Path
 
-HERE = Path(__file__).resolve().parent
-sys.dont_write_bytecode = True
-sys.path.insert(0, str(HERE))
-
 from parts.run import Fault
 from parts.site import Folders, read_site
 

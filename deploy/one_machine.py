@@ -20,15 +20,12 @@ from datetime import datetime, timezone
 from pathlib import Path
 from typing import NoReturn
 
-HERE = Path(__file__).resolve().parent
-sys.dont_write_bytecode = True
-sys.path.insert(0, str(HERE))
-
 from parts.gateway import PORT
 from parts.machine import FIRMS, Machine, check_root, remove, site_here
 from parts.run import Fault, whole_paths
 from parts.site import ALONE
 
+HERE = Path(__file__).resolve().parent
 ROOT = HERE.parent
 LOOK = 0.5  # seconds from one look at who speaks to the next
 

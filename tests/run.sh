@@ -47,7 +47,7 @@ trap 'exit 143' HUP INT TERM
 exec </dev/null
 : >"$work/absent"
 : >"$work/counts"
-export LC_ALL=C.UTF-8
+export LC_ALL=C.UTF-8 PYTHONPATH="$root:$root/audit"
 # Compilers, databases and browsers want a place of their own.
 [ -n "${HOME:-}" ] && [ -w "$HOME" ] || export HOME="$work"
 
@@ -199,7 +199,7 @@ try_pages() {
 
 # What the gateway's tests stand on.
 try_midnight() {
-    form midnight 1800 python3 "$unittests" env PYTHONPATH=tests/gateway python3 -m unittest test_midnight
+    form midnight 1800 python3 "$unittests" python3 -m unittest tests.gateway.test_midnight
 }
 
 try_engines() {
@@ -211,7 +211,7 @@ build_gateway() {
     # shellcheck disable=SC2016 # of the inner shell
     day_form build 7200 "$(gateway/packages.sh)" 's/^100% tests passed, 0 tests failed out of \([0-9]*\)$/\1/p' \
         sh -c 'cmake -S gateway -B gateway/out && cmake --build gateway/out -j "$1" &&
-            python3 tests/gateway/midnight.py && ctest --test-dir gateway/out --output-on-failure' build "$jobs"
+            python3 -m tests.gateway.midnight && ctest --test-dir gateway/out --output-on-failure' build "$jobs"
 }
 
 try_gateway() {
@@ -281,21 +281,21 @@ beside() {
     try_midnight
     try_engines
     form model 1800 python3 's/^\([0-9]*\) inputs, .*: no difference$/\1/p' \
-        python3 tests/model/compare.py "$program" 1000 "$seed" "$jobs"
-    form threads 1800 python3 "$passes" python3 tests/model/lawful.py "$program" 40 "$seed"
-    form trades 1800 python3 "$passes" python3 tests/model/trades.py replay "$program" 300 "$seed"
-    form live_trades 1800 python3 "$passes" python3 tests/model/trades.py live "$program" 300 "$seed"
-    form trades_on_threads 1800 python3 "$passes" python3 tests/model/trades.py threads "$program" 40 "$seed"
+        python3 -m tests.model.compare "$program" 1000 "$seed" "$jobs"
+    form threads 1800 python3 "$passes" python3 -m tests.model.lawful "$program" 40 "$seed"
+    form trades 1800 python3 "$passes" python3 -m tests.model.trades replay "$program" 300 "$seed"
+    form live_trades 1800 python3 "$passes" python3 -m tests.model.trades live "$program" 300 "$seed"
+    form trades_on_threads 1800 python3 "$passes" python3 -m tests.model.trades threads "$program" 40 "$seed"
     form isolation 1800 python3 's/^seeds .*: \([0-9]*\) pairs with equal due lists.*/\1/p' \
-        python3 tests/isolation/pairs.py "$program" 1000 "$seed" "$jobs"
+        python3 -m tests.isolation.pairs "$program" 1000 "$seed" "$jobs"
     form investors 1800 python3 's/^seeds .*: \([0-9]*\) pairs with equal lists.*/\1/p' \
-        python3 tests/isolation/investors.py "$program" 500 "$seed" "$jobs"
+        python3 -m tests.isolation.investors "$program" 500 "$seed" "$jobs"
     form views 1800 python3 's/^[0-9]* counted, \([0-9]*\) passed, 0 failed$/\1/p' \
-        python3 tests/model/investors.py threads 40 "$seed" "$program"
+        python3 -m tests.model.investors threads 40 "$seed" "$program"
     form hostile 1800 python3 's/^\([0-9]*\) inputs from seed .*/\1/p' \
-        python3 tests/hostile/inputs.py "$program" spoilt 1000 "$seed" "$jobs"
+        python3 -m tests.hostile.inputs "$program" spoilt 1000 "$seed" "$jobs"
     form full_day 1800 python3 's/^\([0-9]*\) days, each by the rules$/\1/p' \
-        python3 tests/hostile/full_day.py run "$program" 3
+        python3 -m tests.hostile.full_day run "$program" 3
     try_refused_memory
     build_gateway
     try_gateway

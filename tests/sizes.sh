@@ -41,7 +41,7 @@ edits() {
 full_day() {
     program=$root/crates/rfq_venue/out/rfq_venue
     [ -x "$program" ] || return 0
-    python3 "$root/tests/hostile/full_day.py" write >"$day"
+    PYTHONPATH="$root" python3 -m tests.hostile.full_day write >"$day"
     python3 - "$program" "$day" <<'END'
 import resource, subprocess, sys, time
 with open(sys.argv[2], "rb") as day:

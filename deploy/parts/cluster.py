@@ -2,8 +2,8 @@
 
 from dataclasses import dataclass
 
-from parts.database import DatabaseHost
-from parts.run import until
+from .database import DatabaseHost
+from .run import until
 
 
 @dataclass

@@ -7,11 +7,11 @@ from contextlib import suppress
 from dataclasses import dataclass
 from pathlib import Path
 
-from parts.disk import Disk
-from parts.place import Place
-from parts.run import Fault, run, until
-from parts.service import Service
-from parts.site import Folders
+from .disk import Disk
+from .place import Place
+from .run import Fault, run, until
+from .service import Service
+from .site import Folders
 
 DISK_MEGABYTES = 900
 ENDS_WITHIN = 30  # seconds

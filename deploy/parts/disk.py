@@ -10,7 +10,7 @@ from collections.abc import Iterator
 from contextlib import contextmanager
 from pathlib import Path
 
-from parts.run import run, tried
+from .run import run, tried
 
 # Of ext4 and xfs: the file system ends at once and writes back nothing.
 SHUT_DOWN, WRITE_NOTHING = 0x8004587D, 2

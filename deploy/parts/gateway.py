@@ -5,10 +5,10 @@ from collections.abc import Iterable, Mapping
 from dataclasses import dataclass
 from pathlib import Path
 
-from parts.place import Place
-from parts.run import run
-from parts.service import Service
-from parts.site import ALONE, Folders, file_of
+from .place import Place
+from .run import run
+from .service import Service
+from .site import ALONE, Folders, file_of
 
 PORT = 9878
 

@@ -6,13 +6,13 @@ from collections.abc import Mapping
 from dataclasses import dataclass, field
 from pathlib import Path
 
-from parts.cluster import Cluster
-from parts.database import DatabaseHost
-from parts.gateway import PORT, GatewayHost
-from parts.network import NETWORK, Host, Network
-from parts.run import Fault, run, tried, until
-from parts.service import Supervisor
-from parts.site import ALONE, WORDS, Site
+from .cluster import Cluster
+from .database import DatabaseHost
+from .gateway import PORT, GatewayHost
+from .network import NETWORK, Host, Network
+from .run import Fault, run, tried, until
+from .service import Supervisor
+from .site import ALONE, WORDS, Site
 
 DATABASES = [Host("db%d" % number, 10 + number) for number in (1, 2, 3)]
 GATEWAYS = [Host("gw%d" % number, 20 + number) for number in (1, 2)]

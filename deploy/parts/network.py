@@ -9,7 +9,7 @@ import os
 import signal
 from dataclasses import dataclass
 
-from parts.run import Fault, run, tried, until
+from .run import Fault, run, tried, until
 
 NETWORK = "10.77.0.0/24"
 NOBODY = "02:4d:52:00:00:ff"

@@ -3,9 +3,9 @@
 from dataclasses import dataclass
 from pathlib import Path
 
-from parts.network import Host, Network
-from parts.service import Supervisor
-from parts.site import Site
+from .network import Host, Network
+from .service import Supervisor
+from .site import Site
 
 
 @dataclass

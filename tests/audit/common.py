@@ -5,14 +5,11 @@ import shlex
 import shutil
 import sqlite3
 import subprocess
-import sys
 import tempfile
 import unittest
 from contextlib import closing
 from dataclasses import dataclass
 from pathlib import Path
-
-sys.dont_write_bytecode = True
 
 HERE = Path(__file__).resolve().parent
 ROOT = HERE.parent.parent
@@ -21,8 +18,6 @@ STORED = HERE / "stored"
 DAY = STORED / "day.db"
 SQLITE = "file:%s?mode=ro"
 
-sys.path.insert(0, str(ROOT / "audit"))
-sys.path.append(str(ROOT / "tests" / "gateway"))  # behind this folder: both have a `ledger`
 
 
 def venue_words() -> list[str]:

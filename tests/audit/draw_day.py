@@ -19,7 +19,7 @@ from dataclasses import dataclass, field
 from functools import partial
 from pathlib import Path
 
-from ledger import Fields, Ledger, fields_of, frame, time_text
+from tests.audit.ledger import Fields, Ledger, fields_of, frame, time_text
 
 DATE = "20261125"
 OPENING, CLOSING = 8 * 3_600_000, 17 * 3_600_000

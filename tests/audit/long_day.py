@@ -17,7 +17,7 @@ from collections.abc import Iterator
 from dataclasses import dataclass, field
 from pathlib import Path
 
-from ledger import Fields, Ledger, frame, time_text
+from tests.audit.ledger import Fields, Ledger, frame, time_text
 
 DATE, BOND = "20261125", "US91282CAA18"
 DEALERS = ["DLR%d" % n for n in range(1, 5)]

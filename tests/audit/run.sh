@@ -40,9 +40,10 @@ REMEMBERED=$(mktemp -d)
 export REMEMBERED
 trap 'rm -rf "$REMEMBERED"' EXIT
 trap 'exit 143' HUP INT TERM
-cd "$here"
+cd "$root"
+export PYTHONPATH="$root:$root/audit"
 
-/usr/bin/python3 -m unittest discover -v -p "test_*.py" 2>&1 | tee "$REMEMBERED/told"
+/usr/bin/python3 -m unittest discover -v -t . -s tests/audit -p "test_*.py" 2>&1 | tee "$REMEMBERED/told"
 # unittest's last lines: `Ran 58 tests in 9.1s`, and `OK` or `FAILED (failures=1, skipped=2)`.
 awk 'function of(word) {
          return match($0, word "=[0-9]+") ? substr($0, RSTART + length(word) + 1) + 0 : 0

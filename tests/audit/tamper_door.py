@@ -4,7 +4,7 @@ connections.
 
 import hashlib
 
-from tamper import ENTRIES, Change, Kind, Tamperer
+from tests.audit.tamper import ENTRIES, Change, Kind, Tamperer
 
 EVENTS = (
     "SELECT place, term, moment, event, entry, number, firm, address, certificate, why, left_out"

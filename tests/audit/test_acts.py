@@ -5,9 +5,6 @@ import unittest
 from contextlib import closing
 from pathlib import Path
 
-from common import ROOT, folder
-from samples import CONFIGURATION, soh
-
 from mireseason_audit.book import Book
 from mireseason_audit.dictionary import read_dictionary
 from mireseason_audit.exchanges import Exchange, Told
@@ -18,6 +15,9 @@ from mireseason_audit.reading import Reader
 from mireseason_audit.records import Entry, configured
 from mireseason_audit.requests import Requests, dealers_of
 from mireseason_audit.summary import Summarizer
+
+from tests.audit.common import ROOT, folder
+from tests.audit.samples import CONFIGURATION, soh
 
 
 class Acts(unittest.TestCase):

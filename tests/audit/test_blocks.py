@@ -9,9 +9,6 @@ from pathlib import Path
 from typing import cast
 from unittest.mock import patch
 
-from common import DAY, LogCase, folder
-from samples import ACCEPTED, SHOWN, soh
-
 from mireseason_audit import sqlite_log
 from mireseason_audit.faults import Unreadable
 from mireseason_audit.frame import fields_of, framed
@@ -22,6 +19,9 @@ from mireseason_audit.records import Messages
 from mireseason_audit.sqlite_log import SqliteSource
 from mireseason_audit.streams import lines_in
 from mireseason_audit.wire import carried, parts_of
+
+from tests.audit.common import DAY, LogCase, folder
+from tests.audit.samples import ACCEPTED, SHOWN, soh
 
 FIRMS = "ALPHA", "BRAVO"
 # What `live --marks` gives for five lines: the third brings nothing, the fourth is a fault.

@@ -11,8 +11,8 @@ from html import unescape
 from pathlib import Path
 from typing import Any
 
-from common import STORED, Folder, folder
-from pages import Element, read_page
+from tests.audit.common import STORED, Folder, folder
+from tests.audit.pages import Element, read_page
 
 WIDTHS = (1280, 400)
 SECONDS = 900  # a browser that is not done by then hangs; a busy machine takes minutes

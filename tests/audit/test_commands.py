@@ -12,10 +12,10 @@ from contextlib import closing
 from pathlib import Path
 from random import Random
 
-from common import AUDIT, DAY, ROOT, LogCase, audit, folder, keys, openssl, venue_words
-from pages import read_page, rows_of, table_behind, walk
-from tamper import Tamperer, framed
-from witness import Witness
+from tests.audit.common import AUDIT, DAY, ROOT, LogCase, audit, keys, openssl, venue_words
+from tests.audit.pages import read_page, rows_of, table_behind, walk
+from tests.audit.tamper import Tamperer, framed
+from tests.audit.witness import Witness
 
 
 def day_text(path: Path) -> bytes:

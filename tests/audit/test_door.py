@@ -14,12 +14,12 @@ from dataclasses import dataclass, field
 from pathlib import Path
 from typing import Any
 
-from common import DAY, HERE, Folder, Ran, audit, folder, keys, venue_words
-from pages import Element, read_page, rows_of, table_behind
-
 from mireseason_audit.came_on import CameOn
 from mireseason_audit.door import Door, DoorReader, event_hash
 from mireseason_audit.records import ConnectionEvent, Entries, Entry
+
+from tests.audit.common import DAY, Folder, Ran, audit, folder, keys, venue_words
+from tests.audit.pages import Element, read_page, rows_of, table_behind
 
 PEER = "192.0.2.1:40001"
 Changes = list[tuple[int, dict[str, Any], str]]  # where, what stands there, and what is said of it
@@ -207,7 +207,7 @@ class DrawnDay(unittest.TestCase):
         cls.kept = folder()
         cls.addClassCleanup(cls.kept.cleanup)
         cls.place = Path(cls.kept.name)
-        words = ["/usr/bin/python3", str(HERE / "draw_day.py"), str(cls.place / "day.db")]
+        words = ["/usr/bin/python3", "-m", "tests.audit.draw_day", str(cls.place / "day.db")]
         words += ["--requests", "9", "--seed", "6", "--", *venue_words()]
         subprocess.run(words, check=True)
         cls.ran = audit("page", cls.place / "day.db", cls.place / "pages")

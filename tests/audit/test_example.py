@@ -9,9 +9,9 @@ import subprocess
 import unittest
 from pathlib import Path
 
-from common import ROOT, audit, folder, venue_words
-from midnight import wait_for_room
-from pages import read_page, rows_of, table_behind
+from tests.audit.common import ROOT, audit, folder, venue_words
+from tests.audit.pages import read_page, rows_of, table_behind
+from tests.gateway.midnight import wait_for_room
 
 GATEWAY = Path(os.environ.get("GATEWAY", ROOT / "gateway" / "out" / "mireseason-gateway"))
 

@@ -10,8 +10,8 @@ import unittest
 from dataclasses import dataclass, field
 from pathlib import Path
 
-from common import AUDIT, HERE, folder, venue_words
-from test_commands import day_text
+from tests.audit.common import AUDIT, folder, venue_words
+from tests.audit.test_commands import day_text
 
 FRAMES = int(os.environ.get("FRAMES", "300000"))
 TIMES, PAGE_SECONDS, MEGABYTES = 3, 120, 200
@@ -77,7 +77,7 @@ class LongDay(unittest.TestCase):
         with folder() as name:
             place = Path(name)
             log, day = place / "day.db", place / "day.live"
-            words = ["/usr/bin/python3", str(HERE / "long_day.py"), str(log), str(FRAMES), "--"]
+            words = ["/usr/bin/python3", "-m", "tests.audit.long_day", str(log), str(FRAMES), "--"]
             subprocess.run([*words, *venue_words()], check=True)
             day.write_bytes(day_text(log))
             venue = ["--venue", shlex.join(venue_words())]

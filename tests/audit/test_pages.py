@@ -9,9 +9,9 @@ import unittest
 from collections import Counter
 from pathlib import Path
 
-from common import DAY, STORED, Folder, Ran, audit, folder
-from pages import Element, read_page, rows_of, table_behind, walk
-from witness import Asked, Came, Witness, thirty_seconds
+from tests.audit.common import DAY, STORED, Folder, Ran, audit, folder
+from tests.audit.pages import Element, read_page, rows_of, table_behind, walk
+from tests.audit.witness import Asked, Came, Witness, thirty_seconds
 
 PAGES = STORED / "pages.tar.xz"
 ACTS = "Who said what, and who was told what"

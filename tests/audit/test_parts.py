@@ -6,12 +6,8 @@ import unittest
 from collections import Counter
 from pathlib import Path
 
-from common import ROOT, folder
-from samples import ACCEPTED, CONFIGURATION, OFFERED, QUOTE, REJECT, SHOWN, soh
-
 from mireseason_audit import pair_command
 from mireseason_audit.dictionary import read_dictionary
-from mireseason_audit.exchanges import Told
 from mireseason_audit.faults import Unreadable
 from mireseason_audit.frame import barred, fault_of, fields_of, framed, number_in, sum_of
 from mireseason_audit.jobs import due_texts, held, is_head
@@ -28,6 +24,9 @@ from mireseason_audit.summary import Summary
 from mireseason_audit.templates import date_text, quantity_text
 from mireseason_audit.timeline import broken, gap_text
 from mireseason_audit.venue import Venue
+
+from tests.audit.common import ROOT, folder
+from tests.audit.samples import ACCEPTED, CONFIGURATION, OFFERED, QUOTE, REJECT, SHOWN, soh
 
 
 def told(text: str, is_dealer: bool) -> str:

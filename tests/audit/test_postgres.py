@@ -13,8 +13,9 @@ from pathlib import Path
 from typing import Any
 
 import psycopg2
-from common import DAY, HERE, ROOT, Folder, audit, folder, venue_words
-from wait import LONG, until
+
+from tests.audit.common import DAY, ROOT, Folder, audit, folder, venue_words
+from tests.gateway.wait import LONG, until
 
 SERVERS = sorted(Path("/usr/lib/postgresql").glob("*/bin/initdb"))
 SCHEMA, OLD_SCHEMA = "day_20261125", "day_of_form_2"
@@ -62,7 +63,7 @@ class Postgres(unittest.TestCase):
         cls.connection = "host=%s user=postgres dbname=postgres" % cls.place
         until("PostgreSQL answers", LONG, lambda: has_ended(server) or answers(cls.connection))
         cls.day = cls.place / "day.db"
-        draw = ["/usr/bin/python3", str(HERE / "draw_day.py"), str(cls.day), "--requests", "7"]
+        draw = ["/usr/bin/python3", "-m", "tests.audit.draw_day", str(cls.day), "--requests", "7"]
         run([*draw, "--seed", "3", "--", *venue_words()])
         make_tables(cls.connection, SCHEMA)
         fill(cls.connection, SCHEMA, cls.day)

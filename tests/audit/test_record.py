@@ -8,9 +8,6 @@ from dataclasses import dataclass
 from pathlib import Path
 from typing import Any
 
-from common import folder, keys
-from samples import ACCEPTED, CONFIGURATION, OFFERED, REJECT, SHOWN, soh
-
 from mireseason_audit.chain import ChainReader, hash_of
 from mireseason_audit.check import Verdict, report
 from mireseason_audit.faults import Wrong
@@ -20,6 +17,9 @@ from mireseason_audit.plain_wire import carry
 from mireseason_audit.records import Entries, Entry, Messages, Outgoing, Sent, configured, day_of
 from mireseason_audit.seal import Sealed, compared, first_of, read_seal, write_seal
 from mireseason_audit.wire import WireReader, carried, header_fault, parts_of
+
+from tests.audit.common import folder, keys
+from tests.audit.samples import ACCEPTED, CONFIGURATION, OFFERED, REJECT, SHOWN, soh
 
 
 def carries(data: bytes, number: int, frame: bytes, firm: str) -> bool:

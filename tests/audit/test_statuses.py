@@ -14,8 +14,8 @@ from collections.abc import Callable
 from contextlib import closing
 from pathlib import Path
 
-from common import AUDIT, DAY, LogCase, audit, remembered, venue_words
-from witness import Witness
+from tests.audit.common import AUDIT, DAY, LogCase, audit, remembered, venue_words
+from tests.audit.witness import Witness
 
 
 class Statuses(LogCase):

@@ -11,13 +11,13 @@ from dataclasses import dataclass
 from pathlib import Path
 from unittest.mock import patch
 
-from common import folder
-
 from mireseason_audit import streams, venue
 from mireseason_audit.faults import Unreadable
 from mireseason_audit.progress import Progress, Step
 from mireseason_audit.venue import Run, Venue
 from mireseason_audit.work import Job, Plan, Workers, plan_of, run_jobs
+
+from tests.audit.common import folder
 
 
 class Dies:

@@ -13,16 +13,16 @@ from multiprocessing import get_context
 from pathlib import Path
 from unittest.mock import patch
 
-from common import HERE, Folder, audit, folder, keys, venue_words
-from tamper import KINDS, Tamperer
-from tamper_door import DOOR_KINDS
-
 from mireseason_audit import sqlite_log, streams
 from mireseason_audit.check import report
 from mireseason_audit.faults import Unreadable, Wrong
 from mireseason_audit.main import Work, checked, parser_of, source_of
 from mireseason_audit.streams import Growing
 from mireseason_audit.venue import Run, Venue
+
+from tests.audit.common import Folder, audit, folder, keys, venue_words
+from tests.audit.tamper import KINDS, Tamperer
+from tests.audit.tamper_door import DOOR_KINDS
 
 CHANGES = int(os.environ.get("CHANGES", "500"))
 SEED = int(os.environ.get("SEED", "1"))
@@ -143,7 +143,7 @@ class Tampered(unittest.TestCase):
 
 
 def draw_day(path: Path) -> None:
-    words = ["/usr/bin/python3", str(HERE / "draw_day.py"), str(path), "--requests", "7"]
+    words = ["/usr/bin/python3", "-m", "tests.audit.draw_day", str(path), "--requests", "7"]
     words += ["--seed", "4", "--dealers", "2", "--investors", "1", "--", *venue_words()]
     subprocess.run(words, check=True)
 

@@ -9,9 +9,9 @@ from dataclasses import dataclass, field
 from datetime import datetime, timezone
 from pathlib import Path
 
-from firm import Identity
-from ledger import Ledger, PostgresLog, read_ledger
-from wait import LONG, until, within
+from tests.gateway.firm import Identity
+from tests.gateway.ledger import Ledger, PostgresLog, read_ledger
+from tests.gateway.wait import LONG, until, within
 
 
 @dataclass(frozen=True)

@@ -6,8 +6,8 @@ from collections import deque
 from dataclasses import dataclass, field
 from pathlib import Path
 
-from frames import SOH, read_fields
-from wait import LONG, until
+from tests.gateway.wait import LONG, until
+from tests.model.frames import SOH, read_fields
 
 SESSION_TAGS = (8, 9, 10, 35, 49, 56, 34, 52, 43, 97, 122)  # of the frame and the session's header
 VENUE_NUMBER, VENUE_MOMENT = 1181, 60

@@ -2,9 +2,9 @@
 
 from collections.abc import Iterable, Iterator
 
-from firm import SESSION_TAGS, VENUE_MOMENT, VENUE_NUMBER, Firm, Received
-from frames import read_frame, read_time
-from ledger import Ledger, Mark, fields_of
+from tests.gateway.firm import SESSION_TAGS, VENUE_MOMENT, VENUE_NUMBER, Firm, Received
+from tests.gateway.ledger import Ledger, Mark, fields_of
+from tests.model.frames import read_frame, read_time
 
 MOST_LATE = 120_000  # milliseconds that a clock line may be late: the gateway may have been away, and its venue be fed again
 BEHIND_MOMENT = {b"S": 537, b"AI": 297, b"R": 453}  # the field in front of which 60 stands; it is the last one of others

@@ -5,7 +5,7 @@ import subprocess
 from dataclasses import dataclass
 from pathlib import Path
 
-from frames import SOH, read_frame
+from tests.model.frames import SOH, read_frame
 
 
 @dataclass(frozen=True)

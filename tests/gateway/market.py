@@ -5,7 +5,7 @@ from collections.abc import Callable
 from dataclasses import dataclass, field
 from datetime import datetime, timedelta, timezone
 
-from firm import Firm, Received
+from tests.gateway.firm import Firm, Received
 
 BOND = b"BONDA0000001"
 Fields = list[tuple[int, bytes]]

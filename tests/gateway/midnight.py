@@ -8,7 +8,7 @@ import sys
 import time
 from collections.abc import Callable
 
-from wait import LONG, until
+from tests.gateway.wait import LONG, until
 
 DAY = 86_400.0  # seconds
 TEST = 1200.0  # seconds of one day that a test, or a day of few messages, has at most with all that it waits for

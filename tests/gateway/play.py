@@ -18,19 +18,17 @@ import sys
 import time
 from pathlib import Path
 
+from tests.gateway.door import Door, Programs, programs_of
+from tests.gateway.firm import Firm, Identity, Places
+from tests.gateway.held import count_of
+from tests.gateway.ledger import PostgresLog
+from tests.gateway.market import Act, Market, play
+from tests.gateway.played import parser_of, play_all
+from tests.gateway.settle import settled, wait_all_on
+from tests.gateway.wait import LONG, TooLong, until, within
+
 HERE = Path(__file__).resolve().parent
 ROOT = HERE.parent.parent
-sys.dont_write_bytecode = True
-sys.path.insert(0, str(ROOT / "tests" / "model"))
-
-from door import Door, Programs, programs_of
-from firm import Firm, Identity, Places
-from held import count_of
-from ledger import PostgresLog
-from market import Act, Market, play
-from played import parser_of, play_all
-from settle import settled, wait_all_on
-from wait import LONG, TooLong, until, within
 
 DEALERS = [Identity("DLR%d" % n, "T%d" % n, "dealer-%d-secret" % n) for n in range(1, 5)]
 INVESTORS = [Identity("INV%d" % n, "V%d" % n, "investor-%d-secret" % n) for n in range(1, 3)]

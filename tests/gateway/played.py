@@ -8,7 +8,7 @@ import tempfile
 from collections.abc import Callable
 from pathlib import Path
 
-from midnight import TEST, wait_for_room
+from tests.gateway.midnight import TEST, wait_for_room
 
 TOLD_FAULTS = 20  # of a day
 

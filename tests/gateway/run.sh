@@ -14,6 +14,7 @@
 set -eu
 here=$(cd "$(dirname "$0")" && pwd)
 root=$(cd "$here/../.." && pwd)
+export PYTHONPATH="$root"
 venue=${VENUE:-$root/crates/rfq_venue/out/rfq_venue}
 days="--days 3 --messages 2000 --ends 40"
 in_postgres="--days 1 --messages 2000 --ends 40"
@@ -66,9 +67,9 @@ in_terms() {
     # The fuzzer takes a processor, and the others mostly wait.
     part fuzz "$here/fuzz.sh" &
     beside=$!
-    part tried python3 "$here/tried.py" "$gateway" "$work/player" "$work/shim.so" $keep $quick --jobs 3 -- $venue
-    part sqlite python3 "$here/play.py" "$gateway" "$work/player" $days $seed $keep -- $venue
-    part postgres "$here/postgres.sh" python3 "$here/play.py" "$gateway" "$work/player" $in_postgres $seed $keep \
+    part tried python3 -m tests.gateway.tried "$gateway" "$work/player" "$work/shim.so" $keep $quick --jobs 3 -- $venue
+    part sqlite python3 -m tests.gateway.play "$gateway" "$work/player" $days $seed $keep -- $venue
+    part postgres "$here/postgres.sh" python3 -m tests.gateway.play "$gateway" "$work/player" $in_postgres $seed $keep \
         --postgres '{}' -- $venue
     part terms in_terms "$(dirname "$gateway")/terms_test"
     part yardstick "$here/yardstick/run.sh" "$draws"

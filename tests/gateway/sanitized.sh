@@ -11,6 +11,7 @@
 set -eu
 here=$(cd "$(dirname "$0")" && pwd)
 root=$(cd "$here/../.." && pwd)
+export PYTHONPATH="$root"
 venue=${VENUE:-python3 $root/tests/model/program.py}
 case "${1:-}" in
 '') builds="address thread" ;;
@@ -46,7 +47,7 @@ built() {
         { tail -n 50 "$work/built"; return 1; }
 }
 own_tests() {
-    python3 "$here/midnight.py"
+    python3 -m tests.gateway.midnight
     (cd "$root/gateway" && ctest --preset "$1") >"$work/own" 2>&1 || tail -n 50 "$work/own"
     sed -n 's/^[0-9]*% tests passed, \([0-9]*\) tests failed out of \([0-9]*\)$/\2 \1/p' "$work/own" |
         awk '{ print $1 - $2 " passed, " $2 " failed" } END { if (NR == 0) print "0 passed, 1 failed" }'
@@ -58,10 +59,10 @@ for build in $builds; do
     gateway=$root/gateway/out/$build/mireseason-gateway
     part "$build-own" own_tests "$build"
     # shellcheck disable=SC2086 # the words of $keep and $venue
-    part "$build-tried" python3 "$here/tried.py" "$gateway" "$work/player" "$work/shim.so" --quick --sanitized $keep \
+    part "$build-tried" python3 -m tests.gateway.tried "$gateway" "$work/player" "$work/shim.so" --quick --sanitized $keep \
         --jobs 3 -- $venue
     # shellcheck disable=SC2086
-    part "$build-day" python3 "$here/play.py" "$gateway" "$work/player" --days 1 --messages 400 --ends 8 \
+    part "$build-day" python3 -m tests.gateway.play "$gateway" "$work/player" --days 1 --messages 400 --ends 8 \
         --seed "${SEED:-1}" $keep -- $venue
 done
 # A part without its line has failed.

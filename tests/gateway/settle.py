@@ -5,11 +5,11 @@ import time
 from collections.abc import Iterator
 from pathlib import Path
 
-from door import Door
-from firm import Firm
-from held import altered, clock_faults, count_of, differences, unkept, unlogged
-from ledger import Ledger, answers, answers_to, marks
-from wait import LONG, until, within
+from tests.gateway.door import Door
+from tests.gateway.firm import Firm
+from tests.gateway.held import altered, clock_faults, count_of, differences, unkept, unlogged
+from tests.gateway.ledger import Ledger, answers, answers_to, marks
+from tests.gateway.wait import LONG, until, within
 
 MODEL = [sys.executable, str(Path(__file__).resolve().parent.parent / "model" / "program.py")]
 LOOKS = 30  # how often a day is looked at until no deadline comes after its last message: more than there are of a minute

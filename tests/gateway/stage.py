@@ -7,18 +7,19 @@ from collections.abc import Callable
 from dataclasses import dataclass, field
 from pathlib import Path
 
-from door import Door, Programs
-from firm import Firm, Identity, Places, Received
-from market import BOND, Fields, moment_in
-from settle import settled
-from wait import LONG, until, within
+from tests.gateway.door import Door, Programs
+from tests.gateway.firm import Firm, Identity, Places, Received
+from tests.gateway.ledger import PostgresLog
+from tests.gateway.market import BOND, Fields, moment_in
+from tests.gateway.settle import settled
+from tests.gateway.wait import LONG, until, within
 
 DEALER, OTHER = Identity("DLR1", "T1", "dealer-1-secret"), Identity("DLR2", "T2", "dealer-2-secret")
 INVESTOR = Identity("INV1", "V1", "investor-1-secret")
 LOGON_SECONDS = 3  # the gateway's limit in these tests
 
 
-class Wrong(Exception):
+class Wrong(AssertionError):
     """Something is not as it was written beforehand."""
 
 
@@ -42,6 +43,8 @@ class Tools:
 class Stage:
     tools: Tools
     folder: Path
+    postgres: PostgresLog | None = None  # the log, in the place of a file of SQLite
+    limits: dict[str, int] = field(default_factory=lambda: {"logon_seconds": LOGON_SECONDS})
     door: Door = field(init=False)
     dealer: Firm = field(init=False)
     other: Firm = field(init=False)
@@ -51,7 +54,7 @@ class Stage:
     _named: int = 0
 
     def __post_init__(self) -> None:
-        self.door = Door(self.tools.programs, self.folder, [DEALER, OTHER], [INVESTOR], limits={"logon_seconds": LOGON_SECONDS})
+        self.door = Door(self.tools.programs, self.folder, [DEALER, OTHER], [INVESTOR], limits=self.limits, postgres=self.postgres)
         self.dealer, self.other, self.investor = [self.firm(who) for who in (DEALER, OTHER, INVESTOR)]
 
     @property

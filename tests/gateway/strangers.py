@@ -6,11 +6,11 @@ from collections.abc import Callable, Iterator
 from contextlib import closing
 from dataclasses import dataclass
 
-from firm import Firm
-from stage import INVESTOR, OTHER, Stage, check
-from tried_logon import authority, certificate, context, secured
-from wait import LONG, until
-from wire import Wire, framed, now
+from tests.gateway.firm import Firm
+from tests.gateway.stage import INVESTOR, OTHER, Stage, check
+from tests.gateway.tried_logon import authority, certificate, context, secured
+from tests.gateway.wait import LONG, until
+from tests.gateway.wire import Wire, framed, now
 
 NAME = INVESTOR.name.encode()  # in whose name they come
 CLOSED = 20.0  # seconds in which a connection has to have ended, on a machine that has much else to do

@@ -6,8 +6,8 @@ import unittest
 from collections.abc import Callable
 from datetime import datetime, timezone
 
-from midnight import left_of_day, wait_for_room
-from wait import TooLong
+from tests.gateway.midnight import left_of_day, wait_for_room
+from tests.gateway.wait import TooLong
 
 SOON = 0.05  # seconds that a clock is late which never comes to midnight
 

@@ -14,27 +14,27 @@ from collections.abc import Callable
 from concurrent.futures import ThreadPoolExecutor
 from pathlib import Path
 
+from tests.gateway import (
+    tried_away,
+    tried_certificates,
+    tried_configuration,
+    tried_connections,
+    tried_disk,
+    tried_gaps,
+    tried_intruders,
+    tried_log,
+    tried_logon,
+    tried_messages,
+    tried_no_frames,
+    tried_strangers,
+)
+from tests.gateway.door import programs_of
+from tests.gateway.midnight import wait_for_room
+from tests.gateway.stage import Stage, Tools, Wrong
+from tests.gateway.wait import TooLong
+
 HERE = Path(__file__).resolve().parent
 ROOT = HERE.parent.parent
-sys.dont_write_bytecode = True
-sys.path.insert(0, str(ROOT / "tests" / "model"))
-
-import tried_away
-import tried_certificates
-import tried_configuration
-import tried_connections
-import tried_disk
-import tried_gaps
-import tried_intruders
-import tried_log
-import tried_logon
-import tried_messages
-import tried_no_frames
-import tried_strangers
-from door import programs_of
-from midnight import wait_for_room
-from stage import Stage, Tools, Wrong
-from wait import TooLong
 
 DICTIONARIES = (ROOT / "fix" / "FIXT11.xml", ROOT / "fix" / "MIRESEASON.xml")
 

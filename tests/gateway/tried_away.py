@@ -7,12 +7,12 @@ import time
 from collections.abc import Callable
 from datetime import datetime, timedelta, timezone
 
-from door import today
-from held import milliseconds
-from market import moment_in
-from stage import DEALER, Stage, check
-from wait import LONG, until
-from wire import Wire
+from tests.gateway.door import today
+from tests.gateway.held import milliseconds
+from tests.gateway.market import moment_in
+from tests.gateway.stage import DEALER, Stage, check
+from tests.gateway.wait import LONG, until
+from tests.gateway.wire import Wire
 
 SOON = 25  # seconds: less than the gateway waits at most for a firm that fills a gap
 AS_AUCTIONS = 30  # or for so many times what an auction takes, on a machine that is slower than that

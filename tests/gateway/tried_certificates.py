@@ -6,12 +6,12 @@ import subprocess
 from functools import partial
 from pathlib import Path
 
-from stage import INVESTOR, LOGON_SECONDS, OTHER, Stage, check
-from strangers import CLOSED, NAME, WAYS, body_of, firm_away, told_printable, trades
-from tried_logon import certificate, context
-from tried_strangers import unchanged
-from wait import LONG, until
-from wire import Wire, framed
+from tests.gateway.stage import INVESTOR, LOGON_SECONDS, OTHER, Stage, check
+from tests.gateway.strangers import CLOSED, NAME, WAYS, body_of, firm_away, told_printable, trades
+from tests.gateway.tried_logon import certificate, context
+from tests.gateway.tried_strangers import unchanged
+from tests.gateway.wait import LONG, until
+from tests.gateway.wire import Wire, framed
 
 CERTIFICATE = WAYS[2]
 

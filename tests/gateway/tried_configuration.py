@@ -4,8 +4,8 @@ import re
 import subprocess
 from pathlib import Path
 
-from stage import DEALER, Stage, check
-from tried_logon import with_tls
+from tests.gateway.stage import DEALER, Stage, check
+from tests.gateway.tried_logon import with_tls
 
 ROOT = Path(__file__).resolve().parent.parent.parent
 

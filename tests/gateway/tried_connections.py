@@ -8,10 +8,10 @@ from collections.abc import Callable
 from concurrent.futures import ThreadPoolExecutor
 from pathlib import Path
 
-from stage import DEALER, LOGON_SECONDS, Stage, check
-from tried_logon import SLACK, refused_for
-from wait import LONG, until
-from wire import Wire
+from tests.gateway.stage import DEALER, LOGON_SECONDS, Stage, check
+from tests.gateway.tried_logon import SLACK, refused_for
+from tests.gateway.wait import LONG, until
+from tests.gateway.wire import Wire
 
 MOST_GROWTH = 24 * 2**20
 

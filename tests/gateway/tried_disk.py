@@ -8,13 +8,13 @@ from collections.abc import Callable
 from dataclasses import dataclass
 from pathlib import Path
 
-from firm import Received
-from ledger import Ledger, marks, read_ledger, rows
-from market import Act, Market
-from settle import settled, wait_all_on
-from stage import DEALER, Stage, check
-from wait import LONG, until, within
-from wire import Wire
+from tests.gateway.firm import Received
+from tests.gateway.ledger import Ledger, marks, read_ledger, rows
+from tests.gateway.market import Act, Market
+from tests.gateway.settle import settled, wait_all_on
+from tests.gateway.stage import DEALER, Stage, check
+from tests.gateway.wait import LONG, until, within
+from tests.gateway.wire import Wire
 
 MESSAGES = 60  # of a short day
 FULL_AT = [1, 2, 3, 4, 5, 6, 7, 8, 9, 10, 12, 14, 17, 20, 25, 30, 40, 50]

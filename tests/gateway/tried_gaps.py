@@ -1,10 +1,10 @@
 """Gaps on either side of a session, and what is sent again."""
 
-from firm import Received
-from stage import DEALER, Stage, check
-from tried_messages import answered, cancel, on_a_wire
-from wait import LONG, until
-from wire import Fields, Wire, now
+from tests.gateway.firm import Received
+from tests.gateway.stage import DEALER, Stage, check
+from tests.gateway.tried_messages import answered, cancel, on_a_wire
+from tests.gateway.wait import LONG, until
+from tests.gateway.wire import Fields, Wire, now
 
 GAP = 'mireseason_dropped_total{reason="gap"}'
 

@@ -7,12 +7,24 @@ import time
 from collections.abc import Callable
 from functools import partial
 
-from stage import INVESTOR, LOGON_SECONDS, Stage, check
-from strangers import CLOSED, NAME, WAYS, body_of, firm_away, quiet_firms, refusals, rows_of, scene_now, told_printable, trades
-from tried_connections import held
-from tried_strangers import Crowd, told, unchanged
-from wait import LONG, until
-from wire import Fields, Wire, framed
+from tests.gateway.stage import INVESTOR, LOGON_SECONDS, Stage, check
+from tests.gateway.strangers import (
+    CLOSED,
+    NAME,
+    WAYS,
+    body_of,
+    firm_away,
+    quiet_firms,
+    refusals,
+    rows_of,
+    scene_now,
+    told_printable,
+    trades,
+)
+from tests.gateway.tried_connections import held
+from tests.gateway.tried_strangers import Crowd, told, unchanged
+from tests.gateway.wait import LONG, until
+from tests.gateway.wire import Fields, Wire, framed
 
 PLAIN = WAYS[0]
 PASSWORD = INVESTOR.password.encode()

@@ -6,10 +6,10 @@ import sqlite3
 from collections.abc import Callable
 from datetime import datetime, timedelta, timezone
 
-from door import Door, Programs, today
-from stage import DEALER, Stage, Wrong, check
-from wait import LONG, until, within
-from wire import Wire
+from tests.gateway.door import Door, Programs, today
+from tests.gateway.stage import DEALER, Stage, Wrong, check
+from tests.gateway.wait import LONG, until, within
+from tests.gateway.wire import Wire
 
 BEFORE_MIDNIGHT = (20, 120, 600)  # seconds: where a busy machine has not all firms on by then, so many more
 

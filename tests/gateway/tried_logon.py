@@ -4,10 +4,10 @@ import ssl
 import subprocess
 from pathlib import Path
 
-from firm import Firm, Identity
-from stage import DEALER, INVESTOR, LOGON_SECONDS, OTHER, Stage, check, quiet
-from wait import LONG, until, within
-from wire import Wire, a_while_ago, framed, now
+from tests.gateway.firm import Firm, Identity
+from tests.gateway.stage import DEALER, INVESTOR, LOGON_SECONDS, OTHER, Stage, check, quiet
+from tests.gateway.wait import LONG, until, within
+from tests.gateway.wire import Wire, a_while_ago, framed, now
 
 SLACK = LONG  # that a limit of the gateway may be late on a busy machine
 

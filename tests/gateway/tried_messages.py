@@ -3,12 +3,12 @@
 import socket
 import threading
 
-from firm import Received
-from frames import read_frame
-from ledger import answers
-from stage import DEALER, Stage, check, quiet
-from wait import LONG, until
-from wire import Fields, Wire, a_while_ago, framed, now
+from tests.gateway.firm import Received
+from tests.gateway.ledger import answers
+from tests.gateway.stage import DEALER, Stage, check, quiet
+from tests.gateway.wait import LONG, until
+from tests.gateway.wire import Fields, Wire, a_while_ago, framed, now
+from tests.model.frames import read_frame
 
 TEXT = 58
 

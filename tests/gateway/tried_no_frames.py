@@ -5,14 +5,14 @@ from contextlib import contextmanager
 from dataclasses import dataclass
 from datetime import datetime, timedelta, timezone
 
-from firm import Received
-from stage import DEALER, Stage, check
-from strangers import rows_of
-from tried_away import clock_of
-from tried_gaps import again, asked_from
-from tried_messages import answered, cancel, on_a_wire
-from wait import LONG
-from wire import Fields, Wire, framed, now
+from tests.gateway.firm import Received
+from tests.gateway.stage import DEALER, Stage, check
+from tests.gateway.strangers import rows_of
+from tests.gateway.tried_away import clock_of
+from tests.gateway.tried_gaps import again, asked_from
+from tests.gateway.tried_messages import answered, cancel, on_a_wire
+from tests.gateway.wait import LONG
+from tests.gateway.wire import Fields, Wire, framed, now
 
 NAME = DEALER.name.encode()
 SOON = 30.0  # seconds: what a session answers at once, on a busy machine

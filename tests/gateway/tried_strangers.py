@@ -6,11 +6,30 @@ import time
 from collections.abc import Callable
 from functools import partial
 
-from stage import DEALER, INVESTOR, Stage, check
-from strangers import (ATTACKS, CLOSED, WAYS, Attack, Way, body_of, changes, firm_away, forms_of, of_wrong_length, quiet_firms,
-                       refusals, rows_of, said, still_state, told_since, trades, with_others, with_repeats)
-from wait import LONG, within
-from wire import Wire, framed
+from tests.gateway.stage import DEALER, INVESTOR, Stage, check
+from tests.gateway.strangers import (
+    ATTACKS,
+    CLOSED,
+    WAYS,
+    Attack,
+    Way,
+    body_of,
+    changes,
+    firm_away,
+    forms_of,
+    of_wrong_length,
+    quiet_firms,
+    refusals,
+    rows_of,
+    said,
+    still_state,
+    told_since,
+    trades,
+    with_others,
+    with_repeats,
+)
+from tests.gateway.wait import within
+from tests.gateway.wire import Wire, framed
 
 Test = Callable[[Stage], None]
 

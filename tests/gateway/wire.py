@@ -7,9 +7,9 @@ import time
 from collections.abc import Callable
 from datetime import datetime, timedelta, timezone
 
-from firm import Received, received_of
-from frames import checksum
-from wait import LONG
+from tests.gateway.firm import Received, received_of
+from tests.gateway.wait import LONG
+from tests.model.frames import checksum
 
 Fields = list[tuple[int, bytes]]
 

@@ -16,16 +16,26 @@ usage: full_day.py write [REQUESTS] > DAY              REQUESTS of each investor
 import subprocess
 import sys
 from collections.abc import Iterable
-from pathlib import Path
 from typing import NamedTuple
 
-sys.dont_write_bytecode = True
-sys.path.insert(0, str(Path(__file__).resolve().parents[1] / "model"))
-
-from full_market import ASKED, ASKED_AT_ONCE, DEADLINE, HIT, HITS, INVESTORS, QUOTED, QUOTES
-from full_market import REQUESTS, Ask, Fields, Quote, asked_of, day, quotes_of
-from venue_command import words_of
-
+from tests.hostile.full_market import (
+    ASKED,
+    ASKED_AT_ONCE,
+    DEADLINE,
+    HIT,
+    HITS,
+    INVESTORS,
+    QUOTED,
+    QUOTES,
+    REQUESTS,
+    Ask,
+    Fields,
+    Quote,
+    asked_of,
+    day,
+    quotes_of,
+)
+from tests.model.venue_command import words_of
 
 SHAPES = REQUESTS, REQUESTS // 4, REQUESTS // 16  # requests of an investor on a day
 

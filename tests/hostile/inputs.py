@@ -23,11 +23,10 @@ import subprocess
 import sys
 import time
 
-ROOT = os.path.dirname(os.path.dirname(os.path.dirname(os.path.abspath(__file__))))
-sys.path[:0] = [os.path.join(ROOT, "tests", folder) for folder in ("isolation", "model")]
-from dealer_days import Day, Story  # noqa: E402
-from venue_command import words_of  # noqa: E402
+from tests.isolation.dealer_days import Day, Story  # noqa: E402
+from tests.model.venue_command import words_of  # noqa: E402
 
+ROOT = os.path.dirname(os.path.dirname(os.path.dirname(os.path.abspath(__file__))))
 MEMORY = 400_000_000
 SECONDS = 10  # of a processor
 PATIENCE = 600  # seconds of the clock, on a machine that has much else to do

@@ -9,18 +9,14 @@ dealers that can quote nothing, messages that are refused or dropped, and turns 
 """
 
 import random
-import sys
-from pathlib import Path
 from typing import NamedTuple
 
-sys.path.insert(0, str(Path(__file__).resolve().parents[1] / "model"))
-
-from configuration import read_configuration
-from frames import time_text
-from investor import InvestorDesk, Request, Shown
-from lines import StepReader
-from prices import price_text
-from replay import CLOCK, Venue
+from tests.model.configuration import read_configuration
+from tests.model.frames import time_text
+from tests.model.investor import InvestorDesk, Request, Shown
+from tests.model.lines import StepReader
+from tests.model.prices import price_text
+from tests.model.replay import CLOCK, Venue
 
 BONDS = ("BONDA0000001", "BONDB0000002")
 OPENING, CLOSING = 32_400_000, 60_000_000  # 09:00:00, and 16:40:00, behind every story

@@ -14,13 +14,11 @@ import subprocess
 import sys
 from typing import NamedTuple
 
-sys.dont_write_bytecode = True
-
-from investor_days import Day, Story
-from lines import message_line  # of tests/model, as investor_days has it
-from pairs import difference
-from replay import investor_alone, seen_by
-from venue_command import words_of
+from tests.isolation.investor_days import Day, Story
+from tests.isolation.pairs import difference
+from tests.model.lines import message_line  # of tests/model, as investor_days has it
+from tests.model.replay import investor_alone, seen_by
+from tests.model.venue_command import words_of
 
 
 class Compared(NamedTuple):

@@ -14,17 +14,13 @@ import random
 import subprocess
 import sys
 from collections.abc import Sequence
-from pathlib import Path
 from typing import NamedTuple
 
-sys.dont_write_bytecode = True
-sys.path.insert(0, str(Path(__file__).resolve().parents[1] / "model"))
-
-from configuration import read_configuration
-from dealer_days import Day, Story
-from lines import StepReader, message_line
-from replay import Venue, alone
-from venue_command import words_of
+from tests.isolation.dealer_days import Day, Story
+from tests.model.configuration import read_configuration
+from tests.model.lines import StepReader, message_line
+from tests.model.replay import Venue, alone
+from tests.model.venue_command import words_of
 
 
 class Whole(NamedTuple):

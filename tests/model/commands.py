@@ -5,14 +5,22 @@ from collections.abc import Iterable, Iterator
 from dataclasses import dataclass
 from typing import BinaryIO
 
-from configuration import Configuration
-from desk import Desk
-from inputs import Fault, Part, configuration_of, numbered_lines, parts_of_input, read_head
-from live import audited
-from investor_lines import investor_text, is_investor_text, read_investor_text
-from lines import (LineFault, StepReader, dealer_blotter, due_text, investor_blotter, message_line, numbered,
-                   read_due_text)
-from replay import Venue, alone, investor_alone, seen_by
+from .configuration import Configuration
+from .desk import Desk
+from .inputs import Fault, Part, configuration_of, numbered_lines, parts_of_input, read_head
+from .investor_lines import investor_text, is_investor_text, read_investor_text
+from .lines import (
+    LineFault,
+    StepReader,
+    dealer_blotter,
+    due_text,
+    investor_blotter,
+    message_line,
+    numbered,
+    read_due_text,
+)
+from .live import audited
+from .replay import Venue, alone, investor_alone, seen_by
 
 DEALER, INVESTOR = "dealer", "investor"
 

@@ -16,17 +16,14 @@ import subprocess
 import sys
 import traceback
 
-sys.dont_write_bytecode = True
-
-import faults
-import program as model
-from days import Day, Draw
-from investor_lines import investor_text
-from investor_lists import MadeUpInvestor
-from lines import due_text
-from replay import seen_by
-from venue_command import words_of
-
+from . import faults
+from . import main as model
+from .days import Day, Draw
+from .investor_lines import investor_text
+from .investor_lists import MadeUpInvestor
+from .lines import due_text
+from .replay import seen_by
+from .venue_command import words_of
 
 # ---------------------------------------------------------------- the inputs of a seed
 

@@ -1,11 +1,12 @@
 """The configuration of a venue, and each of its faults: Toml, Missing, Name, Twice, Limit."""
 
 import re
-import tomllib
 from dataclasses import dataclass
 
-from frames import is_date
-from prices import GRIDS
+import tomllib
+
+from .frames import is_date
+from .prices import GRIDS
 
 NAME = re.compile(r"[A-Z][A-Z0-9]{0,7}\Z")
 BOND = re.compile(r"[A-Z0-9]{12}\Z")

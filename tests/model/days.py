@@ -6,11 +6,11 @@ what the venue makes of it is for the comparison to say.
 
 import random
 
-from configuration import read_configuration
-from frames import Stream, StreamFault, moment_text, read_fields, time_text, write_frame
-from lines import Framer, LineFault, StepReader
-from prices import price_text
-from replay import CLOCK, Venue
+from .configuration import read_configuration
+from .frames import Stream, StreamFault, moment_text, read_fields, time_text, write_frame
+from .lines import Framer, LineFault, StepReader
+from .prices import price_text
+from .replay import CLOCK, Venue
 
 OPENING = 32_400_000  # 09:00:00
 SOH = b"\x01"

@@ -5,10 +5,10 @@ A desk asks the word of an own quote by calling `ask_word(q)`, which answers 'wi
 
 from dataclasses import dataclass
 
-from desk import Desk, first, party, price_field, price_tag, terms
-from frames import moment_text
-from prices import is_price, on_grid, thirty_seconds
-from session import DEALER_TYPES
+from .desk import Desk, first, party, price_field, price_tag, terms
+from .frames import moment_text
+from .prices import is_price, on_grid, thirty_seconds
+from .session import DEALER_TYPES
 
 HIT, EXPIRED, COVER, DONE_AWAY, PASS = 1, 3, 4, 5, 6  # 694 of a closing notice
 INVESTOR_ROLE = 13

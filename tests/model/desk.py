@@ -2,9 +2,9 @@
 
 from dataclasses import dataclass
 
-from frames import moment_text, read_frame, write_frame
-from prices import price_text
-from session import Inbox, Reject
+from .frames import moment_text, read_frame, write_frame
+from .prices import price_text
+from .session import Inbox, Reject
 
 
 @dataclass(frozen=True)

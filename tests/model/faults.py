@@ -1,9 +1,9 @@
 """Draws what a venue does not bring about: spoilt configurations, due lists made up, spoilt inputs, wrong arguments."""
 
-from days import OPENING, draw_configuration, moment_word, spelled_price, spoil
-from frames import moment_text, time_text
-from lines import LineFault, read_due_text
-from replay import alone
+from .days import OPENING, draw_configuration, moment_word, spelled_price, spoil
+from .frames import moment_text, time_text
+from .lines import LineFault, read_due_text
+from .replay import alone
 
 BAD_LINES = {
     "version": ["", "version = 0", "version = 3", 'version = "1"', "version = 1.0", "version = true", "version = -1", "version = []",

@@ -4,7 +4,7 @@ from collections.abc import Iterator
 from dataclasses import dataclass
 from typing import BinaryIO
 
-from configuration import ConfigFault, Configuration, read_configuration
+from .configuration import ConfigFault, Configuration, read_configuration
 
 MOST_BYTES = 16_777_216
 DIVIDER = b"%%"

@@ -2,10 +2,10 @@
 
 from dataclasses import dataclass
 
-from desk import Ask, Desk, first, instrument, party, price_field
-from frames import moment_text
-from prices import thirty_seconds
-from session import INVESTOR_TYPES
+from .desk import Ask, Desk, first, instrument, party, price_field
+from .frames import moment_text
+from .prices import thirty_seconds
+from .session import INVESTOR_TYPES
 
 DEALER_ROLE = 35
 MOST_DEALERS = 8

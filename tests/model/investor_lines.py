@@ -2,13 +2,36 @@
 
 from collections.abc import Iterator
 
-from configuration import (MOST_BONDS, MOST_DEALERS, MOST_OPEN, MOST_QUANTITY, MOST_REQUESTS, MOST_TRADERS, Bond,
-                           Investor, is_bond, is_firm_name, is_name)
-from frames import is_date, time_text
-from lines import (Framer, LineFault, due_line, is_said, limited, named, number_of, numbered, one_of, parts_of,
-                   read_due_line, time_of)
-from prices import GRIDS, is_price, price_text, read_price
-from session import ID
+from .configuration import (
+    MOST_BONDS,
+    MOST_DEALERS,
+    MOST_OPEN,
+    MOST_QUANTITY,
+    MOST_REQUESTS,
+    MOST_TRADERS,
+    Bond,
+    Investor,
+    is_bond,
+    is_firm_name,
+    is_name,
+)
+from .frames import is_date, time_text
+from .lines import (
+    Framer,
+    LineFault,
+    due_line,
+    is_said,
+    limited,
+    named,
+    number_of,
+    numbered,
+    one_of,
+    parts_of,
+    read_due_line,
+    time_of,
+)
+from .prices import GRIDS, is_price, price_text, read_price
+from .session import ID
 
 REPLIES = (b"Awarded", b"Passed", b"NotOpen", b"Deadline", b"Gone", b"Expired", b"Withdrawn")
 

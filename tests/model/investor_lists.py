@@ -1,7 +1,7 @@
 """Draws due text of an investor that no venue brings about."""
 
-from frames import time_text
-from investor_lines import REPLIES
+from .frames import time_text
+from .investor_lines import REPLIES
 
 OPENING = 9 * 3_600_000
 BOND = "BONDA0000001"

@@ -17,16 +17,14 @@ import sys
 from collections.abc import Callable
 from functools import partial
 
-sys.dont_write_bytecode = True
-
-from configuration import Configuration, read_configuration
-from days import Day, Draw
-from lawful import Search, Threads, message_of, ran
-from lines import LineFault, StepReader
-from live import LiveDay
-from prices import price_text
-from replay import Venue, investor_alone, seen_by
-from venue_command import words_of
+from .configuration import Configuration, read_configuration
+from .days import Day, Draw
+from .lawful import Search, Threads, message_of, ran
+from .lines import LineFault, StepReader
+from .live import LiveDay
+from .prices import price_text
+from .replay import Venue, investor_alone, seen_by
+from .venue_command import words_of
 
 Lines = list[bytes]
 BONDS = ("BONDA0000001", "BONDB0000002")

@@ -18,16 +18,14 @@ from dataclasses import dataclass
 from functools import partial
 from typing import NamedTuple
 
-sys.dont_write_bytecode = True
-
-from compare import joined
-from configuration import Configuration, read_configuration
-from dealer import DealerDesk
-from days import Day, Draw
-from frames import SOH, moment_text, read_frame
-from lines import LineFault, StepReader
-from replay import CLOCK, Venue
-from venue_command import words_of
+from .compare import joined
+from .configuration import Configuration, read_configuration
+from .days import Day, Draw
+from .dealer import DealerDesk
+from .frames import SOH, moment_text, read_frame
+from .lines import LineFault, StepReader
+from .replay import CLOCK, Venue
+from .venue_command import words_of
 
 Actor = int | str
 Place = tuple[str, object]

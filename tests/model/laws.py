@@ -14,14 +14,12 @@ import subprocess
 import sys
 from collections.abc import Callable, Iterator
 
-sys.dont_write_bytecode = True
-
-from compare import head, joined, model_answer
-from days import Day, Draw
-from investor_lines import investor_text, read_investor_text
-from lines import due_text, read_due_text
-from replay import seen_by
-from venue_command import words_of
+from .compare import head, joined, model_answer
+from .days import Day, Draw
+from .investor_lines import investor_text, read_investor_text
+from .lines import due_text, read_due_text
+from .replay import seen_by
+from .venue_command import words_of
 
 Answer = tuple[int, bytes, bytes]
 Ask = Callable[[list[str], bytes], Answer]

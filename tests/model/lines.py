@@ -2,11 +2,31 @@
 
 import re
 
-from configuration import MOST_EXPOSURE, MOST_QUANTITY, MOST_QUOTES, MOST_TRADERS, Dealer, is_bond, is_firm_name, is_name
-from desk import Ask
-from frames import LONGEST, SOH, Stream, StreamFault, is_date, moment_text, read_fields, read_time, time_text, write_frame
-from prices import GRIDS
-from replay import CLOCK
+from .configuration import (
+    MOST_EXPOSURE,
+    MOST_QUANTITY,
+    MOST_QUOTES,
+    MOST_TRADERS,
+    Dealer,
+    is_bond,
+    is_firm_name,
+    is_name,
+)
+from .desk import Ask
+from .frames import (
+    LONGEST,
+    SOH,
+    Stream,
+    StreamFault,
+    is_date,
+    moment_text,
+    read_fields,
+    read_time,
+    time_text,
+    write_frame,
+)
+from .prices import GRIDS
+from .replay import CLOCK
 
 MOST_TURNS = 1000
 HEX = re.compile(rb"(?:[0-9A-Fa-f]{2})+\Z")

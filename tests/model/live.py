@@ -3,10 +3,10 @@
 from collections.abc import Iterator
 from typing import BinaryIO
 
-from configuration import Configuration
-from inputs import DIVIDER, Fault, numbered_lines, read_head
-from lines import LineFault, StepReader, done_mark, fault_mark, is_said, message_line
-from replay import CLOCK, Venue
+from .configuration import Configuration
+from .inputs import DIVIDER, Fault, numbered_lines, read_head
+from .lines import LineFault, StepReader, done_mark, fault_mark, is_said, message_line
+from .replay import CLOCK, Venue
 
 Lines = Iterator[tuple[int, bytes]]
 

@@ -18,10 +18,8 @@ from dataclasses import dataclass, field
 from pathlib import Path
 from typing import BinaryIO
 
-sys.dont_write_bytecode = True
-
-from frames import SOH, moment_text, time_text, write_frame
-from venue_command import words_of
+from .frames import SOH, moment_text, time_text, write_frame
+from .venue_command import words_of
 
 DATE = b"20250314"
 DEALERS, INVESTORS = [b"DLR%d" % n for n in range(1, 9)], [b"INV%d" % n for n in range(1, 5)]

@@ -1,9 +1,9 @@
 """The venue of a day, step by step; what was due to a firm; and a dealer's or an investor's view of such a list."""
 
-from configuration import Configuration, Dealer
-from dealer import DealerDesk
-from investor import InvestorDesk
-from room import Room
+from .configuration import Configuration, Dealer
+from .dealer import DealerDesk
+from .investor import InvestorDesk
+from .room import Room
 
 CLOCK = "CLOCK"
 

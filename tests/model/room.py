@@ -2,7 +2,7 @@
 
 from dataclasses import dataclass
 
-from dealer import COVER, DONE_AWAY, EXPIRED, HIT, PASS
+from .dealer import COVER, DONE_AWAY, EXPIRED, HIT, PASS
 
 
 @dataclass

@@ -6,8 +6,8 @@ required 1, more than once 13, empty 4, of wrong form 6, and then the value.
 
 import re
 
-from frames import is_date, read_time
-from prices import read_price, read_quantity
+from .frames import is_date, read_time
+from .prices import read_price, read_quantity
 
 MISSING, EMPTY, VALUE, FORM, COMP_ID, MSG_TYPE, TWICE, GROUP = 1, 4, 5, 6, 9, 11, 13, 16
 ID = re.compile(rb"[!-{}~]{1,40}\Z")

@@ -20,16 +20,14 @@ from dataclasses import dataclass, field
 from fractions import Fraction
 from itertools import pairwise, zip_longest
 
-sys.dont_write_bytecode = True
-
-from compare import joined
-from configuration import Configuration, read_configuration
-from days import Day, Draw
-from frames import read_frame
-from lawful import Inboxes, Message, day_of, inboxes_of, sent_in
-from lines import LineFault
-from replay import CLOCK
-from venue_command import words_of
+from .compare import joined
+from .configuration import Configuration, read_configuration
+from .days import Day, Draw
+from .frames import read_frame
+from .lawful import Inboxes, Message, day_of, inboxes_of, sent_in
+from .lines import LineFault
+from .replay import CLOCK
+from .venue_command import words_of
 
 Texts = dict[int, bytes]
 

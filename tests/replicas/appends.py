@@ -15,13 +15,9 @@ import sys
 import tempfile
 from pathlib import Path
 
-sys.dont_write_bytecode = True
-
-import reach
-
-from parts.database import DATABASE
-from parts.machine import DATABASES, GATEWAYS, Machine, site_here
-from parts.site import Site
+from deploy.parts.database import DATABASE
+from deploy.parts.machine import DATABASES, GATEWAYS, Machine, site_here
+from deploy.parts.site import Site
 
 LOADS = ((1, 1), (1, 8), (1, 32), (2, 32), (4, 32))  # logs, threads of each
 

@@ -1,9 +1,9 @@
 """The day's log as PostgreSQL has it, in the form of the gateway's own tests."""
 
-from ledger import Entry, Ledger
-from parts.database import DatabaseHost
-from parts.machine import Machine
-from parts.run import found_in
+from deploy.parts.database import DatabaseHost
+from deploy.parts.machine import Machine
+from deploy.parts.run import found_in
+from tests.gateway.ledger import Entry, Ledger
 
 # Seconds in which hosts are as they were. On a machine that is busy a fail-over takes minutes,
 # also one that nobody asked for.

@@ -5,11 +5,11 @@ import time
 from collections.abc import Callable
 from dataclasses import dataclass, field
 
-from book import PATIENCE, primary
-from parts.database import DatabaseHost
-from parts.gateway import GatewayHost
-from parts.machine import DATABASES, GATEWAYS, Machine
-from parts.run import found_in
+from deploy.parts.database import DatabaseHost
+from deploy.parts.gateway import GatewayHost
+from deploy.parts.machine import DATABASES, GATEWAYS, Machine
+from deploy.parts.run import found_in
+from tests.replicas.book import PATIENCE, primary
 
 CUT_SECONDS = 20.0
 POWER_SECONDS = 5.0

@@ -14,11 +14,7 @@ import sys
 import tempfile
 from pathlib import Path
 
-sys.dont_write_bytecode = True
-
-import reach
-
-from parts.disk import Disk
+from deploy.parts.disk import Disk
 
 MEGABYTES = 32
 USER = "postgres"

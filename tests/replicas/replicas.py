@@ -20,26 +20,22 @@ import sys
 import time
 from pathlib import Path
 
-sys.dont_write_bytecode = True
-
-import reach
-
-from book import PATIENCE, last_place, read_ledger, terms
-from damage import Course, Damage, Damages
-from door import today
-from figures import Figures
-from held import count_of
-from midnight import TEST
-from parts.gateway import PORT
-from parts.machine import FIRMS, GATEWAYS, Machine, site_here
-from parts.run import Fault, found_in, whole_paths
-from parts.site import ALONE
-from played import parser_of, play_all
-from side import Cast, Side, Stage
-from upkeep import Upkeep
-from wait import TooLong, until, within
-from watch import Watch
-from wrong import SET_UPS, spoil, synchronous_of
+from deploy.parts.gateway import PORT
+from deploy.parts.machine import FIRMS, GATEWAYS, Machine, site_here
+from deploy.parts.run import Fault, found_in, whole_paths
+from deploy.parts.site import ALONE
+from tests.gateway.door import today
+from tests.gateway.held import count_of
+from tests.gateway.midnight import TEST
+from tests.gateway.played import parser_of, play_all
+from tests.gateway.wait import TooLong, until, within
+from tests.replicas.book import PATIENCE, last_place, read_ledger, terms
+from tests.replicas.damage import Course, Damage, Damages
+from tests.replicas.figures import Figures
+from tests.replicas.side import Cast, Side, Stage
+from tests.replicas.upkeep import Upkeep
+from tests.replicas.watch import Watch
+from tests.replicas.wrong import SET_UPS, spoil, synchronous_of
 
 CAST = Cast.of(dealers=4, investors=2)
 NAMES = ("north", "south", "east", "west")

@@ -24,6 +24,7 @@ mkdir -p /run/netns
 mount -t tmpfs tmpfs /run/netns
 here=$(cd "$(dirname "$0")" && pwd)
 root=$(cd "$here/../.." && pwd)
+export PYTHONPATH="$root"
 venue=${VENUE:-$root/crates/rfq_venue/out/rfq_venue}
 days="--days 3 --messages 2000 --faults 30"
 several="--venues 2 --days 1 --messages 600 --faults 18 --seed 101"
@@ -74,14 +75,14 @@ part() {
 # shellcheck disable=SC2086 # the words of $days, $several, $upkeep and $venue
 {
     play_days() {
-        part days python3 "$here/replicas.py" "$gateway" "$work/player" $days "$@" -- $venue
+        part days python3 -m tests.replicas.replicas "$gateway" "$work/player" $days "$@" -- $venue
     }
     others() {
-        part disks python3 "$here/disks.py"
-        part venues python3 "$here/venues.py" "$gateway" "$work/player" -- $venue
+        part disks python3 -m tests.replicas.disks
+        part venues python3 -m tests.replicas.venues "$gateway" "$work/player" -- $venue
         [ -z "$short" ] || return 0
-        part several python3 "$here/replicas.py" "$gateway" "$work/player" "$@" $several -- $venue
-        part upkeep python3 "$here/replicas.py" "$gateway" "$work/player" "$@" $upkeep -- $venue
+        part several python3 -m tests.replicas.replicas "$gateway" "$work/player" "$@" $several -- $venue
+        part upkeep python3 -m tests.replicas.replicas "$gateway" "$work/player" "$@" $upkeep -- $venue
     }
 }
 case " $* " in
@@ -89,7 +90,7 @@ case " $* " in
 *)
     out=$(dirname "$gateway")
     [ -n "$short" ] || ! [ -x "$out/terms_test" ] ||
-        part appends python3 "$here/appends.py" "$out" --seconds 5 # they are measured: alone
+        part appends python3 -m tests.replicas.appends "$out" --seconds 5 # they are measured: alone
     if [ "${JOBS:-1}" = 1 ]; then
         others "$@"
         play_days "$@"

@@ -4,15 +4,15 @@ from collections.abc import Callable, Iterator
 from dataclasses import dataclass
 from pathlib import Path
 
-import parts.gateway
-from door import venue_text
-from firm import Firm, Identity, Places
-from held import altered, clock_faults, count_of, differences, unkept, unlogged
-from ledger import Ledger, answers, marks
-from market import Act, Market
-from reach import ROOT
-from wait import until, within
+import deploy.parts.gateway as parts_gateway
+from tests.gateway.door import venue_text
+from tests.gateway.firm import Firm, Identity, Places
+from tests.gateway.held import altered, clock_faults, count_of, differences, unkept, unlogged
+from tests.gateway.ledger import Ledger, answers, marks
+from tests.gateway.market import Act, Market
+from tests.gateway.wait import until, within
 
+ROOT = Path(__file__).resolve().parents[2]
 DICTIONARIES = (ROOT / "fix" / "FIXT11.xml", ROOT / "fix" / "MIRESEASON.xml")
 PATIENCE = 420.0  # seconds in which what is on its way comes, on a machine that is busy
 LATE = "no clock line came"  # of a fault of the gateway's tests: databases may be away for longer
@@ -118,8 +118,8 @@ class Cast:
 
     def credentials(self, gateway: Path) -> str:
         """The file of a gateway's firms, made by its program."""
-        firms = [parts.gateway.Firm(who.name, who.name, who.password) for who in self.all]
-        return parts.gateway.credentials_of(gateway, firms)
+        firms = [parts_gateway.Firm(who.name, who.name, who.password) for who in self.all]
+        return parts_gateway.credentials_of(gateway, firms)
 
 
 def identity(letters: str, trader: str, role: str, number: int) -> Identity:

@@ -4,11 +4,11 @@ the primary by a switch to its standby, and one whose disk is lost is replaced.
 
 from collections.abc import Callable
 
-from book import PATIENCE
-from damage import Course, Damage
-from parts.database import DatabaseHost, as_user
-from parts.machine import Machine
-from parts.run import found_in, run, tried, until
+from deploy.parts.database import DatabaseHost, as_user
+from deploy.parts.machine import Machine
+from deploy.parts.run import found_in, run, tried, until
+from tests.replicas.book import PATIENCE
+from tests.replicas.damage import Course, Damage
 
 OUT_SECONDS = 10.0
 

@@ -17,19 +17,15 @@ import tempfile
 from collections.abc import Iterator
 from pathlib import Path
 
-sys.dont_write_bytecode = True
-
-import reach
-
-from door import Port
-from firm import Firm
-from ledger import Ledger, read_ledger
-from midnight import wait_for_room
-from parts.run import whole_paths
-from parts.site import file_of, venues_text
-from played import TOLD_FAULTS
-from side import Cast, Side, Stage
-from wait import TooLong, until, within
+from deploy.parts.run import whole_paths
+from deploy.parts.site import file_of, venues_text
+from tests.gateway.door import Port
+from tests.gateway.firm import Firm
+from tests.gateway.ledger import Ledger, read_ledger
+from tests.gateway.midnight import wait_for_room
+from tests.gateway.played import TOLD_FAULTS
+from tests.gateway.wait import TooLong, until, within
+from tests.replicas.side import Cast, Side, Stage
 
 CAST = Cast.of(dealers=2, investors=1)
 NAMES = ("north", "south")

@@ -1,8 +1,8 @@
 """Wrong set-ups, with which the days have to fail."""
 
-from book import primary
-from parts.machine import Machine
-from parts.run import Fault
+from deploy.parts.machine import Machine
+from deploy.parts.run import Fault
+from tests.replicas.book import primary
 
 # Tables as they would be without terms: whoever comes may write, as many as there are, and each
 # counts for itself.

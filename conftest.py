@@ -1,0 +1,3 @@
+"""Options and fixtures of all tests: tests/README.md says how they are used."""
+
+pytest_plugins = ("tests.harness.options", "tests.harness.fixtures")

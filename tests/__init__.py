@@ -1,0 +1,1 @@
+"""All tests that are no proof, one folder a subject."""

@@ -1,0 +1,1 @@
+"""The audit, tried on stored, drawn and changed days."""

@@ -1,0 +1,1 @@
+"""The gateway, tried with stock engines, faults put in by hand and strangers."""

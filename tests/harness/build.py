@@ -1,0 +1,69 @@
+"""Programs that tests need, each built once for all who need it."""
+
+import fcntl
+import hashlib
+import os
+import shlex
+import subprocess
+from collections.abc import Iterator
+from contextlib import contextmanager
+from pathlib import Path
+
+from tests.harness.options import ROOT
+
+HERE = ROOT / "tests" / "gateway"
+LIMIT = 7200  # seconds: a build that takes more hangs
+PLAYER = "g++ -std=c++14 -DHAVE_SSL=1 -O1 -Wall -Wextra -Werror -o {out} {sources} -lquickfix -lpthread -lssl -lcrypto"
+SHIM = "g++ -std=c++20 -O1 -shared -fPIC -Wall -Wextra -Werror -o {out} {sources} -ldl"
+
+
+class NotBuilt(Exception):
+    """A program can't be built; the text is the end of what the compiler said."""
+
+
+@contextmanager
+def alone(folder: Path) -> Iterator[None]:
+    """One process at a time works in this folder."""
+    folder.mkdir(parents=True, exist_ok=True)
+    with (folder / "lock").open("w") as lock:
+        fcntl.flock(lock, fcntl.LOCK_EX)
+        yield
+
+
+def told(words: list[str]) -> None:
+    """Runs a command, whose last words are told where it fails."""
+    done = subprocess.run(words, stdout=subprocess.PIPE, stderr=subprocess.STDOUT, text=True, timeout=LIMIT, check=False)
+    if done.returncode != 0:
+        raise NotBuilt("%s:\n%s" % (shlex.join(words), done.stdout[-4000:]))
+
+
+def built_gateway() -> Path:
+    """The gateway of gateway/out, built as it stands there."""
+    out = ROOT / "gateway" / "out"
+    with alone(out):
+        told(["cmake", "-S", str(ROOT / "gateway"), "-B", str(out)])
+        told(["cmake", "--build", str(out), "-j", str(os.cpu_count() or 1)])
+    return out / "mireseason-gateway"
+
+
+def compiled(name: str, form: str, sources: list[Path]) -> Path:
+    """A program of one command of a compiler; one that stands already of the same sources is taken."""
+    text = form.encode() + b"".join(source.read_bytes() for source in sources)
+    folder = ROOT / "tests" / "out"
+    out = folder / ("%s-%s" % (name, hashlib.sha256(text).hexdigest()[:16]))
+    with alone(folder):
+        if not out.exists():
+            fresh = out.with_suffix(".fresh")
+            told(shlex.split(form.format(out=fresh, sources=shlex.join(map(str, sources)))))
+            fresh.rename(out)
+    return out
+
+
+def player() -> Path:
+    """The stock QuickFIX initiator that a test's firm runs."""
+    return compiled("player", PLAYER, [HERE / "player.cpp"])
+
+
+def shim() -> Path:
+    """What stands between the gateway and the disk, and between it and the clock."""
+    return compiled("shim.so", SHIM, [HERE / "disk.cpp", HERE / "clock.cpp"])

@@ -1,0 +1,104 @@
+"""The words of the command line, and what they choose."""
+
+import os
+import shlex
+import shutil
+import sys
+from dataclasses import dataclass
+from enum import Enum
+from pathlib import Path
+
+import pytest
+
+ROOT = Path(__file__).resolve().parents[2]
+PROVED = ROOT / "crates" / "rfq_venue" / "out" / "rfq_venue"
+SECOND = ("/usr/bin/python3", str(ROOT / "tests" / "model" / "program.py"))
+TREE = (str(ROOT), str(ROOT / "audit"))  # where the tree's modules are found
+
+
+class Form(Enum):
+    """How much is drawn and played: minutes, or hours."""
+
+    SHORT = "short"
+    LONG = "long"
+
+
+@dataclass(frozen=True)
+class Options:
+    """What the command line chose."""
+
+    venue: tuple[str, ...]  # the words of the venue's program, with whole paths
+    gateway: Path | None  # a program that is built already
+    form: Form
+    seed: int
+    keep: Path | None  # where the folders of tests that fail are put
+    images: Path  # where the disks of hosts are
+
+    @property
+    def is_short(self) -> bool:
+        return self.form is Form.SHORT
+
+
+OPTIONS = pytest.StashKey[Options]()
+
+
+def venue_words(text: str) -> tuple[str, ...]:
+    """The words of a venue's program: `proved`, `second`, or a command."""
+    if text == "proved":
+        return (str(PROVED),)
+    if text == "second":
+        return SECOND
+    words = [text] if os.path.isfile(text) else shlex.split(text)
+    return tuple(str(Path(word).resolve()) if os.path.isfile(word) else word for word in words)
+
+
+def usual_venue() -> str:
+    """The proved program where it stands."""
+    return os.environ.get("VENUE") or ("proved" if PROVED.exists() else "second")
+
+
+def pytest_addoption(parser: pytest.Parser) -> None:
+    group = parser.getgroup("mireseason")
+    group.addoption("--venue", help="proved, second, or the words of a program; VENUE, or the proved one where it stands")
+    group.addoption("--gateway", help="a gateway that is built; GATEWAY, or else it is built in gateway/out")
+    group.addoption("--form", choices=[form.value for form in Form], default=Form.SHORT.value, help="short: minutes; long: hours")
+    group.addoption("--seed", type=int, default=int(os.environ.get("SEED", "1")), help="what is drawn is drawn by this number")
+    group.addoption("--keep", type=Path, help="a folder for the files of tests that fail")
+    group.addoption("--images", type=Path, help="a folder for the disks of hosts; in /dev/shm where there is room")
+
+
+def pytest_configure(config: pytest.Config) -> None:
+    os.environ["PYTHONPATH"] = os.pathsep.join(TREE)  # of programs of the tree that tests start
+    words = config.option
+    gateway = words.gateway or os.environ.get("GATEWAY")
+    config.stash[OPTIONS] = Options(
+        venue=venue_words(words.venue or usual_venue()),
+        gateway=Path(gateway).resolve() if gateway else None,
+        form=Form(words.form),
+        seed=words.seed,
+        keep=words.keep.resolve() if words.keep else None,
+        images=(words.images or Path("/dev/shm")).resolve(),
+    )
+    if shutil.which(config.stash[OPTIONS].venue[0]) is None:
+        raise pytest.UsageError("there is no venue %s" % shlex.join(config.stash[OPTIONS].venue))
+
+
+def pytest_report_header(config: pytest.Config) -> list[str]:
+    chosen = config.stash[OPTIONS]
+    lines = ["venue: %s" % shlex.join(chosen.venue), "form: %s, seed %d" % (chosen.form.value, chosen.seed)]
+    if not is_debians_python():
+        lines.append("python: %s is not Debian's, which the tests are written for: /usr/bin/python3 -m pytest" % sys.executable)
+    return lines
+
+
+def is_debians_python() -> bool:
+    return Path(sys.executable).resolve() == Path("/usr/bin/python3").resolve()
+
+
+def pytest_collection_modifyitems(config: pytest.Config, items: list[pytest.Item]) -> None:
+    """What belongs to the long form is skipped in the short one, by that name."""
+    if not config.stash[OPTIONS].is_short:
+        return
+    for item in items:
+        if item.get_closest_marker("long"):
+            item.add_marker(pytest.mark.skip(reason="of the long form alone"))

@@ -1,0 +1,1 @@
+"""Inputs that mean no good, and days at their limits."""

@@ -1,0 +1,1 @@
+"""Pairs of days that one firm can't tell apart."""

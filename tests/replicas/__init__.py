@@ -1,0 +1,1 @@
+"""Two gateways and three database hosts, tried."""
