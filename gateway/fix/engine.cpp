@@ -149,6 +149,7 @@ class Engine::Parts {
         thread_ = std::thread([this] { run(); });
     }
 
+    void add(const std::vector<SessionStart> &starts) { sessions_.add(starts); }
     const Sessions &sessions() const { return sessions_; }
 
     void stop(const std::string &reason) {
@@ -255,7 +256,7 @@ class Engine::Parts {
     Descriptor bell_;
     std::unique_ptr<TlsServer> tls_;
     Strangers strangers_;
-    const Sessions sessions_;
+    Sessions sessions_;
     Descriptor socket_;
     std::list<std::unique_ptr<Connection>> connections_; // of the accepting thread, then of stop()
     std::atomic<bool> stopping_{false};
@@ -267,6 +268,14 @@ Engine::Engine(const EngineSettings &settings, const std::vector<SessionStart> &
     : parts_(std::make_unique<Parts>(settings, sessions, events)) {}
 
 Engine::~Engine() = default;
+
+void Engine::add(const std::vector<SessionStart> &sessions) {
+    parts_->add(sessions);
+}
+
+std::size_t Engine::sessions() const {
+    return parts_->sessions().count();
+}
 
 void Engine::listen() {
     parts_->listen();

@@ -167,6 +167,10 @@ class Engine {
     Engine(const Engine &) = delete;
     Engine &operator=(const Engine &) = delete;
 
+    // More sessions, before listen() and before anything is delivered to them.
+    void add(const std::vector<SessionStart> &sessions);
+    std::size_t sessions() const;
+
     // Takes connections from now on. Throws std::runtime_error where the address can't be had.
     void listen();
 

@@ -10,14 +10,19 @@ std::string session_name(const std::string &venue, const std::string &firm) {
     return venue.empty() ? firm : venue + "/" + firm;
 }
 
-Sessions::Sessions(const std::vector<SessionStart> &starts, EngineEvents &events) {
-    for (const SessionStart &start : starts) {
-        sessions_[session_name(start.venue, start.firm)] =
-            std::make_unique<FirmSession>(start, events);
-    }
+Sessions::Sessions(const std::vector<SessionStart> &starts, EngineEvents &events)
+    : events_(events) {
+    add(starts);
 }
 
 Sessions::~Sessions() = default;
+
+void Sessions::add(const std::vector<SessionStart> &starts) {
+    for (const SessionStart &start : starts) {
+        sessions_[session_name(start.venue, start.firm)] =
+            std::make_unique<FirmSession>(start, events_);
+    }
+}
 
 // One by one: two names together may be another pair's, too.
 FirmSession *Sessions::named_by(const std::string &firm, const std::string &venue) const {

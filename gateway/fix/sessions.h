@@ -22,6 +22,9 @@ class Sessions {
     Sessions(const Sessions &) = delete;
     Sessions &operator=(const Sessions &) = delete;
 
+    // More of them, before one is looked for.
+    void add(const std::vector<SessionStart> &starts);
+
     // The session that a Logon with this SenderCompID (49) and TargetSubID (57) names; null where
     // it names none.
     FirmSession *named_by(const std::string &firm, const std::string &venue) const;
@@ -42,6 +45,7 @@ class Sessions {
     // Each hash takes 16 MB, and a processor for tens of milliseconds.
     static constexpr std::size_t judged_at_once = 4;
 
+    EngineEvents &events_;
     mutable Turns turns_{judged_at_once};
     std::map<std::string, std::unique_ptr<FirmSession>> sessions_; // by session_name()
 };

@@ -15,18 +15,13 @@ constexpr std::uint32_t chunk = 512;
 
 } // namespace
 
-std::optional<Delivery> Ahead::put(Delivery delivery) {
+void Ahead::take(Delivery delivery) {
     std::unique_lock lock(mutex_);
-    changed_.wait(lock, [&] {
-        return !limited_ || waiting_[delivery.firm].size() < limit_ || stage_ != Stage::keeps;
-    });
-    if (stage_ == Stage::gives_back) {
-        return delivery;
-    }
-    if (stage_ == Stage::keeps) {
+    changed_.wait(lock,
+                  [&] { return !limited_ || waiting_[delivery.firm].size() < limit_ || closed_; });
+    if (!closed_) {
         waiting_[delivery.firm].push_back(std::move(delivery));
     }
-    return std::nullopt;
 }
 
 bool Ahead::is_full() {
@@ -35,7 +30,7 @@ bool Ahead::is_full() {
                                [this](const auto &firm) { return firm.second.size() >= limit_; });
 }
 
-void Ahead::clear() {
+void Ahead::begins_again() {
     const std::lock_guard lock(mutex_);
     waiting_.clear();
     changed_.notify_all();
@@ -91,22 +86,23 @@ void Ahead::lift_limit() {
     changed_.notify_all();
 }
 
-void Ahead::hand_over(const std::function<void(Delivery)> &taker) {
-    const std::lock_guard lock(mutex_);
-    for (auto &[firm, messages] : waiting_) {
+void Ahead::give_to(Outlet &other) {
+    std::map<std::string, std::deque<Delivery>> left;
+    {
+        const std::lock_guard lock(mutex_);
+        left.swap(waiting_);
+    }
+    for (auto &[firm, messages] : left) {
         for (Delivery &message : messages) {
-            taker(std::move(message));
+            other.take(std::move(message));
         }
     }
-    waiting_.clear();
-    stage_ = Stage::gives_back;
-    changed_.notify_all();
 }
 
 void Ahead::close() {
     const std::lock_guard lock(mutex_);
     waiting_.clear();
-    stage_ = Stage::drops;
+    closed_ = true;
     changed_.notify_all();
 }
 

@@ -3,41 +3,38 @@
 #define GATEWAY_AHEAD_H
 
 #include "database.h"
-#include "engine.h"
+#include "outlet.h"
 
 #include <condition_variable>
 #include <deque>
-#include <functional>
 #include <map>
 #include <mutex>
-#include <optional>
 #include <string>
 
 namespace gateway {
 
 // While another gateway speaks, its messages come to the log, and those of this gateway's venue are
-// held against them. Once this one speaks, what is left is handed over, and nothing is kept here
-// any more. One thread puts, another settles and hands over.
-class Ahead {
+// held against them. Once this one speaks, what is left is given to another outlet, which is given
+// all that follows. One thread takes, another settles and gives.
+class Ahead final : public Outlet {
   public:
     // So many messages may wait for one firm.
     explicit Ahead(std::size_t limit) : limit_(limit) {}
 
-    // Keeps the message; once all was handed over it is given back, and is the caller's to hand
-    // over.
-    std::optional<Delivery> put(Delivery delivery);
+    // Outlet. A message waits for room where the log lacks too many of its firm.
+    void take(Delivery delivery) override;
+    void pauses() override {}
+    void begins_again() override;
+
     // Whether the venue waits: the log lacks more of a firm's messages than may wait.
     bool is_full();
-    // The venue begins again.
-    void clear();
-
     // Drops what the log has by now. Throws std::runtime_error that names the firm and the number
     // where it has another message.
     void settle(LogReader &log);
     // The log has ended, and what the venue gives for it has an end: nothing waits for room.
     void lift_limit();
-    void hand_over(const std::function<void(Delivery)> &taker);
-    // What is put is dropped.
+    void give_to(Outlet &other);
+    // What is taken is dropped.
     void close();
 
   private:
@@ -50,7 +47,7 @@ class Ahead {
     std::condition_variable changed_;
     std::map<std::string, std::deque<Delivery>> waiting_;
     bool limited_ = true;
-    enum class Stage { keeps, gives_back, drops } stage_ = Stage::keeps;
+    bool closed_ = false;
 };
 
 } // namespace gateway

@@ -1,9 +1,12 @@
 #include "follower.h"
 
-#include <chrono>
-#include <condition_variable>
-#include <mutex>
+#include "log_watch.h"
+#include "translation.h"
+
+#include <stdexcept>
 #include <utility>
+
+#include <fmt/format.h>
 
 namespace gateway {
 
@@ -11,58 +14,173 @@ namespace {
 
 using namespace std::chrono_literals;
 
-// Between two looks.
-constexpr auto pause = 50ms;
+// Entries that are read from the database at once.
+constexpr std::uint32_t chunk = 1024;
 
-void wait(std::chrono::milliseconds time, const std::stop_token &stop) {
-    std::mutex mutex;
-    std::condition_variable_any changed;
-    std::unique_lock lock(mutex);
-    changed.wait_for(lock, stop, time, [] { return false; });
-}
+// How often a gateway that speaks and does not write yet says that it is there.
+constexpr auto sign_of_life = 500ms;
 
 } // namespace
 
-Follower::Follower(Database &database, std::shared_ptr<spdlog::logger> events,
-                   std::function<bool()> may_take_over)
-    : database_(database), events_(std::move(events)), may_take_over_(std::move(may_take_over)) {}
-
-bool Follower::follow(const std::stop_token &stop, const std::function<bool(LogReader &)> &look) {
-    while (!stop.stop_requested()) {
-        if (turn(look)) {
-            return true;
-        }
-        wait(pause, stop);
+Follower::Follower(VenueDay &day, std::optional<std::uint32_t> term)
+    : Follower(day, open_day(day.config, *day.database, term, day.clock, day.events)) {
+    if (!term) {
+        day_.events->info("follows{} entries={}", day_.of_venue(), last_.place);
     }
-    return false;
 }
 
-bool Follower::turn(const std::function<bool(LogReader &)> &look) {
-    try {
-        if (!reader_) {
-            reader_ = database_.reader();
+Follower::Follower(VenueDay &day, const OpenedDay &opened)
+    : day_(day), last_(opened.last), found_(last_.place), committed_(last_.place),
+      comparison_(*day.database, day.status.stopping()), ahead_(day.config.waiting_messages),
+      silence_(day.events, day.of_venue()),
+      venue_({day.config.command, day.config.configuration, day.config.venue_starts}, *day.database,
+             committed_, opened.first.hash, *this, day.metrics, day.events) {
+    venue_.start();
+}
+
+Follower::~Follower() {
+    close();
+}
+
+void Follower::close() {
+    ahead_.close();
+    outlet_ = &ahead_;
+    venue_.stop();
+}
+
+void Follower::end_venue() {
+    venue_.stop();
+}
+
+std::optional<std::uint32_t> Follower::follow(const std::function<bool()> &may) {
+    LogWatch watch(*day_.database, day_.events, [&] { return may() && may_take_over(); });
+    watch.watch(day_.status.stopping(), [this](LogReader &log) {
+        day_.look_at_clock();
+        read_on(log);
+        ahead_.settle(log);
+        tell_if_ready();
+        return false;
+    });
+    return watch.term();
+}
+
+// A day begins with the gateway that speaks first. Where there is a log, only one whose venue has
+// answered it takes over: another may be ready at once. Or one whose venue waits for a log that
+// lacks more than may wait: nobody else may be there to put it into it.
+bool Follower::may_take_over() {
+    return ahead_.is_full() || answers_.wait(found_, 0ms, day_.status.stopping());
+}
+
+// Once: from now on a take-over costs no replay.
+void Follower::tell_if_ready() {
+    if (!ready_ && answers_.wait(found_, 0ms, day_.status.stopping())) {
+        ready_ = true;
+        day_.events->info("stands by{} entries={}", day_.of_venue(), last_.place);
+    }
+}
+
+// Whether there was something.
+bool Follower::read_on(LogReader &log) {
+    std::vector<LoggedEntry> entries;
+    for (Entry &entry : log.entries(last_.place + 1, chunk)) {
+        check_link(entry, last_.place + 1, last_.hash);
+        last_ = entry;
+        entries.push_back({std::move(entry), std::chrono::steady_clock::now()});
+    }
+    const bool some = !entries.empty();
+    committed_.put(entries);
+    return some;
+}
+
+std::optional<Follower::End> Follower::catch_up() {
+    const auto reader = day_.database->reader();
+    const std::vector<Entry> same = reader->entries(last_.place, 1);
+    if (same.empty() || same.front().hash != last_.hash) {
+        throw std::runtime_error(
+            fmt::format("entry {} was in the log, and is not any more", last_.place));
+    }
+    while (read_on(*reader)) {
+    }
+    ahead_.lift_limit();
+    const auto writer = day_.database->writer();
+    const auto lock = all_answered([&writer] { writer->be_seen(); });
+    if (!lock) {
+        return std::nullopt;
+    }
+    ahead_.settle(*reader);
+    End end{last_, reader->states()};
+    comparison_.check_sent(end.states);
+    return end;
+}
+
+// Waits until the venue has answered the log as far as it was read. Under the lock no other process
+// of it begins, which would give all again. Nothing where the gateway is to stop.
+std::unique_lock<std::mutex> Follower::all_answered(const std::function<void()> &meanwhile) {
+    const std::stop_token stop = day_.status.stopping();
+    while (!stop.stop_requested()) {
+        if (!answers_.wait(last_.place, sign_of_life, stop)) {
+            meanwhile();
+            continue;
         }
-        if (look(*reader_)) {
-            return true;
+        std::unique_lock lock(beginning_mutex_);
+        if (answers_.wait(last_.place, 0ms, stop)) {
+            return lock;
         }
-        told_.clear();
-        if (may_take_over_()) {
-            term_ = database_.take_over();
-        }
-        return term_.has_value();
-    } catch (const DatabaseAway &fault) {
-        reader_.reset();
-        tell(fault.what());
+    }
+    return {};
+}
+
+// The venue's process may have ended since the log was caught up with.
+bool Follower::give_to(Outlet &outlet) {
+    const auto lock = all_answered([] {});
+    if (!lock) {
         return false;
     }
+    ahead_.give_to(outlet);
+    outlet_ = &outlet;
+    return true;
 }
 
-// Each cause once, and again when it came back.
-void Follower::tell(const std::string &fault) {
-    if (fault != told_) {
-        told_ = fault;
-        events_->warn("the log is away cause=\"{}\"", fault);
+void Follower::look_at_venue(std::uint32_t last_place) {
+    silence_.look(answers_.last_place(), last_place);
+}
+
+// What the venue says.
+
+void Follower::venue_starts() {
+    const std::lock_guard lock(beginning_mutex_);
+    outlet_.load()->begins_again();
+    comparison_.begin();
+    answers_.begin(committed_.last_place());
+}
+
+void Follower::venue_gave(std::uint32_t place, std::uint32_t number, std::string name,
+                          std::string frame) {
+    ForWire message = for_wire(frame, number);
+    if (!comparison_.is_new(name, message.number, frame, message.body)) {
+        return;
     }
+    Delivery delivery;
+    delivery.session = session_name(day_.config.venue, name);
+    delivery.firm = std::move(name);
+    delivery.number = message.number;
+    delivery.place = place;
+    delivery.frame = std::move(frame);
+    delivery.type = std::move(message.type);
+    delivery.body = std::move(message.body);
+    outlet_.load()->take(std::move(delivery));
+}
+
+void Follower::venue_pauses() {
+    outlet_.load()->pauses();
+}
+
+void Follower::venue_answered(std::uint32_t place, std::optional<Moment> deadline) {
+    answers_.put(place, deadline);
+}
+
+void Follower::venue_failed(const std::string &cause) {
+    day_.status.fail(cause);
 }
 
 } // namespace gateway

@@ -1,43 +1,99 @@
-// Waits for the log of a gateway that speaks, and for its end.
+// A venue's day as every gateway has it: the log, fed to a venue of its own, and what that gives.
 #ifndef GATEWAY_FOLLOWER_H
 #define GATEWAY_FOLLOWER_H
 
-#include "database.h"
+#include "ahead.h"
+#include "answers.h"
+#include "committed.h"
+#include "comparison.h"
+#include "day.h"
+#include "outlet.h"
+#include "silence.h"
+#include "venue.h"
+#include "venue_day.h"
 
+#include <atomic>
 #include <functional>
-#include <memory>
+#include <map>
+#include <mutex>
 #include <optional>
-#include <stop_token>
 #include <string>
-
-#include <spdlog/logger.h>
+#include <vector>
 
 namespace gateway {
 
-// Looks at the log again and again, through databases that go away and come back, and takes over
-// when the database says that the other gateway has gone.
-class Follower {
+// Feeds the venue all that is committed, whoever writes the log, and holds what it gives against
+// what the log says was sent. Writes nothing but the begin of a log that has none. What the log
+// lacks is kept until this gateway speaks, and then it goes to the Speaker's outlet.
+class Follower final : private VenueListener {
   public:
-    // may_take_over is asked before the database is, after each look.
-    Follower(Database &database, std::shared_ptr<spdlog::logger> events,
-             std::function<bool()> may_take_over);
+    // How far the log is when nobody else writes any more.
+    struct End {
+        Entry last;
+        std::map<std::string, FirmState> states;
+    };
 
-    // Until `look` says that this is enough, or this gateway speaks: then term() is its term. False
-    // where the stop was asked for. Throws what `look` throws, unless the database is away.
-    bool follow(const std::stop_token &stop, const std::function<bool(LogReader &)> &look);
+    // Starts the venue's process. Where the log has no begin, it is begun in this term. Throws
+    // std::runtime_error where the log is of another day, and where there is neither.
+    Follower(VenueDay &day, std::optional<std::uint32_t> term);
+    // Ends the venue's process.
+    ~Follower() override;
+    Follower(const Follower &) = delete;
+    Follower &operator=(const Follower &) = delete;
 
-    std::optional<std::uint32_t> term() const { return term_; }
+    // Follows a gateway that writes, until this one may write: its term then. Nothing where the
+    // gateway is to stop. `may` says whether it may take over at all. Throws std::runtime_error
+    // where the venue gives something else than was sent.
+    std::optional<std::uint32_t> follow(const std::function<bool()> &may);
+    // Reads the log of a gateway that has ended to its end. Returns when the venue has answered all
+    // of it and gave what was sent, or nothing when the gateway is to stop; throws as follow().
+    std::optional<End> catch_up();
+    // Gives the outlet what the log lacks, and from then on what the venue gives. False, and
+    // nothing was given, where the gateway is to stop.
+    bool give_to(Outlet &outlet);
+    // Ends the venue's process: it is fed no more, and answers what it has. Returns when it has
+    // ended.
+    void end_venue();
+    // The same, and what it gives is dropped: the next start gives it again.
+    void close();
+
+    // Looks whether the venue answers; to be called each second, with the last place of the log.
+    void look_at_venue(std::uint32_t last_place);
+
+    Answers &answers() { return answers_; }
+    // Whoever writes the log puts there what it committed.
+    Committed &committed() { return committed_; }
 
   private:
-    bool turn(const std::function<bool(LogReader &)> &look);
-    void tell(const std::string &fault);
+    Follower(VenueDay &day, const OpenedDay &opened);
 
-    Database &database_;
-    std::shared_ptr<spdlog::logger> events_;
-    std::function<bool()> may_take_over_;
-    std::optional<std::uint32_t> term_;
-    std::unique_ptr<LogReader> reader_;
-    std::string told_;
+    void tell_if_ready();
+    bool may_take_over();
+    bool read_on(LogReader &log);
+    std::unique_lock<std::mutex> all_answered(const std::function<void()> &meanwhile);
+
+    // VenueListener
+    void venue_starts() override;
+    void venue_gave(std::uint32_t place, std::uint32_t number, std::string firm,
+                    std::string frame) override;
+    void venue_answered(std::uint32_t place, std::optional<Moment> deadline) override;
+    void venue_pauses() override;
+    void venue_failed(const std::string &cause) override;
+
+    VenueDay &day_;
+    Entry last_;                // of the log, as far as it was read
+    const std::uint32_t found_; // the last place when the venue was started
+    bool ready_ = false;        // it was answered
+    Committed committed_;
+    Comparison comparison_;
+    Ahead ahead_;
+    Answers answers_;
+    Silence silence_;
+
+    std::mutex beginning_mutex_; // over the begin of each process, and the change of the outlet
+    std::atomic<Outlet *> outlet_{&ahead_};
+
+    Venue venue_; // whose threads use all the others
 };
 
 } // namespace gateway

@@ -6,6 +6,7 @@
 #include "engine.h"
 #include "metrics.h"
 #include "operator_events.h"
+#include "speaker.h"
 #include "status.h"
 #include "venue_day.h"
 
@@ -40,14 +41,17 @@ class Gateway final {
 
   private:
     void follow();
+    std::unique_ptr<Speaker> follow_one(std::size_t at);
+    void listen();
 
     const std::vector<Config> configs_;
     std::shared_ptr<spdlog::logger> events_;
     Metrics metrics_;
     Status status_;
     OperatorEvents engine_events_;
+    Engine engine_;
     std::vector<std::unique_ptr<VenueDay>> days_;
-    std::unique_ptr<Engine> engine_;
+    std::vector<std::unique_ptr<Speaker>> speakers_; // of the days, once it has their terms
 };
 
 } // namespace gateway

@@ -27,8 +27,22 @@ constexpr auto longest_hold = 500ms;
 } // namespace
 
 Sweeper::Sweeper(Answers &answers, Log &log, DayClock &clock)
-    : answers_(answers), log_(log), clock_(clock),
-      thread_([this](const std::stop_token &stop) { run(stop); }) {}
+    : answers_(answers), log_(log), clock_(clock) {}
+
+Sweeper::~Sweeper() {
+    stop();
+}
+
+void Sweeper::start() {
+    thread_ = std::jthread([this](const std::stop_token &stop) { run(stop); });
+}
+
+void Sweeper::stop() {
+    thread_.request_stop();
+    if (thread_.joinable()) {
+        thread_.join();
+    }
+}
 
 void Sweeper::run(const std::stop_token &stop) {
     try {

@@ -17,6 +17,14 @@ namespace gateway {
 class Sweeper {
   public:
     Sweeper(Answers &answers, Log &log, DayClock &clock);
+    ~Sweeper();
+    Sweeper(const Sweeper &) = delete;
+    Sweeper &operator=(const Sweeper &) = delete;
+
+    // Once.
+    void start();
+    // No sweep is committed after it.
+    void stop();
 
   private:
     void run(const std::stop_token &stop);

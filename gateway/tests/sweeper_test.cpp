@@ -91,7 +91,8 @@ template <typename Condition> bool comes(const Condition &condition) {
 void a_deadline_that_has_come() {
     DayWithADeadline day;
     {
-        const Sweeper sweeper(day.answers, day.log, day.clock);
+        Sweeper sweeper(day.answers, day.log, day.clock);
+        sweeper.start();
         check(comes([&] { return day.committed.last_place() == 2; }), "no sweep");
         day.answers.put(2, std::nullopt);
     }
@@ -140,7 +141,8 @@ class BusyFirm {
 void a_venue_that_does_not_answer() {
     DayWithADeadline day;
     day.log.append_message("F", Log::Came{2, 1, {}}, "x");
-    const Sweeper sweeper(day.answers, day.log, day.clock);
+    Sweeper sweeper(day.answers, day.log, day.clock);
+    sweeper.start();
     BusyFirm firm(day);
     check(comes([&] { return firm.held_behind().has_value(); }), "no message is held");
     const std::uint32_t held = firm.last();
@@ -153,7 +155,8 @@ void a_venue_that_does_not_answer() {
 void a_sweep_that_is_not_answered() {
     DayWithADeadline day;
     day.log.append_message("F", Log::Came{2, 1, {}}, "x");
-    const Sweeper sweeper(day.answers, day.log, day.clock);
+    Sweeper sweeper(day.answers, day.log, day.clock);
+    sweeper.start();
     BusyFirm firm(day);
     // The venue answers what it has while a message is held, so the sweep comes before that one.
     // Where the hold has ended meanwhile it is no longer the last place, and the next hold is

@@ -2,11 +2,11 @@
 // whose program does not say what it is.
 //
 // usage: venue_day_test FOLDER
+#include "begin_day.h"
 #include "check.h"
 #include "day.h"
 #include "password.h"
 #include "sqlite_statement.h"
-#include "venue_day.h"
 
 #include <chrono>
 #include <csignal>
@@ -110,13 +110,13 @@ void given_again_before_sessions(const std::filesystem::path &folder) {
     const auto events = std::make_shared<spdlog::logger>("none");
     Status status(events);
     OperatorEvents told(metrics, events);
+    Engine engine(config.engine, {}, told);
     VenueDay day(config, metrics, status, events, told);
-    day.follow([] { return true; });
+    const auto speaker = begin_day(day, engine, [] { return true; });
     end_venue(folder);
-    Engine engine(config.engine, day.session_starts(), told);
-    day.start(engine);
+    engine.add(speaker->session_starts());
+    speaker->start();
     const bool stored = is_stored(config);
-    day.close();
     check(stored, "what was sent before has no number yet");
     check(!status.failure(), status.failure().value_or(""));
 }

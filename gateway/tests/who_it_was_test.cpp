@@ -2,6 +2,7 @@
 // the messages that came on them, strangers, and connections that their gateway left open.
 //
 // usage: who_it_was_test FOLDER
+#include "begin_day.h"
 #include "check.h"
 #include "frame.h"
 #include "message.h"
@@ -10,7 +11,6 @@
 #include "refusal_words.h"
 #include "sqlite_statement.h"
 #include "translation.h"
-#include "venue_day.h"
 
 #include <chrono>
 #include <csignal>
@@ -57,13 +57,13 @@ Config config_of(const std::filesystem::path &folder) {
 // A gateway's day up to where its engine would take connections.
 struct OpenedDay {
     explicit OpenedDay(const Config &given)
-        : config(given), engine({}, {}, told), day(config, metrics, status, events, told) {
+        : config(given), engine({}, {}, told), day(config, metrics, status, events, told),
+          speaker(begin_day(day, engine, [] { return true; })) {
         told.tell_strangers_to([this](const ConnectionFacts &facts, const std::string &why) {
-            day.put_stranger(facts, why);
+            speaker->put_stranger(facts, why);
         });
-        day.follow([] { return true; });
-        host = day.session_starts().at(0).host;
-        day.start(engine);
+        host = speaker->session_starts().at(0).host;
+        speaker->start();
     }
 
     const Config config;
@@ -73,6 +73,7 @@ struct OpenedDay {
     OperatorEvents told{metrics, events};
     Engine engine;
     VenueDay day;
+    const std::unique_ptr<Speaker> speaker;
     SessionHost *host = nullptr;
 };
 
@@ -255,8 +256,8 @@ void on_a_connection(const std::filesystem::path &folder) {
         same(3U, host.logon_accepted("F", at_f), "of the third");
         host.connection_ended("F", 2, "late");
         host.all_received();
-        opened.day.finish();
-        opened.day.end();
+        opened.speaker->finish();
+        opened.speaker->end();
     }
     same_rows(config,
               {"logon 0 1 F 10.0.0.1:4001 F - 0", "end 1 1 F 10.0.0.1:4001 F Connection?reset 0",
@@ -269,7 +270,7 @@ void on_a_connection(const std::filesystem::path &folder) {
     same(entries[1].received, entries[2].received, "a receipt on one connection that falls");
     OpenedDay again(config);
     same(4U, again.host->logon_accepted("G", at_f), "after a start");
-    again.day.end();
+    again.speaker->end();
     const auto rows = rows_of(config);
     same<std::string>("end 3 3 F 10.0.0.1:4001 F its gateway was gone 0", rows.at(5),
                       "the end of the one that was open");
@@ -287,8 +288,8 @@ void strangers(const std::filesystem::path &folder) {
             opened.host->logon_refused("F", {"10.0.0.9:2", "", false},
                                        refusal_words::wrong_password);
         }
-        opened.day.finish();
-        opened.day.end();
+        opened.speaker->finish();
+        opened.speaker->end();
     }
     std::vector<std::string> wanted;
     for (int count = 0; count < 10; ++count) {

@@ -1,0 +1,20 @@
+// From the start of a gateway to its term on a venue's log.
+#ifndef GATEWAY_BEGIN_DAY_H
+#define GATEWAY_BEGIN_DAY_H
+
+#include "speaker.h"
+
+#include <functional>
+#include <memory>
+
+namespace gateway {
+
+// Feeds the log to the venue, also while another gateway writes it. Returns when this one speaks
+// and all of the log is answered and agrees; null where the gateway is to stop. It takes over where
+// `may` says so. Throws std::runtime_error where the log can't be gone on with, or the venue gives
+// something else than it says was sent.
+std::unique_ptr<Speaker> begin_day(VenueDay &day, Engine &engine, const std::function<bool()> &may);
+
+} // namespace gateway
+
+#endif

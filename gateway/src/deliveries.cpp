@@ -1,0 +1,58 @@
+#include "deliveries.h"
+
+#include <stdexcept>
+#include <utility>
+
+#include <fmt/format.h>
+
+namespace gateway {
+
+Deliveries::Deliveries(VenueDay &day, Engine &engine, Log &log) : log_(log) {
+    const auto failed = [&status = day.status, &log](const std::string &cause) {
+        const std::string told = log.failure();
+        status.fail(told.empty() ? cause : told);
+    };
+    for (const std::string &firm : day.config.firms.names) {
+        mailboxes_.try_emplace(firm, session_name(day.config.venue, firm), engine,
+                               day.config.waiting_messages, failed);
+    }
+}
+
+Mailbox &Deliveries::mailbox_of(const std::string &firm) {
+    const auto found = mailboxes_.find(firm);
+    if (found == mailboxes_.end()) {
+        throw std::runtime_error(fmt::format("there is no firm {}", firm));
+    }
+    return found->second;
+}
+
+void Deliveries::take(Delivery delivery) {
+    Mailbox &mailbox = mailbox_of(delivery.firm);
+    if (is_first_) {
+        is_first_ = false;
+        mailbox.put_now(std::move(delivery));
+    } else {
+        mailbox.put(std::move(delivery));
+    }
+}
+
+void Deliveries::pauses() {
+    is_first_ = true;
+}
+
+void Deliveries::begins_again() {
+    wait_until_handed_over();
+    log_.flush();
+}
+
+void Deliveries::settled(const std::string &firm) {
+    mailbox_of(firm).settled();
+}
+
+void Deliveries::wait_until_handed_over() {
+    for (auto &[firm, mailbox] : mailboxes_) {
+        mailbox.wait_until_empty();
+    }
+}
+
+} // namespace gateway

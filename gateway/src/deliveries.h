@@ -1,0 +1,46 @@
+// The venue's messages on their way to the firms' sessions.
+#ifndef GATEWAY_DELIVERIES_H
+#define GATEWAY_DELIVERIES_H
+
+#include "engine.h"
+#include "log.h"
+#include "mailbox.h"
+#include "outlet.h"
+#include "venue_day.h"
+
+#include <map>
+#include <string>
+
+namespace gateway {
+
+// A mailbox for each firm.
+class Deliveries final : public Outlet {
+  public:
+    // The engine has a session for each firm before the first message is taken.
+    Deliveries(VenueDay &day, Engine &engine, Log &log);
+    Deliveries(const Deliveries &) = delete;
+    Deliveries &operator=(const Deliveries &) = delete;
+
+    // Outlet. The first message after a pause, as a rule the answer to whoever waits for one, is
+    // handed over by this thread and before the others are put into their mailboxes: to wake their
+    // threads takes time. Throws std::runtime_error where there is no such firm.
+    void take(Delivery delivery) override;
+    void pauses() override;
+    void begins_again() override;
+
+    // The firm's session settles no more; of any thread.
+    void settled(const std::string &firm);
+    // Returns when the sessions have all that was taken; of any thread.
+    void wait_until_handed_over();
+
+  private:
+    Mailbox &mailbox_of(const std::string &firm);
+
+    Log &log_;
+    bool is_first_ = true; // since the last pause
+    std::map<std::string, Mailbox> mailboxes_;
+};
+
+} // namespace gateway
+
+#endif

@@ -1,0 +1,95 @@
+// What the firms' sessions need of their venue's day.
+#ifndef GATEWAY_FIRM_SESSIONS_H
+#define GATEWAY_FIRM_SESSIONS_H
+
+#include "connection_rows.h"
+#include "database.h"
+#include "deliveries.h"
+#include "doorkeeper.h"
+#include "engine.h"
+#include "log.h"
+#include "patient_reader.h"
+#include "venue_day.h"
+
+#include <chrono>
+#include <map>
+#include <mutex>
+#include <optional>
+#include <string>
+#include <vector>
+
+namespace gateway {
+
+// Stands between the engine's sessions and the log: who is let in, what came and what left, and
+// what follows a session's end. Sessions call it on the threads of their connections and mailboxes.
+class FirmSessions final : private SessionHost {
+  public:
+    using States = std::map<std::string, FirmState>;
+
+    // The states are those of the log. Throws std::runtime_error where it has a firm that the venue
+    // has not.
+    FirmSessions(VenueDay &day, Log &log, Deliveries &deliveries, const States &states);
+    FirmSessions(const FirmSessions &) = delete;
+    FirmSessions &operator=(const FirmSessions &) = delete;
+
+    // Where the sessions begin.
+    std::vector<SessionStart> starts();
+    // Ends what a gateway that has ended left behind: connections that have no end in the log, and
+    // sessions that were there.
+    void end_lost(const std::vector<ConnectionEvent> &connections);
+
+    ConnectionRows &rows() { return rows_; }
+
+  private:
+    // One firm, as its venue's day sees it.
+    struct Firm {
+        std::string cancel_on_disconnect; // a trader, or empty
+        FirmState found;                  // as the log had it at the start
+
+        std::mutex mutex;              // of what follows
+        std::uint32_t entries = 0;     // messages of the firm in the log, each with a number
+        std::uint32_t last_number = 0; // the session's, of the last message in the log
+        // The row of the Logon of the connection that it has.
+        std::optional<ConnectionEvent> connection;
+        std::chrono::system_clock::time_point last_receipt; // on that one
+    };
+
+    void open_firms(const States &states);
+    Firm &firm_of(const std::string &name);
+    SessionStart start_of(const std::string &name, const Firm &firm);
+    void cancel_all_of(const std::string &name, Firm &firm);
+
+    // SessionHost
+    Refusal judge(const LogonFacts &facts) override;
+    std::uint32_t logon_accepted(const std::string &firm, const ConnectionFacts &facts) override;
+    void logon_refused(const std::string &firm, const ConnectionFacts &facts,
+                       const std::string &why) override;
+    void connection_ended(const std::string &firm, std::uint32_t connection,
+                          const std::string &why) override;
+    void logged_on(const std::string &firm) override;
+    void logged_off(const std::string &firm) override;
+    void settled(const std::string &firm) override;
+    int received(const std::string &firm, const WireMessage &message,
+                 const Receipt &receipt) override;
+    void all_received() override;
+    std::uint64_t store_outgoing(const std::string &firm, std::uint32_t number,
+                                 const std::string &bytes, const Delivery *delivery) override;
+    void wait_stored(std::uint64_t ticket) override;
+    void store_target(const std::string &firm, std::uint32_t target) override;
+    std::vector<StoredMessage> stored_messages(const std::string &firm, std::uint32_t first,
+                                               std::uint32_t last) override;
+
+    VenueDay &day_;
+    Log &log_;
+    Deliveries &deliveries_;
+    const Doorkeeper doorkeeper_;
+    ConnectionRows rows_;
+    std::map<std::string, Firm> firms_;
+
+    std::mutex stored_mutex_;
+    PatientReader stored_; // for what sessions send again
+};
+
+} // namespace gateway
+
+#endif

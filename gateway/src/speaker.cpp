@@ -1,0 +1,95 @@
+#include "speaker.h"
+
+#include <chrono>
+#include <utility>
+
+namespace gateway {
+
+namespace {
+
+using namespace std::chrono_literals;
+
+// How long the venue has to answer what came, at the end.
+constexpr auto longest_end = 10s;
+
+// No moment is given that is before one of the log.
+void set_clock_behind(DayClock &clock, const Entry &last, const ConnectionState &connections) {
+    if (const auto latest = moment_of(last.moment)) {
+        clock.not_before(ExactMoment::end_of(*latest));
+    }
+    if (connections.last) {
+        clock.not_before(exact_moment_of(connections.last->moment).value_or(ExactMoment{}));
+    }
+}
+
+Log::Start start_of(VenueDay &day, const Follower::End &end, std::uint32_t term) {
+    Log::Start start;
+    start.waiting = day.config.waiting_entries;
+    start.last = end.last;
+    start.term = term;
+    for (const auto &[name, state] : end.states) {
+        start.sessions[name] = state.session;
+    }
+    start.connections = day.database->reader()->connections();
+    set_clock_behind(day.clock, start.last, start.connections);
+    return start;
+}
+
+} // namespace
+
+Speaker::Speaker(VenueDay &day, std::unique_ptr<Follower> follower, const Follower::End &end,
+                 Log::Start start, Engine &engine)
+    : day_(day), follower_(std::move(follower)), lost_(start.connections.open),
+      log_(*day.database, follower_->committed(), day.clock, day.metrics, std::move(start),
+           [&status = day.status](const std::string &cause) { status.fail(cause); }),
+      deliveries_(day, engine, log_), sessions_(day, log_, deliveries_, end.states),
+      stall_(day.events, day.of_venue()), sweeper_(follower_->answers(), log_, day.clock) {}
+
+Speaker::Speaker(VenueDay &day, std::unique_ptr<Follower> follower, const Follower::End &end,
+                 std::uint32_t term, Engine &engine)
+    : Speaker(day, std::move(follower), end, start_of(day, end, term), engine) {
+    day_.events->info("speaks{} term={} entries={}", day_.of_venue(), term, end.last.place);
+}
+
+// The venue's threads give to the mailboxes, and these to the log.
+Speaker::~Speaker() {
+    sweeper_.stop();
+    follower_->close();
+}
+
+void Speaker::start() {
+    if (!follower_->give_to(deliveries_)) {
+        return;
+    }
+    deliveries_.wait_until_handed_over();
+    log_.flush();
+    sessions_.end_lost(lost_);
+    sweeper_.start();
+}
+
+void Speaker::finish() {
+    sweeper_.stop();
+    follower_->answers().wait(log_.last_place(), longest_end, day_.status.failed());
+    deliveries_.wait_until_handed_over();
+}
+
+void Speaker::end() {
+    follower_->end_venue();
+    deliveries_.wait_until_handed_over();
+    sessions_.rows().put_last_rest();
+    log_.flush();
+    day_.events->info("ended{} entries={}", day_.of_venue(), log_.last_place());
+}
+
+void Speaker::look() {
+    day_.look_at_clock();
+    follower_->look_at_venue(log_.last_place());
+    stall_.look(log_.commits_since());
+    sessions_.rows().put_rest();
+}
+
+void Speaker::put_stranger(const ConnectionFacts &facts, const std::string &why) {
+    sessions_.rows().put_stranger(facts, why);
+}
+
+} // namespace gateway

@@ -1,0 +1,67 @@
+// The gateway that writes a venue's log and has its firms' sessions.
+#ifndef GATEWAY_SPEAKER_H
+#define GATEWAY_SPEAKER_H
+
+#include "deliveries.h"
+#include "engine.h"
+#include "firm_sessions.h"
+#include "follower.h"
+#include "log.h"
+#include "silence.h"
+#include "sweeper.h"
+#include "venue_day.h"
+
+#include <cstdint>
+#include <memory>
+#include <string>
+#include <vector>
+
+namespace gateway {
+
+// Exists only with a term, in which nobody else writes. It is a Follower that goes on: what it
+// commits is fed to the venue, and what the venue gives goes to the sessions.
+class Speaker final {
+  public:
+    // Opens the log in this term, at its end. The engine is given the sessions before start().
+    // Throws std::runtime_error where the log can't be gone on with.
+    Speaker(VenueDay &day, std::unique_ptr<Follower> follower, const Follower::End &end,
+            std::uint32_t term, Engine &engine);
+    // Ends the venue's process, and commits what waits. The engine has stopped.
+    ~Speaker();
+    Speaker(const Speaker &) = delete;
+    Speaker &operator=(const Speaker &) = delete;
+
+    // Where the firms' sessions begin.
+    std::vector<SessionStart> session_starts() { return sessions_.starts(); }
+    // Has what the log lacks handed to the engine, so that it has its number before any session
+    // logs on; ends what the last gateway left behind; and lets the clock be told to the venue.
+    // Does nothing where the gateway is to stop.
+    void start();
+    // Lets the venue answer what came, and hands that over.
+    void finish();
+    // Ends the venue's process, and commits.
+    void end();
+
+    // Looks whether the day goes on, and whether the venue and the log answer; to be called each
+    // second.
+    void look();
+    // Puts a stranger into the log, as often as its rows may be.
+    void put_stranger(const ConnectionFacts &facts, const std::string &why);
+
+  private:
+    Speaker(VenueDay &day, std::unique_ptr<Follower> follower, const Follower::End &end,
+            Log::Start start, Engine &engine);
+
+    VenueDay &day_;
+    const std::unique_ptr<Follower> follower_;
+    const std::vector<ConnectionEvent> lost_; // connections that the log had open
+    Log log_;
+    Deliveries deliveries_;
+    FirmSessions sessions_;
+    Stall stall_;
+    Sweeper sweeper_;
+};
+
+} // namespace gateway
+
+#endif
