@@ -1,6 +1,7 @@
 #include "config.h"
 
 #include "password.h"
+#include "venue_file.h"
 
 #include <algorithm>
 #include <array>
@@ -139,8 +140,8 @@ class Section {
 
 class ConfigReader {
   public:
-    explicit ConfigReader(const fs::path &path)
-        : path_(fs::absolute(path)), table_(parse(path_, read_file(path_))) {}
+    ConfigReader(const fs::path &path, std::string_view day)
+        : path_(fs::absolute(path)), day_(day), table_(parse(path_, read_file(path_))) {}
 
     // The venues' names: the parts [venue.NAME], or no name for a part [venue] with a command.
     std::vector<std::string> venues() const {
@@ -218,31 +219,9 @@ class ConfigReader {
         }
         const fs::path file = venue.beside(venue.text_of_need("configuration"));
         venue.end();
-        config_.configuration = read_file(file);
-        if (!config_.configuration.ends_with('\n')) {
-            config_.configuration += '\n';
-        }
-        read_firms(file);
-    }
-
-    void read_firms(const fs::path &file) {
-        const toml::table venue = parse(file, config_.configuration);
-        config_.firms.date = venue["date"].value_or(std::string());
-        if (config_.firms.date.size() != 8) {
-            fail(file, "has no date");
-        }
-        for (const char *role : {"dealer", "investor"}) {
-            const toml::array *rows = venue[role].as_array();
-            for (std::size_t at = 0; rows != nullptr && at < rows->size(); ++at) {
-                const toml::table *row = rows->get(at)->as_table();
-                const std::string name =
-                    row == nullptr ? std::string() : (*row)["name"].value_or(std::string());
-                if (name.empty()) {
-                    fail(file, fmt::format("a {} has no name", role));
-                }
-                config_.firms.names.push_back(name);
-            }
-        }
+        VenueFile read = read_venue_file(file, read_file(file), day_);
+        config_.configuration = std::move(read.text);
+        config_.firms = {std::move(read.date), std::move(read.firms)};
     }
 
     // With the day's date and the venue's name: each venue has a log of its own.
@@ -378,6 +357,7 @@ class ConfigReader {
     }
 
     fs::path path_;
+    std::string day_;
     toml::table table_;
     Config config_;
     bool beyond_loopback_ = false;
@@ -385,8 +365,8 @@ class ConfigReader {
 
 } // namespace
 
-std::vector<Config> read_configs(const fs::path &path) {
-    ConfigReader reader(path);
+std::vector<Config> read_configs(const fs::path &path, std::string_view day) {
+    ConfigReader reader(path, day);
     std::vector<Config> configs;
     for (const std::string &venue : reader.venues()) {
         configs.push_back(reader.read(venue));

@@ -8,6 +8,7 @@
 #include <filesystem>
 #include <map>
 #include <string>
+#include <string_view>
 #include <vector>
 
 namespace gateway {
@@ -49,8 +50,9 @@ struct Config {
 };
 
 // Reads the file and those that it names: one configuration for each venue, and what is not a
-// venue's own is the same in all. Throws std::runtime_error that names the file and the key.
-std::vector<Config> read_configs(const std::filesystem::path &path);
+// venue's own is the same in all. A venue's configuration that has no date is given this day's
+// (eight digits). Throws std::runtime_error that names the file and the key.
+std::vector<Config> read_configs(const std::filesystem::path &path, std::string_view day);
 
 } // namespace gateway
 

@@ -1,6 +1,7 @@
 #include "day.h"
 
 #include "process.h"
+#include "venue_trial.h"
 
 #include <chrono>
 #include <cstdlib>
@@ -100,6 +101,7 @@ OpenedDay open_day(const Config &config, Database &database, std::optional<std::
     const auto reader = database.reader();
     const std::vector<Entry> found = reader->entries(0, 1);
     if (found.empty()) {
+        try_configuration(config.command, config.configuration);
         const Entry first = begin_log(now, database, term, clock);
         events->info("log begun date={} program=\"{}\"", clock.date(), now.version);
         return {first, first};

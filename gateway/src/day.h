@@ -19,8 +19,9 @@ struct OpenedDay {
 };
 
 // Holds the day of the configuration against the one that the log began with. A log that has none
-// is begun with it, in this term. Throws std::runtime_error where they differ, and where there is
-// no term in which to begin it.
+// is begun with it, in this term, once the venue's program has taken the configuration. Throws
+// std::runtime_error where they differ, where the program does not take it, and where there is no
+// term in which to begin it.
 OpenedDay open_day(const Config &config, Database &database, std::optional<std::uint32_t> term,
                    DayClock &clock, const std::shared_ptr<spdlog::logger> &events);
 

@@ -1,7 +1,10 @@
 // mireseason-gateway CONFIG
 #include "check_settings.h"
 #include "gateway.h"
+#include "moment.h"
 #include "password.h"
+#include "start_check.h"
+#include "venue_rules.h"
 
 #include <csignal>
 #include <iostream>
@@ -16,7 +19,8 @@
 namespace {
 
 constexpr const char *usage = R"(usage: mireseason-gateway CONFIG
-       mireseason-gateway --check CONFIG   reads the configuration, and ends
+       mireseason-gateway --check CONFIG [--date YYYYMMDD]
+                                           looks for what a start on that day would find, and ends
        mireseason-gateway --hash           reads a password, a line, and prints its salted hash
        mireseason-gateway --version
 )";
@@ -88,18 +92,25 @@ class Signals {
     sigset_t set_{};
 };
 
-int serve(const std::string &path, bool only_check) {
-    std::vector<gateway::Config> configs = gateway::read_configs(path);
+// Nothing is written, and no port is listened at.
+int check(const std::string &path, const std::string &day) {
+    if (!gateway::is_date(day)) {
+        std::cerr << "mireseason-gateway: --date takes a day as eight digits\n";
+        return 2;
+    }
+    for (const gateway::Config &config : gateway::read_configs(path, day)) {
+        gateway::check_start(config, day);
+        std::cout << path << " is a configuration of " << config.firms.names.size() << " firms for "
+                  << day << '\n';
+    }
+    return 0;
+}
+
+int serve(const std::string &path) {
+    std::vector<gateway::Config> configs = gateway::read_configs(path, gateway::today());
     // Here, and not when the sessions begin: one that follows would find out only once it is to
     // take over.
     gateway::check_settings(configs.front().engine);
-    if (only_check) {
-        for (const gateway::Config &config : configs) {
-            std::cout << path << " is a configuration of " << config.firms.names.size()
-                      << " firms\n";
-        }
-        return 0;
-    }
     const auto events = make_events(configs.front().event_level);
     const Signals signals;
     gateway::Gateway gateway(std::move(configs), events);
@@ -122,10 +133,13 @@ int main(int count, char **words) {
             return print_hash();
         }
         if (arguments.size() == 2 && arguments[0] == "--check") {
-            return serve(arguments[1], true);
+            return check(arguments[1], gateway::today());
+        }
+        if (arguments.size() == 4 && arguments[0] == "--check" && arguments[2] == "--date") {
+            return check(arguments[1], arguments[3]);
         }
         if (arguments.size() == 1 && !arguments[0].starts_with('-')) {
-            return serve(arguments[0], false);
+            return serve(arguments[0]);
         }
     } catch (const std::exception &fault) {
         std::cerr << "mireseason-gateway: " << fault.what() << '\n';

@@ -1,0 +1,188 @@
+// Faults of a venue's configuration: each is told with its line, its row, its key, the value and
+// what is allowed.
+#define DOCTEST_CONFIG_IMPLEMENT_WITH_MAIN
+#include <doctest/doctest.h>
+
+#include "venue_file.h"
+
+#include <array>
+#include <fstream>
+#include <random>
+#include <sstream>
+
+#include <fmt/format.h>
+
+using namespace gateway;
+
+namespace {
+
+constexpr std::string_view lawful = R"(version = 2
+[[bond]]
+id = "BONDA0000001"
+grid = 32
+name = "Treasury 4 % 2034"
+currency = "USD"
+quoted = "32nds"
+[[dealer]]
+name = "DLR1"
+traders = ["T1", "T7"]
+quotes = 4096
+exposure = 250000000
+[[investor]]
+name = "INV1"
+traders = ["T8"]
+requests = 256
+open = 16
+quantity = 5000000
+)";
+
+// One change of the lawful text, and the fault that it gives.
+struct Case {
+    const char *name;
+    std::string_view was;
+    std::string_view is;
+    std::string_view told;
+};
+
+constexpr std::array cases = {
+    Case{"a misspelt key", "exposure = ", "exposre = ",
+         "venue.toml: line 12: dealer DLR1: exposre is no key of a dealer; exposure?"},
+    Case{"a key of another table", "open = 16", "open = 16\nexposure = 5",
+         "venue.toml: line 18: investor INV1: exposure is no key of an investor"},
+    Case{"a misspelt table", "[[bond]]", "[[bonds]]",
+         "venue.toml: line 2: bonds is no key of the venue's configuration; bond?"},
+    Case{"a limit", "quotes = 4096", "quotes = 4097",
+         "venue.toml: line 11: dealer DLR1: quotes = 4097: it has to be from 1 to 4,096"},
+    Case{"a number as a text", "open = 16", "open = \"16\"",
+         "venue.toml: line 17: investor INV1: open = \"16\": it has to be from 1 to 1,024"},
+    Case{"a bond's id", "BONDA0000001", "BONDA000001",
+         "venue.toml: line 3: bond BONDA000001: id = \"BONDA000001\": it has to be 12 capital "
+         "letters and digits"},
+    Case{"a grid that is none", "grid = 32", "grid = 33",
+         "venue.toml: line 4: bond BONDA0000001: grid = 33: it has to be 32, 64, 128 or 256"},
+    Case{"a grid in version 1", "version = 2", "version = 1",
+         "venue.toml: line 4: bond BONDA0000001: grid = 32: it has no effect before version 2"},
+    Case{"a version of tomorrow", "version = 2", "version = 3",
+         "venue.toml: line 1: version = 3: it has to be 1 or 2"},
+    Case{"a date that is none", "version = 2", "version = 2\ndate = \"2025-03-14\"",
+         "venue.toml: line 2: date = \"2025-03-14\": it has to be a day as eight digits, such as "
+         "20250314"},
+    Case{"a firm with the clock's name", "\"DLR1\"", "\"CLOCK\"",
+         "venue.toml: line 9: dealer CLOCK: name = \"CLOCK\": it has to be 1 to 8 capital letters "
+         "and digits, the first a letter, and neither VENUE nor CLOCK"},
+    Case{"a firm twice", "\"INV1\"", "\"DLR1\"",
+         "venue.toml: line 14: investor DLR1: name = \"DLR1\": line 9 has it already"},
+    Case{"a trader twice", "\"T7\"", "\"T1\"",
+         "venue.toml: line 10: dealer DLR1: traders has \"T1\" twice"},
+    Case{
+        "no trader", "[\"T8\"]", "[]",
+        "venue.toml: line 15: investor INV1: traders = a list: it has to be 1 to 16 names, each of "
+        "1 to 8 capital letters and digits, the first a letter"},
+    Case{"a limit that is missing", "quantity = 5000000\n", "",
+         "venue.toml: line 13: investor INV1: quantity is missing: it has to be from 1 to "
+         "1,000,000,000,000"},
+    Case{"a currency", "\"USD\"", "\"dollar\"",
+         "venue.toml: line 6: bond BONDA0000001: currency = \"dollar\": it has to be three capital "
+         "letters"},
+    Case{"a key twice", "open = 16", "open = 16\nopen = 16", "venue.toml: line 18: "},
+    Case{"a text with a line feed", "\"USD\"", "\"US\\nD\"",
+         "venue.toml: line 6: bond BONDA0000001: currency = \"US?D\": it has to be three capital "
+         "letters"},
+};
+
+std::string changed(std::string_view was, std::string_view is) {
+    std::string text(lawful);
+    const std::size_t at = text.find(was);
+    REQUIRE(at != std::string::npos);
+    return text.replace(at, was.size(), is);
+}
+
+std::string told_of(const std::string &text) {
+    try {
+        read_venue_file("venue.toml", text, "20261127");
+    } catch (const VenueFileFaults &faults) {
+        return faults.what();
+    }
+    return "no fault";
+}
+
+std::string rows_of(std::string_view table, int count, std::string_view rest) {
+    std::string rows;
+    for (int at = 0; at < count; ++at) {
+        rows += fmt::format("[[{}]]\nname = \"F{}\"\ntraders = [\"T1\"]\n{}\n", table, at, rest);
+    }
+    return rows;
+}
+
+} // namespace
+
+TEST_CASE("a lawful configuration is given to the venue with the day's date in front") {
+    const VenueFile venue = read_venue_file("venue.toml", std::string(lawful), "20261127");
+    CHECK(venue.date == "20261127");
+    CHECK(venue.firms == std::vector<std::string>{"DLR1", "INV1"});
+    CHECK(venue.text == "date = \"20261127\"\n" + std::string(lawful));
+}
+
+TEST_CASE("a date of its own stays, and the text with it, but for a line feed at its end") {
+    const std::string own = "date = \"20250314\"\n" + std::string(lawful);
+    const VenueFile venue =
+        read_venue_file("venue.toml", own.substr(0, own.size() - 1), "20261127");
+    CHECK(venue.date == "20250314");
+    CHECK(venue.text == own);
+}
+
+TEST_CASE("each fault names its line, its row, its key, the value and what is allowed") {
+    for (const Case &each : cases) {
+        SUBCASE(each.name) {
+            const std::string told = told_of(changed(each.was, each.is));
+            CAPTURE(told);
+            CHECK(told.find(each.told) != std::string::npos);
+        }
+    }
+}
+
+TEST_CASE("all faults are told, in the order of their lines") {
+    std::string text = changed("quotes = 4096", "quotes = 0");
+    text.replace(text.find("open = 16"), 9, "opn = 16");
+    const std::string told = told_of(text);
+    CHECK(told == "venue.toml: line 11: dealer DLR1: quotes = 0: it has to be from 1 to 4,096\n"
+                  "venue.toml: line 13: investor INV1: open is missing: it has to be from 1 to "
+                  "1,024\n"
+                  "venue.toml: line 17: investor INV1: opn is no key of an investor; open?");
+}
+
+TEST_CASE("the quotes of all dealers are at most 65,536") {
+    const std::string rest = "quotes = 4096\nexposure = 1";
+    const std::string head = "version = 2\n";
+    CHECK(told_of(head + rows_of("dealer", 16, rest)) == "no fault");
+    CHECK(told_of(head + rows_of("dealer", 17, rest)) ==
+          "venue.toml: line 85: dealer F16: quotes = 4096: with those above it is 69632 of all "
+          "dealers, of at most 65536");
+}
+
+TEST_CASE("a value of any length takes one short line") {
+    const std::string told = told_of(changed("\"USD\"", "\"" + std::string(100'000, 'x') + "\""));
+    CHECK(told.size() < 200);
+}
+
+TEST_CASE("of many faults the first fifty are told") {
+    const std::string told = told_of("version = 2\n" + rows_of("dealer", 60, "quotes = 0"));
+    CHECK(std::count(told.begin(), told.end(), '\n') == 50);
+    CHECK(told.ends_with("venue.toml: and 70 faults more"));
+}
+
+TEST_CASE("a key with a letter less is told with the key that was meant, whichever it is") {
+    std::mt19937 draw(20261127); // NOLINT: the same faults each time
+    const std::array<std::string_view, 9> keys = {"traders",  "exposure", "requests",
+                                                  "quantity", "currency", "quoted",
+                                                  "quotes",   "grid",     "name"};
+    for (int turn = 0; turn < 50; ++turn) {
+        const std::string_view key = keys[draw() % keys.size()];
+        std::string written(key);
+        written.erase(draw() % written.size(), 1);
+        CAPTURE(written);
+        const std::string told =
+            told_of(changed(fmt::format("\n{} = ", key), fmt::format("\n{} = ", written)));
+        CHECK(told.find(fmt::format("; {}?", key)) != std::string::npos);
+    }
+}

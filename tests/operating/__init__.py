@@ -1,0 +1,1 @@
+"""What an operator meets: a configuration at fault, and what a start would find."""

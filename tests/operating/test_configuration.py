@@ -1,0 +1,177 @@
+"""The venue's configuration, as its operator wrote it: each fault is told with its place, and nothing is written before it is right."""
+
+import json
+import random
+import socket
+import subprocess
+from collections.abc import Callable
+from pathlib import Path
+
+import pytest
+
+from tests.gateway.door import today
+from tests.gateway.stage import Stage
+
+VENUE = """version = 2
+[[bond]]
+id = "BONDA0000001"
+grid = 256
+name = "Treasury 4 % 2034"
+currency = "USD"
+quoted = "32nds"
+[[dealer]]
+name = "DLR1"
+traders = ["T1"]
+quotes = 4096
+exposure = 60000000
+[[dealer]]
+name = "DLR2"
+traders = ["T2"]
+quotes = 4096
+exposure = 60000000
+[[investor]]
+name = "INV1"
+traders = ["V1"]
+requests = 1024
+open = 64
+quantity = 5000000
+"""
+
+# What is written in the place of a lawful text, and what the operator is told of it, by hand from FORMATS.md.
+FAULTS = {
+    "a misspelt key": ("exposure", "exposre", "venue.toml: line 12: dealer DLR1: exposre is no key of a dealer; exposure?"),
+    "a limit of nothing": ("open = 64", "open = 0", "venue.toml: line 22: investor INV1: open = 0: it has to be from 1 to 1,024"),
+    "a bond's id of 11 letters": ('"BONDA0000001"', '"BONDA000001"', "line 3: bond BONDA000001: id"),
+    "a grid in version 1": ("version = 2", "version = 1", "line 4: bond BONDA0000001: grid = 256: it has no effect before version 2"),
+    "a firm that is there twice": ('"DLR2"', '"DLR1"', 'line 14: dealer DLR1: name = "DLR1": line 9 has it already'),
+    "no TOML": ("open = 64", "open = ", "venue.toml: line 22: "),
+}
+
+
+def told(stage: Stage, *words: str) -> subprocess.CompletedProcess[str]:
+    """What --check says."""
+    command = [stage.door.programs.gateway, "--check", stage.folder / "gateway.toml", *words]
+    return subprocess.run(command, capture_output=True, text=True, timeout=60, check=False)
+
+
+def write(stage: Stage, venue: str) -> Path:
+    """The gateway's files, with this configuration of the venue."""
+    file = stage.folder / "venue.toml"
+    file.write_text(venue)
+    stage.door.write()
+    return file
+
+
+def is_untouched(stage: Stage) -> bool:
+    """Whether nothing was written of a day."""
+    return not stage.door.database.exists()
+
+
+@pytest.mark.parametrize("name", FAULTS)
+def test_a_fault_is_told_with_its_place_and_nothing_is_written(stage: Stage, name: str) -> None:
+    """--check tells it, a start ends with it, and there is no log whose first entry nobody wants."""
+    was, wrong, expected = FAULTS[name]
+    write(stage, VENUE.replace(was, wrong, 1))
+    found = told(stage)
+    assert (found.returncode, expected in found.stderr) == (1, True), found.stderr
+    stage.door.start()
+    assert stage.door.wait_end() == 1
+    assert expected in stage.door.last_words()
+    assert is_untouched(stage)
+
+
+def test_once_it_is_right_the_day_begins(stage: Stage) -> None:
+    """A fault leaves nothing behind: the file is mended, the gateway starts, and firms trade."""
+    file = write(stage, VENUE.replace("exposure", "exposre"))
+    stage.door.start()
+    assert stage.door.wait_end() == 1
+    file.write_text(VENUE)
+    stage.open(*stage.firms)
+    stage.auction()
+    stage.whole()
+
+
+def test_a_configuration_without_a_date_is_of_today(stage: Stage) -> None:
+    """The first entry has the text that the venue was given, with the day's date."""
+    write(stage, VENUE)
+    stage.open()
+    first = stage.door.ledger().entries[0]
+    assert 'date = "%s"\n%s' % (today(), VENUE) in json.dumps(first.line.decode()).encode().decode("unicode_escape")
+
+
+def test_yesterdays_date_is_found(stage: Stage) -> None:
+    """By --check, and by a start; --date says which day is meant."""
+    write(stage, 'date = "20250314"\n' + VENUE)
+    assert "the venue's configuration is of 20250314" in told(stage).stderr
+    assert told(stage, "--date", "20250314").returncode == 0
+    assert told(stage, "--date", "2025").returncode == 2
+    stage.door.start()
+    assert stage.door.wait_end() == 1
+    assert is_untouched(stage)
+
+
+def test_a_port_that_another_program_has_is_found(stage: Stage) -> None:
+    """Before the day begins, and with the port's number."""
+    write(stage, VENUE)
+    assert told(stage).returncode == 0
+    with socket.socket() as other:
+        other.setsockopt(socket.SOL_SOCKET, socket.SO_REUSEADDR, 1)
+        other.bind(("127.0.0.1", stage.door.port))
+        other.listen()
+        found = told(stage)
+    assert (found.returncode, "[fix] port 127.0.0.1:%d" % stage.door.port in found.stderr) == (1, True), found.stderr
+
+
+def with_program(stage: Stage, words: list[str]) -> None:
+    """The gateway's file, with another program of the venue."""
+    file = stage.folder / "gateway.toml"
+    lines = file.read_text().splitlines()
+    file.write_text("\n".join("command = " + json.dumps(words) if line.startswith("command") else line for line in lines))
+
+
+def a_program_that_is_not_there(folder: Path) -> list[str]:
+    return [str(folder / "nobody")]
+
+
+def a_program_that_takes_no_configuration(folder: Path) -> list[str]:
+    program = folder / "strict"
+    program.write_text("#!/bin/sh\ncat >/dev/null\necho 'config: Limit' >&2\nexit 1\n")
+    program.chmod(0o755)
+    return [str(program)]
+
+
+@pytest.mark.parametrize(("program", "expected"), [(a_program_that_is_not_there, "nobody"),
+                                                   (a_program_that_takes_no_configuration, "config: Limit")])
+def test_the_venues_program_is_asked_first(stage: Stage, program: Callable[[Path], list[str]], expected: str) -> None:
+    """A configuration that the venue does not take begins no day, whatever the gateway thinks of it."""
+    write(stage, VENUE)
+    with_program(stage, program(stage.folder))
+    found = told(stage)
+    assert (found.returncode, expected in found.stderr) == (1, True), found.stderr
+    stage.door.start()
+    assert stage.door.wait_end() == 1
+    assert expected in stage.door.last_words()
+
+
+def drawn_fault(draw: random.Random) -> tuple[str, int, str]:
+    """A line of the lawful text with one letter of its key left out: the text, the line's number, the key."""
+    lines = VENUE.splitlines()
+    numbers = [at for at, line in enumerate(lines) if " = " in line and len(line.split(" = ")[0]) > 3]
+    at = draw.choice(numbers)
+    key, value = lines[at].split(" = ")
+    letter = draw.randrange(len(key))
+    lines[at] = "%s = %s" % (key[:letter] + key[letter + 1:], value)
+    return "\n".join(lines) + "\n", at + 1, key
+
+
+def test_fifty_drawn_faults_are_told_with_line_and_key(stage: Stage, seed: int) -> None:
+    """A letter that is missing from a key, wherever it is."""
+    write(stage, VENUE)
+    draw = random.Random(seed)
+    for _ in range(50):
+        text, line, key = drawn_fault(draw)
+        (stage.folder / "venue.toml").write_text(text)
+        found = told(stage)
+        assert found.returncode == 1, text
+        assert "line %d: " % line in found.stderr and "; %s?" % key in found.stderr, (text, found.stderr)
+    assert is_untouched(stage)
