@@ -14,6 +14,7 @@ from .exchanges import Exchange, exchanges
 from .frame import Fields, fields_of, number_in, text_of
 from .lines import Came
 from .log import Log
+from .names import is_hit
 from .records import Day
 from .second_day import QUOTE, SEQ_NUM, body_of, is_whole, line_of
 from .venue import Conversation, Venue
@@ -94,11 +95,6 @@ class LeftOutDay:
             fields = fields_of(frame)
             if text_of(fields, 35) == "S":
                 self._after[firm, place] = text_of(fields, QUOTE)
-
-
-def is_hit(came: Came) -> bool:
-    """Whether a message is a hit: 35=AJ with 694=1."""
-    return text_of(came.fields, 35) == "AJ" and text_of(came.fields, 694).lstrip("0") == "1"
 
 
 def changed(fields: Fields, tag: int, value: str) -> Fields:

@@ -1,171 +1,77 @@
-"""The command line of mireseason-audit.
-
-What one command alone needs is imported by it: jinja2 takes longer than the check of a short day.
-"""
+"""The commands of mireseason-audit."""
 
 import argparse
 import io
 import os
-import shlex
 import signal
 import sqlite3
 import sys
 import tempfile
 import traceback
-from collections.abc import Callable
-from dataclasses import dataclass
 from pathlib import Path
 
-from .check import Checker, Verdict, report
+from .arguments import (
+    DICTIONARY, SEAL_HELP, Commands, Parser, source_of, venue_of, with_form, with_moment, with_seal,
+)
+from .check import report
+from .command import Work, checked, compared_with, seal_of, seal_path
+from .day_commands import do_export, do_trades
 from .faults import Unreadable, Wrong
-from .files_log import TwoFiles
-from .findings import Finding
 from .frame import printable
-from .jobs import Files
-from .log import Source
-from .progress import Progress
-from .seal import KeptLog, Sealed, check_key, compared, read_seal, sealed, write_seal
-from .sqlite_log import SqliteSource
-from .venue import Venue
-from .work import SIGNALS, processors
+from .seal import check_key, sealed, write_seal
+from .work import SIGNALS
 
-ROOT = Path(__file__).resolve().parent.parent.parent
-VENUE = ROOT / "crates" / "rfq_venue" / "out" / "rfq_venue"
-DICTIONARY = ROOT / "fix" / "MIRESEASON.xml"
-AT_ONCE = processors() + 1  # a process that waits for the disk leaves its processor
-ADDRESSES = ("postgres://", "postgresql://")
-SEAL_HELP = "the seal (if it is not named LOG.seal; of a schema SCHEMA.seal in this folder)"
-LOG_HELP = "a file of SQLite; postgres:CONNECTION with --schema; or a day of `live` with --sent"
-
-
-@dataclass(frozen=True)
-class Work:
-    """The arguments, the log, and a folder that is gone at the end."""
-
-    words: argparse.Namespace
-    source: Source
-    folder: Path
-    venue: Venue
-
-    def checker(self) -> Checker:
-        files = Files(self.folder)
-        return Checker(self.source, self.venue, files, self.words.jobs, Progress())
+EPILOG = (
+    "Status 0: all is as it should be; 1: it is not; 2: that is not known, since something could"
+    " not be read or written, or the log went on meanwhile."
+)
 
 
 def parser_of() -> argparse.ArgumentParser:
-    parser = argparse.ArgumentParser(
-        prog="mireseason-audit",
-        description="What firms were really sent on a day, checked and shown.",
-        epilog="Status 0: all is as it should be; 1: it is not; 2: that is not known, since"
-        " something could not be read or written, or the log went on meanwhile.",
-    )
-    commands = parser.add_subparsers(dest="command", required=True, metavar="COMMAND")
+    text = "What firms were really sent on a day, checked and shown."
+    parser = Parser(prog="mireseason-audit", description=text, epilog=EPILOG)
+    commands = Commands(parser)
     text = "holds what was sent, and the record, against the venue"
-    check = command(commands, "check", text, do_check)
-    check.add_argument("--key", type=Path, help="the public key of the seal, in PEM")
-    check.add_argument("--seal", type=Path, help=SEAL_HELP)
-    seal = command(commands, "seal", "signs what the log has", do_seal)
+    with_seal(commands.add("check", text, do_check))
+    seal = commands.add("seal", "signs what the log has", do_seal)
     seal.add_argument("--key", type=Path, required=True, help="a private Ed25519 key in PEM")
     seal.add_argument("--out", type=Path, help=SEAL_HELP)
-    page = command(commands, "page", "writes the day as static pages", do_page)
+    add_page(commands)
+    pair = commands.add("pair", "second days beside this one, for one dealer", do_pair)
+    pair.add_argument("dealer", metavar="DEALER", help="a dealer of the day")
+    pair.add_argument("--seed", type=int, default=1, help="of the prices that are drawn")
+    add_tables(commands)
+    return parser
+
+
+def add_page(commands: Commands) -> None:
+    page = commands.add("page", "writes the day as static pages", do_page)
     page.add_argument("folder", metavar="DIR", type=Path, help="an empty folder, or a new one")
     page.add_argument("--request", type=int, help="the request of the certificates' second day")
     text = "names of fields and values (fix/MIRESEASON.xml)"
     page.add_argument("--dictionary", type=Path, default=DICTIONARY, help=text)
-    page.add_argument("--key", type=Path, help="the public key of the seal, in PEM")
-    page.add_argument("--seal", type=Path, help=SEAL_HELP)
+    with_seal(page)
     page.add_argument("--sign", type=Path, help="a private Ed25519 key that signs the pages")
-    pair = command(commands, "pair", "second days beside this one, for one dealer", do_pair)
-    pair.add_argument("dealer", metavar="DEALER", help="a dealer of the day")
-    pair.add_argument("--seed", type=int, default=1, help="of the prices that are drawn")
-    return parser
 
 
-def command(
-    commands: "argparse._SubParsersAction[argparse.ArgumentParser]",
-    name: str,
-    text: str,
-    act: Callable[[Work], int],
-) -> argparse.ArgumentParser:
-    """A command on a log, with the options that all have."""
-    parser = commands.add_parser(name, help=text, description=text)
-    parser.set_defaults(act=act)
-    parser.add_argument("log", metavar="LOG", help=LOG_HELP)
-    parser.add_argument("--schema", default="public", help="the schema of the day in PostgreSQL")
-    parser.add_argument("--sent", type=Path, help="what was sent, as `live --frames` prints it")
-    venue = os.environ.get("VENUE", shlex.quote(str(VENUE)))
-    parser.add_argument("--venue", default=venue, help="the words of the venue's program (VENUE)")
-    text = "processes at one time (%(default)s)"
-    parser.add_argument("--jobs", type=int, default=AT_ONCE, help=text)
-    return parser
-
-
-def source_of(words: argparse.Namespace, venue: Venue, folder: Path) -> Source:
-    """The log that the arguments name."""
-    if words.sent is not None:
-        for path in (Path(words.log), words.sent):
-            if not path.is_file():
-                raise Unreadable("%s: there is no such file" % path)
-        return TwoFiles(Path(words.log), words.sent, venue).to_log(folder / "files.db")
-    if words.log.startswith(("postgres:", *ADDRESSES)):
-        from .postgres_log import PostgresSource
-
-        return PostgresSource(connection_of(words.log), words.schema)
-    return SqliteSource(Path(words.log))
-
-
-def connection_of(log: str) -> str:
-    """What libpq is given: the words after `postgres:`, or an address, which begins so."""
-    return log if log.startswith(ADDRESSES) else log.removeprefix("postgres:")
-
-
-def seal_path(words: argparse.Namespace, source: Source, named: Path | None) -> Path:
-    if named is not None:
-        return named
-    if isinstance(source, SqliteSource):
-        return source.path.with_name(source.path.name + ".seal")
-    return Path(source.name + ".seal")
+def add_tables(commands: Commands) -> None:
+    """The commands that make tables of a day."""
+    export = commands.add("export", "writes the day as tables", do_export)
+    export.add_argument("folder", metavar="FOLDER", type=Path, help="an empty folder, or a new one")
+    text = "an investor: its own file for best execution"
+    export.add_argument("--for", dest="firm", metavar="FIRM", help=text)
+    trades = commands.add("trades", "prints each firm's confirmations", do_trades)
+    trades.add_argument("--for", dest="firm", metavar="FIRM", help="those of one firm")
+    for parser in (export, trades):
+        with_form(parser)
+        with_moment(parser)
+        with_seal(parser)
 
 
 def do_check(work: Work) -> int:
     verdict = checked(work)
     print("\n".join(report(verdict)))
     return 0 if verdict.is_good else 1
-
-
-def checked(work: Work) -> Verdict:
-    """The verdict, that of the seal too where a key is given."""
-    seal = seal_of(work)
-    return compared_with(work, seal, work.checker().check())
-
-
-def seal_of(work: Work) -> Sealed | None:
-    """The seal that the arguments name; it is read first, since it may be none of the key."""
-    words = work.words
-    if words.key is None and words.seal is not None:
-        raise Unreadable("a seal says nothing without --key, the public key that signed it")
-    if words.key is None:
-        return None
-    return read_seal(seal_path(words, work.source, words.seal), words.key)
-
-
-def compared_with(work: Work, seal: Sealed | None, verdict: Verdict) -> Verdict:
-    """The verdict with what the seal says."""
-    if seal is not None:
-        with work.source.open() as log:
-            now = sealed(log, verdict.day, verdict.chained)
-            found = list(compared(seal, now, KeptLog(log)))
-        verdict.findings += found
-        verdict.seal = seal_words(verdict, found)
-    return verdict
-
-
-def seal_words(verdict: Verdict, found: list[Finding]) -> str:
-    if found:
-        return "signed by the key; the log is NOT AS IT WAS SEALED"
-    if verdict.of("entries"):
-        return "signed by the key; the last entry is that, and others are NOT AS THEY WERE"
-    return "signed by the key, and the log is as it was sealed"
 
 
 def do_seal(work: Work) -> int:
@@ -179,7 +85,7 @@ def do_seal(work: Work) -> int:
         print("\n".join(line for finding in chained.findings for line in finding.lines()))
         print("verdict: not sealed")
         return 1
-    path = seal_path(work.words, work.source, work.words.out)
+    path = seal_path(work, work.words.out)
     write_seal(what, work.words.key, path)
     print("sealed: %d entries, the last %s" % (chained.entries, chained.last.hex()))
     print("the seal is %s" % path)
@@ -224,14 +130,6 @@ def do_pair(work: Work) -> int:
     else:
         print("verdict: %s is sent what is not declared" % firm.name)
     return 0 if told.is_good else 1
-
-
-def venue_of(words: argparse.Namespace) -> Venue:
-    """The program that the arguments name."""
-    try:
-        return Venue(tuple(shlex.split(words.venue)))
-    except ValueError as fault:
-        raise Unreadable("the venue's program %s: %s" % (words.venue, fault)) from None
 
 
 def act(words: argparse.Namespace) -> int:

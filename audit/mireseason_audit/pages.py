@@ -12,6 +12,7 @@ from .dictionary import read_dictionary
 from .door_pages import DoorJob
 from .faults import Unreadable
 from .findings import Finding
+from .folders import make_folder
 from .firm_pages import ENTRIES_A_PAGE, FirmJob, page_name
 from .reading import Reader
 from .progress import Step
@@ -201,13 +202,3 @@ def day_page(page: int) -> str:
 
 def fault_link(fault: Fault) -> str:
     return "%s#e%d" % (page_name(fault.firm, fault.place), fault.place)
-
-
-def make_folder(folder: Path) -> None:
-    """An empty folder, or one that was not there."""
-    try:
-        folder.mkdir(parents=True, exist_ok=True)
-        if any(folder.iterdir()):
-            raise Unreadable("%s is not empty" % folder)
-    except OSError as fault:
-        raise Unreadable("the pages can't be written: %s" % fault) from None

@@ -58,9 +58,14 @@ class Words(NamedTuple):
         return GLYPHS[self.shape]
 
 
+def price_text_of(fields: Fields) -> str:
+    """OfferPx (133) or BidPx (132); empty where neither stands."""
+    return text_of(fields, 133) or text_of(fields, 132)
+
+
 def price_of(fields: Fields) -> Price | None:
     """OfferPx (133) or BidPx (132), where one stands."""
-    text = text_of(fields, 133) or text_of(fields, 132)
+    text = price_text_of(fields)
     return Price(text) if text else None
 
 

@@ -1,9 +1,4 @@
-"""Which request each message is about, by the names that the messages bear.
-
-A request has its own name in the messages of its investor (131), and one for each dealer (`R1`,
-`R2`, ..); a quote has its dealer's (117) and the one by which the investor is shown it (`Q1`,
-`Q2`, ..). Each is learnt from the message that brings it, and none is counted.
-"""
+"""The requests of a day, each with what was done on it and who was told what."""
 
 from collections import defaultdict
 from collections.abc import Iterator, Mapping
@@ -14,6 +9,7 @@ from .came_on import CameOn
 from .exchanges import Exchange, Told
 from .frame import Fields, text_of
 from .lines import Came
+from .names import Names, opens_request
 from .reading import Reader, Words, moment_of
 
 
@@ -78,16 +74,6 @@ class Request:
         return self.side == "1"
 
 
-@dataclass
-class Names:
-    """The names that messages have brought, each with its request."""
-
-    of_dealers: dict[tuple[str, str], int] = field(default_factory=dict)  # dealer and R
-    of_investors: dict[tuple[str, str], int] = field(default_factory=dict)  # investor and 131
-    quotes: dict[tuple[str, str], int] = field(default_factory=dict)  # dealer and its 117
-    shown: dict[tuple[str, str], int] = field(default_factory=dict)  # investor and Q
-
-
 class Requests:
     """Takes the exchanges of a day in their order; answers the acts on each request."""
 
@@ -100,85 +86,32 @@ class Requests:
 
     def take(self, exchange: Exchange) -> Iterator[tuple[Request, Act]]:
         """The acts that an exchange is, one for each request that it is about."""
-        opened = self._opened(exchange)
-        if opened is not None:
-            self.all.append(opened)
+        names, opened = self._names, self._opened(exchange)
         about: dict[int, list[Told]] = defaultdict(list)
         for told in exchange.told:
-            self._learn(told, opened)
-            key = self._about(told)
+            names.learn(told, None if opened is None else opened.key)
+            if opened is not None and told.kind == "R":
+                opened.shown[told.firm.name] = told.text(131)
+            key = names.about(told)
             if key is not None:
                 about[key].append(told)
-        own = self._own(exchange)
+        own = names.own(exchange.came)
         if own is not None:
-            rest = [told for told in exchange.answers() if self._about(told) is None]
+            rest = [told for told in exchange.answers() if names.about(told) is None]
             about[own] = rest + [told for told in about[own] if told not in rest]
         for key, told_of_it in about.items():
             act = self._act(exchange, told_of_it)
             self._follow(self.all[key], act)
             yield self.all[key], act
 
-    # ------------------------------------------------------------ names
-
     def _opened(self, exchange: Exchange) -> Request | None:
-        """The request that a message opens: one that is answered by its acceptance."""
-        came = exchange.came
-        if came is None or text_of(came.fields, 35) != "R":
+        """The request that a message opens."""
+        if exchange.came is None or not opens_request(exchange):
             return None
-        answer = next(iter(exchange.answers()), None)
-        if answer is None or answer.kind != "AI" or answer.text(297) != "0":
-            return None
-        key = len(self.all)
-        self._names.of_investors[came.firm, answer.text(131)] = key
-        return request_of(key, exchange, came)
-
-    def _learn(self, told: Told, opened: Request | None) -> None:
-        """The names that a message of the venue brings; a request is shown when it is opened."""
-        firm, names = told.firm, self._names
-        if told.kind == "R" and opened is not None:
-            names.of_dealers[firm.name, told.text(131)] = opened.key
-            opened.shown[firm.name] = told.text(131)
-        elif told.kind == "S":
-            key = names.of_investors.get((firm.name, told.text(131)))
-            if key is not None:
-                names.shown[firm.name, told.text(117)] = key
-        elif firm.is_dealer and told.kind == "AI" and told.text(297) == "0":
-            key = names.of_dealers.get((firm.name, told.text(131)))
-            if key is not None and told.text(117):
-                names.quotes[firm.name, told.text(117)] = key
-
-    def _about(self, told: Told) -> int | None:
-        """The request that a message of the venue is about."""
-        firm, request, quote = told.firm, told.text(131), told.text(117)
-        if told.kind in ("3", "AG"):
-            return None
-        if firm.is_dealer:
-            if request:
-                return self._names.of_dealers.get((firm.name, request))
-            return self._names.quotes.get((firm.name, quote))
-        if request:
-            return self._names.of_investors.get((firm.name, request))
-        return self._names.shown.get((firm.name, quote))
-
-    def _own(self, exchange: Exchange) -> int | None:
-        """The request that the firm's own message names."""
-        came = exchange.came
-        if came is None:
-            return None
-        kind, firm = text_of(came.fields, 35), came.firm
-        request, quote = text_of(came.fields, 131), text_of(came.fields, 117)
-        names = self._names
-        if kind in ("S", "AG"):
-            return names.of_dealers.get((firm, request))
-        if kind == "Z" and text_of(came.fields, 298).lstrip("0") != "4":
-            return names.quotes.get((firm, quote))
-        if kind == "AJ":
-            if text_of(came.fields, 694).lstrip("0") == "1":
-                return names.shown.get((firm, quote))
-            return names.of_investors.get((firm, request))
-        return None
-
-    # ------------------------------------------------------------ acts
+        request = request_of(len(self.all), exchange, exchange.came)
+        self.all.append(request)
+        self._names.open(exchange, request.key)
+        return request
 
     def _act(self, exchange: Exchange, told: list[Told]) -> Act:
         came, reader = exchange.came, self._reader

@@ -12,7 +12,8 @@ from mireseason_audit.faults import Unreadable
 from mireseason_audit.frame import barred, fault_of, fields_of, framed, number_in, sum_of
 from mireseason_audit.jobs import due_texts, held, is_head
 from mireseason_audit.lines import came_of, firm_and_time
-from mireseason_audit.main import connection_of, parser_of, source_of
+from mireseason_audit.arguments import connection_of, source_of
+from mireseason_audit.main import parser_of
 from mireseason_audit.pair import Compared, Differences, compared_by, difference_words, differences
 from mireseason_audit.prices import Price
 from mireseason_audit.reading import Reader

@@ -16,7 +16,9 @@ from unittest.mock import patch
 from mireseason_audit import sqlite_log, streams
 from mireseason_audit.check import report
 from mireseason_audit.faults import Unreadable, Wrong
-from mireseason_audit.main import Work, checked, parser_of, source_of
+from mireseason_audit.arguments import source_of
+from mireseason_audit.command import Work, checked
+from mireseason_audit.main import parser_of
 from mireseason_audit.streams import Growing
 from mireseason_audit.venue import Run, Venue
 

@@ -1,0 +1,52 @@
+"""The bonds of a day, as its configuration has them.
+
+A row may have `currency` (three capital letters) and `quoted` ("32nds" or "decimals"), which the
+venue's program ignores. A bond without `quoted` is shown in decimals.
+"""
+
+import re
+import tomllib
+from collections.abc import Mapping
+from dataclasses import dataclass
+
+from .faults import Wrong
+from .records import Day
+
+BOND = re.compile(r"[A-Z0-9]{12}")
+CURRENCY = re.compile(r"[A-Z]{3}")
+WAYS = ("32nds", "decimals")
+
+
+@dataclass(frozen=True)
+class Bond:
+    """A bond, and how its amounts and prices are told."""
+
+    id: str
+    currency: str = ""  # empty where the row has none
+    in_32nds: bool = False
+
+    @property
+    def unit(self) -> str:
+        """Of what amounts are counted together: a currency, and without one this bond alone."""
+        return self.currency or self.id
+
+
+def bonds_of(day: Day) -> dict[str, Bond]:
+    """The bonds by their identifiers, in the order of the rows."""
+    rows = tomllib.loads(day.configuration.decode()).get("bond", [])
+    bonds = [bond_of(row) for row in rows if isinstance(row, dict)]
+    return {bond.id: bond for bond in bonds}
+
+
+def bond_of(row: Mapping[str, object]) -> Bond:
+    """One row; what an operator may have got wrong in it is told by name."""
+    name, currency, quoted = row.get("id"), row.get("currency", ""), row.get("quoted", "decimals")
+    if not isinstance(name, str) or not BOND.fullmatch(name):
+        raise Wrong("entry 0: the configuration has a bond named %r" % (name,))
+    if not isinstance(currency, str) or (currency and not CURRENCY.fullmatch(currency)):
+        text = "entry 0: the currency of bond %s is %r: three capital letters are meant"
+        raise Wrong(text % (name, currency))
+    if quoted not in WAYS:
+        text = 'entry 0: bond %s is quoted in %r: "32nds" or "decimals" is meant'
+        raise Wrong(text % (name, quoted))
+    return Bond(name, currency, quoted == "32nds")

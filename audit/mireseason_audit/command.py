@@ -1,0 +1,83 @@
+"""What all commands on a log share: their arguments, the log, and the check of it."""
+
+import argparse
+from dataclasses import dataclass
+from pathlib import Path
+
+from .check import Checker, Verdict, report
+from .faults import Unreadable
+from .findings import Finding
+from .jobs import Files
+from .log import Source
+from .progress import Progress
+from .seal import KeptLog, Sealed, compared, read_seal, sealed
+from .sqlite_log import SqliteSource
+from .venue import Venue
+
+
+@dataclass(frozen=True)
+class Work:
+    """The arguments, the log, and a folder that is gone at the end."""
+
+    words: argparse.Namespace
+    source: Source
+    folder: Path
+    venue: Venue
+
+    def checker(self) -> Checker:
+        files = Files(self.folder)
+        return Checker(self.source, self.venue, files, self.words.jobs, Progress())
+
+
+def checked(work: Work) -> Verdict:
+    """The verdict, that of the seal too where a key is given."""
+    seal = seal_of(work)
+    return compared_with(work, seal, work.checker().check())
+
+
+def is_good(verdict: Verdict) -> bool:
+    """Whether a log is as it should be; where it is not, prints what is found."""
+    if not verdict.is_good:
+        print("\n".join(report(verdict)))
+    return verdict.is_good
+
+
+def seal_path(work: Work, named: Path | None) -> Path:
+    """Where a seal is, or is to be: the named file, else beside the log."""
+    source = work.source
+    if named is not None:
+        return named
+    if isinstance(source, SqliteSource):
+        return source.path.with_name(source.path.name + ".seal")
+    return Path(source.name + ".seal")
+
+
+def seal_of(work: Work) -> Sealed | None:
+    """The seal that the arguments name; it is read first, since it may be none of the key."""
+    words = work.words
+    if words.key is None and words.seal is not None:
+        raise Unreadable("a seal says nothing without --key, the public key that signed it")
+    if words.key is None:
+        return None
+    if getattr(words, "until", None) is not None or getattr(words, "at", None) is not None:
+        raise Unreadable("a seal is of the whole log: leave out --key, or --until and --at")
+    return read_seal(seal_path(work, words.seal), words.key)
+
+
+def compared_with(work: Work, seal: Sealed | None, verdict: Verdict) -> Verdict:
+    """The verdict with what the seal says."""
+    if seal is not None:
+        with work.source.open() as log:
+            now = sealed(log, verdict.day, verdict.chained)
+            found = list(compared(seal, now, KeptLog(log)))
+        verdict.findings += found
+        verdict.seal = seal_words(verdict, found)
+    return verdict
+
+
+def seal_words(verdict: Verdict, found: list[Finding]) -> str:
+    if found:
+        return "signed by the key; the log is NOT AS IT WAS SEALED"
+    if verdict.of("entries"):
+        return "signed by the key; the last entry is that, and others are NOT AS THEY WERE"
+    return "signed by the key, and the log is as it was sealed"

@@ -1,0 +1,138 @@
+"""The commands that make something of a day: each checks it first, and makes nothing of a log that
+is not as it should be.
+"""
+
+import shutil
+from collections.abc import Iterator
+from pathlib import Path
+
+from .best_execution import BEST_EXECUTION, best_execution
+from .bonds import bonds_of
+from .check import Verdict, report
+from .command import Work, checked, is_good
+from .confirmations import CONFIRMATIONS, confirmation_text, confirmations, misnamed
+from .day_pass import DayPass
+from .day_tables import MessageRow
+from .exchanges import Exchange
+from .export import export_day
+from .facts import Facts, ResponseFact
+from .faults import Unreadable
+from .folders import make_folder
+from .records import Day, Firm
+from .refusals import Refusal
+from .statistics import Refused
+from .tables import Form, table_text, write_table
+
+
+class Refusals:
+    """Keeps of what goes by why messages were refused."""
+
+    def __init__(self) -> None:
+        self.all: list[Refused] = []
+
+    def message(self, row: MessageRow) -> None:
+        """It is not kept."""
+
+    def response(self, row: ResponseFact) -> None:
+        """It is not kept."""
+
+    def refusal(self, exchange: Exchange, row: MessageRow, refusal: Refusal) -> None:
+        self.all.append(Refused(row.firm, row.bond, row.moment, refusal))
+
+
+def facts_of(work: Work, verdict: Verdict) -> tuple[Facts, list[Refused]]:
+    """The facts of a day that was checked, and what was refused."""
+    sink = Refusals()
+    with work.source.open() as log:
+        facts = DayPass(log, verdict.day, sink).run()
+    work.checker().check_end(verdict)
+    return facts, sink.all
+
+
+def form_of(work: Work) -> Form | None:
+    """CSV or JSON, where the arguments say so."""
+    words = work.words
+    return Form.CSV if words.csv else Form.JSON if words.json else None
+
+
+def do_export(work: Work) -> int:
+    """`export`: the tables of a day, or one investor's own file."""
+    form, folder = form_of(work), work.words.folder
+    if form is None:
+        raise Unreadable("say which form the files are to have: --csv or --json")
+    investor = None if work.words.firm is None else firm_named(work, work.words.firm)
+    if investor is not None and investor.is_dealer:
+        raise Unreadable("--for %s: a file for best execution is an investor's" % investor.name)
+    make_folder(folder)
+    verdict = checked(work)
+    if not is_good(verdict):
+        return 1
+    scratch = work.folder / "export"
+    scratch.mkdir()
+    if investor is None:
+        count = export_all(work, verdict, form, scratch)
+    else:
+        count = export_one(work, verdict, form, scratch, investor)
+    if not is_good(verdict):
+        return 1
+    for path in sorted(scratch.iterdir()):
+        shutil.move(path, folder / path.name)
+    print("%s: %s" % (folder, count))
+    return 0
+
+
+def export_all(work: Work, verdict: Verdict, form: Form, folder: Path) -> str:
+    with work.source.open() as log:
+        facts = export_day(log, verdict.day, form, folder)
+    work.checker().check_end(verdict)
+    verdict.findings += misnamed(facts)
+    counts = len(facts.requests), len(facts.quotes), len(facts.trades)
+    return "%d requests, %d quotes, %d trades" % counts
+
+
+def export_one(work: Work, verdict: Verdict, form: Form, folder: Path, firm: Firm) -> str:
+    """An investor's own file."""
+    facts, _ = facts_of(work, verdict)
+    verdict.findings += misnamed(facts)
+    rows = best_execution(facts, firm.name)
+    count = write_table(BEST_EXECUTION, rows, form, folder)
+    return "%d rows of %s" % (count, firm.name)
+
+
+def firm_named(work: Work, name: str) -> Firm:
+    """A firm of the day."""
+    with work.source.open() as log:
+        found = log.day().firm(name)
+    if found is None:
+        raise Unreadable("the day has no firm %s" % name)
+    return found
+
+
+def do_trades(work: Work) -> int:
+    """`trades`: each firm's confirmations, or those of one."""
+    form, words = form_of(work), work.words
+    chosen = None if words.firm is None else firm_named(work, words.firm)
+    verdict = checked(work)
+    if not is_good(verdict):
+        return 1
+    facts, _ = facts_of(work, verdict)
+    verdict.findings += misnamed(facts)
+    if not is_good(verdict):
+        return 1
+    firms = verdict.day.firms if chosen is None else (chosen,)
+    for text in confirmation_texts(facts, verdict.day, firms, form):
+        print(text, end="" if form else "\n")
+    return 0
+
+
+def confirmation_texts(
+    facts: Facts, day: Day, firms: tuple[Firm, ...], form: Form | None
+) -> Iterator[str]:
+    """As a table of all, or firm by firm for a person."""
+    bonds = bonds_of(day)
+    rows = {firm.name: list(confirmations(facts, bonds, firm.name)) for firm in firms}
+    if form is not None:
+        yield table_text(CONFIRMATIONS, [row for some in rows.values() for row in some], form)
+        return
+    for firm in firms:
+        yield confirmation_text(firm, rows[firm.name])
