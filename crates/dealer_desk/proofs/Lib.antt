@@ -9,6 +9,7 @@ mod ListLemmas
 mod LiveReaders
 mod MapLemmas
 mod NoteLemmas
+mod NotedFacts
 mod NoticeLemmas
 mod QuoteChanges
 mod ReaderLemmas

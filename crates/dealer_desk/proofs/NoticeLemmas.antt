@@ -9,8 +9,10 @@ use Rattle.market_terms.specs.declared.closes.Close.{Close}
 use Rattle.quote_messages.specs.declared.out_messages.OutMessage.{OutMessage}
 use Rattle.dealer_desk.specs.DealerFacts.{DealerBook, Told, request_numbered}
 use Rattle.dealer_desk.specs.DealerOutput.{closable, untold, next_message, notice_of}
+use Rattle.dealer_desk.specs.DealerNotes.{notice_note, trade_of}
 use Rattle.dealer_desk.specs.DealerTable.{IndexView, with_fact}
 use Rattle.dealer_desk.specs.RuleCuts.{IsDesk}
+use Rattle.dealer_desk.specs.declared.notes.DealerNote.{DealerNote}
 use Rattle.dealer_desk.specs.declared.standing.StandingRequest.{StandingRequest}
 use Rattle.dealer_desk.specs.declared.events.DealerEvent.{DealerEvent}
 use Rattle.dealer_desk.specs.declared.events.DealerEvent.TheVariants as event
@@ -53,25 +55,28 @@ noticed : (book : DealerBook) (close : Close) (notice : OutMessage) (found : Opt
 noticed book close notice None gives = cc
 noticed book close notice (Some request) gives = (request, refl, same_Some notice (notice_of book close request) gives)
 
-pub notice_shown : (date : List ℕ) (row : DealerRow) (events : List DealerEvent) (sent : List (List ℕ))
+pub notice_shown : (date : List ℕ) (row : DealerRow) (events : List DealerEvent) (sent : List (List ℕ)) (notes : List (Option DealerNote))
     (index : IndexView) (number : ℕ) (close : Close) (notice : OutMessage)
-    → IsDesk date row events sent index
+    → IsDesk date row events sent notes index
     → Some notice ≡ option_map (notice_of index.book close) (closable index.book number)
     → IsShown index.book number
-notice_shown date row events sent index number close notice kept gives =
+notice_shown date row events sent notes index number close notice kept gives =
     let due = noticed index.book close notice (closable index.book number) gives in
-    due_shown row index.book number due.0 (index_stands date row events sent index kept).stands due.1
+    due_shown row index.book number due.0 (index_stands date row events sent notes index kept).stands due.1
 
-pub kept_notice : (date : List ℕ) (row : DealerRow) (events : List DealerEvent) (sent : List (List ℕ))
-    (index index2 : IndexView) (number : ℕ) (close : Close) (moment : ℕ) (notice : OutMessage) (bytes : List ℕ)
-    → IsDesk date row events sent index
+pub kept_notice : (date : List ℕ) (row : DealerRow) (events : List DealerEvent) (sent : List (List ℕ)) (notes : List (Option DealerNote))
+    (index index2 : IndexView) (number : ℕ) (close : Close) (moment : ℕ) (notice : OutMessage) (beside : Option DealerNote) (bytes : List ℕ)
+    → IsDesk date row events sent notes index
     → Some notice ≡ option_map (notice_of index.book close) (closable index.book number)
+    → beside ≡ notice_note close (closable index.book number)
     → bytes ≡ next_message date row sent moment notice
     → index2 ≡ with_fact index (Told number close moment)
-    → IsDesk date row (events ++ event.Told number close moment ∷ []) (sent ++ bytes ∷ []) index2
-kept_notice date row events sent index index2 number close moment notice bytes kept gives written changed =
+    → IsDesk date row (events ++ event.Told number close moment ∷ []) (sent ++ bytes ∷ []) (notes ++ beside ∷ []) index2
+kept_notice date row events sent notes index index2 number close moment notice beside bytes kept gives says written changed =
     let due = noticed index.book close notice (closable index.book number) gives in
     let said : bytes ≡ next_message date row sent moment (notice_of index.book close due.0) =
     written ∙ ap (λ (m : OutMessage). next_message date row sent moment m) due.2 in
-    subst (λ (b : List ℕ). IsDesk date row (events ++ event.Told number close moment ∷ []) (sent ++ b ∷ []) index2) (sym said)
-    (kept_told date row events sent index index2 number due.0 close moment kept due.1 changed)
+    let named : beside ≡ trade_of close due.0 = says ∙ ap (notice_note close) due.1 in
+    subst (λ (b : List ℕ). IsDesk date row (events ++ event.Told number close moment ∷ []) (sent ++ b ∷ []) (notes ++ beside ∷ []) index2) (sym said)
+    (subst (λ (n : Option DealerNote). IsDesk date row (events ++ event.Told number close moment ∷ []) (sent ++ next_message date row sent moment (notice_of index.book close due.0) ∷ []) (notes ++ n ∷ []) index2) (sym named)
+    (kept_told date row events sent notes index index2 number due.0 close moment kept due.1 changed))

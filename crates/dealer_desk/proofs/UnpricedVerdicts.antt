@@ -14,7 +14,6 @@ use Rattle.quote_messages.specs.declared.quotes.CancelScope.TheVariants as cance
 use Rattle.quote_messages.specs.declared.quotes.DealerMessage.{DealerMessage}
 use Rattle.quote_messages.specs.declared.quotes.DealerMessage.TheVariants as message
 use Rattle.quote_messages.specs.declared.quotes.Quote.{Quote}
-use Rattle.quote_messages.specs.declared.reject_reasons.QuoteRejectReason.{QuoteRejectReason}
 use Rattle.quote_word.specs.declared.settled.Settled.{Settled}
 use Rattle.venue_rows.specs.declared.dealer_rows.DealerRow.{DealerRow}
 use Rattle.dealer_desk.specs.DealerFacts.{DealerBook, Quoted, Told, expected_number}
@@ -30,6 +29,7 @@ use Rattle.dealer_desk.specs.DealerOutput.{room_of, settled_facts, unpost_droppe
 use Rattle.dealer_desk.specs.DealerOutput.{verdict_duty, verdict_facts, word_asked}
 use Rattle.dealer_desk.specs.Unpriced.{unpriced, unpriced_book, unpriced_end, unpriced_event}
 use Rattle.dealer_desk.specs.Unpriced.{unpriced_quote, unpriced_standing, unpriced_verdict}
+use Rattle.dealer_desk.specs.declared.refusals.QuoteRefusal.{QuoteRefusal}
 use Rattle.dealer_desk.specs.declared.events.DealerEvent.{DealerEvent}
 use Rattle.dealer_desk.specs.declared.events.DealerEvent.TheVariants as event
 use Rattle.dealer_desk.specs.declared.standing.QuoteEnd.{QuoteEnd}
@@ -66,7 +66,7 @@ module _ (book : DealerBook) where
   quote_same row moment quote (Some shown) =
       simp erased (answered (quote_refusal row book moment quote (Some shown)))
     where
-      answered : (refused : Option QuoteRejectReason)
+      answered : (refused : Option QuoteRefusal)
           → quote_answer bare moment quote (Some shown) refused
           ≡ quote_answer book moment quote (Some shown) refused
       answered (Some reason) = refl

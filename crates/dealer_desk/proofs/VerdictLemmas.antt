@@ -16,9 +16,6 @@ use Rattle.quote_messages.specs.declared.quotes.CancelScope.{CancelScope}
 use Rattle.quote_messages.specs.declared.quotes.CancelScope.TheVariants as cancels
 use Rattle.quote_messages.specs.declared.quotes.DealerMessage.{DealerMessage}
 use Rattle.quote_messages.specs.declared.quotes.DealerMessage.TheVariants as message
-use Rattle.quote_messages.specs.declared.out_messages.OutMessage.TheVariants as out
-use Rattle.quote_messages.specs.declared.out_messages.CancelStatus.TheVariants as status
-use Rattle.quote_messages.specs.declared.reject_reasons.QuoteRejectReason.{QuoteRejectReason}
 use Rattle.quote_word.specs.declared.settled.Settled.{Settled}
 use Rattle.quote_word.specs.declared.settled.Settled.TheVariants as settled
 use Rattle.dealer_desk.specs.DealerFacts.{DealerBook, expected_number, request_named}
@@ -31,6 +28,10 @@ use Rattle.dealer_desk.specs.DealerRules.{message_verdict, arrival_verdict, deal
 use Rattle.dealer_desk.specs.DealerOutput.{word_asked}
 use Rattle.dealer_desk.specs.BookChanges.{IsLiveNumber}
 use Rattle.dealer_desk.specs.RuleCuts.{IsLawfulNote, note_of}
+use Rattle.dealer_desk.specs.declared.refusals.QuoteRefusal.{QuoteRefusal}
+use Rattle.dealer_desk.specs.declared.refusals.CancelRefusal.{CancelRefusal}
+use Rattle.dealer_desk.specs.declared.refusals.CancelRefusal.TheVariants as no_cancel
+use Rattle.dealer_desk.specs.declared.refusals.DeclineRefusal.{DeclineRefusal}
 use Rattle.dealer_desk.specs.declared.standing.StandingRequest.{StandingRequest}
 use Rattle.dealer_desk.specs.declared.standing.StandingQuote.{StandingQuote}
 use Rattle.dealer_desk.specs.declared.standing.QuoteEnd.{QuoteEnd}
@@ -55,15 +56,15 @@ Holds row book other = Unit {0}
 
 -- Checks that refuse nothing.
 
-abbrev pub NoneHolds : List (Bool × QuoteRejectReason) → Type 0
+abbrev pub NoneHolds : {Reason : Type 0} → List (Bool × Reason) → Type 0
 NoneHolds [] = Unit {0}
 NoneHolds (check ∷ checks) = (check.0 ≡ false) × NoneHolds checks
 
-not_chosen : (b : Bool) (reason : QuoteRejectReason) (rest : Option QuoteRejectReason) → cond b (Some reason) rest ≡ None → (b ≡ false) × (rest ≡ None)
+not_chosen : {Reason : Type 0} (b : Bool) (reason : Reason) (rest : Option Reason) → cond b (Some reason) rest ≡ None → (b ≡ false) × (rest ≡ None)
 not_chosen true reason rest h = cc
 not_chosen false reason rest h = (refl, h)
 
-pub none_holds : (checks : List (Bool × QuoteRejectReason)) → first_refusal checks ≡ None → NoneHolds checks
+pub none_holds : {Reason : Type 0} (checks : List (Bool × Reason)) → first_refusal checks ≡ None → NoneHolds checks
 none_holds [] h = tt
 none_holds (check ∷ checks) h =
     let parts = not_chosen check.0 check.1 (first_refusal checks) h in
@@ -114,7 +115,7 @@ quote_fits row book moment quote shown range passed =
       exposure = not_more row.exposure _ h.1.1.1.1.1.1.1.1.1.1.1.0;
     }
 
-quote_holds : (row : DealerRow) (book : DealerBook) (moment : ℕ) (quote : Quote) (found : Option StandingRequest) (refusal : Option QuoteRejectReason)
+quote_holds : (row : DealerRow) (book : DealerBook) (moment : ℕ) (quote : Quote) (found : Option StandingRequest) (refusal : Option QuoteRefusal)
     → ((shown : StandingRequest) → found ≡ Some shown → IsShown book shown.number) → quote_refusal row book moment quote found ≡ refusal → Holds row book (quote_answer book moment quote found refusal)
 quote_holds row book moment quote found (Some reason) range is = tt
 quote_holds row book moment quote None None range is = tt
@@ -127,7 +128,7 @@ live_end None known w c = refl
 live_end (Some (end.Withdrawn by)) known w c = cc
 live_end (Some (end.Closed close)) known w c = cc
 
-cancel_answered : (row : DealerRow) (book : DealerBook) (id : List ℕ) (own : StandingQuote) (k : ℕ) (refusal : Option QuoteRejectReason) → StandsIn row book → slice_get book.quotes k ≡ Some own
+cancel_answered : (row : DealerRow) (book : DealerBook) (id : List ℕ) (own : StandingQuote) (k : ℕ) (refusal : Option CancelRefusal) → StandsIn row book → slice_get book.quotes k ≡ Some own
     → first_refusal (cancel_checks own) ≡ refusal → Holds row book (cancel_answer id own refusal)
 cancel_answered row book id own k (Some reason) stands at is = tt
 cancel_answered row book id own k None stands at is =
@@ -147,7 +148,7 @@ cancel_holds : (row : DealerRow) (book : DealerBook) (id : List ℕ) (found : Op
 cancel_holds row book id None stands there = tt
 cancel_holds row book id (Some own) stands there = let here = there own refl in cancel_answered row book id own here.0 (first_refusal (cancel_checks own)) stands here.1 refl
 
-all_holds : (row : DealerRow) (book : DealerBook) (id : Option (List ℕ)) (b : Bool) (last : ℕ) → Holds row book (cond b (verdict.Refused (out.CancelReport id status.Unknown)) (verdict.DropsFollow last))
+all_holds : (row : DealerRow) (book : DealerBook) (id : Option (List ℕ)) (b : Bool) (last : ℕ) → Holds row book (cond b (verdict.CancelRefused id no_cancel.NothingToCancel) (verdict.DropsFollow last))
 all_holds row book id true last = tt
 all_holds row book id false last = tt
 
@@ -159,7 +160,7 @@ scope_holds row book (cancels.Other cancel_type id) stands = tt
 
 -- Declines.
 
-decline_holds : (row : DealerRow) (book : DealerBook) (name : List ℕ) (found : Option StandingRequest) (refusal : Option QuoteRejectReason)
+decline_holds : (row : DealerRow) (book : DealerBook) (name : List ℕ) (found : Option StandingRequest) (refusal : Option DeclineRefusal)
     → ((shown : StandingRequest) → found ≡ Some shown → IsShown book shown.number) → Holds row book (decline_answer name found refusal)
 decline_holds row book name found (Some reason) range = tt
 decline_holds row book name None None range = tt

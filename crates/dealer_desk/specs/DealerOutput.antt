@@ -9,7 +9,6 @@ pub use Rattle.market_terms.specs.Rooms.{is_same_room}
 use Rattle.market_terms.specs.declared.asks.Ask.{Ask}
 use Rattle.market_terms.specs.declared.closes.Close.{Close}
 use Rattle.market_terms.specs.declared.rooms.RoomRef.{RoomRef}
-use Rattle.quote_messages.specs.declared.reject_reasons.QuoteRejectReason.TheVariants.{TooLate}
 use Rattle.quote_messages.specs.declared.out_messages.QuotedPrice.{QuotedPrice}
 use Rattle.quote_messages.specs.declared.out_messages.OutMessage.{OutMessage}
 use Rattle.quote_messages.specs.declared.out_messages.OutMessage.TheVariants as out
@@ -25,11 +24,14 @@ use Rattle.dealer_desk.specs.DealerFacts.{Declined, Told, DealerBook, book_of, r
 use Rattle.dealer_desk.specs.DealerFacts.{request_numbered, live_quote_on, quote_to_drop}
 use Rattle.dealer_desk.specs.DealerFacts.{number_to_drop}
 use Rattle.dealer_desk.specs.DealerRules.{dealer_verdict}
+use Rattle.dealer_desk.specs.Refusals.{quote_reason, refused_cancel, decline_reason}
 use Rattle.dealer_desk.specs.declared.accepted.AcceptedQuote.{AcceptedQuote}
 use Rattle.dealer_desk.specs.declared.standing.StandingRequest.{StandingRequest}
 use Rattle.dealer_desk.specs.declared.standing.StandingQuote.{StandingQuote}
 use Rattle.dealer_desk.specs.declared.standing.Withdrawal.{Withdrawal}
 use Rattle.dealer_desk.specs.declared.standing.Withdrawal.TheVariants as by
+use Rattle.dealer_desk.specs.declared.refusals.QuoteRefusal.TheVariants as no_quote
+use Rattle.dealer_desk.specs.declared.refusals.CancelRefusal.TheVariants as no_cancel
 use Rattle.dealer_desk.specs.declared.events.DealerEvent.{DealerEvent}
 use Rattle.dealer_desk.specs.declared.events.DealerEvent.TheVariants as event
 use Rattle.dealer_desk.specs.declared.verdicts.DealerVerdict.{DealerVerdict}
@@ -112,17 +114,22 @@ event_facts date row book (event.Drop last moment settlement) =
 -- the status of a cancel whose quote's word has this settlement
 abbrev pub cancel_status : Option Settled → CancelStatus
 cancel_status settlement =
-    if is_withdrawn settlement then status.Withdrawn else status.Refused TooLate
+    if is_withdrawn settlement then status.Withdrawn else refused_cancel no_cancel.Lifted
 
 -- the message that answers a verdict, if one does, with the settlement of the word that it asks
 abbrev pub verdict_message : DealerVerdict → Option Settled → Option OutMessage
 verdict_message verdict.Dropped settlement = None
 verdict_message (verdict.OutOfSequence reject) settlement = Some (out.Reject reject)
 verdict_message (verdict.Rejected reject) settlement = Some (out.Reject reject)
-verdict_message (verdict.Refused message) settlement = Some message
+verdict_message (verdict.QuoteRefused request id refusal) settlement =
+    Some (out.QuoteReport request id (Some (quote_reason refusal)))
+verdict_message (verdict.CancelRefused id refusal) settlement =
+    Some (out.CancelReport id (refused_cancel refusal))
+verdict_message (verdict.DeclineRefused request refusal) settlement =
+    Some (out.DeclineReport request (Some (decline_reason refusal)))
 verdict_message (verdict.QuoteAccepted request id quote replaced) settlement =
     Some (out.QuoteReport request id (if goes_through replaced settlement then None
-    else Some TooLate))
+    else Some (quote_reason no_quote.Lifted)))
 verdict_message (verdict.CancelAccepted id quote request) settlement =
     Some (out.CancelReport (Some id) (cancel_status settlement))
 verdict_message (verdict.DropsFollow last) settlement = None

@@ -19,20 +19,17 @@ use Rattle.quote_messages.specs.declared.quotes.CancelScope.{CancelScope}
 use Rattle.quote_messages.specs.declared.quotes.CancelScope.TheVariants as cancels
 use Rattle.quote_messages.specs.declared.quotes.DealerMessage.{DealerMessage}
 use Rattle.quote_messages.specs.declared.quotes.DealerMessage.TheVariants as message
-use Rattle.quote_messages.specs.declared.out_messages.OutMessage.TheVariants as out
-use Rattle.quote_messages.specs.declared.out_messages.CancelStatus.TheVariants as status
-use Rattle.quote_messages.specs.declared.reject_reasons.QuoteRejectReason.{QuoteRejectReason}
-use Rattle.quote_messages.specs.declared.reject_reasons.QuoteRejectReason.TheVariants.{UnknownSymbol}
-use Rattle.quote_messages.specs.declared.reject_reasons.QuoteRejectReason.TheVariants.{ExceedsLimit}
-use Rattle.quote_messages.specs.declared.reject_reasons.QuoteRejectReason.TheVariants.{TooLate}
-use Rattle.quote_messages.specs.declared.reject_reasons.QuoteRejectReason.TheVariants.{DuplicateQuote}
-use Rattle.quote_messages.specs.declared.reject_reasons.QuoteRejectReason.TheVariants.{InvalidPrice}
-use Rattle.quote_messages.specs.declared.reject_reasons.QuoteRejectReason.TheVariants.{Other}
 use Rattle.dealer_desk.specs.DealerFacts.{DealerBook, expected_number, request_named}
 use Rattle.dealer_desk.specs.DealerFacts.{quotes_accepted, quote_with_id, live_number_on}
 use Rattle.dealer_desk.specs.DealerFacts.{exposure_beside, is_withdrawal, is_closing}
 use Rattle.dealer_desk.specs.DealerFacts.{has_lifted_quote, quote_to_drop}
 use Rattle.dealer_desk.specs.declared.accepted.AcceptedQuote.{AcceptedQuote}
+use Rattle.dealer_desk.specs.declared.refusals.QuoteRefusal.{QuoteRefusal}
+use Rattle.dealer_desk.specs.declared.refusals.QuoteRefusal.TheVariants as no_quote
+use Rattle.dealer_desk.specs.declared.refusals.CancelRefusal.{CancelRefusal}
+use Rattle.dealer_desk.specs.declared.refusals.CancelRefusal.TheVariants as no_cancel
+use Rattle.dealer_desk.specs.declared.refusals.DeclineRefusal.{DeclineRefusal}
+use Rattle.dealer_desk.specs.declared.refusals.DeclineRefusal.TheVariants as no_decline
 use Rattle.dealer_desk.specs.declared.standing.StandingRequest.{StandingRequest}
 use Rattle.dealer_desk.specs.declared.standing.StandingQuote.{StandingQuote}
 use Rattle.dealer_desk.specs.declared.verdicts.DealerVerdict.{DealerVerdict}
@@ -92,28 +89,35 @@ exposure_with book request =
 -- Quotes.
 
 -- The checks of a quote in their order, line by line of MARKET.md's table: a condition, and the
--- reason that it gives. The last line of that table is the word of the quote that this one would
--- replace: the verdict names that quote, and its word is asked where none of these lines refuses.
+-- name of its line. The last line of that table, Lifted, is the word of the quote that this one
+-- would replace: the verdict names that quote, and its word is asked where none of these lines
+-- refuses.
 abbrev pub quote_checks : DealerRow → DealerBook → ℕ → Quote → Option StandingRequest
-    → List (Bool × QuoteRejectReason)
+    → List (Bool × QuoteRefusal)
 quote_checks row book moment quote request =
-    (is_none request, Other)
-    ∷ (of_request request (λ shown. shown.is_declined), Other)
-    ∷ (of_request request (λ shown. shown.is_told || has_lifted_quote book shown.number), TooLate)
-    ∷ (of_request request (λ shown. nat_le shown.ask.deadline moment), TooLate)
-    ∷ (of_request request (λ shown. not (same_text quote.bond shown.ask.bond)), UnknownSymbol)
-    ∷ (of_request request (λ shown. is_none (price_for shown.ask quote)), InvalidPrice)
-    ∷ (of_request request (λ shown. sizes_differ shown.ask.quantity quote), Other)
-    ∷ (differs_from 1 quote.quote_type, Other)
-    ∷ (is_some (quote_with_id book quote.id), DuplicateQuote)
-    ∷ (is_not_after moment quote.valid_until, Other)
-    ∷ (nat_le row.quotes (quotes_accepted book), ExceedsLimit)
-    ∷ (of_request request (λ shown. nat_lt row.exposure (exposure_with book shown)), ExceedsLimit)
+    (is_none request, no_quote.UnknownRequest)
+    ∷ (of_request request (λ shown. shown.is_declined), no_quote.Declined)
+    ∷ (
+      of_request request (λ shown. shown.is_told || has_lifted_quote book shown.number),
+      no_quote.Closed,
+    )
+    ∷ (of_request request (λ shown. nat_le shown.ask.deadline moment), no_quote.DeadlinePassed)
+    ∷ (of_request request (λ shown. not (same_text quote.bond shown.ask.bond)), no_quote.OtherBond)
+    ∷ (of_request request (λ shown. is_none (price_for shown.ask quote)), no_quote.InvalidPrice)
+    ∷ (of_request request (λ shown. sizes_differ shown.ask.quantity quote), no_quote.OtherQuantity)
+    ∷ (differs_from 1 quote.quote_type, no_quote.NotTradeable)
+    ∷ (is_some (quote_with_id book quote.id), no_quote.DuplicateQuote)
+    ∷ (is_not_after moment quote.valid_until, no_quote.ValidityPassed)
+    ∷ (nat_le row.quotes (quotes_accepted book), no_quote.QuotesUsedUp)
+    ∷ (
+      of_request request (λ shown. nat_lt row.exposure (exposure_with book shown)),
+      no_quote.ExposureExceeded,
+    )
     ∷ []
 
 -- why a quote is refused before any word is asked, if it is
 unfoldable pub quote_refusal : DealerRow → DealerBook → ℕ → Quote → Option StandingRequest
-    → Option QuoteRejectReason
+    → Option QuoteRefusal
 quote_refusal row book moment quote request =
     first_refusal (quote_checks row book moment quote request)
 
@@ -133,15 +137,15 @@ quote_kept book moment quote request = record {
 }
 
 -- the refusal of a quote
-abbrev pub quote_refused : Quote → QuoteRejectReason → DealerVerdict
-quote_refused quote reason = verdict.Refused (out.QuoteReport quote.request quote.id (Some reason))
+abbrev pub quote_refused : Quote → QuoteRefusal → DealerVerdict
+quote_refused quote refusal = verdict.QuoteRefused quote.request quote.id refusal
 
 -- a quote on a request that no check refuses is accepted; it replaces the dealer's live quote
 -- there, where there is one
 abbrev pub quote_answer : DealerBook → ℕ → Quote → Option StandingRequest
-    → Option QuoteRejectReason → DealerVerdict
-quote_answer book moment quote request (Some reason) = quote_refused quote reason
-quote_answer book moment quote None None = quote_refused quote Other
+    → Option QuoteRefusal → DealerVerdict
+quote_answer book moment quote request (Some refusal) = quote_refused quote refusal
+quote_answer book moment quote None None = quote_refused quote no_quote.UnknownRequest
 quote_answer book moment quote (Some request) None =
     verdict.QuoteAccepted quote.request quote.id (quote_kept book moment quote request)
     (live_number_on book request.number)
@@ -159,22 +163,21 @@ quote_verdict row book moment quote =
 -- Cancels.
 
 -- the checks of a cancel of one quote that was accepted, line by line of MARKET.md's table; the
--- word of the quote, a later line there, is asked where none of these refuses
-abbrev pub cancel_checks : StandingQuote → List (Bool × QuoteRejectReason)
+-- word of the quote, the later line Lifted there, is asked where none of these refuses
+abbrev pub cancel_checks : StandingQuote → List (Bool × CancelRefusal)
 cancel_checks own =
-    (is_withdrawal own.end, Other)
-    ∷ (is_closing own.end || own.is_known_lifted, TooLate)
+    (is_withdrawal own.end, no_cancel.Withdrawn)
+    ∷ (is_closing own.end || own.is_known_lifted, no_cancel.Closed)
     ∷ []
 
 -- a refusal, or else the word of the quote is asked
-abbrev pub cancel_answer : List ℕ → StandingQuote → Option QuoteRejectReason → DealerVerdict
-cancel_answer id own (Some reason) =
-    verdict.Refused (out.CancelReport (Some id) (status.Refused reason))
+abbrev pub cancel_answer : List ℕ → StandingQuote → Option CancelRefusal → DealerVerdict
+cancel_answer id own (Some refusal) = verdict.CancelRefused (Some id) refusal
 cancel_answer id own None = verdict.CancelAccepted id own.quote.number own.quote.request
 
 -- a cancel of a QuoteID that no accepted quote has is told so
 abbrev pub cancel_of : List ℕ → Option StandingQuote → DealerVerdict
-cancel_of id None = verdict.Refused (out.CancelReport (Some id) status.Unknown)
+cancel_of id None = verdict.CancelRefused (Some id) no_cancel.UnknownQuote
 cancel_of id (Some own) = cancel_answer id own (first_refusal (cancel_checks own))
 
 -- a cancel of all quotes: the droppable ones of those that were accepted so far are dropped one by
@@ -182,7 +185,7 @@ cancel_of id (Some own) = cancel_answer id own (first_refusal (cancel_checks own
 abbrev pub cancel_all : DealerBook → Option (List ℕ) → DealerVerdict
 cancel_all book id =
     if is_none (quote_to_drop book (quotes_accepted book))
-    then verdict.Refused (out.CancelReport id status.Unknown)
+    then verdict.CancelRefused id no_cancel.NothingToCancel
     else verdict.DropsFollow (quotes_accepted book)
 
 -- the verdict on a cancel: QuoteCancelType (298) 5 cancels the quote that QuoteID (117) names, 4
@@ -191,24 +194,27 @@ unfoldable pub cancel_verdict : DealerBook → CancelScope → DealerVerdict
 cancel_verdict book (cancels.One id) = cancel_of id (quote_with_id book id)
 cancel_verdict book (cancels.All id) = cancel_all book id
 cancel_verdict book (cancels.Other cancel_type id) =
-    verdict.Refused (out.CancelReport id (status.Refused Other))
+    verdict.CancelRefused id no_cancel.UnknownCancelType
 
 -- Declines.
 
 -- the checks of a decline, line by line of MARKET.md's table
-abbrev pub decline_checks : DealerBook → Option StandingRequest → List (Bool × QuoteRejectReason)
+abbrev pub decline_checks : DealerBook → Option StandingRequest → List (Bool × DeclineRefusal)
 decline_checks book request =
-    (is_none request, Other)
-    ∷ (of_request request (λ shown. shown.is_declined), Other)
-    ∷ (of_request request (λ shown. shown.is_told), TooLate)
-    ∷ (of_request request (λ shown. is_some (live_number_on book shown.number)), Other)
+    (is_none request, no_decline.UnknownRequest)
+    ∷ (of_request request (λ shown. shown.is_declined), no_decline.Declined)
+    ∷ (of_request request (λ shown. shown.is_told), no_decline.Closed)
+    ∷ (
+      of_request request (λ shown. is_some (live_number_on book shown.number)),
+      no_decline.LiveQuote,
+    )
     ∷ []
 
 -- a refusal, or else the decline is accepted
-abbrev pub decline_answer : List ℕ → Option StandingRequest → Option QuoteRejectReason
+abbrev pub decline_answer : List ℕ → Option StandingRequest → Option DeclineRefusal
     → DealerVerdict
-decline_answer name request (Some reason) = verdict.Refused (out.DeclineReport name (Some reason))
-decline_answer name None None = verdict.Refused (out.DeclineReport name (Some Other))
+decline_answer name request (Some refusal) = verdict.DeclineRefused name refusal
+decline_answer name None None = verdict.DeclineRefused name no_decline.UnknownRequest
 decline_answer name (Some request) None = verdict.DeclineAccepted name request.number
 
 -- the verdict on a decline of this request

@@ -1,11 +1,13 @@
 pub mod BookChanges
 pub mod DealerDesk
 pub mod DealerFacts
+pub mod DealerNotes
 pub mod DealerOutput
 pub mod DealerRules
 pub mod DealerTable
 pub mod DeskLaws
 pub mod QuoteLines
+pub mod Refusals
 pub mod RuleCuts
 pub mod SettledWords
 pub mod Unpriced

@@ -7,13 +7,6 @@ use Rattle.venue_rows.specs.declared.dealer_rows.DealerRow.{DealerRow}
 use Rattle.market_terms.specs.Checks.{is_not_after}
 use Rattle.market_terms.specs.declared.asks.Ask.{Ask}
 use Rattle.quote_messages.specs.declared.quotes.Quote.{Quote}
-use Rattle.quote_messages.specs.declared.reject_reasons.QuoteRejectReason.{QuoteRejectReason}
-use Rattle.quote_messages.specs.declared.reject_reasons.QuoteRejectReason.TheVariants.{UnknownSymbol}
-use Rattle.quote_messages.specs.declared.reject_reasons.QuoteRejectReason.TheVariants.{ExceedsLimit}
-use Rattle.quote_messages.specs.declared.reject_reasons.QuoteRejectReason.TheVariants.{TooLate}
-use Rattle.quote_messages.specs.declared.reject_reasons.QuoteRejectReason.TheVariants.{DuplicateQuote}
-use Rattle.quote_messages.specs.declared.reject_reasons.QuoteRejectReason.TheVariants.{InvalidPrice}
-use Rattle.quote_messages.specs.declared.reject_reasons.QuoteRejectReason.TheVariants.{Other}
 use Rattle.dealer_desk.specs.DealerFacts.{DealerFact, Quoted, Withdrawn, Late, Declined, DealerBook}
 use Rattle.dealer_desk.specs.DealerFacts.{book_of, quotes_accepted, requests_shown, quote_with_id}
 use Rattle.dealer_desk.specs.DealerFacts.{has_lifted_quote}
@@ -22,8 +15,14 @@ use Rattle.dealer_desk.specs.BookChanges.{FitsBook, IsLiveNumber}
 use Rattle.dealer_desk.specs.DealerTable.{IndexView, with_fact}
 use Rattle.dealer_desk.specs.declared.standing.StandingRequest.{StandingRequest}
 use Rattle.dealer_desk.specs.DealerOutput.{desk_after, rooms_of}
+use Rattle.dealer_desk.specs.DealerNotes.{dealer_notes}
 use Rattle.dealer_desk.specs.declared.table.RequestRow.{RequestRow}
 use Rattle.dealer_desk.specs.declared.accepted.AcceptedQuote.{AcceptedQuote}
+use Rattle.dealer_desk.specs.declared.notes.DealerNote.{DealerNote}
+use Rattle.dealer_desk.specs.declared.refusals.QuoteRefusal.{QuoteRefusal}
+use Rattle.dealer_desk.specs.declared.refusals.QuoteRefusal.TheVariants as no_quote
+use Rattle.dealer_desk.specs.declared.refusals.DeclineRefusal.{DeclineRefusal}
+use Rattle.dealer_desk.specs.declared.refusals.DeclineRefusal.TheVariants as no_decline
 use Rattle.dealer_desk.specs.declared.outcomes.Note.{Note}
 use Rattle.dealer_desk.specs.declared.outcomes.Note.TheVariants as note
 use Rattle.dealer_desk.specs.declared.events.DealerEvent.{DealerEvent}
@@ -35,45 +34,45 @@ use Rattle.dealer_desk.specs.declared.verdicts.DealerVerdict.TheVariants as verd
 
 -- whether a request takes quotes of this dealer at all
 
-abbrev pub standing_checks : DealerBook → StandingRequest → List (Bool × QuoteRejectReason)
+abbrev pub standing_checks : DealerBook → StandingRequest → List (Bool × QuoteRefusal)
 standing_checks book shown =
-    (shown.is_declined, Other)
-    ∷ (shown.is_told || has_lifted_quote book shown.number, TooLate)
+    (shown.is_declined, no_quote.Declined)
+    ∷ (shown.is_told || has_lifted_quote book shown.number, no_quote.Closed)
     ∷ []
 
 -- the same, by what the table keeps of the request
-abbrev pub row_checks : RequestRow → List (Bool × QuoteRejectReason)
+abbrev pub row_checks : RequestRow → List (Bool × QuoteRefusal)
 row_checks row =
-    (row.request.is_declined, Other)
-    ∷ (row.request.is_told || row.has_lifted, TooLate)
+    (row.request.is_declined, no_quote.Declined)
+    ∷ (row.request.is_told || row.has_lifted, no_quote.Closed)
     ∷ []
 
 -- whether the request can be declined, by what the table keeps of it
-abbrev pub decline_row_checks : RequestRow → List (Bool × QuoteRejectReason)
+abbrev pub decline_row_checks : RequestRow → List (Bool × DeclineRefusal)
 decline_row_checks row =
-    (row.request.is_declined, Other)
-    ∷ (row.request.is_told, TooLate)
-    ∷ (is_some row.live, Other)
+    (row.request.is_declined, no_decline.Declined)
+    ∷ (row.request.is_told, no_decline.Closed)
+    ∷ (is_some row.live, no_decline.LiveQuote)
     ∷ []
 
 -- what a quote says, beside what is asked for
-abbrev pub terms_checks : ℕ → Quote → Ask → List (Bool × QuoteRejectReason)
+abbrev pub terms_checks : ℕ → Quote → Ask → List (Bool × QuoteRefusal)
 terms_checks moment quote ask =
-    (nat_le ask.deadline moment, TooLate)
-    ∷ (not (same_text quote.bond ask.bond), UnknownSymbol)
-    ∷ (is_none (price_for ask quote), InvalidPrice)
-    ∷ (sizes_differ ask.quantity quote, Other)
-    ∷ (differs_from 1 quote.quote_type, Other)
+    (nat_le ask.deadline moment, no_quote.DeadlinePassed)
+    ∷ (not (same_text quote.bond ask.bond), no_quote.OtherBond)
+    ∷ (is_none (price_for ask quote), no_quote.InvalidPrice)
+    ∷ (sizes_differ ask.quantity quote, no_quote.OtherQuantity)
+    ∷ (differs_from 1 quote.quote_type, no_quote.NotTradeable)
     ∷ []
 
 -- what the dealer's day leaves room for
 abbrev pub day_checks : DealerRow → DealerBook → ℕ → Quote → StandingRequest
-    → List (Bool × QuoteRejectReason)
+    → List (Bool × QuoteRefusal)
 day_checks row book moment quote shown =
-    (is_some (quote_with_id book quote.id), DuplicateQuote)
-    ∷ (is_not_after moment quote.valid_until, Other)
-    ∷ (nat_le row.quotes (quotes_accepted book), ExceedsLimit)
-    ∷ (nat_lt row.exposure (exposure_with book shown), ExceedsLimit)
+    (is_some (quote_with_id book quote.id), no_quote.DuplicateQuote)
+    ∷ (is_not_after moment quote.valid_until, no_quote.ValidityPassed)
+    ∷ (nat_le row.quotes (quotes_accepted book), no_quote.QuotesUsedUp)
+    ∷ (nat_lt row.exposure (exposure_with book shown), no_quote.ExposureExceeded)
     ∷ []
 
 -- what the index notes of a verdict, with the settlement of the word that it asks
@@ -94,7 +93,9 @@ abbrev pub note_of : DealerVerdict → Option Settled → Note
 note_of verdict.Dropped settlement = note.Nothing
 note_of (verdict.OutOfSequence reject) settlement = note.Nothing
 note_of (verdict.Rejected reject) settlement = note.Number
-note_of (verdict.Refused message) settlement = note.Number
+note_of (verdict.QuoteRefused request id refusal) settlement = note.Number
+note_of (verdict.CancelRefused id refusal) settlement = note.Number
+note_of (verdict.DeclineRefused request refusal) settlement = note.Number
 note_of (verdict.QuoteAccepted request id quote replaced) settlement =
     note_of_quote quote replaced settlement
 note_of (verdict.CancelAccepted id quote request) settlement = note_of_cancel quote settlement
@@ -129,9 +130,11 @@ IsLawfulNote book other = Unit {0}
 abbrev pub with_facts : IndexView → List DealerFact → IndexView
 with_facts index facts = fold with_fact index facts
 
--- What a desk keeps beside its events: their messages, and the index of their facts and rooms.
+-- What a desk keeps beside its events: their messages, what is noted of these, and the index of
+-- their facts and rooms.
 pub record IsDesk (date : List ℕ) (row : DealerRow) (events : List DealerEvent)
-    (sent : List (List ℕ)) (index : IndexView) : Type 0 where
+    (sent : List (List ℕ)) (notes : List (Option DealerNote)) (index : IndexView) : Type 0 where
   pub sent_are : sent ≡ (desk_after date row events).sent
+  pub notes_are : notes ≡ dealer_notes date row events
   pub book_is : index.book ≡ book_of (desk_after date row events).facts
   pub rooms_are : index.rooms ≡ rooms_of events

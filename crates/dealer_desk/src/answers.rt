@@ -4,12 +4,16 @@ ghost use Rattle.std.specs.Prelude.{if◌then◌else◌};
 ghost use Rattle.std.specs.Option.{option_map};
 ghost use Rattle.dealer_desk.specs.DealerFacts.{Came};
 ghost use Rattle.dealer_desk.specs.DealerOutput as spec;
+ghost use Rattle.dealer_desk.specs.DealerNotes as notes;
+ghost use Rattle.dealer_desk.specs.Refusals.{quote_reason};
 ghost use Rattle.dealer_desk.specs.RuleCuts.{IsLawfulNote, note_of, note_of_quote, note_of_cancel};
 ghost use Rattle.dealer_desk.specs.RuleCuts.{note_uses, note_facts, with_facts};
 
 use crate::index::DealerIndex;
-use crate::outcomes::{Note, Outcome};
-use crate::{AcceptedQuote, DealerVerdict};
+use crate::outcomes::{
+    Note, Outcome, cancel_refused, decline_refused, numbered, quote_refused, unnumbered,
+};
+use crate::{AcceptedQuote, CancelRefusal, DealerNote, DealerRefusal, DealerVerdict, QuoteRefusal};
 use fix_fields::{Memory, Moment};
 use market_terms::{Duty, Id};
 use quote_messages::{CancelStatus, OutMessage, QuoteRejectReason};
@@ -43,19 +47,26 @@ pub(crate) fn cancel_status(settlement: Option<Settled>) -> CancelStatus
     if is_withdrawn(settlement) {
         return CancelStatus::Withdrawn;
     }
-    CancelStatus::Refused(QuoteRejectReason::TooLate)
+    CancelRefusal::Lifted.status()
 }
 
 /// What a verdict leads to, with the settlement of the word that it asks.
 pub(crate) fn outcome_of(verdict: DealerVerdict<'_>, settlement: Option<Settled>) -> Outcome<'_>
     ensures note { result.note ≡ note_of verdict.entry settlement }
     ensures output { result.output ≡ spec.verdict_message verdict.entry settlement }
+    ensures beside { result.beside ≡ notes.verdict_note verdict.entry settlement }
 {
     match verdict {
         DealerVerdict::Dropped => unnumbered(None),
         DealerVerdict::OutOfSequence(reject) => unnumbered(Some(OutMessage::Reject(reject))),
         DealerVerdict::Rejected(reject) => numbered(OutMessage::Reject(reject)),
-        DealerVerdict::Refused(message) => numbered(message),
+        DealerVerdict::QuoteRefused {
+            request,
+            id,
+            refusal,
+        } => quote_refused(request, id, refusal),
+        DealerVerdict::CancelRefused { id, refusal } => cancel_refused(id, refusal),
+        DealerVerdict::DeclineRefused { request, refusal } => decline_refused(request, refusal),
         DealerVerdict::QuoteAccepted {
             request,
             id,
@@ -64,14 +75,17 @@ pub(crate) fn outcome_of(verdict: DealerVerdict<'_>, settlement: Option<Settled>
         } => Outcome {
             note: note_of_quote(quote, replaced, settlement),
             output: Some(quote_report(request, id, replaced, settlement)),
+            beside: late_quote(replaced, settlement),
         },
         DealerVerdict::CancelAccepted { id, quote, .. } => Outcome {
             note: note_of_cancel(quote, settlement),
             output: Some(cancel_report(id, settlement)),
+            beside: late_cancel(settlement),
         },
         DealerVerdict::DropsFollow { .. } => Outcome {
             note: Note::Number,
             output: None,
+            beside: None,
         },
         DealerVerdict::DeclineAccepted { request, number } => Outcome {
             note: Note::Declined(number),
@@ -79,28 +93,41 @@ pub(crate) fn outcome_of(verdict: DealerVerdict<'_>, settlement: Option<Settled>
                 request,
                 refusal: None,
             }),
+            beside: None,
         },
     }
 }
 
-/// A message that used up no number.
-fn unnumbered(output: Option<OutMessage<'_>>) -> Outcome<'_>
-    ensures { result ≡ record { note = Note.Nothing; output = output.entry } }
+/// The note of a refusal, unless what was decided goes through.
+fn refused_unless(goes_through: bool, refusal: DealerRefusal) -> Option<DealerNote>
+    ensures { result ≡ notes.refused_unless goes_through refusal }
 {
-    Outcome {
-        note: Note::Nothing,
-        output,
+    if goes_through {
+        return None;
     }
+    Some(DealerNote::Refused(refusal))
 }
 
-/// A message that used up its number and changes nothing else.
-fn numbered(output: OutMessage<'_>) -> Outcome<'_>
-    ensures { result ≡ record { note = Note.Number; output = Some output.entry } }
+/// The note of a quote that no check refuses, with the settlement of the word that it asks.
+fn late_quote(replaced: Option<u32>, settlement: Option<Settled>) -> Option<DealerNote>
+    ensures { result ≡ notes.refused_unless (spec.goes_through replaced settlement)
+        (DealerRefusal.Quote QuoteRefusal.Lifted) }
 {
-    Outcome {
-        note: Note::Number,
-        output: Some(output),
-    }
+    refused_unless(
+        goes_through(replaced, settlement),
+        DealerRefusal::Quote(QuoteRefusal::Lifted),
+    )
+}
+
+/// The note of a cancel, of one quote or of all, whose quote's word has this settlement.
+pub(crate) fn late_cancel(settlement: Option<Settled>) -> Option<DealerNote>
+    ensures { result ≡ notes.refused_unless (spec.is_withdrawn settlement)
+        (DealerRefusal.Cancel CancelRefusal.Lifted) }
+{
+    refused_unless(
+        is_withdrawn(settlement),
+        DealerRefusal::Cancel(CancelRefusal::Lifted),
+    )
 }
 
 /// What is noted of an accepted quote.
@@ -136,7 +163,8 @@ fn quote_report<'a>(
     settlement: Option<Settled>,
 ) -> OutMessage<'a>
     ensures { result ≡ OutMessage.QuoteReport request.entry id.entry
-        (if spec.goes_through replaced settlement then None else Some QuoteRejectReason.TooLate) }
+        (if spec.goes_through replaced settlement then None
+        else Some (quote_reason QuoteRefusal.Lifted)) }
 {
     OutMessage::QuoteReport {
         request,
@@ -147,12 +175,12 @@ fn quote_report<'a>(
 
 /// The refusal of what comes too late, unless it goes through.
 fn late_unless(goes_through: bool) -> Option<QuoteRejectReason>
-    ensures { result ≡ (if goes_through then None else Some QuoteRejectReason.TooLate) }
+    ensures { result ≡ (if goes_through then None else Some (quote_reason QuoteRefusal.Lifted)) }
 {
     if goes_through {
         return None;
     }
-    Some(QuoteRejectReason::TooLate)
+    Some(QuoteRefusal::Lifted.reason())
 }
 
 /// The report on a cancel.

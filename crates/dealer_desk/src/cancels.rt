@@ -1,15 +1,15 @@
 //! The rules of the market for what a dealer takes back: cancels of quotes, and declines of
 //! requests.
-ghost use Rattle.std.specs.Prelude.{◌≡◌, [], ◌∷◌, Some};
+ghost use Rattle.std.specs.Prelude.{◌≡◌, [], ◌∷◌};
 ghost use Rattle.market_terms.specs.Checks.{first_refusal};
 ghost use Rattle.dealer_desk.specs.DealerRules as spec;
 ghost use Rattle.dealer_desk.specs.RuleCuts.{decline_row_checks};
 
 use crate::index::DealerIndex;
 use crate::table::RequestRow;
-use crate::{DealerVerdict, QuoteEnd, StandingQuote};
+use crate::{CancelRefusal, DealerVerdict, DeclineRefusal, QuoteEnd, StandingQuote};
 use market_terms::Id;
-use quote_messages::{CancelScope, CancelStatus, OutMessage, QuoteRejectReason};
+use quote_messages::CancelScope;
 
 /// The verdict on a QuoteCancel of these quotes.
 #[tactic(auto, unfolding(crate::specs::DealerRules::cancel_verdict))]
@@ -19,9 +19,7 @@ pub(crate) fn cancel_verdict<'a>(index: &DealerIndex, scope: CancelScope<'a>) ->
     match scope {
         CancelScope::One(id) => cancel_one(index, id),
         CancelScope::All(id) => cancel_all(index, id),
-        CancelScope::Other { id, .. } => {
-            refused(id, CancelStatus::Refused(QuoteRejectReason::Other))
-        }
+        CancelScope::Other { id, .. } => refused(id, CancelRefusal::UnknownCancelType),
     }
 }
 
@@ -30,10 +28,10 @@ fn cancel_one<'a>(index: &DealerIndex, id: Id<'a>) -> DealerVerdict<'a>
     ensures { result ≡ spec.cancel_verdict index.now.book (CancelScope.One id.entry) }
 {
     let Some(own) = index.quote_with_id(&id) else {
-        return refused(Some(id), CancelStatus::Unknown);
+        return refused(Some(id), CancelRefusal::UnknownQuote);
     };
-    if let Some(reason) = cancel_refusal(own) {
-        return refused(Some(id), CancelStatus::Refused(reason));
+    if let Some(refusal) = cancel_refusal(own) {
+        return refused(Some(id), refusal);
     }
     DealerVerdict::CancelAccepted {
         id,
@@ -48,37 +46,37 @@ fn cancel_all<'a>(index: &DealerIndex, id: Option<Id<'a>>) -> DealerVerdict<'a>
 {
     let last = index.quotes_accepted();
     if index.quote_to_drop(last).is_none() {
-        return refused(id, CancelStatus::Unknown);
+        return refused(id, CancelRefusal::NothingToCancel);
     }
     DealerVerdict::DropsFollow { last }
 }
 
 /// Why an accepted quote can't be cancelled any more, as far as the desk knows.
-fn cancel_refusal(own: &StandingQuote) -> Option<QuoteRejectReason>
+fn cancel_refusal(own: &StandingQuote) -> Option<CancelRefusal>
     ensures { result ≡ first_refusal (spec.cancel_checks own.now) }
 {
     match own.end {
-        Some(QuoteEnd::Withdrawn(_)) => Some(QuoteRejectReason::Other),
-        Some(QuoteEnd::Closed(_)) => Some(QuoteRejectReason::TooLate),
-        None => late_where(own.is_known_lifted),
+        Some(QuoteEnd::Withdrawn(_)) => Some(CancelRefusal::Withdrawn),
+        Some(QuoteEnd::Closed(_)) => Some(CancelRefusal::Closed),
+        None => closed_where(own.is_known_lifted),
     }
 }
 
 /// The refusal of a cancel that comes too late, where it does.
-fn late_where(so: bool) -> Option<QuoteRejectReason>
-    ensures { result ≡ first_refusal ((so, QuoteRejectReason.TooLate) ∷ []) }
+fn closed_where(so: bool) -> Option<CancelRefusal>
+    ensures { result ≡ first_refusal ((so, CancelRefusal.Closed) ∷ []) }
 {
     if so {
-        return Some(QuoteRejectReason::TooLate);
+        return Some(CancelRefusal::Closed);
     }
     None
 }
 
 /// A cancel that withdraws nothing.
-fn refused(id: Option<Id<'_>>, status: CancelStatus) -> DealerVerdict<'_>
-    ensures { result ≡ DealerVerdict.Refused (OutMessage.CancelReport id.entry status) }
+fn refused(id: Option<Id<'_>>, refusal: CancelRefusal) -> DealerVerdict<'_>
+    ensures { result ≡ DealerVerdict.CancelRefused id.entry refusal }
 {
-    DealerVerdict::Refused(OutMessage::CancelReport { id, status })
+    DealerVerdict::CancelRefused { id, refusal }
 }
 
 /// The verdict on a decline of the request with this QuoteReqID (131).
@@ -87,10 +85,10 @@ pub(crate) fn decline_verdict<'a>(index: &DealerIndex, request: Id<'a>) -> Deale
     ensures { result ≡ spec.decline_verdict index.now.book request.entry }
 {
     let Some(shown) = index.request_named(request.as_bytes()) else {
-        return decline_refused(request, QuoteRejectReason::Other);
+        return decline_refused(request, DeclineRefusal::UnknownRequest);
     };
-    if let Some(reason) = decline_refusal(shown) {
-        return decline_refused(request, reason);
+    if let Some(refusal) = decline_refusal(shown) {
+        return decline_refused(request, refusal);
     }
     DealerVerdict::DeclineAccepted {
         request,
@@ -99,28 +97,24 @@ pub(crate) fn decline_verdict<'a>(index: &DealerIndex, request: Id<'a>) -> Deale
 }
 
 /// Why a request that was shown can't be declined, if it can't.
-fn decline_refusal(shown: &RequestRow) -> Option<QuoteRejectReason>
+fn decline_refusal(shown: &RequestRow) -> Option<DeclineRefusal>
     ensures { result ≡ first_refusal (decline_row_checks shown.now) }
 {
     if shown.request.is_declined {
-        return Some(QuoteRejectReason::Other);
+        return Some(DeclineRefusal::Declined);
     }
     if shown.request.is_told {
-        return Some(QuoteRejectReason::TooLate);
+        return Some(DeclineRefusal::Closed);
     }
     if shown.live.is_some() {
-        return Some(QuoteRejectReason::Other);
+        return Some(DeclineRefusal::LiveQuote);
     }
     None
 }
 
 /// The refusal of a decline.
-fn decline_refused(request: Id<'_>, reason: QuoteRejectReason) -> DealerVerdict<'_>
-    ensures { result
-        ≡ DealerVerdict.Refused (OutMessage.DeclineReport request.entry (Some reason)) }
+fn decline_refused(request: Id<'_>, refusal: DeclineRefusal) -> DealerVerdict<'_>
+    ensures { result ≡ DealerVerdict.DeclineRefused request.entry refusal }
 {
-    DealerVerdict::Refused(OutMessage::DeclineReport {
-        request,
-        refusal: Some(reason),
-    })
+    DealerVerdict::DeclineRefused { request, refusal }
 }

@@ -8,14 +8,15 @@ ghost use Rattle.dealer_desk.specs.DealerDesk.{book_at, rooms_at, with_event, wi
 ghost use Rattle.dealer_desk.specs.DealerDesk.{with_notice_in, may_close, may_close_in, verdict_at};
 ghost use Rattle.dealer_desk.specs.DealerOutput.{dealer_output, number_in, word_asked};
 ghost use Rattle.dealer_desk.specs.DealerOutput.{verdict_duty};
+ghost use Rattle.dealer_desk.specs.DealerNotes.{dealer_notes};
 ghost use Rattle.dealer_desk.specs.QuoteLines.{lines_of};
 
 use crate::answers::{duty_of, outcome_of, take_note};
-use crate::drops::{drop_message, further_drop, note_drop, unpost_of};
+use crate::drops::{drop_message, drop_note, further_drop, note_drop, unpost_of};
 use crate::index::DealerIndex;
 use crate::rules::{dealer_verdict, frame_verdict};
-use crate::sending::{next_message, notice_of, output_message, push_some};
-use crate::{DealerEvent, DealerVerdict};
+use crate::sending::{next_message, noted_with, notice_note, notice_of, output_message, push_some};
+use crate::{DealerEvent, DealerNote, DealerVerdict};
 use fix_fields::{Date, Memory, Moment};
 use market_terms::{Ask, Close, Duty, QuoteLine, RoomRef};
 use quote_messages::{Message, OutMessage, Request, SentMessage};
@@ -24,10 +25,11 @@ use std::alloc::Global;
 use std::marker::Model;
 use venue_rows::DealerRow;
 
-/// The desk of one dealer: the events that came to it, and the messages that its dealer was sent.
+/// The desk of one dealer: the events that came to it, and the messages that its dealer was sent,
+/// with what is noted beside each.
 ///
 /// A contract sees the day, the dealer's row and the list of events. What was sent is
-/// `dealer_output` of them, and nothing else goes into it.
+/// `dealer_output` of them, what is noted `dealer_notes`, and nothing else goes into either.
 #[derive(Drop)]
 pub struct DealerDesk {
     alloc: Global,
@@ -35,6 +37,7 @@ pub struct DealerDesk {
     row: DealerRow,
     events: Vec<DealerEvent>,
     sent: Vec<SentMessage>,
+    notes: Vec<Option<DealerNote>>,
     index: DealerIndex,
 }
 
@@ -51,7 +54,7 @@ impl Model for DealerDesk {
     } };
 
     ghost invariant = { λ desk.
-        IsDesk desk.date desk.row desk.events.items desk.sent.items desk.index };
+        IsDesk desk.date desk.row desk.events.items desk.sent.items desk.notes.items desk.index };
 }
 
 impl DealerDesk {
@@ -65,6 +68,7 @@ impl DealerDesk {
             row,
             events: Vec::new(alloc),
             sent: Vec::new(alloc),
+            notes: Vec::new(alloc),
             index: DealerIndex::new(alloc),
         })
     }
@@ -160,8 +164,11 @@ impl DealerDesk {
             moment,
             &outcome.output,
         )?;
+        let beside = outcome.beside;
+        let noted = noted_with(&outcome.output, beside);
         self.events.reserve(1)?;
         self.sent.reserve(1)?;
+        self.notes.reserve(1)?;
         take_note(&mut self.index, outcome.note)?;
         self.events.push(DealerEvent::Received {
             moment,
@@ -169,6 +176,7 @@ impl DealerDesk {
             settlement,
         })?;
         push_some(&mut self.sent, sent)?;
+        push_some(&mut self.notes, noted)?;
         Ok(duty)
     }
 
@@ -191,9 +199,11 @@ impl DealerDesk {
         )?;
         self.events.reserve(1)?;
         self.sent.reserve(1)?;
+        self.notes.reserve(1)?;
         self.index.show(room, ask.copy())?;
         self.events.push(DealerEvent::Shown { room, ask, moment })?;
         self.sent.push(message)?;
+        self.notes.push(None)?;
         Ok(number)
     }
 
@@ -227,11 +237,13 @@ impl DealerDesk {
         let Some(notice) = notice_of(&self.index, number, close) else {
             return Ok(false);
         };
+        let note = notice_note(&self.index, number, close);
         let message = next_message(
             self.alloc, &self.date, &self.row, &self.sent, moment, &notice,
         )?;
         self.events.reserve(1)?;
         self.sent.reserve(1)?;
+        self.notes.reserve(1)?;
         self.index.tell(number, close);
         self.events.push(DealerEvent::Told {
             request: number,
@@ -239,6 +251,7 @@ impl DealerDesk {
             moment,
         })?;
         self.sent.push(message)?;
+        self.notes.push(note)?;
         Ok(true)
     }
 
@@ -274,12 +287,14 @@ impl DealerDesk {
         ensures err { OnErr result (self.new ≡ self.old) }
     {
         let output = drop_message(&self.index, last, settlement);
+        let noted = noted_with(&output, drop_note(&self.index, last, settlement));
         let unpost = unpost_of(&self.index, last, moment, settlement);
         let sent = output_message(
             self.alloc, &self.date, &self.row, &self.sent, moment, &output,
         )?;
         self.events.reserve(1)?;
         self.sent.reserve(1)?;
+        self.notes.reserve(1)?;
         note_drop(&mut self.index, last, settlement);
         self.events.push(DealerEvent::Drop {
             last,
@@ -287,6 +302,7 @@ impl DealerDesk {
             settlement,
         })?;
         push_some(&mut self.sent, sent)?;
+        push_some(&mut self.notes, noted)?;
         let further = further_drop(&self.index, last, moment);
         Ok((unpost, further))
     }
@@ -305,12 +321,28 @@ impl DealerDesk {
         self.sent.as_slice()
     }
 
+    /// What is noted of these messages, one for each and in their order.
+    pub fn notes(&self) -> &[Option<DealerNote>]
+        ensures { result.now ≡ dealer_notes self.now.date self.now.row self.now.events }
+    {
+        self.notes.as_slice()
+    }
+
     /// The same messages, taken out of the desk. It takes no memory.
     pub fn into_sent(self) -> Vec<SentMessage>
         ensures { result.items ≡ dealer_output self.date self.row self.events }
     {
         let Self { sent, .. } = self;
         sent
+    }
+
+    /// The messages and what is noted of them, taken out of the desk. It takes no memory.
+    pub fn into_output(self) -> (Vec<SentMessage>, Vec<Option<DealerNote>>)
+        ensures sent { result.0.items ≡ dealer_output self.date self.row self.events }
+        ensures notes { result.1.items ≡ dealer_notes self.date self.row self.events }
+    {
+        let Self { sent, notes, .. } = self;
+        (sent, notes)
     }
 
     /// The events, the messages and the lines of the blotter, taken out of the desk. It takes no

@@ -5,9 +5,11 @@ ghost use Rattle.dealer_desk.specs.DealerFacts.{number_to_drop, quote_to_drop};
 ghost use Rattle.dealer_desk.specs.BookChanges.{IsSound, IsLiveNumber};
 ghost use Rattle.dealer_desk.specs.declared.standing.Withdrawal.TheVariants as by;
 ghost use Rattle.dealer_desk.specs.DealerOutput as spec;
+ghost use Rattle.dealer_desk.specs.DealerNotes as notes;
 ghost use Rattle.dealer_desk.specs.RuleCuts.{with_facts};
 
-use crate::answers::{cancel_status, is_withdrawn, unpost_where};
+use crate::DealerNote;
+use crate::answers::{cancel_status, is_withdrawn, late_cancel, unpost_where};
 use crate::index::DealerIndex;
 use fix_fields::Moment;
 use market_terms::Duty;
@@ -28,6 +30,18 @@ pub(crate) fn drop_message(
         id: Some(own.quote.id.as_id()),
         status: cancel_status(settlement),
     })
+}
+
+/// What is noted of the drop of a quote, where it takes one.
+pub(crate) fn drop_note(
+    index: &DealerIndex,
+    last: u32,
+    settlement: Option<Settled>,
+) -> Option<DealerNote>
+    ensures { result ≡ notes.drop_note settlement (quote_to_drop index.now.book last) }
+{
+    index.quote_to_drop(last)?;
+    late_cancel(settlement)
 }
 
 /// What is left to be done in the room of the quote that a drop takes.

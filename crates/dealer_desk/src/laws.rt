@@ -11,7 +11,8 @@ ghost use Rattle.dealer_desk.specs.DealerFacts.{number_to_drop, quote_to_drop, q
 ghost use Rattle.dealer_desk.specs.DealerRules.{dealer_verdict};
 ghost use Rattle.dealer_desk.specs.DealerDesk.{DeskEvents, facts_at, book_at, rooms_at, verdict_at};
 ghost use Rattle.dealer_desk.specs.DealerOutput.{desk_after, event_facts, word_asked, room_of};
-ghost use Rattle.dealer_desk.specs.DealerOutput.{verdict_duty, unpost_dropped};
+ghost use Rattle.dealer_desk.specs.DealerOutput.{verdict_duty, unpost_dropped, dealer_output};
+ghost use Rattle.dealer_desk.specs.DealerNotes.{dealer_notes};
 ghost use Rattle.dealer_desk.specs.SettledWords.{settled_words, asked_by};
 ghost use Rattle.dealer_desk.specs.DeskLaws.{IsOfDay, request_meant, says_lifted, says_withdrawn};
 ghost use Rattle.dealer_desk.specs.DeskLaws.{withdraws};
@@ -25,6 +26,20 @@ pub fn facts_after_one_event_more()
         → (desk_after date row (events ++ more ∷ [])).facts
         ≡ (desk_after date row events).facts
         ++ event_facts date row (book_of (desk_after date row events).facts) more }
+{}
+
+/// What a desk notes follows from its facts: two desks of one row and day at which the same became
+/// so have noted the same, whatever the rooms of the requests that were shown there.
+pub fn the_same_facts_have_the_same_notes()
+    ensures { (date : List ℕ) (row : DealerRow) (events others : List DealerEvent)
+        → (desk_after date row events).facts ≡ (desk_after date row others).facts
+        → dealer_notes date row events ≡ dealer_notes date row others }
+{}
+
+/// There is a note, or none, for each message that a desk sent.
+pub fn each_message_has_its_note()
+    ensures { (date : List ℕ) (row : DealerRow) (events : List DealerEvent)
+        → length (dealer_notes date row events) ≡ length (dealer_output date row events) }
 {}
 
 /// The words that were asked stand in the facts, each with its settlement: one event more adds the

@@ -39,6 +39,8 @@
 //!   which says for each event which message it adds, byte by byte. MsgSeqNum (34) counts the
 //!   messages that this dealer was sent, QuoteReqID (131) the requests that it was shown, and
 //!   QuoteRespID (693) its closing notices.
+//! - [`DealerDesk::notes`] is `dealer_notes` of the same: beside each message that refuses one of the
+//!   dealer's own the name of the line that refuses, and beside each notice of a hit the investor.
 //! - [`DealerDesk::judge`] is the verdict on a message: bytes that are no frame, or have no
 //!   readable MsgSeqNum (34), are dropped; a message out of sequence and a session fault are
 //!   answered by a Reject; a Quote, a cancel or a decline is refused for the first of the market's
@@ -66,7 +68,9 @@ mod events;
 mod id_keys;
 mod index;
 mod laws;
+mod notes;
 mod outcomes;
+mod refusals;
 mod rules;
 mod sending;
 mod standing;
@@ -77,10 +81,12 @@ pub use accepted::AcceptedQuote;
 pub use desks::DealerDesk;
 pub use events::DealerEvent;
 pub use laws::{
-    a_settlement_unasked_changes_nothing, facts_after_one_event_more,
+    a_settlement_unasked_changes_nothing, each_message_has_its_note, facts_after_one_event_more,
     facts_say_how_words_were_settled, limits_are_kept, no_verdict_asks_a_price,
-    quotes_stand_as_their_words_were_settled, what_is_asked_is_of_the_day,
-    what_is_left_is_of_the_day, words_are_asked_event_by_event,
+    quotes_stand_as_their_words_were_settled, the_same_facts_have_the_same_notes,
+    what_is_asked_is_of_the_day, what_is_left_is_of_the_day, words_are_asked_event_by_event,
 };
+pub use notes::DealerNote;
+pub use refusals::{CancelRefusal, DealerRefusal, DeclineRefusal, QuoteRefusal};
 pub use standing::{QuoteEnd, StandingQuote, StandingRequest, Withdrawal};
 pub use verdicts::DealerVerdict;

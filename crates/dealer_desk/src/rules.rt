@@ -9,14 +9,11 @@ ghost use Rattle.dealer_desk.specs.RuleCuts.{row_checks, terms_checks, day_check
 use crate::cancels::{cancel_verdict, decline_verdict};
 use crate::index::DealerIndex;
 use crate::table::RequestRow;
-use crate::{AcceptedQuote, DealerVerdict};
+use crate::{AcceptedQuote, DealerVerdict, QuoteRefusal};
 use bond_prices::{Grid, PriceFault, Ticks, on_grid};
 use fix_fields::{Date, Moment};
 use market_terms::{Ask, IdBuf, Quantity, Side};
-use quote_messages::{
-    Arrival, DealerMessage, OutMessage, Quote, QuoteRejectReason, receive_dealer,
-    receive_dealer_frame,
-};
+use quote_messages::{Arrival, DealerMessage, Quote, receive_dealer, receive_dealer_frame};
 use venue_rows::DealerRow;
 
 /// The verdict on bytes that came at a moment, by the index as it stands.
@@ -83,10 +80,10 @@ fn quote_verdict<'a>(
     ensures { result ≡ spec.quote_verdict row.now index.now.book moment quote.entry }
 {
     let Some(shown) = index.request_named(quote.request.as_bytes()) else {
-        return refused(quote, QuoteRejectReason::Other);
+        return refused(quote, QuoteRefusal::UnknownRequest);
     };
     match check_quote(row, index, moment, &quote, shown) {
-        Err(reason) => refused(quote, reason),
+        Err(refusal) => refused(quote, refusal),
         Ok(kept) => DealerVerdict::QuoteAccepted {
             request: quote.request,
             id: quote.id,
@@ -105,7 +102,7 @@ fn check_quote(
     moment: Moment,
     quote: &Quote,
     shown: &RequestRow,
-) -> Result<AcceptedQuote, QuoteRejectReason>
+) -> Result<AcceptedQuote, QuoteRefusal>
     requires live { shown.now.live ≡ live_number_on index.now.book shown.now.request.number }
     requires lifted { shown.now.has_lifted
         ≡ has_lifted_quote index.now.book shown.now.request.number }
@@ -130,40 +127,40 @@ fn check_quote(
 }
 
 /// Why a request takes no quote of this dealer at all, if it does not.
-fn standing_refusal(shown: &RequestRow) -> Option<QuoteRejectReason>
+fn standing_refusal(shown: &RequestRow) -> Option<QuoteRefusal>
     ensures { result ≡ first_refusal (row_checks shown.now) }
 {
     if shown.request.is_declined {
-        return Some(QuoteRejectReason::Other);
+        return Some(QuoteRefusal::Declined);
     }
     if shown.request.is_told || shown.has_lifted {
-        return Some(QuoteRejectReason::TooLate);
+        return Some(QuoteRefusal::Closed);
     }
     None
 }
 
 /// The price of a quote whose terms fit the ask, or the reason of the first of these checks that
 /// refuses it.
-fn price_by_terms(moment: Moment, quote: &Quote, ask: &Ask) -> Result<Ticks, QuoteRejectReason>
+fn price_by_terms(moment: Moment, quote: &Quote, ask: &Ask) -> Result<Ticks, QuoteRefusal>
     ensures { MatchResult result
         (λ price. (first_refusal (terms_checks moment quote.now ask.now) ≡ None)
         × (spec.price_for ask.now quote.now ≡ Some price))
         (λ reason. first_refusal (terms_checks moment quote.now ask.now) ≡ Some reason) }
 {
     if ask.deadline <= moment {
-        return Err(QuoteRejectReason::TooLate);
+        return Err(QuoteRefusal::DeadlinePassed);
     }
     if quote.bond.as_bytes() != ask.bond.as_bytes() {
-        return Err(QuoteRejectReason::UnknownSymbol);
+        return Err(QuoteRefusal::OtherBond);
     }
     let Some(price) = price_for(ask, quote) else {
-        return Err(QuoteRejectReason::InvalidPrice);
+        return Err(QuoteRefusal::InvalidPrice);
     };
     if sizes_differ(ask.quantity, quote) {
-        return Err(QuoteRejectReason::Other);
+        return Err(QuoteRefusal::OtherQuantity);
     }
     if differs_from(TRADEABLE, quote.quote_type) {
-        return Err(QuoteRejectReason::Other);
+        return Err(QuoteRefusal::NotTradeable);
     }
     Ok(price)
 }
@@ -176,7 +173,7 @@ fn number_in_day(
     moment: Moment,
     quote: &Quote,
     shown: &RequestRow,
-) -> Result<u32, QuoteRejectReason>
+) -> Result<u32, QuoteRefusal>
     requires { shown.now.live ≡ live_number_on index.now.book shown.now.request.number }
     ensures { MatchResult result
         (λ number. (first_refusal
@@ -186,18 +183,18 @@ fn number_in_day(
         (day_checks row.now index.now.book moment quote.now shown.now.request) ≡ Some reason) }
 {
     if index.quote_with_id(&quote.id).is_some() {
-        return Err(QuoteRejectReason::DuplicateQuote);
+        return Err(QuoteRefusal::DuplicateQuote);
     }
     if is_not_after(moment, quote.valid_until) {
-        return Err(QuoteRejectReason::Other);
+        return Err(QuoteRefusal::ValidityPassed);
     }
     let accepted = index.quotes_accepted();
     if row.quotes <= accepted {
-        return Err(QuoteRejectReason::ExceedsLimit);
+        return Err(QuoteRefusal::QuotesUsedUp);
     }
     let quantity = shown.request.ask.quantity.get();
     if row.exposure < quantity + index.exposure_beside(shown.live) {
-        return Err(QuoteRejectReason::ExceedsLimit);
+        return Err(QuoteRefusal::ExposureExceeded);
     }
     Ok(accepted + 1)
 }
@@ -282,14 +279,14 @@ fn lone_price(
 }
 
 /// The refusal of a quote.
-fn refused(quote: Quote<'_>, reason: QuoteRejectReason) -> DealerVerdict<'_>
-    ensures { result ≡ spec.quote_refused quote.entry reason }
+fn refused(quote: Quote<'_>, refusal: QuoteRefusal) -> DealerVerdict<'_>
+    ensures { result ≡ spec.quote_refused quote.entry refusal }
 {
-    DealerVerdict::Refused(OutMessage::QuoteReport {
+    DealerVerdict::QuoteRefused {
         request: quote.request,
         id: quote.id,
-        refusal: Some(reason),
-    })
+        refusal,
+    }
 }
 
 /// What the desk keeps of a quote on a request, at a price.

@@ -3,9 +3,10 @@ ghost use Rattle.std.specs.Prelude.{◌≡◌, ◌<◌, ◌++◌, vec_len, vec_c
 ghost use Rattle.std.specs.Option.{option_map, option_to_list};
 ghost use Rattle.dealer_desk.specs.DealerFacts.{live_quote_on};
 ghost use Rattle.dealer_desk.specs.DealerOutput as spec;
+ghost use Rattle.dealer_desk.specs.DealerNotes as notes;
 
-use crate::StandingQuote;
 use crate::index::DealerIndex;
+use crate::{DealerNote, StandingQuote, StandingRequest};
 use fix_fields::{Date, Memory, Moment};
 use market_terms::Close;
 use quote_messages::{
@@ -38,6 +39,30 @@ pub(crate) fn notice_of<'a>(
         close,
         quote: price_on(index, shown),
     }))
+}
+
+/// What is noted of the closing notice of a request, where one may be sent.
+#[tactic(auto, unfolding(crate::specs::DealerOutput::closable))]
+pub(crate) fn notice_note(index: &DealerIndex, number: u64, close: Close) -> Option<DealerNote>
+    ensures { result ≡ notes.notice_note close (spec.closable index.now.book number) }
+{
+    let row = index.request_numbered(number)?;
+    if row.request.is_told {
+        return None;
+    }
+    trade_of(close, &row.request)
+}
+
+/// The trade of which a closing notice of a request tells, where it tells of one.
+fn trade_of(close: Close, request: &StandingRequest) -> Option<DealerNote>
+    ensures { result ≡ notes.trade_of close request.now }
+{
+    match close {
+        Close::Hit => Some(DealerNote::Trade {
+            investor: request.ask.investor.copy(),
+        }),
+        _ => None,
+    }
 }
 
 /// What a closing notice says of the dealer's live quote on a request, where there is one.
@@ -98,6 +123,19 @@ pub(crate) fn output_message(
     };
     let bytes = next_message(alloc, date, row, sent, moment, message)?;
     Ok(Some(bytes))
+}
+
+/// What is noted with a message, where there is one.
+pub(crate) fn noted_with(
+    output: &Option<OutMessage>,
+    note: Option<DealerNote>,
+) -> Option<Option<DealerNote>>
+    ensures { result ≡ option_map (λ (message : OutMessage). note) output.now }
+{
+    if output.is_none() {
+        return None;
+    }
+    Some(note)
 }
 
 /// Puts a value behind the others, where there is one.

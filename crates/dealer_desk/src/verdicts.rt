@@ -2,9 +2,9 @@
 ghost use Rattle.std.specs.Prelude.{◌≡◌};
 ghost use Rattle.dealer_desk.specs.DealerOutput as spec;
 
-use crate::AcceptedQuote;
+use crate::{AcceptedQuote, CancelRefusal, DeclineRefusal, QuoteRefusal};
 use market_terms::Id;
-use quote_messages::{OutMessage, Reject};
+use quote_messages::Reject;
 
 /// The verdict on a message that came to a dealer's desk. Of two of them a quote's word decides
 /// last: a quote that replaces another, and a cancel, take effect where that word is withdrawn, and
@@ -17,9 +17,30 @@ pub enum DealerVerdict<'a> {
     OutOfSequence(Reject<'a>),
     /// The message used up its number and met a session fault.
     Rejected(Reject<'a>),
-    /// The market refuses the message, by this report: that of the first check that it does not
-    /// pass.
-    Refused(OutMessage<'a>),
+    /// A quote is refused: by the first line of its table that holds, and before any word is asked.
+    QuoteRefused {
+        /// QuoteReqID (131) as received.
+        request: Id<'a>,
+        /// QuoteID (117) as received.
+        id: Id<'a>,
+        /// Why.
+        refusal: QuoteRefusal,
+    },
+    /// A cancel is refused: by the first line of its table that holds, and before any word is
+    /// asked.
+    CancelRefused {
+        /// QuoteID (117) as received, where it stood.
+        id: Option<Id<'a>>,
+        /// Why.
+        refusal: CancelRefusal,
+    },
+    /// A decline is refused: by the first line of its table that holds.
+    DeclineRefused {
+        /// QuoteReqID (131) as received.
+        request: Id<'a>,
+        /// Why.
+        refusal: DeclineRefusal,
+    },
     /// A quote is accepted, unless it would replace one that was lifted.
     QuoteAccepted {
         /// QuoteReqID (131) as received.

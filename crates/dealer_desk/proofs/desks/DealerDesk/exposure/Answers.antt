@@ -5,4 +5,4 @@ pub returns-clause-within : goal.returns-clause-within
 returns-clause-within c =
     let desk = c.self.inside in
     rw (c.exposure.ensures.value, ← c.self.view_is)
-    (exposure_within desk.date desk.row desk.events.items desk.sent.items desk.index c.self.invariant)
+    (exposure_within desk.date desk.row desk.events.items desk.sent.items desk.notes.items desk.index c.self.invariant)

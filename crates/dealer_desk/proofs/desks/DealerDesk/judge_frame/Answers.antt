@@ -5,4 +5,4 @@ pub returns-clause-own : goal.returns-clause-own
 returns-clause-own c =
     let desk = c.self.inside in
     rw (c.frame_verdict-verdict.ensures, ← c.self.view_is)
-    (asked_own desk.date desk.row desk.events.items desk.sent.items desk.index c.args.moment c.args.bytes.now c.self.invariant)
+    (asked_own desk.date desk.row desk.events.items desk.sent.items desk.notes.items desk.index c.args.moment c.args.bytes.now c.self.invariant)

@@ -3,5 +3,5 @@ use Rattle.dealer_desk.proofs.desks.DealerDesk.new.Goals as goal
 
 pub invariant_of-result : goal.invariant_of-result
 invariant_of-result c =
-    rw (c.new.ensures.items, c.new-2.ensures.items, c.new-3.ensures)
+    rw (c.new.ensures.items, c.new-2.ensures.items, c.new-3.ensures.items, c.new-4.ensures)
     (kept_empty c.args.date c.args.row)

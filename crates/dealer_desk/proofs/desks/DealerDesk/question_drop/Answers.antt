@@ -12,4 +12,4 @@ returns-clause-own c =
     IfSome (option_map (λ (own : StandingQuote). own.quote.number) found)
     (λ quote. (1 ≤ quote) × (quote ≤ desk.row.quotes)))
     (sym c.in_ok-own.ensures)
-    (asked_drop desk.date desk.row desk.events.items desk.sent.items desk.index c.args.last c.self.invariant))
+    (asked_drop desk.date desk.row desk.events.items desk.sent.items desk.notes.items desk.index c.args.last c.self.invariant))

@@ -11,7 +11,7 @@ invariant_of-self-2 c =
     let changed : c.show.new.self ≡ with_request desk.index c.args.room (Shown c.args.ask c.args.moment) =
     c.in_ok-show.ensures.ok c.args.moment
     ∙ ap (λ (ask : Ask). with_request desk.index c.args.room (Shown ask c.args.moment)) c.copy-2.ensures in
-    rw (c.in_ok-push.ensures.items, c.in_ok-reserve.ensures.items, c.in_ok-push-2.ensures.items, c.in_ok-reserve-2.ensures.items)
+    rw (c.in_ok-push.ensures.items, c.in_ok-reserve.ensures.items, c.in_ok-push-2.ensures.items, c.in_ok-reserve-2.ensures.items, c.in_ok-push-3.ensures.items, c.in_ok-reserve-3.ensures.items)
     (rw (c.in_ok-message.ensures, c.copy.ensures, c.requests_shown-number.ensures.value, c.deref.ensures.value)
-    (kept_shown desk.date desk.row desk.events.items desk.sent.items desk.index c.show.new.self
+    (kept_shown desk.date desk.row desk.events.items desk.sent.items desk.notes.items desk.index c.show.new.self
     c.args.room c.args.ask c.args.moment c.self.invariant changed))
