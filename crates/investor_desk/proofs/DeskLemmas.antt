@@ -1,14 +1,15 @@
 -- One event more at a desk, and what holds of a desk after any events.
-use Rattle.std.proofs.Common.{◌≡◌, ◌<◌, ◌≤◌, ℕ, ◌+◌, Bool, true, false, ◌==◌, cond, List, [], ◌∷◌}
-use Rattle.std.proofs.Common.{◌++◌, length, fold, Option, Some, None, IfSome, refl, sym, ap, subst}
+use Rattle.std.proofs.Common.{◌≡◌, ◌<◌, ◌≤◌, ℕ, ◌+◌, suc, Bool, true, false, ◌==◌, cond, List}
+use Rattle.std.proofs.Common.{[], ◌∷◌, ◌++◌, length, fold, Option, Some, None, IfSome, refl, sym, ap, subst}
 use Rattle.std.proofs.Common.{◌∙◌, arith}
 use Rattle.std.specs.List.{sum_by}
 use Rattle.std.proofs.lemmas.Bool.{eqb-true}
-use Rattle.std.proofs.lemmas.List.{length-map}
+use Rattle.std.proofs.lemmas.List.{append-nil, append_assoc, length-append, length-map}
 use Rattle.std.proofs.lemmas.List.Sums.{sum_by-append, sum_by-cons, fold-append}
 use Rattle.market_terms.specs.declared.closes.Reply.{Reply}
 use Rattle.market_terms.specs.declared.rooms.Offer.{Offer}
 use Rattle.market_terms.specs.declared.rooms.ResponseRef.{ResponseRef}
+use Rattle.quote_messages.specs.declared.out_messages.OutMessage.{OutMessage}
 use Rattle.investor_desk.specs.InvestorFacts.{InvestorFact, Came, Offered, Gone, InvestorBook}
 use Rattle.investor_desk.specs.InvestorFacts.{StandingRequest, book_of, is_open, request_numbered}
 use Rattle.investor_desk.specs.InvestorFacts.{while_open, offer_of_dealer, offer_with_word}
@@ -20,6 +21,10 @@ use Rattle.investor_desk.specs.InvestorOutput.{uses_number, gone_facts, next_off
 use Rattle.investor_desk.specs.InvestorOutput.{withdrawal_facts, close_by_answer, closed_facts}
 use Rattle.investor_desk.specs.InvestorOutput.{refusal_of, answer_facts, expiry_facts, sent_with}
 use Rattle.investor_desk.specs.InvestorOutput.{moment_of, investor_output, verdict_duty}
+use Rattle.investor_desk.specs.InvestorOutput.{answer_note, award_note, beside_each, event_note}
+use Rattle.investor_desk.specs.InvestorOutput.{investor_notes, notes_from, verdict_note, written_from}
+use Rattle.investor_desk.specs.DeskLaws.{fact_note, last_fact}
+use Rattle.investor_desk.specs.declared.notes.InvestorNote.{InvestorNote}
 use Rattle.investor_desk.specs.BookChanges.{IsAccepted, FitsOffer, book_after, counted, at_number}
 use Rattle.investor_desk.specs.BookChanges.{without_some}
 use Rattle.investor_desk.specs.DeskLaws.{IsOfDay}
@@ -51,6 +56,103 @@ facts_push market events event = ap (λ (d : DeskState). d.facts) (desk_after_pu
 pub sent_push : (market : InvestorMarket) (events : List InvestorEvent) (event : InvestorEvent)
     → investor_output market (events ++ event ∷ []) ≡ sent_with market (investor_output market events) (moment_of event) (event_messages market (book_of (desk_after market events).facts) event)
 sent_push market events event = ap (λ (d : DeskState). d.sent) (desk_after_push market events event)
+
+-- Notes.
+
+notes_more : (market : InvestorMarket) (desk : DeskState) (events : List InvestorEvent) (event : InvestorEvent)
+    → notes_from market desk (events ++ event ∷ [])
+    ≡ notes_from market desk events ++ beside_each (event_messages market (book_of (fold (after_event market) desk events).facts) event) (event_note market (book_of (fold (after_event market) desk events).facts) event)
+notes_more market desk [] event = append-nil (beside_each (event_messages market (book_of desk.facts) event) (event_note market (book_of desk.facts) event))
+notes_more market desk (came ∷ events) event =
+    let here : List (Option InvestorNote) = beside_each (event_messages market (book_of desk.facts) came) (event_note market (book_of desk.facts) came) in
+    let after : DeskState = fold (after_event market) (after_event market desk came) events in
+    ap (λ (ns : List (Option InvestorNote)). here ++ ns) (notes_more market (after_event market desk came) events event)
+    ∙ sym (append_assoc here (notes_from market (after_event market desk came) events) (beside_each (event_messages market (book_of after.facts) event) (event_note market (book_of after.facts) event)))
+
+pub notes_push : (market : InvestorMarket) (events : List InvestorEvent) (event : InvestorEvent)
+    → investor_notes market (events ++ event ∷ []) ≡ investor_notes market events ++ beside_each (event_messages market (book_of (desk_after market events).facts) event) (event_note market (book_of (desk_after market events).facts) event)
+unfolding desk_after
+notes_push market events event = notes_more market no_facts events event
+
+-- beside each message stands a note
+
+written_many : (market : InvestorMarket) (number moment : ℕ) (messages : List OutMessage) → length (written_from market number moment messages) ≡ length messages
+written_many market number moment [] = refl
+written_many market number moment (message ∷ messages) = ap suc (written_many market (number + 1) moment messages)
+
+notes_beside : (market : InvestorMarket) (desk : DeskState) (events : List InvestorEvent)
+    → length desk.sent + length (notes_from market desk events) ≡ length (fold (after_event market) desk events).sent
+notes_beside market desk [] = omega arith
+notes_beside market desk (came ∷ events) =
+    let messages = event_messages market (book_of desk.facts) came in
+    let note = event_note market (book_of desk.facts) came in
+    let wrote = written_from market (length desk.sent + 1) (moment_of came) messages in
+    let rest = notes_from market (after_event market desk came) events in
+    let sends : length (desk.sent ++ wrote) ≡ length desk.sent + length wrote = length-append desk.sent wrote in
+    let notes : length (beside_each messages note ++ rest) ≡ length (beside_each messages note) + length rest = length-append (beside_each messages note) rest in
+    let noted : length (beside_each messages note) ≡ length messages = length-map messages (λ (message : OutMessage). note) in
+    let many = written_many market (length desk.sent + 1) (moment_of came) messages in
+    let others = notes_beside market (after_event market desk came) events in
+    omega arith
+
+none_more : (m n : ℕ) → 0 + m ≡ n → m ≡ n
+none_more m n h = omega arith
+
+pub notes_are_beside : (market : InvestorMarket) (events : List InvestorEvent) → length (investor_notes market events) ≡ length (investor_output market events)
+unfolding desk_after
+notes_are_beside market events = none_more (length (notes_from market no_facts events)) (length (fold (after_event market) no_facts events).sent) (notes_beside market no_facts events)
+
+-- what is noted of an event follows from its last fact
+
+own_note : (market : InvestorMarket) (book : InvestorBook) (moment : ℕ) (bytes : List ℕ) (given : InvestorVerdict) → investor_verdict market book moment bytes ≡ given
+    → verdict_note given ≡ fact_note market book (last_fact (Came moment bytes (uses_number given) ∷ verdict_facts given))
+own_note market book moment bytes (verdict.RequestAccepted id request) is = refl
+own_note market book moment bytes verdict.Dropped is = ap verdict_note (sym is)
+own_note market book moment bytes (verdict.OutOfSequence reject) is = ap verdict_note (sym is)
+own_note market book moment bytes (verdict.Rejected reject) is = ap verdict_note (sym is)
+own_note market book moment bytes (verdict.RequestRefused request bond refusal) is = ap verdict_note (sym is)
+own_note market book moment bytes (verdict.HitUnknown id quote) is = ap verdict_note (sym is)
+own_note market book moment bytes (verdict.PassUnknown id request) is = ap verdict_note (sym is)
+own_note market book moment bytes (verdict.Hits request response word) is = ap verdict_note (sym is)
+own_note market book moment bytes (verdict.Passes request response) is = ap verdict_note (sym is)
+
+gone_note : (market : InvestorMarket) (book : InvestorBook) (number : ℕ) (gone : Option ShownOffer) → None ≡ fact_note market book (last_fact (gone_facts number gone))
+gone_note market book number None = refl
+gone_note market book number (Some shown) = refl
+
+shown_note : (market : InvestorMarket) (book : InvestorBook) (number : ℕ) (gone : Option ShownOffer) (shown : ShownOffer) → None ≡ fact_note market book (last_fact (gone_facts number gone ++ Offered shown ∷ []))
+shown_note market book number None shown = refl
+shown_note market book number (Some other) shown = refl
+
+offer_note : (market : InvestorMarket) (book : InvestorBook) (number : ℕ) (offer : Offer) (found : Option StandingRequest) → None ≡ fact_note market book (last_fact (offer_facts book number offer found))
+offer_note market book number offer None = refl
+offer_note market book number offer (Some own) = shown_note market book number (offer_of_dealer own offer.dealer) (next_offer book number offer)
+
+withdrawal_note : (market : InvestorMarket) (book : InvestorBook) (number word : ℕ) (found : Option StandingRequest) → None ≡ fact_note market book (last_fact (withdrawal_facts number word found))
+withdrawal_note market book number word None = refl
+withdrawal_note market book number word (Some own) = gone_note market book number (offer_with_word own word)
+
+closed_note : (market : InvestorMarket) (book : InvestorBook) (number : ℕ) (how : Option RequestClose) → award_note how ≡ fact_note market book (last_fact (closed_facts number how))
+closed_note market book number None = refl
+closed_note market book number (Some how) = refl
+
+reply_note : (market : InvestorMarket) (book : InvestorBook) (number : ℕ) (response : ResponseRef) (reply : Reply) (found : Option StandingRequest)
+    → answer_note book response reply found ≡ fact_note market book (last_fact (answer_facts book number response reply found))
+reply_note market book number response reply None = refl
+reply_note market book number response reply (Some own) = closed_note market book number (close_by_answer book response (refusal_of reply))
+
+expiry_note : (market : InvestorMarket) (book : InvestorBook) (number : ℕ) (found : Option StandingRequest) → None ≡ fact_note market book (last_fact (expiry_facts number found))
+expiry_note market book number None = refl
+expiry_note market book number (Some own) = refl
+
+pub note_of_last : (market : InvestorMarket) (book : InvestorBook) (more : InvestorEvent) → event_note market book more ≡ fact_note market book (last_fact (event_facts market book more))
+unfolding event_note event_facts
+note_of_last market book (event.Received moment bytes) = own_note market book moment bytes (investor_verdict market book moment bytes) refl
+note_of_last market book (event.QuoteCame request offer moment) = offer_note market book request offer (while_open (request_numbered book request))
+note_of_last market book (event.QuoteGone request word moment) = withdrawal_note market book request word (while_open (request_numbered book request))
+note_of_last market book (event.DealerDeclined request dealer moment) = refl
+note_of_last market book (event.Answered request response reply moment) = reply_note market book request response reply (request_numbered book request)
+note_of_last market book (event.Closed request moment) = expiry_note market book request (request_numbered book request)
 
 -- What the facts of an event keep.
 

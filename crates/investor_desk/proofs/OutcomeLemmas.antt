@@ -24,7 +24,9 @@ pub own_noted : (book : InvestorBook) (moment : ℕ) (bytes : List ℕ) (given :
 own_noted book moment bytes verdict.Dropped = came_noted book moment bytes false
 own_noted book moment bytes (verdict.OutOfSequence reject) = came_noted book moment bytes false
 own_noted book moment bytes (verdict.Rejected reject) = came_noted book moment bytes true
-own_noted book moment bytes (verdict.Refused message) = came_noted book moment bytes true
+own_noted book moment bytes (verdict.RequestRefused request bond refusal) = came_noted book moment bytes true
+own_noted book moment bytes (verdict.HitUnknown id quote) = came_noted book moment bytes true
+own_noted book moment bytes (verdict.PassUnknown id request) = came_noted book moment bytes true
 own_noted book moment bytes (verdict.RequestAccepted id request) = ap (λ (b : InvestorBook). book_after b (Asked request)) (came_noted book moment bytes true)
 own_noted book moment bytes (verdict.Hits request response word) = came_noted book moment bytes true
 own_noted book moment bytes (verdict.Passes request response) = came_noted book moment bytes true
@@ -33,7 +35,9 @@ pub own_sent : (given : InvestorVerdict) → messages_of (received_outcome given
 own_sent verdict.Dropped = refl
 own_sent (verdict.OutOfSequence reject) = refl
 own_sent (verdict.Rejected reject) = refl
-own_sent (verdict.Refused message) = refl
+own_sent (verdict.RequestRefused request bond refusal) = refl
+own_sent (verdict.HitUnknown id quote) = refl
+own_sent (verdict.PassUnknown id request) = refl
 own_sent (verdict.RequestAccepted id request) = refl
 own_sent (verdict.Hits request response word) = refl
 own_sent (verdict.Passes request response) = refl

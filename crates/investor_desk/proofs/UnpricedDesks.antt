@@ -9,7 +9,6 @@ use Rattle.market_terms.specs.declared.rooms.ResponseRef.{ResponseRef}
 use Rattle.quote_messages.specs.Arrivals.{investor_arrival}
 use Rattle.quote_messages.specs.declared.arrivals.Arrival.{Arrival}
 use Rattle.quote_messages.specs.declared.arrivals.Arrival.TheVariants as arrival
-use Rattle.quote_messages.specs.declared.reject_reasons.RequestRejectReason.{RequestRejectReason}
 use Rattle.quote_messages.specs.declared.requests.InvestorMessage.{InvestorMessage}
 use Rattle.quote_messages.specs.declared.requests.InvestorMessage.TheVariants as message
 use Rattle.quote_messages.specs.declared.requests.QuoteHit.{QuoteHit}
@@ -33,6 +32,7 @@ use Rattle.investor_desk.specs.Unpriced.{unpriced, unpriced_book, unpriced_close
 use Rattle.investor_desk.specs.Unpriced.{unpriced_request, unpriced_shown}
 use Rattle.investor_desk.specs.declared.events.InvestorEvent.{InvestorEvent}
 use Rattle.investor_desk.specs.declared.events.InvestorEvent.TheVariants as event
+use Rattle.investor_desk.specs.declared.refusals.RequestRefusal.{RequestRefusal}
 use Rattle.investor_desk.specs.declared.standing.ShownOffer.{ShownOffer}
 
 -- What one fact says.
@@ -141,7 +141,7 @@ module _ (market : InvestorMarket) (book : InvestorBook) where
       simp erased
       (answered (bond_with_id market request.bond) (request_refusal market book moment request))
     where
-      answered : (bond : Option BondRow) (refused : Option RequestRejectReason)
+      answered : (bond : Option BondRow) (refused : Option RequestRefusal)
           → request_answer market bare moment request bond refused
           ≡ request_answer market book moment request bond refused
       answered bond (Some reason) = refl

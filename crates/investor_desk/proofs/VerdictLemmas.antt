@@ -19,7 +19,6 @@ use Rattle.quote_messages.specs.declared.requests.QuoteHit.{QuoteHit}
 use Rattle.quote_messages.specs.declared.requests.RequestPass.{RequestPass}
 use Rattle.quote_messages.specs.declared.requests.InvestorMessage.{InvestorMessage}
 use Rattle.quote_messages.specs.declared.requests.InvestorMessage.TheVariants as message
-use Rattle.quote_messages.specs.declared.reject_reasons.RequestRejectReason.{RequestRejectReason}
 use Rattle.market_terms.specs.declared.rooms.TheConstants.AskedDealers.{MOST}
 use Rattle.investor_desk.specs.InvestorFacts.{InvestorBook, StandingRequest, is_open}
 use Rattle.investor_desk.specs.InvestorFacts.{expected_number, request_with_id, offer_named}
@@ -31,6 +30,7 @@ use Rattle.investor_desk.specs.InvestorRules.{investor_verdict}
 use Rattle.investor_desk.specs.InvestorOutput.{room_of, verdict_duty}
 use Rattle.investor_desk.specs.BookChanges.{IsAccepted}
 use Rattle.investor_desk.specs.DeskLaws.{IsOwnRoom, IsOfDay}
+use Rattle.investor_desk.specs.declared.refusals.RequestRefusal.{RequestRefusal}
 use Rattle.investor_desk.specs.declared.standing.ShownOffer.{ShownOffer}
 use Rattle.investor_desk.specs.declared.verdicts.InvestorVerdict.{InvestorVerdict}
 use Rattle.investor_desk.specs.declared.verdicts.InvestorVerdict.TheVariants as verdict
@@ -52,15 +52,15 @@ Holds market book other = Unit {0}
 
 -- Checks that refuse nothing.
 
-abbrev pub NoneHolds : List (Bool × RequestRejectReason) → Type 0
+abbrev pub NoneHolds : List (Bool × RequestRefusal) → Type 0
 NoneHolds [] = Unit {0}
 NoneHolds (check ∷ checks) = (check.0 ≡ false) × NoneHolds checks
 
-not_chosen : (b : Bool) (reason : RequestRejectReason) (rest : Option RequestRejectReason) → cond b (Some reason) rest ≡ None → (b ≡ false) × (rest ≡ None)
+not_chosen : (b : Bool) (reason : RequestRefusal) (rest : Option RequestRefusal) → cond b (Some reason) rest ≡ None → (b ≡ false) × (rest ≡ None)
 not_chosen true reason rest h = cc
 not_chosen false reason rest h = (refl, h)
 
-pub none_holds : (checks : List (Bool × RequestRejectReason)) → first_refusal checks ≡ None → NoneHolds checks
+pub none_holds : (checks : List (Bool × RequestRefusal)) → first_refusal checks ≡ None → NoneHolds checks
 none_holds [] h = tt
 none_holds (check ∷ checks) h =
     let parts = not_chosen check.0 check.1 (first_refusal checks) h in
@@ -108,7 +108,7 @@ request_fits market book moment request bond passed =
       },
     )
 
-request_holds : (market : InvestorMarket) (book : InvestorBook) (moment : ℕ) (request : QuoteRequest) (bond : Option BondRow) (refusal : Option RequestRejectReason) → request_refusal market book moment request ≡ refusal
+request_holds : (market : InvestorMarket) (book : InvestorBook) (moment : ℕ) (request : QuoteRequest) (bond : Option BondRow) (refusal : Option RequestRefusal) → request_refusal market book moment request ≡ refusal
     → Holds market book (request_answer market book moment request bond refusal)
 request_holds market book moment request bond (Some reason) is = tt
 request_holds market book moment request None None is = tt

@@ -1,7 +1,7 @@
 -- What an investor is sent, as a function of the venue's configuration and of the events at its
 -- desk, and what its messages leave to be done in the rooms of its requests.
-use Rattle.std.specs.Prelude.{ℕ, ◌+◌, Bool, true, false, List, [], ◌∷◌, ◌++◌, length, Option, Some}
-use Rattle.std.specs.Prelude.{None, fold}
+use Rattle.std.specs.Prelude.{ℕ, ◌+◌, Bool, true, false, List, [], ◌∷◌, ◌++◌, length, map}
+use Rattle.std.specs.Prelude.{Option, Some, None, fold}
 use Rattle.std.specs.Option.{option_map, option_to_list}
 use Rattle.quote_messages.specs.Written.{written}
 use Rattle.market_terms.specs.declared.closes.HitRefusal.{HitRefusal}
@@ -22,6 +22,9 @@ use Rattle.investor_desk.specs.InvestorFacts.{InvestorBook, StandingRequest, boo
 use Rattle.investor_desk.specs.InvestorFacts.{request_numbered, open_request, offer_numbered}
 use Rattle.investor_desk.specs.InvestorFacts.{offer_of_dealer, offer_with_word}
 use Rattle.investor_desk.specs.InvestorRules.{InvestorMarket, investor_verdict}
+use Rattle.investor_desk.specs.Refusals.{request_reason}
+use Rattle.investor_desk.specs.declared.notes.InvestorNote.{InvestorNote}
+use Rattle.investor_desk.specs.declared.notes.InvestorNote.TheVariants as note
 use Rattle.investor_desk.specs.declared.standing.RequestClose.{RequestClose}
 use Rattle.investor_desk.specs.declared.standing.RequestClose.TheVariants as close
 use Rattle.investor_desk.specs.declared.standing.ShownOffer.{ShownOffer}
@@ -49,7 +52,10 @@ abbrev pub verdict_message : InvestorVerdict → Option OutMessage
 verdict_message verdict.Dropped = None
 verdict_message (verdict.OutOfSequence reject) = Some (out.Reject reject)
 verdict_message (verdict.Rejected reject) = Some (out.Reject reject)
-verdict_message (verdict.Refused message) = Some message
+verdict_message (verdict.RequestRefused request bond refusal) =
+    Some (out.RequestRefused request bond (request_reason refusal))
+verdict_message (verdict.HitUnknown id quote) = Some (out.HitUnknown id quote)
+verdict_message (verdict.PassUnknown id request) = Some (out.PassReport id request status.Unknown)
 verdict_message (verdict.RequestAccepted id request) = Some (out.RequestAccepted id)
 verdict_message (verdict.Hits request response word) = None
 verdict_message (verdict.Passes request response) = None
@@ -216,6 +222,33 @@ event_messages market book (event.Answered request response reply moment) =
 event_messages market book (event.Closed request moment) =
     expiry_messages (request_numbered book request)
 
+-- What is noted beside the messages of an event: what they themselves do not say.
+
+-- the name of the line that refuses a request
+abbrev pub verdict_note : InvestorVerdict → Option InvestorNote
+verdict_note (verdict.RequestRefused request bond refusal) = Some (note.Refused refusal)
+verdict_note other = None
+
+-- the trade with the dealer to which a hit was awarded
+abbrev pub award_note : Option RequestClose → Option InvestorNote
+award_note (Some (close.Awarded quote dealer price)) = Some (note.Trade dealer)
+award_note other = None
+
+-- what is noted of the reply to a response to this request
+abbrev pub answer_note : InvestorBook → ResponseRef → Reply → Option StandingRequest
+    → Option InvestorNote
+answer_note book response reply None = None
+answer_note book response reply (Some own) =
+    award_note (close_by_answer book response (refusal_of reply))
+
+-- what is noted of an event, given the book as it stood
+unfoldable pub event_note : InvestorMarket → InvestorBook → InvestorEvent → Option InvestorNote
+event_note market book (event.Received moment bytes) =
+    verdict_note (investor_verdict market book moment bytes)
+event_note market book (event.Answered request response reply moment) =
+    answer_note book response reply (request_numbered book request)
+event_note market book other = None
+
 -- the moment of an event, which its messages bear
 abbrev pub moment_of : InvestorEvent → ℕ
 moment_of (event.Received moment bytes) = moment
@@ -270,6 +303,23 @@ desk_after market events = fold (after_event market) no_facts events
 -- number and row, and the events at its desk goes into it
 abbrev pub investor_output : InvestorMarket → List InvestorEvent → List (List ℕ)
 investor_output market events = (desk_after market events).sent
+
+-- beside each message of an event stands what is noted of the event
+abbrev pub beside_each : List OutMessage → Option InvestorNote → List (Option InvestorNote)
+beside_each messages note = map (λ message. note) messages
+
+-- what is noted beside the messages of these events, from this desk on
+abbrev pub notes_from : InvestorMarket → DeskState → List InvestorEvent
+    → List (Option InvestorNote)
+notes_from market desk [] = []
+notes_from market desk (event ∷ events) =
+    beside_each (event_messages market (book_of desk.facts) event)
+    (event_note market (book_of desk.facts) event)
+    ++ notes_from market (after_event market desk event) events
+
+-- what is noted beside the messages that an investor is sent, one by one: nothing else goes into it
+abbrev pub investor_notes : InvestorMarket → List InvestorEvent → List (Option InvestorNote)
+investor_notes market events = notes_from market no_facts events
 
 -- Duties.
 

@@ -19,16 +19,11 @@ use Rattle.quote_messages.specs.declared.requests.QuoteHit.{QuoteHit}
 use Rattle.quote_messages.specs.declared.requests.RequestPass.{RequestPass}
 use Rattle.quote_messages.specs.declared.requests.InvestorMessage.{InvestorMessage}
 use Rattle.quote_messages.specs.declared.requests.InvestorMessage.TheVariants as message
-use Rattle.quote_messages.specs.declared.out_messages.OutMessage.TheVariants as out
-use Rattle.quote_messages.specs.declared.out_messages.PassStatus.TheVariants as status
-use Rattle.quote_messages.specs.declared.reject_reasons.RequestRejectReason.{RequestRejectReason}
-use Rattle.quote_messages.specs.declared.reject_reasons.RequestRejectReason.TheVariants.{UnknownSymbol}
-use Rattle.quote_messages.specs.declared.reject_reasons.RequestRejectReason.TheVariants.{ExceedsLimit}
-use Rattle.quote_messages.specs.declared.reject_reasons.RequestRejectReason.TheVariants.{TooLate}
-use Rattle.quote_messages.specs.declared.reject_reasons.RequestRejectReason.TheVariants.{Other}
 use Rattle.investor_desk.specs.InvestorFacts.{InvestorBook, StandingRequest, expected_number}
 use Rattle.investor_desk.specs.InvestorFacts.{request_with_id, requests_accepted, requests_open}
 use Rattle.investor_desk.specs.InvestorFacts.{offer_named}
+use Rattle.investor_desk.specs.declared.refusals.RequestRefusal.{RequestRefusal}
+use Rattle.investor_desk.specs.declared.refusals.RequestRefusal.TheVariants as refusal
 use Rattle.investor_desk.specs.declared.standing.AcceptedRequest.{AcceptedRequest}
 use Rattle.investor_desk.specs.declared.standing.ShownOffer.{ShownOffer}
 use Rattle.investor_desk.specs.declared.verdicts.InvestorVerdict.{InvestorVerdict}
@@ -62,25 +57,25 @@ dealer_numbers market names = filter_map (dealer_named market) names
 -- Requests.
 
 -- The checks of a request in their order, line by line of MARKET.md: a condition, and the
--- reason that it gives.
+-- name of the line.
 abbrev pub request_checks : InvestorMarket → InvestorBook → ℕ → QuoteRequest
-    → List (Bool × RequestRejectReason)
+    → List (Bool × RequestRefusal)
 request_checks market book moment request =
-    (is_some (request_with_id book request.id), Other)
-    ∷ (is_none (bond_with_id market request.bond), UnknownSymbol)
-    ∷ (nat_lt market.row.quantity request.quantity, ExceedsLimit)
-    ∷ (length request.dealers == 0, Other)
-    ∷ (list_any (is_unknown_dealer market) request.dealers, Other)
-    ∷ (not (are_distinct (dealer_numbers market request.dealers)), Other)
-    ∷ (nat_lt MOST (length request.dealers), Other)
-    ∷ (nat_le request.deadline moment, TooLate)
-    ∷ (nat_le market.row.requests (requests_accepted book), ExceedsLimit)
-    ∷ (nat_le market.row.open_limit (requests_open book), ExceedsLimit)
+    (is_some (request_with_id book request.id), refusal.DuplicateRequest)
+    ∷ (is_none (bond_with_id market request.bond), refusal.UnknownBond)
+    ∷ (nat_lt market.row.quantity request.quantity, refusal.QuantityExceeded)
+    ∷ (length request.dealers == 0, refusal.NoDealer)
+    ∷ (list_any (is_unknown_dealer market) request.dealers, refusal.UnknownDealer)
+    ∷ (not (are_distinct (dealer_numbers market request.dealers)), refusal.DealerTwice)
+    ∷ (nat_lt MOST (length request.dealers), refusal.TooManyDealers)
+    ∷ (nat_le request.deadline moment, refusal.DeadlinePassed)
+    ∷ (nat_le market.row.requests (requests_accepted book), refusal.RequestsUsedUp)
+    ∷ (nat_le market.row.open_limit (requests_open book), refusal.TooManyOpen)
     ∷ []
 
 -- why a request is refused, if it is
 unfoldable pub request_refusal : InvestorMarket → InvestorBook → ℕ → QuoteRequest
-    → Option RequestRejectReason
+    → Option RequestRefusal
 request_refusal market book moment request =
     first_refusal (request_checks market book moment request)
 
@@ -104,14 +99,14 @@ request_kept market book moment request bond = record {
 }
 
 -- the refusal of a request
-abbrev pub request_refused : QuoteRequest → RequestRejectReason → InvestorVerdict
-request_refused request reason = verdict.Refused (out.RequestRefused request.id request.bond reason)
+abbrev pub request_refused : QuoteRequest → RequestRefusal → InvestorVerdict
+request_refused request refused = verdict.RequestRefused request.id request.bond refused
 
 -- a request in this bond that no check refuses is accepted
 abbrev pub request_answer : InvestorMarket → InvestorBook → ℕ → QuoteRequest → Option BondRow
-    → Option RequestRejectReason → InvestorVerdict
-request_answer market book moment request bond (Some reason) = request_refused request reason
-request_answer market book moment request None None = request_refused request UnknownSymbol
+    → Option RequestRefusal → InvestorVerdict
+request_answer market book moment request bond (Some refused) = request_refused request refused
+request_answer market book moment request None None = request_refused request refusal.UnknownBond
 request_answer market book moment request (Some bond) None =
     verdict.RequestAccepted request.id (request_kept market book moment request bond)
 
@@ -129,7 +124,7 @@ response_to id quote = record { id = id; k = quote }
 
 -- a hit of this quote
 abbrev pub hit_of : QuoteHit → Option ShownOffer → InvestorVerdict
-hit_of hit None = verdict.Refused (out.HitUnknown hit.id hit.quote)
+hit_of hit None = verdict.HitUnknown hit.id hit.quote
 hit_of hit (Some shown) =
     verdict.Hits shown.request (response_to hit.id (Some shown.number)) shown.offer.word
 
@@ -139,7 +134,7 @@ hit_verdict book hit = hit_of hit (offer_named book hit.quote)
 
 -- a pass of this request
 abbrev pub pass_of : RequestPass → Option StandingRequest → InvestorVerdict
-pass_of pass None = verdict.Refused (out.PassReport pass.id pass.request status.Unknown)
+pass_of pass None = verdict.PassUnknown pass.id pass.request
 pass_of pass (Some own) = verdict.Passes own.request.number (response_to pass.id None)
 
 -- the verdict on a pass: QuoteReqID (131) names the request, also one that is closed

@@ -5,6 +5,7 @@ pub mod InvestorFacts
 pub mod InvestorOutput
 pub mod InvestorRules
 pub mod InvestorTable
+pub mod Refusals
 pub mod RequestLines
 pub mod RuleCuts
 pub mod Unpriced

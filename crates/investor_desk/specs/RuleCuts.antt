@@ -1,28 +1,30 @@
 -- How the code cuts the checks of a request, what it notes, and what it writes at once. Only
 -- private functions say this.
-use Rattle.std.specs.Prelude.{◌≡◌, ◌≤◌, ℕ, ◌+◌, Bool, ◌==◌, not, nat_lt, nat_le, List, [], ◌∷◌}
-use Rattle.std.specs.Prelude.{◌++◌, length, Option, Some, None, is_none, is_some}
+use Rattle.std.specs.Prelude.{◌≡◌, ◌≤◌, ℕ, ◌+◌, Bool, true, ◌&&◌, ◌==◌, not, nat_lt, nat_le, List}
+use Rattle.std.specs.Prelude.{[], ◌∷◌, ◌++◌, length, Option, Some, None, is_none, is_some}
 use Rattle.std.specs.List.{list_any}
 use Rattle.std.specs.Option.{option_to_list}
+use Rattle.venue_rows.specs.Texts.{same_text}
 use Rattle.market_terms.specs.Dealers.{are_distinct}
 use Rattle.market_terms.specs.declared.rooms.TheConstants.AskedDealers.{MOST}
 use Rattle.quote_messages.specs.declared.requests.QuoteRequest.{QuoteRequest}
-use Rattle.quote_messages.specs.declared.reject_reasons.RequestRejectReason.{RequestRejectReason}
-use Rattle.quote_messages.specs.declared.reject_reasons.RequestRejectReason.TheVariants.{UnknownSymbol}
-use Rattle.quote_messages.specs.declared.reject_reasons.RequestRejectReason.TheVariants.{ExceedsLimit}
-use Rattle.quote_messages.specs.declared.reject_reasons.RequestRejectReason.TheVariants.{TooLate}
-use Rattle.quote_messages.specs.declared.reject_reasons.RequestRejectReason.TheVariants.{Other}
 use Rattle.investor_desk.specs.InvestorFacts.{Asked, Offered, Gone, Closed, InvestorBook, book_of}
 use Rattle.investor_desk.specs.InvestorFacts.{request_with_id, requests_accepted, requests_open}
 use Rattle.investor_desk.specs.InvestorRules.{InvestorMarket, bond_with_id, is_unknown_dealer}
 use Rattle.investor_desk.specs.InvestorRules.{dealer_numbers}
 use Rattle.investor_desk.specs.InvestorDesk.{DeskEvents}
-use Rattle.investor_desk.specs.InvestorOutput.{desk_after, investor_output, written_from}
+use Rattle.investor_desk.specs.InvestorOutput.{desk_after, investor_notes, investor_output}
+use Rattle.investor_desk.specs.InvestorOutput.{written_from}
 use Rattle.investor_desk.specs.BookChanges.{book_after, book_with, gone_of, IsAccepted, FitsBook}
 use Rattle.investor_desk.specs.BookChanges.{FitsOffer}
 use Rattle.investor_desk.specs.declared.events.InvestorEvent.{InvestorEvent}
 use Rattle.quote_messages.specs.declared.out_messages.OutMessage.{OutMessage}
 use Rattle.quote_messages.specs.declared.out_messages.OutMessage.TheVariants as out
+use Rattle.quote_messages.specs.declared.out_messages.PassStatus.TheVariants as status
+use Rattle.investor_desk.specs.Refusals.{request_reason}
+use Rattle.investor_desk.specs.declared.notes.InvestorNote.{InvestorNote}
+use Rattle.investor_desk.specs.declared.refusals.RequestRefusal.{RequestRefusal}
+use Rattle.investor_desk.specs.declared.refusals.RequestRefusal.TheVariants as refusal
 use Rattle.investor_desk.specs.declared.verdicts.InvestorVerdict.{InvestorVerdict}
 use Rattle.investor_desk.specs.declared.verdicts.InvestorVerdict.TheVariants as verdict
 use Rattle.investor_desk.specs.declared.outcomes.Outcome.{Outcome}
@@ -31,29 +33,35 @@ use Rattle.investor_desk.specs.declared.outcomes.Note.TheVariants as note
 
 -- what a request says of itself, of its bond and of its size
 abbrev pub terms_checks : InvestorMarket → InvestorBook → QuoteRequest
-    → List (Bool × RequestRejectReason)
+    → List (Bool × RequestRefusal)
 terms_checks market book request =
-    (is_some (request_with_id book request.id), Other)
-    ∷ (is_none (bond_with_id market request.bond), UnknownSymbol)
-    ∷ (nat_lt market.row.quantity request.quantity, ExceedsLimit)
+    (is_some (request_with_id book request.id), refusal.DuplicateRequest)
+    ∷ (is_none (bond_with_id market request.bond), refusal.UnknownBond)
+    ∷ (nat_lt market.row.quantity request.quantity, refusal.QuantityExceeded)
     ∷ []
 
 -- whom it names
-abbrev pub dealer_checks : InvestorMarket → List (List ℕ) → List (Bool × RequestRejectReason)
+abbrev pub dealer_checks : InvestorMarket → List (List ℕ) → List (Bool × RequestRefusal)
 dealer_checks market names =
-    (length names == 0, Other)
-    ∷ (list_any (is_unknown_dealer market) names, Other)
-    ∷ (not (are_distinct (dealer_numbers market names)), Other)
-    ∷ (nat_lt MOST (length names), Other)
+    (length names == 0, refusal.NoDealer)
+    ∷ (list_any (is_unknown_dealer market) names, refusal.UnknownDealer)
+    ∷ (not (are_distinct (dealer_numbers market names)), refusal.DealerTwice)
+    ∷ (nat_lt MOST (length names), refusal.TooManyDealers)
     ∷ []
+
+-- whether no name stands twice
+abbrev pub are_different : List (List ℕ) → Bool
+are_different [] = true
+are_different (name ∷ later) =
+    not (list_any (λ other. same_text other name) later) && are_different later
 
 -- what its deadline and the investor's day leave room for
 abbrev pub day_checks : InvestorMarket → InvestorBook → ℕ → QuoteRequest
-    → List (Bool × RequestRejectReason)
+    → List (Bool × RequestRefusal)
 day_checks market book moment request =
-    (nat_le request.deadline moment, TooLate)
-    ∷ (nat_le market.row.requests (requests_accepted book), ExceedsLimit)
-    ∷ (nat_le market.row.open_limit (requests_open book), ExceedsLimit)
+    (nat_le request.deadline moment, refusal.DeadlinePassed)
+    ∷ (nat_le market.row.requests (requests_accepted book), refusal.RequestsUsedUp)
+    ∷ (nat_le market.row.open_limit (requests_open book), refusal.TooManyOpen)
     ∷ []
 
 -- the book after what is noted
@@ -75,10 +83,12 @@ IsLawful book (note.Shown replaced shown) = FitsOffer book shown
 IsLawful book (note.Gone request quote) = IsAccepted (requests_accepted book) request
 IsLawful book (note.Closed request close) = IsAccepted (requests_accepted book) request
 
--- What a desk keeps beside its events: their messages, and the index of their facts.
+-- What a desk keeps beside its events: their messages, what is noted beside these, and the index of
+-- their facts.
 pub record IsDesk (market : InvestorMarket) (events : List InvestorEvent) (sent : List (List ℕ))
-    (book : InvestorBook) : Type 0 where
+    (notes : List (Option InvestorNote)) (book : InvestorBook) : Type 0 where
   pub sent_are : sent ≡ (desk_after market events).sent
+  pub notes_are : notes ≡ investor_notes market events
   pub book_is : book ≡ book_of (desk_after market events).facts
   pub used_least : book.used ≤ length events
 
@@ -100,7 +110,11 @@ abbrev pub received_outcome : InvestorVerdict → Outcome
 received_outcome verdict.Dropped = sends note.Nothing None
 received_outcome (verdict.OutOfSequence reject) = sends note.Nothing (Some (out.Reject reject))
 received_outcome (verdict.Rejected reject) = sends note.Number (Some (out.Reject reject))
-received_outcome (verdict.Refused message) = sends note.Number (Some message)
+received_outcome (verdict.RequestRefused request bond refused) =
+    sends note.Number (Some (out.RequestRefused request bond (request_reason refused)))
+received_outcome (verdict.HitUnknown id quote) = sends note.Number (Some (out.HitUnknown id quote))
+received_outcome (verdict.PassUnknown id request) =
+    sends note.Number (Some (out.PassReport id request status.Unknown))
 received_outcome (verdict.RequestAccepted id request) =
     sends (note.Asked request) (Some (out.RequestAccepted id))
 received_outcome (verdict.Hits request response word) = sends note.Number None

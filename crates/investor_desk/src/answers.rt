@@ -11,7 +11,7 @@ ghost use Rattle.investor_desk.specs.InvestorTable.{request_in};
 use crate::index::{InvestorIndex, RequestRow, copy_of};
 use crate::market::Market;
 use crate::outcomes::{Note, Outcome};
-use crate::{InvestorVerdict, RequestClose, ShownOffer};
+use crate::{InvestorNote, InvestorVerdict, RequestClose, ShownOffer};
 use fix_fields::{Memory, Moment};
 use market_terms::{Duty, HitRefusal, Id, Offer, Reply, ResponseRef, RoomRef};
 use quote_messages::{OutMessage, PassStatus, ShownQuote};
@@ -79,13 +79,45 @@ pub(crate) fn received_outcome(verdict: InvestorVerdict<'_>) -> Outcome<'_>
         InvestorVerdict::Rejected(reject) => {
             sends(Note::Number, Some(OutMessage::Reject(reject)))
         }
-        InvestorVerdict::Refused(message) => sends(Note::Number, Some(message)),
+        InvestorVerdict::RequestRefused {
+            request,
+            bond,
+            refusal,
+        } => sends(
+            Note::Number,
+            Some(OutMessage::RequestRefused {
+                request,
+                bond,
+                reason: refusal.reason(),
+            }),
+        ),
+        InvestorVerdict::HitUnknown { id, quote } => {
+            sends(Note::Number, Some(OutMessage::HitUnknown { id, quote }))
+        }
+        InvestorVerdict::PassUnknown { id, request } => sends(
+            Note::Number,
+            Some(OutMessage::PassReport {
+                id,
+                request,
+                status: PassStatus::Unknown,
+            }),
+        ),
         InvestorVerdict::RequestAccepted { id, request } => sends(
             Note::Asked(request),
             Some(OutMessage::RequestAccepted { request: id }),
         ),
         InvestorVerdict::Hits { .. } => sends(Note::Number, None),
         InvestorVerdict::Passes { .. } => sends(Note::Number, None),
+    }
+}
+
+/// What is noted beside the message that answers a verdict.
+pub(crate) fn verdict_note(verdict: &InvestorVerdict) -> Option<InvestorNote>
+    ensures { result ≡ spec.verdict_note verdict.now }
+{
+    match verdict {
+        InvestorVerdict::RequestRefused { refusal, .. } => Some(InvestorNote::Refused(*refusal)),
+        _ => None,
     }
 }
 
@@ -291,6 +323,27 @@ fn close_by_answer(
         dealer: shown.offer.dealer.copy(),
         price: shown.offer.price,
     })
+}
+
+/// What is noted beside the reply to a response.
+pub(crate) fn answer_note(
+    index: &InvestorIndex,
+    number: u32,
+    response: &ResponseRef,
+    reply: Reply,
+) -> Option<InvestorNote>
+    ensures { result ≡ spec.answer_note index.now response.now reply
+        (facts.request_numbered index.now number) }
+{
+    if index.request_numbered(number).is_none() {
+        return None;
+    }
+    match close_by_answer(index, response, refusal_of(reply)) {
+        Some(RequestClose::Awarded { dealer, .. }) => Some(InvestorNote::Trade { dealer }),
+        Some(RequestClose::Passed) => None,
+        Some(RequestClose::Expired) => None,
+        None => None,
+    }
 }
 
 /// What the expiry of a request leads to.

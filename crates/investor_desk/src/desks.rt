@@ -8,21 +8,22 @@ ghost use Rattle.investor_desk.specs.InvestorFacts.{open_request};
 ghost use Rattle.investor_desk.specs.InvestorDesk.{market_for, no_events, book_at, verdict_at};
 ghost use Rattle.investor_desk.specs.InvestorDesk.{with_event};
 ghost use Rattle.investor_desk.specs.InvestorOutput.{investor_output, verdict_duty, event_facts};
-ghost use Rattle.investor_desk.specs.InvestorOutput.{event_messages, moment_of};
+ghost use Rattle.investor_desk.specs.InvestorOutput.{event_messages, event_note, moment_of};
+ghost use Rattle.investor_desk.specs.InvestorOutput.{investor_notes};
 ghost use Rattle.investor_desk.specs.BookChanges.{book_with};
 ghost use Rattle.investor_desk.specs.RuleCuts.{IsLawful, messages_of, next_written, noted};
 ghost use Rattle.investor_desk.specs.RequestLines.{lines_of};
 
 use crate::answers::{
-    answer_outcome, decline_outcome, duty_of, expiry_outcome, offer_outcome, received_outcome,
-    take_note, withdrawal_outcome,
+    answer_note, answer_outcome, decline_outcome, duty_of, expiry_outcome, offer_outcome,
+    received_outcome, take_note, verdict_note, withdrawal_outcome,
 };
 use crate::index::{InvestorIndex, copy_of};
 use crate::market::Market;
 use crate::outcomes::{Note, Outcome, Sent};
 use crate::rules::investor_verdict;
-use crate::sending::{push_some, write_both};
-use crate::{InvestorEvent, KeptResponse};
+use crate::sending::{push_note, push_some, write_both};
+use crate::{InvestorEvent, InvestorNote, KeptResponse};
 use fix_fields::{Date, Memory, Moment};
 use market_terms::{Duty, Offer, Reply, RequestLine, ResponseRef};
 use quote_messages::{Message, SentMessage};
@@ -42,6 +43,7 @@ pub struct InvestorDesk {
     market: Market,
     events: Vec<InvestorEvent>,
     sent: Vec<SentMessage>,
+    notes: Vec<Option<InvestorNote>>,
     index: InvestorIndex,
 }
 
@@ -53,7 +55,8 @@ impl Model for InvestorDesk {
 
     ghost view = { λ desk. record { market = desk.market; events = desk.events.items } };
 
-    ghost invariant = { λ desk. IsDesk desk.market desk.events.items desk.sent.items desk.index };
+    ghost invariant = { λ desk. IsDesk desk.market desk.events.items desk.sent.items
+        desk.notes.items desk.index };
 }
 
 impl InvestorDesk {
@@ -71,6 +74,7 @@ impl InvestorDesk {
             market,
             events: Vec::new(alloc),
             sent: Vec::new(alloc),
+            notes: Vec::new(alloc),
             index: InvestorIndex::new(alloc),
         })
     }
@@ -99,6 +103,7 @@ impl InvestorDesk {
             market,
             events: Vec::new(alloc),
             sent: Vec::new(alloc),
+            notes: Vec::new(alloc),
             index: InvestorIndex::new(alloc),
         }
     }
@@ -120,12 +125,14 @@ impl InvestorDesk {
         let message = Message::copy_of(self.alloc, bytes)?;
         let verdict = investor_verdict(&self.market, &self.index, moment, bytes);
         let duty = duty_of(&self.market, moment, &verdict);
+        let beside = verdict_note(&verdict);
         let outcome = received_outcome(verdict);
         let sent = self.written(moment, &outcome)?;
         self.keep(
             InvestorEvent::Received { moment, message },
             outcome.note,
             sent,
+            beside,
         )?;
         Ok(duty)
     }
@@ -146,7 +153,7 @@ impl InvestorDesk {
             offer: copy_of(offer),
             moment,
         };
-        self.keep(event, note, sent)
+        self.keep(event, note, sent, None)
     }
 
     /// Reports the earliest shown of the quotes with this word that stand on the request with this
@@ -165,7 +172,7 @@ impl InvestorDesk {
             word,
             moment,
         };
-        self.keep(event, note, sent)
+        self.keep(event, note, sent, None)
     }
 
     /// Tells the investor that a dealer declined the request with this number, where the request is
@@ -183,7 +190,7 @@ impl InvestorDesk {
             dealer,
             moment,
         };
-        self.keep(event, note, sent)
+        self.keep(event, note, sent, None)
     }
 
     /// Answers a hit or a pass of the request with this number as its room decided. A hit that is
@@ -204,13 +211,14 @@ impl InvestorDesk {
         let sent = self.written(moment, &outcome)?;
         let kept = KeptResponse::of(self.alloc, response)?;
         let note = outcome.note;
+        let beside = answer_note(&self.index, n, response, reply);
         let event = InvestorEvent::Answered {
             request: n,
             response: kept,
             reply,
             moment,
         };
-        self.keep(event, note, sent)
+        self.keep(event, note, sent, beside)
     }
 
     /// Tells the investor that the request with this number expired, and closes it. After an error
@@ -223,7 +231,7 @@ impl InvestorDesk {
         let sent = self.written(moment, &outcome)?;
         let note = outcome.note;
         let event = InvestorEvent::Closed { request: n, moment };
-        self.keep(event, note, sent)
+        self.keep(event, note, sent, None)
     }
 
     /// The messages that an event leads to, as the next ones that the investor is sent.
@@ -243,22 +251,32 @@ impl InvestorDesk {
         Ok(sent)
     }
 
-    /// Keeps an event with what is noted of it and the messages that it sends. After an error the
-    /// desk is as before.
-    fn keep(&mut self, event: InvestorEvent, note: Note, sent: Sent) -> Result<(), Memory>
+    /// Keeps an event with what the index notes of it, the messages that it sends, and what is noted
+    /// beside these. After an error the desk is as before.
+    fn keep(
+        &mut self,
+        event: InvestorEvent,
+        note: Note,
+        sent: Sent,
+        beside: Option<InvestorNote>,
+    ) -> Result<(), Memory>
         requires lawful { IsLawful (book_at self.old) note }
         requires facts { noted (book_at self.old) note
             ≡ book_with (book_at self.old) (event_facts self.old.market (book_at self.old) event) }
         requires sent { option_to_list sent.first ++ option_to_list sent.second
             ≡ next_written self.old (moment_of event)
             (event_messages self.old.market (book_at self.old) event) }
+        requires beside { beside ≡ event_note self.old.market (book_at self.old) event }
         ensures ok { OnOk result (self.new ≡ with_event self.old event) }
         ensures err { OnErr result (self.new ≡ self.old) }
     {
         self.events.reserve(1)?;
         self.sent.reserve(2)?;
+        self.notes.reserve(2)?;
         take_note(&mut self.index, note)?;
         self.events.push(event)?;
+        push_note(&mut self.notes, &sent.first, &beside)?;
+        push_note(&mut self.notes, &sent.second, &beside)?;
         push_some(&mut self.sent, sent.first)?;
         push_some(&mut self.sent, sent.second)?;
         Ok(())
@@ -306,6 +324,13 @@ impl InvestorDesk {
         self.sent.as_slice()
     }
 
+    /// What is noted beside each of these messages, in their order.
+    pub fn notes(&self) -> &[Option<InvestorNote>]
+        ensures { result.now ≡ investor_notes self.now.market self.now.events }
+    {
+        self.notes.as_slice()
+    }
+
     /// The events, the messages and the lines of the blotter, taken out of the desk. It takes no
     /// memory.
     pub fn into_parts(self) -> (Vec<InvestorEvent>, Vec<SentMessage>, Vec<RequestLine>)
@@ -320,6 +345,16 @@ impl InvestorDesk {
             ..
         } = self;
         (events, sent, index.into_lines())
+    }
+
+    /// The messages that the investor was sent, and what is noted beside each of them, taken out of
+    /// the desk. It takes no memory.
+    pub fn into_output(self) -> (Vec<SentMessage>, Vec<Option<InvestorNote>>)
+        ensures sent { result.0.items ≡ investor_output self.market self.events }
+        ensures notes { result.1.items ≡ investor_notes self.market self.events }
+    {
+        let Self { sent, notes, .. } = self;
+        (sent, notes)
     }
 
     /// The events that came to the desk, the first one first.

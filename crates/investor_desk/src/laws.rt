@@ -1,5 +1,6 @@
 //! Laws over the definitions of a desk, each the contract of a function that does nothing.
-ghost use Rattle.std.specs.Prelude.{◌≡◌, ◌≤◌, ℕ, List, [], ◌∷◌, ◌++◌, map, IfSome, Option};
+ghost use Rattle.std.specs.Prelude.{◌≡◌, ◌≤◌, ℕ, List, [], ◌∷◌, ◌++◌, length, map, IfSome};
+ghost use Rattle.std.specs.Prelude.{Option};
 ghost use Rattle.investor_desk.specs.declared.events.InvestorEvent.{InvestorEvent};
 ghost use Rattle.investor_desk.specs.InvestorFacts.{InvestorBook, InvestorFact, book_of, knows};
 ghost use Rattle.investor_desk.specs.InvestorFacts.{requests_accepted, requests_open};
@@ -7,12 +8,13 @@ ghost use Rattle.investor_desk.specs.InvestorRules.{InvestorMarket, investor_ver
 ghost use Rattle.investor_desk.specs.InvestorDesk.{DeskEvents, verdict_at};
 ghost use Rattle.investor_desk.specs.InvestorOutput.{desk_after, event_facts, event_messages};
 ghost use Rattle.investor_desk.specs.InvestorOutput.{investor_output, moment_of, sent_with};
+ghost use Rattle.investor_desk.specs.InvestorOutput.{beside_each, event_note, investor_notes};
 ghost use Rattle.investor_desk.specs.InvestorOutput.{verdict_duty};
-ghost use Rattle.investor_desk.specs.DeskLaws.{IsOfDay};
+ghost use Rattle.investor_desk.specs.DeskLaws.{IsOfDay, fact_note, last_fact};
 ghost use Rattle.investor_desk.specs.Unpriced.{unpriced, unpriced_book, unpriced_event};
 
 /// The facts after one event more are those before it, and behind them what this event adds: a
-/// function of the book as it stood. So are the messages.
+/// function of the book as it stood. So are the messages, and what is noted beside them.
 pub fn facts_after_one_event_more()
     ensures facts { (market : InvestorMarket) (events : List InvestorEvent) (more : InvestorEvent)
         → (desk_after market (events ++ more ∷ [])).facts
@@ -22,6 +24,26 @@ pub fn facts_after_one_event_more()
         → investor_output market (events ++ more ∷ [])
         ≡ sent_with market (investor_output market events) (moment_of more)
         (event_messages market (book_of (desk_after market events).facts) more) }
+    ensures notes { (market : InvestorMarket) (events : List InvestorEvent) (more : InvestorEvent)
+        → investor_notes market (events ++ more ∷ [])
+        ≡ investor_notes market events
+        ++ beside_each (event_messages market (book_of (desk_after market events).facts) more)
+        (event_note market (book_of (desk_after market events).facts) more) }
+{}
+
+/// Beside each message stands what is noted of its event, and nothing else is noted: there are as
+/// many notes as messages.
+pub fn each_message_has_its_note()
+    ensures { (market : InvestorMarket) (events : List InvestorEvent)
+        → length (investor_notes market events) ≡ length (investor_output market events) }
+{}
+
+/// What is noted of an event follows from the last fact that it adds: it is noted of a request that
+/// was refused, and of a request that was closed by the award of a quote.
+pub fn a_note_is_of_the_last_fact()
+    ensures { (market : InvestorMarket) (book : InvestorBook) (more : InvestorEvent)
+        → event_note market book more
+        ≡ fact_note market book (last_fact (event_facts market book more)) }
 {}
 
 /// The limits of the investor's row are kept: no more requests than it may have in a day, and no

@@ -1,22 +1,23 @@
 //! The rules of the market for an investor, over the index of its desk.
-ghost use Rattle.std.specs.Prelude.{◌≡◌, ◌+◌, ◌≤◌, ◌||◌, true, false, nat_lt, length};
+ghost use Rattle.std.specs.Prelude.{◌≡◌, ◌+◌, ◌≤◌, ◌||◌, true, false, not, nat_lt, length};
 ghost use Rattle.std.specs.Prelude.{if◌then◌else◌, Some, None, MatchResult, MatchOption};
 ghost use Rattle.std.specs.List.{list_any};
+ghost use Rattle.venue_rows.specs.Texts.{same_text};
 ghost use Rattle.market_terms.specs.Checks.{first_refusal};
 ghost use Rattle.venue_rows.specs.declared.bond_rows.BondRow.{BondRow};
 ghost use Rattle.investor_desk.specs.InvestorRules as spec;
 ghost use Rattle.investor_desk.specs.InvestorFacts.{requests_accepted};
 ghost use Rattle.investor_desk.specs.RuleCuts.{terms_checks, dealer_checks, day_checks};
+ghost use Rattle.investor_desk.specs.RuleCuts.{are_different};
 
 use crate::index::InvestorIndex;
 use crate::market::Market;
-use crate::{AcceptedRequest, InvestorVerdict};
+use crate::{AcceptedRequest, InvestorVerdict, RequestRefusal};
 use arrayvec::ArrayVec;
 use fix_fields::Moment;
-use market_terms::{Ask, AskedDealers, IdBuf, ResponseRef};
+use market_terms::{Ask, AskedDealers, Id, IdBuf, ResponseRef};
 use quote_messages::{
-    Arrival, InvestorMessage, NamedDealers, OutMessage, PassStatus, QuoteHit, QuoteRequest,
-    RequestPass, RequestRejectReason, receive_investor,
+    Arrival, InvestorMessage, NamedDealers, QuoteHit, QuoteRequest, RequestPass, receive_investor,
 };
 use venue_rows::BondRow;
 
@@ -53,7 +54,7 @@ fn request_verdict<'a>(
     ensures { result ≡ spec.request_verdict market.now index.now moment request.entry }
 {
     match check_request(market, index, moment, &request) {
-        Err(reason) => refused(request, reason),
+        Err(refusal) => refused(request, refusal),
         Ok(kept) => InvestorVerdict::RequestAccepted {
             id: request.id,
             request: kept,
@@ -61,68 +62,128 @@ fn request_verdict<'a>(
     }
 }
 
-/// What the desk keeps of a request that no check refuses, or the reason of the first check that
-/// does.
+/// What the desk keeps of a request that no check refuses, or the first check that does.
 #[tactic(auto, unfolding(crate::specs::InvestorRules::request_refusal))]
 fn check_request(
     market: &Market,
     index: &InvestorIndex,
     moment: Moment,
     request: &QuoteRequest,
-) -> Result<AcceptedRequest, RequestRejectReason>
+) -> Result<AcceptedRequest, RequestRefusal>
     ensures { MatchResult result
         (λ kept. (spec.request_refusal market.now index.now moment request.now ≡ None)
         × (bond : BondRow) × (spec.bond_with_id market.now request.now.bond ≡ Some bond)
         × (kept ≡ spec.request_kept market.now index.now moment request.now bond))
-        (λ reason. spec.request_refusal market.now index.now moment request.now ≡ Some reason) }
+        (λ refusal. spec.request_refusal market.now index.now moment request.now ≡ Some refusal) }
 {
     let bond = match bond_by_terms(market, index, request) {
         Ok(bond) => bond,
-        Err(reason) => return Err(reason),
+        Err(refusal) => return Err(refusal),
     };
-    let Some(dealers) = asked_dealers(market, request.dealers.again()) else {
-        return Err(RequestRejectReason::Other);
+    let dealers = match asked_dealers(market, request.dealers.again()) {
+        Ok(dealers) => dealers,
+        Err(refusal) => return Err(refusal),
     };
     match number_in_day(market, index, moment, request) {
         Ok(number) => Ok(kept(market, number, request, bond, dealers, moment)),
-        Err(reason) => Err(reason),
+        Err(refusal) => Err(refusal),
     }
 }
 
-/// The bond of a request whose terms are lawful, or the reason of the first of these checks that
-/// refuses it.
+/// The bond of a request whose terms are lawful, or the first of these checks that refuses it.
 fn bond_by_terms(
     market: &Market,
     index: &InvestorIndex,
     request: &QuoteRequest,
-) -> Result<BondRow, RequestRejectReason>
+) -> Result<BondRow, RequestRefusal>
     ensures { MatchResult result
         (λ bond. (first_refusal (terms_checks market.now index.now request.now) ≡ None)
         × (spec.bond_with_id market.now request.now.bond ≡ Some bond))
-        (λ reason. first_refusal (terms_checks market.now index.now request.now) ≡ Some reason) }
+        (λ refusal. first_refusal (terms_checks market.now index.now request.now) ≡ Some refusal) }
 {
     if index.request_with_id(&request.id).is_some() {
-        return Err(RequestRejectReason::Other);
+        return Err(RequestRefusal::DuplicateRequest);
     }
     let Some(bond) = market.bond_with_id(request.bond.as_bytes()) else {
-        return Err(RequestRejectReason::UnknownSymbol);
+        return Err(RequestRefusal::UnknownBond);
     };
     if request.quantity.get() > market.row.quantity {
-        return Err(RequestRejectReason::ExceedsLimit);
+        return Err(RequestRefusal::QuantityExceeded);
     }
     Ok(bond)
 }
 
-/// The dealers that a request names, where no check refuses it for them: all of these checks give
-/// one reason.
-fn asked_dealers(market: &Market, names: NamedDealers<'_>) -> Option<AskedDealers>
-    ensures { MatchOption result
-        (first_refusal (dealer_checks market.now names.entry) ≡ Some RequestRejectReason.Other)
+/// The dealers that a request names, or the first of these checks that refuses it.
+fn asked_dealers(market: &Market, names: NamedDealers<'_>) -> Result<AskedDealers, RequestRefusal>
+    ensures { MatchResult result
         (λ dealers. (first_refusal (dealer_checks market.now names.entry) ≡ None)
-        × (dealers ≡ spec.dealer_numbers market.now names.entry)) }
+        × (dealers ≡ spec.dealer_numbers market.now names.entry))
+        (λ refusal. first_refusal (dealer_checks market.now names.entry) ≡ Some refusal) }
 {
-    let numbers = dealer_numbers(market, names)?;
-    AskedDealers::new(numbers.as_slice())
+    let Some(numbers) = dealer_numbers(market, names.again()) else {
+        return Err(names_refusal(market, names));
+    };
+    if numbers.is_empty() {
+        return Err(RequestRefusal::NoDealer);
+    }
+    match AskedDealers::new(numbers.as_slice()) {
+        Some(dealers) => Ok(dealers),
+        None => Err(RequestRefusal::DealerTwice),
+    }
+}
+
+/// Why names are refused of which one is unknown, or which are too many: the first of these checks
+/// that refuses them.
+fn names_refusal(market: &Market, names: NamedDealers<'_>) -> RequestRefusal
+    requires { (list_any (spec.is_unknown_dealer market.now) names
+        || nat_lt AskedDealers.MOST (length names)) ≡ true }
+    ensures { first_refusal (dealer_checks market.now names.entry) ≡ Some result }
+{
+    if has_unknown(market, names.again()) {
+        return RequestRefusal::UnknownDealer;
+    }
+    if has_one_twice(names) {
+        return RequestRefusal::DealerTwice;
+    }
+    RequestRefusal::TooManyDealers
+}
+
+/// Whether no dealer has one of these names.
+fn has_unknown(market: &Market, names: NamedDealers<'_>) -> bool
+    ensures { result ≡ list_any (spec.is_unknown_dealer market.now) names.entry }
+{
+    for name in names {
+        if market.dealer_named(name.as_bytes()).is_none() {
+            return true;
+        }
+    }
+    false
+}
+
+/// Whether one of these names stands twice. Of known ones it looks at no more than the venue has
+/// dealers, since one more is one of them again.
+fn has_one_twice(names: NamedDealers<'_>) -> bool
+    ensures { result ≡ not (are_different names.entry) }
+{
+    let mut later = names;
+    while let Some(name) = later.next() {
+        if stands_in(later.again(), &name) {
+            return true;
+        }
+    }
+    false
+}
+
+/// Whether a name stands among these.
+fn stands_in(names: NamedDealers<'_>, name: &Id<'_>) -> bool
+    ensures { result ≡ list_any (λ other. same_text other name.now) names.entry }
+{
+    for other in names {
+        if other.as_bytes() == name.as_bytes() {
+            return true;
+        }
+    }
+    false
 }
 
 /// The numbers of the dealers with these names, where all of them are known, and they are not too
@@ -146,29 +207,29 @@ fn dealer_numbers(
     Some(numbers)
 }
 
-/// The number of a request that the investor's day leaves room for, or the reason of the first of
-/// these checks that refuses it.
+/// The number of a request that the investor's day leaves room for, or the first of these checks that
+/// refuses it.
 fn number_in_day(
     market: &Market,
     index: &InvestorIndex,
     moment: Moment,
     request: &QuoteRequest,
-) -> Result<u32, RequestRejectReason>
+) -> Result<u32, RequestRefusal>
     ensures { MatchResult result
         (λ number. (first_refusal (day_checks market.now index.now moment request.now) ≡ None)
         × (number ≡ requests_accepted index.now + 1))
-        (λ reason. first_refusal (day_checks market.now index.now moment request.now)
-        ≡ Some reason) }
+        (λ refusal. first_refusal (day_checks market.now index.now moment request.now)
+        ≡ Some refusal) }
 {
     if request.deadline <= moment {
-        return Err(RequestRejectReason::TooLate);
+        return Err(RequestRefusal::DeadlinePassed);
     }
     let accepted = index.requests_accepted();
     if market.row.requests <= accepted {
-        return Err(RequestRejectReason::ExceedsLimit);
+        return Err(RequestRefusal::RequestsUsedUp);
     }
     if market.row.open_limit <= index.requests_open() {
-        return Err(RequestRejectReason::ExceedsLimit);
+        return Err(RequestRefusal::TooManyOpen);
     }
     Ok(accepted + 1)
 }
@@ -216,14 +277,14 @@ fn kept(
 }
 
 /// The refusal of a request.
-fn refused(request: QuoteRequest<'_>, reason: RequestRejectReason) -> InvestorVerdict<'_>
-    ensures { result ≡ spec.request_refused request.entry reason }
+fn refused(request: QuoteRequest<'_>, refusal: RequestRefusal) -> InvestorVerdict<'_>
+    ensures { result ≡ spec.request_refused request.entry refusal }
 {
-    InvestorVerdict::Refused(OutMessage::RequestRefused {
+    InvestorVerdict::RequestRefused {
         request: request.id,
         bond: request.bond,
-        reason,
-    })
+        refusal,
+    }
 }
 
 /// The verdict on a hit.
@@ -232,10 +293,10 @@ fn hit_verdict<'a>(index: &InvestorIndex, hit: QuoteHit<'a>) -> InvestorVerdict<
     ensures { result ≡ spec.hit_verdict index.now hit.entry }
 {
     let Some(shown) = index.offer_named(hit.quote.as_bytes()) else {
-        return InvestorVerdict::Refused(OutMessage::HitUnknown {
+        return InvestorVerdict::HitUnknown {
             id: hit.id,
             quote: hit.quote,
-        });
+        };
     };
     InvestorVerdict::Hits {
         request: shown.request,
@@ -253,11 +314,10 @@ fn pass_verdict<'a>(index: &InvestorIndex, pass: RequestPass<'a>) -> InvestorVer
     ensures { result ≡ spec.pass_verdict index.now pass.entry }
 {
     let Some(own) = index.request_with_id(&pass.request) else {
-        return InvestorVerdict::Refused(OutMessage::PassReport {
+        return InvestorVerdict::PassUnknown {
             id: pass.id,
             request: pass.request,
-            status: PassStatus::Unknown,
-        });
+        };
     };
     InvestorVerdict::Passes {
         request: own.request.number,

@@ -1,11 +1,13 @@
 //! What a desk sends: the messages of an event, as the next ones that its investor is sent.
 ghost use Rattle.std.specs.Prelude.{◌≡◌, ◌<◌, ◌≤◌, ◌+◌, ◌^◌, ◌++◌, IfOk, IsOk, is_some};
-ghost use Rattle.std.specs.Prelude.{vec_len, vec_capacity, if◌then◌else◌};
+ghost use Rattle.std.specs.Prelude.{vec_len, vec_capacity, map, if◌then◌else◌};
 ghost use Rattle.std.specs.Option.{option_to_list, option_map};
 ghost use Rattle.quote_messages.specs.Written.{written};
 ghost use Rattle.investor_desk.specs.InvestorOutput as spec;
 
+use crate::InvestorNote;
 use crate::market::Market;
+use crate::notes::note_again;
 use crate::outcomes::Sent;
 use fix_fields::{Memory, Moment};
 use quote_messages::{Head, OutMessage, SentMessage, write_out};
@@ -81,5 +83,25 @@ pub(crate) fn push_some(
         return Ok(());
     };
     items.push(item)?;
+    Ok(())
+}
+
+/// Puts what is noted of an event beside a message of it, where there is one.
+pub(crate) fn push_note(
+    notes: &mut Vec<Option<InvestorNote>>,
+    message: &Option<SentMessage>,
+    note: &Option<InvestorNote>,
+) -> Result<(), Memory>
+    requires { vec_len notes.old < vec_capacity notes.old }
+    ensures ok { IsOk result }
+    ensures items { notes.new.items
+        ≡ notes.old.items ++ map (λ sent. note.now) (option_to_list message.now) }
+    ensures len { vec_len notes.new ≤ vec_len notes.old + 1 }
+    ensures room { vec_capacity notes.old ≤ vec_capacity notes.new }
+{
+    if message.is_none() {
+        return Ok(());
+    }
+    notes.push(note_again(note))?;
     Ok(())
 }

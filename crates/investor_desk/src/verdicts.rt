@@ -1,8 +1,8 @@
 //! What a desk decides of a message.
 
-use crate::AcceptedRequest;
+use crate::{AcceptedRequest, RequestRefusal};
 use market_terms::{Id, ResponseRef};
-use quote_messages::{OutMessage, Reject};
+use quote_messages::Reject;
 
 /// The verdict on a message that came to an investor's desk. Hits and passes are left to the room
 /// of their request.
@@ -14,9 +14,29 @@ pub enum InvestorVerdict<'a> {
     OutOfSequence(Reject<'a>),
     /// The message used up its number and met a session fault.
     Rejected(Reject<'a>),
-    /// The market refuses the message, by this report: that of the first check that it does not
-    /// pass.
-    Refused(OutMessage<'a>),
+    /// A request is refused, by the first check that it does not pass.
+    RequestRefused {
+        /// QuoteReqID (131) as received.
+        request: Id<'a>,
+        /// SecurityID (48) as received.
+        bond: Id<'a>,
+        /// Why: QuoteRequestRejectReason (658) follows from it.
+        refusal: RequestRefusal,
+    },
+    /// No quote that the investor was shown has the QuoteID of its hit.
+    HitUnknown {
+        /// QuoteRespID (693) as received.
+        id: Id<'a>,
+        /// QuoteID (117) as received.
+        quote: Id<'a>,
+    },
+    /// No accepted request has the QuoteReqID of the pass.
+    PassUnknown {
+        /// QuoteRespID (693) as received.
+        id: Id<'a>,
+        /// QuoteReqID (131) as received.
+        request: Id<'a>,
+    },
     /// A request is accepted.
     RequestAccepted {
         /// QuoteReqID (131) as received.

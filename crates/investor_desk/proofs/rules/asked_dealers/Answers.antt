@@ -1,8 +1,13 @@
-use Rattle.std.proofs.Common.{◌∙◌}
-use Rattle.investor_desk.proofs.DealerLemmas.{asked_is}
+use Rattle.std.proofs.Common.{◌≡◌, ℕ, false, ◌==◌, List, length, sym, ap, ◌∙◌}
+use Rattle.std.specs.List.{list_any}
+use Rattle.investor_desk.specs.InvestorRules.{dealer_numbers, is_unknown_dealer}
+use Rattle.investor_desk.proofs.DealerLemmas.{nobody_refuses}
 use Rattle.investor_desk.proofs.rules.asked_dealers.Goals as goal
 
-pub returns : goal.returns
-returns c =
-    let found = c.in_ok-numbers.ensures in
-    rw c.new.ensures (asked_is c.args.market.now c.args.names c.as_slice.result.now found.0 found.1 (c.as_slice.ensures.value ∙ found.2))
+pub returns-then-is_empty : goal.returns-then-is_empty
+returns-then-is_empty c =
+    let market = c.args.market.now in
+    let names = c.args.names in
+    let known : list_any (is_unknown_dealer market) names ≡ false = ap (list_any (is_unknown_dealer market)) (sym c.again.ensures) ∙ c.in-Some.ensures.0 in
+    let found : dealer_numbers market names ≡ c.in-Some.numbers.items = ap (dealer_numbers market) (sym c.again.ensures) ∙ sym c.in-Some.ensures.2 in
+    nobody_refuses market names known (ap (λ (ns : List ℕ). length ns == 0) found ∙ sym c.if-is_empty.ensures)

@@ -1,8 +1,8 @@
-use Rattle.std.proofs.Common.{◌++◌, sym, ap, ◌∙◌}
+use Rattle.std.proofs.Common.{◌++◌, sym, ap, ◌∙◌, refl}
 use Rattle.std.specs.Option.{option_to_list}
 use Rattle.market_terms.specs.declared.rooms.Offer.{Offer}
 use Rattle.investor_desk.specs.InvestorFacts.{open_request}
-use Rattle.investor_desk.specs.InvestorOutput.{event_facts, event_messages, offer_facts}
+use Rattle.investor_desk.specs.InvestorOutput.{event_facts, event_messages, event_note, offer_facts}
 use Rattle.investor_desk.specs.InvestorOutput.{offer_messages}
 use Rattle.investor_desk.specs.BookChanges.{book_with}
 use Rattle.investor_desk.specs.RuleCuts.{messages_of}
@@ -15,7 +15,7 @@ unfolding event_facts
 keep-requires-clause-facts c =
     let desk = c.self.inside in
     let outcome = c.offer_outcome-outcome in
-    owed_facts desk.market desk.events.items desk.sent.items desk.index c.args.self.now outcome.result.note (event.QuoteCame c.args.n c.copy_of.result c.args.moment)
+    owed_facts desk.market desk.events.items desk.sent.items desk.notes.items desk.index c.args.self.now outcome.result.note (event.QuoteCame c.args.n c.copy_of.result c.args.moment)
     c.self.invariant c.self.view_is (outcome.ensures.facts
     ∙ ap (λ (o : Offer). book_with desk.index (offer_facts desk.index c.args.n o (open_request desk.index c.args.n))) (sym c.copy_of.ensures))
 
@@ -25,6 +25,10 @@ keep-requires-clause-sent c =
     let desk = c.self.inside in
     let outcome = c.offer_outcome-outcome in
     let sent = c.in_ok-sent.sent in
-    owed_sent desk.market desk.events.items desk.sent.items desk.index c.args.self.now (messages_of outcome.result)
+    owed_sent desk.market desk.events.items desk.sent.items desk.notes.items desk.index c.args.self.now (messages_of outcome.result)
     (option_to_list sent.first ++ option_to_list sent.second) (event.QuoteCame c.args.n c.copy_of.result c.args.moment)
     c.self.invariant c.self.view_is (outcome.ensures.messages ∙ ap (λ (o : Offer). offer_messages desk.index c.args.n o (open_request desk.index c.args.n)) (sym c.copy_of.ensures)) c.in_ok-sent.ensures
+
+pub keep-requires-clause-beside : goal.keep-requires-clause-beside
+unfolding event_note
+keep-requires-clause-beside c = refl
