@@ -8,45 +8,27 @@ from pathlib import Path
 
 from .best_execution import BEST_EXECUTION, best_execution
 from .bonds import bonds_of
-from .check import Verdict, report
+from .check import Verdict
 from .command import Work, checked, is_good
 from .confirmations import CONFIRMATIONS, confirmation_text, confirmations, misnamed
 from .day_pass import DayPass
-from .day_tables import MessageRow
-from .exchanges import Exchange
 from .export import export_day
-from .facts import Facts, ResponseFact
+from .facts import Facts
 from .faults import Unreadable
 from .folders import make_folder
 from .records import Day, Firm
-from .refusals import Refusal
-from .statistics import Refused
+from .statistics import statistics_of
+from .statistics_text import statistics_json, statistics_text
 from .tables import Form, table_text, write_table
 
 
-class Refusals:
-    """Keeps of what goes by why messages were refused."""
-
-    def __init__(self) -> None:
-        self.all: list[Refused] = []
-
-    def message(self, row: MessageRow) -> None:
-        """It is not kept."""
-
-    def response(self, row: ResponseFact) -> None:
-        """It is not kept."""
-
-    def refusal(self, exchange: Exchange, row: MessageRow, refusal: Refusal) -> None:
-        self.all.append(Refused(row.firm, row.bond, row.moment, refusal))
-
-
-def facts_of(work: Work, verdict: Verdict) -> tuple[Facts, list[Refused]]:
-    """The facts of a day that was checked, and what was refused."""
-    sink = Refusals()
+def passed_over(work: Work, verdict: Verdict) -> DayPass:
+    """A pass over a day that was checked."""
     with work.source.open() as log:
-        facts = DayPass(log, verdict.day, sink).run()
+        day_pass = DayPass(log, verdict.day)
+        day_pass.run()
     work.checker().check_end(verdict)
-    return facts, sink.all
+    return day_pass
 
 
 def form_of(work: Work) -> Form | None:
@@ -92,7 +74,7 @@ def export_all(work: Work, verdict: Verdict, form: Form, folder: Path) -> str:
 
 def export_one(work: Work, verdict: Verdict, form: Form, folder: Path, firm: Firm) -> str:
     """An investor's own file."""
-    facts, _ = facts_of(work, verdict)
+    facts = passed_over(work, verdict).facts
     verdict.findings += misnamed(facts)
     rows = best_execution(facts, firm.name)
     count = write_table(BEST_EXECUTION, rows, form, folder)
@@ -108,6 +90,17 @@ def firm_named(work: Work, name: str) -> Firm:
     return found
 
 
+def do_stats(work: Work) -> int:
+    """`stats`: the figures of a day."""
+    verdict = checked(work)
+    if not is_good(verdict):
+        return 1
+    day_pass = passed_over(work, verdict)
+    statistics = statistics_of(verdict.day, day_pass.facts, day_pass.refused)
+    print(statistics_json(statistics) if work.words.json else statistics_text(statistics))
+    return 0
+
+
 def do_trades(work: Work) -> int:
     """`trades`: each firm's confirmations, or those of one."""
     form, words = form_of(work), work.words
@@ -115,7 +108,7 @@ def do_trades(work: Work) -> int:
     verdict = checked(work)
     if not is_good(verdict):
         return 1
-    facts, _ = facts_of(work, verdict)
+    facts = passed_over(work, verdict).facts
     verdict.findings += misnamed(facts)
     if not is_good(verdict):
         return 1

@@ -1,79 +1,115 @@
-"""One pass over a day: its facts, and each message and response as it goes by."""
+"""One pass over a day: its facts, and the rows of its messages as they go by."""
 
+from collections import Counter
 from collections.abc import Iterator
 from dataclasses import dataclass, field
-from typing import Protocol
+from typing import NamedTuple
 
+from .bonds import bonds_of
 from .collector import Collector
 from .day_tables import MessageRow, SessionRow
 from .exchanges import Exchange, Told, exchanges
-from .facts import Facts, ResponseFact
+from .facts import Facts, RequestFact, ResponseFact
 from .frame import barred, text_of
 from .log import Log
 from .reading import moment_of
 from .records import Day
-from .refusals import Refusal, is_refusing, code_of, kind_of, refusal_of
+from .refusals import Refusal, code_of, is_refusing, kind_of, refusal_of
+from .statistics import Refused, hour_of
 from .wire_texts import WireTexts
 
 
-class Sink(Protocol):
-    """Takes what is not held."""
+class Taken(NamedTuple):
+    """What an entry was, as far as it is not kept."""
 
-    def message(self, row: MessageRow) -> None:
-        """A message, in the order of the entries; one that came before those it was answered."""
-
-    def response(self, row: ResponseFact) -> None:
-        """A hit or a pass."""
-
-    def refusal(self, exchange: Exchange, row: MessageRow, refusal: Refusal) -> None:
-        """A message that was refused; its row was given before."""
+    response: ResponseFact | None
+    refusal: Refusal | None
 
 
 @dataclass
 class DayPass:
-    """The pass; at its end `facts` and `sessions` are whole."""
+    """The pass; `facts`, `refused` and `sessions` have what is known so far."""
 
     log: Log
     day: Day
-    sink: Sink
+    refused: Counter[Refused] = field(default_factory=Counter)
     sessions: dict[str, SessionRow] = field(default_factory=dict)
 
     def __post_init__(self) -> None:
         names = [firm.name for firm in self.day.firms]
         self._wires = {name: WireTexts(self.log, name) for name in names}
         self._collector = Collector(self.day.date, self._wires)
+        self._bonds = frozenset(bonds_of(self.day))
         self.sessions = {firm.name: SessionRow(firm) for firm in self.day.firms}
 
-    def run(self) -> Facts:
-        """Takes all exchanges."""
-        for exchange in exchanges(self.log, self.day):
-            response = self._collector.take(exchange)
-            if response is not None:
-                self.sink.response(response)
-            for row in self._rows(exchange):
-                self.sink.message(row)
-        self._end_sessions()
+    @property
+    def facts(self) -> Facts:
         return self._collector.facts
 
-    def _rows(self, exchange: Exchange) -> Iterator[MessageRow]:
+    def take(self, exchange: Exchange) -> Taken:
+        """The next exchange."""
+        response = self._collector.take(exchange)
+        refusal = refusal_of(exchange, self._wires)
         if exchange.firm is not None:
-            yield self._came(exchange, exchange.firm)
+            self._count(exchange, exchange.firm, refusal)
         for told in exchange.told:
             self.sessions[told.firm.name].sent += 1
+        return Taken(response, refusal)
+
+    def run(self) -> Facts:
+        """All exchanges."""
+        for exchange in exchanges(self.log, self.day):
+            self.take(exchange)
+        self.end()
+        return self.facts
+
+    def end(self) -> None:
+        """What the log says of each session beside its messages."""
+        targets = self.log.targets() if self.log.has_chain else {}
+        for name, session in self.sessions.items():
+            session.expected = targets.get(name)
+            session.connections = len(self.log.logons(name)) if self.log.has_door else 0
+
+    def rows(self, exchange: Exchange, refusal: Refusal | None) -> Iterator[MessageRow]:
+        """The messages of an exchange that was taken; what came stands first."""
+        if exchange.firm is not None:
+            yield self._came(exchange, exchange.firm, refusal)
+        for told in exchange.told:
             yield self._told(exchange, told)
 
-    def _came(self, exchange: Exchange, firm: str) -> MessageRow:
-        """The row of a message that came."""
-        entry, came = exchange.entry, exchange.came
-        refusal = refusal_of(exchange, self._wires)
-        self._count(exchange, firm, refusal)
-        request = self._collector.own(came)
+    def _count(self, exchange: Exchange, firm: str, refusal: Refusal | None) -> None:
+        session = self.sessions.get(firm)
+        if session is None:
+            return
+        session.came += 1
+        if session.first_entry is None:
+            session.first_entry = exchange.place
+        session.last_entry = exchange.place
+        if refusal is not None:
+            session.refused += 1
+            bond = self._bond(exchange, self._request(exchange))
+            bond = bond if bond in self._bonds else ""
+            self.refused[Refused(firm, bond, hour_of(exchange.moment), refusal)] += 1
+
+    def _request(self, exchange: Exchange) -> RequestFact | None:
+        """The request that a message that came is about."""
+        request = self._collector.own(exchange.came)
         if request is None and exchange.answers():
-            request = self._collector.about(exchange.answers()[0])
+            return self._collector.about(exchange.answers()[0])
+        return request
+
+    def _bond(self, exchange: Exchange, request: RequestFact | None) -> str:
+        if request is not None:
+            return request.bond
+        return text_of(exchange.came.fields, 48) if exchange.came else ""
+
+    def _came(self, exchange: Exchange, firm: str, refusal: Refusal | None) -> MessageRow:
+        """The row of a message that came."""
+        entry, came, request = exchange.entry, exchange.came, self._request(exchange)
         answer = "accepted"
         if refusal is not None:
             answer = "unanswered" if refusal.code == "none" else "refused"
-        row = MessageRow(
+        return MessageRow(
             entry.place,
             entry.moment,
             firm,
@@ -81,7 +117,7 @@ class DayPass:
             text_of(came.fields, 34) if came else "",
             text_of(came.fields, 35) if came else "",
             None if request is None else request.number,
-            request.bond if request is not None else text_of(came.fields, 48) if came else "",
+            self._bond(exchange, request),
             kind_of(came),
             answer,
             refusal.code if refusal else "",
@@ -91,9 +127,6 @@ class DayPass:
             entry.connection,
             came.text if came else barred(entry.line),
         )
-        if refusal is not None:
-            self.sink.refusal(exchange, row, refusal)
-        return row
 
     def _told(self, exchange: Exchange, told: Told) -> MessageRow:
         """The row of a message of the venue."""
@@ -117,20 +150,3 @@ class DayPass:
             None,
             barred(told.bytes),
         )
-
-    def _count(self, exchange: Exchange, firm: str, refusal: Refusal | None) -> None:
-        session = self.sessions.get(firm)
-        if session is None:
-            return
-        session.came += 1
-        session.refused += refusal is not None
-        if session.first_entry is None:
-            session.first_entry = exchange.place
-        session.last_entry = exchange.place
-
-    def _end_sessions(self) -> None:
-        """What the log says of each session beside its messages."""
-        targets = self.log.targets() if self.log.has_chain else {}
-        for name, session in self.sessions.items():
-            session.expected = targets.get(name)
-            session.connections = len(self.log.logons(name)) if self.log.has_door else 0

@@ -9,14 +9,13 @@ from typing import Any, TypeVar
 from .bonds import Bond, bonds_of
 from .day_pass import DayPass
 from .day_tables import (
-    ASKED, CONNECTIONS, MESSAGES, QUOTES, REQUESTS, RESPONSES, SESSIONS, TRADES, MessageRow,
-    RequestRow, SessionRow, TradeRow,
+    ASKED, CONNECTIONS, MESSAGES, QUOTES, REQUESTS, RESPONSES, SESSIONS, TRADES, RequestRow,
+    TradeRow,
 )
-from .exchanges import Exchange
-from .facts import Facts, ResponseFact
+from .exchanges import exchanges
+from .facts import Facts
 from .log import Log
 from .records import Day
-from .refusals import Refusal
 from .tables import Column, Form, Table, TableWriter, write_table
 
 Row = TypeVar("Row")
@@ -45,53 +44,53 @@ COLUMNS: Table[ColumnRow] = Table(
 )
 
 
-class Rows:
+class Streams:
     """Writes the rows that are not held: messages and responses."""
 
     def __init__(self, form: Form, folder: Path, files: ExitStack) -> None:
         self._form, self._folder, self._files = form, folder, files
-        self._messages = self._begun(MESSAGES)
-        self._responses = self._begun(RESPONSES)
+        self.messages = self._begun(MESSAGES)
+        self.responses = self._begun(RESPONSES)
 
     def _begun(self, table: Table[Row]) -> TableWriter[Row]:
         path = self._folder / ("%s.%s" % (table.name, self._form.value))
         file = self._files.enter_context(path.open("w", encoding="utf-8", newline=""))
-        writer = TableWriter(table, self._form, file)
-        return writer
-
-    def message(self, row: MessageRow) -> None:
-        self._messages.put(row)
-
-    def response(self, row: ResponseFact) -> None:
-        self._responses.put(row)
-
-    def refusal(self, exchange: Exchange, row: MessageRow, refusal: Refusal) -> None:
-        """Its row has it."""
+        return TableWriter(table, self._form, file)
 
     def end(self) -> None:
-        self._messages.end()
-        self._responses.end()
+        self.messages.end()
+        self.responses.end()
 
 
 def export_day(log: Log, day: Day, form: Form, folder: Path) -> Facts:
     """Writes all tables into a folder."""
+    day_pass = DayPass(log, day)
     with ExitStack() as files:
-        rows = Rows(form, folder, files)
-        day_pass = DayPass(log, day, rows)
-        facts = day_pass.run()
-        rows.end()
-    bonds = bonds_of(day)
+        streams = Streams(form, folder, files)
+        for exchange in exchanges(log, day):
+            taken = day_pass.take(exchange)
+            if taken.response is not None:
+                streams.responses.put(taken.response)
+            for row in day_pass.rows(exchange, taken.refusal):
+                streams.messages.put(row)
+        day_pass.end()
+        streams.end()
+    write_held(day_pass, form, folder)
+    write_table(CONNECTIONS, log.connection_events() if log.has_door else (), form, folder)
+    write_table(COLUMNS, column_rows(), form, folder)
+    return day_pass.facts
+
+
+def write_held(day_pass: DayPass, form: Form, folder: Path) -> None:
+    """The tables whose rows are held."""
+    bonds, facts = bonds_of(day_pass.day), day_pass.facts
     requests = (RequestRow(one, currency_of(bonds, one.bond)) for one in facts.requests)
     trades = (TradeRow(one, currency_of(bonds, one.request.bond)) for one in facts.trades)
-    sessions: list[SessionRow] = list(day_pass.sessions.values())
     write_table(REQUESTS, requests, form, folder)
     write_table(ASKED, facts.asked, form, folder)
     write_table(QUOTES, facts.quotes, form, folder)
     write_table(TRADES, trades, form, folder)
-    write_table(SESSIONS, sessions, form, folder)
-    write_table(CONNECTIONS, log.connection_events() if log.has_door else (), form, folder)
-    write_table(COLUMNS, column_rows(), form, folder)
-    return facts
+    write_table(SESSIONS, day_pass.sessions.values(), form, folder)
 
 
 def column_rows() -> Iterator[ColumnRow]:

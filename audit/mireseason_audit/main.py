@@ -15,7 +15,7 @@ from .arguments import (
 )
 from .check import report
 from .command import Work, checked, compared_with, seal_of, seal_path
-from .day_commands import do_export, do_trades
+from .day_commands import do_export, do_stats, do_trades
 from .faults import Unreadable, Wrong
 from .frame import printable
 from .seal import check_key, sealed, write_seal
@@ -62,8 +62,11 @@ def add_tables(commands: Commands) -> None:
     export.add_argument("--for", dest="firm", metavar="FIRM", help=text)
     trades = commands.add("trades", "prints each firm's confirmations", do_trades)
     trades.add_argument("--for", dest="firm", metavar="FIRM", help="those of one firm")
+    stats = commands.add("stats", "prints the figures of the day", do_stats)
+    stats.add_argument("--json", action="store_true", help="as JSON")
     for parser in (export, trades):
         with_form(parser)
+    for parser in (export, trades, stats):
         with_moment(parser)
         with_seal(parser)
 

@@ -19,6 +19,7 @@ from .progress import Step
 from .records import Day
 from .request_pages import RequestJob, file_name
 from .seal import SumsJob, write_sums
+from .statistics_page import sections
 from .summary import Summary, SummaryJob
 from .templates import HERE, Templates
 from .work import Job, Plan, plan_of, run_jobs
@@ -71,6 +72,9 @@ class Pager:
                 verdict.findings += result
         with closing(Book(self._book)) as book:
             self._write_day(verdict, summary, book)
+        found = sections(summary.statistics)
+        text = Templates(verdict.day).page("statistics.html", "", sections=found)
+        (self.folder / "statistics.html").write_text(text, encoding="utf-8")
         shutil.copyfile(checker.files.day, self.folder / "day.live")
         shutil.copyfile(HERE / "style.css", self.folder / "style.css")
         checker.progress.end()

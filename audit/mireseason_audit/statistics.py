@@ -11,9 +11,9 @@ from collections.abc import Iterable
 from dataclasses import dataclass, field
 from decimal import Decimal
 from enum import Enum
-from typing import Generic, TypeVar
+from typing import Generic, NamedTuple, TypeVar
 
-from .bonds import Bond
+from .bonds import Bond, bonds_of
 from .facts import Answer, AskedFact, Facts, QuoteFact, RequestFact, TradeFact
 from .records import Day
 from .refusals import Refusal
@@ -58,8 +58,7 @@ class Spread(Generic[Number]):
 class Figures:
     """The figures of one row."""
 
-    requests: int = 0
-    awarded: int = 0
+    ends: Counter[str] = field(default_factory=Counter)  # requests, by how they ended
     quoted_on: int = 0  # requests with at least one quote
     asked: int = 0  # dealers on requests
     answered: int = 0
@@ -77,6 +76,15 @@ class Figures:
     refusals: Counter[Refusal] = field(default_factory=Counter)
     asked_for: Counter[str] = field(default_factory=Counter)  # face value, by its unit
     traded: Counter[str] = field(default_factory=Counter)
+    trade_counts: Counter[str] = field(default_factory=Counter)  # trades, by the same unit
+
+    @property
+    def requests(self) -> int:
+        return self.ends.total()
+
+    @property
+    def awarded(self) -> int:
+        return self.ends["awarded"]
 
     @property
     def won(self) -> int:
@@ -84,9 +92,7 @@ class Figures:
 
     @property
     def trades(self) -> int:
-        return sum(self.traded_count.values())
-
-    traded_count: Counter[str] = field(default_factory=Counter)  # trades, by the unit
+        return sum(self.trade_counts.values())
 
     @property
     def not_best(self) -> int:
@@ -106,13 +112,12 @@ class Statistics:
         return self.rows.setdefault((group, key), Figures())
 
 
-@dataclass(frozen=True)
-class Refused:
+class Refused(NamedTuple):
     """A message that was refused, as the figures count it."""
 
     firm: str
-    bond: str
-    moment: str
+    bond: str  # of the configuration; empty where it is about none
+    hour: str
     refusal: Refusal
 
 
@@ -130,11 +135,10 @@ class Counting:
             self.statistics.row(Group.BOND, bond)
         self._date = day.date
 
-    def take(self, facts: Facts, refused: Iterable[Refused]) -> Statistics:
+    def take(self, facts: Facts, refused: Counter[Refused]) -> Statistics:
         """All that happened. Hours stand in their order."""
-        refusals = list(refused)
-        moments = [one.moment for one in facts.requests] + [one.moment for one in refusals]
-        for hour in sorted({hour_of(moment) for moment in moments}):
+        hours = {hour_of(one.moment) for one in facts.requests} | {one.hour for one in refused}
+        for hour in sorted(hours):
             self.statistics.row(Group.HOUR, hour)
         for request in facts.requests:
             self._take_request(request)
@@ -144,8 +148,8 @@ class Counting:
             self._take_quote(quote)
         for trade in facts.trades:
             self._take_trade(trade)
-        for one in refusals:
-            self._take_refused(one)
+        for one, count in refused.items():
+            self._take_refused(one, count)
         return self.statistics
 
     def _of_request(self, request: RequestFact, dealers: Iterable[str]) -> list[Figures]:
@@ -161,9 +165,8 @@ class Counting:
 
     def _take_request(self, request: RequestFact) -> None:
         for figures in self._of_request(request, request.dealers):
-            figures.requests += 1
+            figures.ends[request.end] += 1
             figures.quoted_on += request.quotes > 0
-            figures.awarded += request.end == "awarded"
             figures.asked_for[self._unit(request)] += request.quantity
 
     def _take_asked(self, asked: AskedFact) -> None:
@@ -188,24 +191,29 @@ class Counting:
         unit = self._unit(trade.request)
         for figures in self._of_request(trade.request, [trade.dealer.firm]):
             figures.traded[unit] += trade.request.quantity
-            figures.traded_count[unit] += 1
+            figures.trade_counts[unit] += 1
             figures.covers_lapsed += trade.cover_lapsed
             if trade.from_cover is not None and not trade.cover_lapsed:
                 figures.from_cover.put(trade.from_cover)
             if trade.from_best > 0:
                 figures.from_best.put(trade.from_best)
 
-    def _take_refused(self, one: Refused) -> None:
+    def _take_refused(self, one: Refused, count: int) -> None:
         row = self.statistics.row
         group = Group.DEALER if one.firm in self._dealers else Group.INVESTOR
         rows = [row(Group.DAY, self._date), row(group, one.firm)]
-        rows.append(row(Group.HOUR, hour_of(one.moment)))
+        rows.append(row(Group.HOUR, one.hour))
         if one.bond in self._bonds:
             rows.append(row(Group.BOND, one.bond))
         for figures in rows:
-            figures.refusals[one.refusal] += 1
+            figures.refusals[one.refusal] += count
 
 
 def hour_of(moment: str) -> str:
     """The hour of a time of day, as `08`."""
     return moment[:2]
+
+
+def statistics_of(day: Day, facts: Facts, refused: Counter[Refused]) -> Statistics:
+    """The figures of a day."""
+    return Counting(day, bonds_of(day)).take(facts, refused)

@@ -9,14 +9,17 @@ from pathlib import Path
 
 from .book import Book, Fault
 from .came_on import CameOn, connections_of
+from .day_pass import DayPass
 from .dictionary import Dictionary
 from .exchanges import Exchange, exchanges
+from .facts import TradeFact
 from .log import Source
 from .prices import quantity_of
 from .progress import Step
 from .reading import Reader
 from .records import Day
 from .requests import Request, Requests
+from .statistics import Statistics, statistics_of
 
 NO_ANSWER = "no answer"
 
@@ -37,6 +40,8 @@ class Summary:
     requests: list[Request] = field(default_factory=list)
     firms: dict[str, FirmCounts] = field(default_factory=dict)
     faults: Counter[str] = field(default_factory=Counter)  # by why
+    statistics: Statistics = field(default_factory=Statistics)
+    trades: dict[int, TradeFact] = field(default_factory=dict)  # by the key of the request
     entries: int = 0
     sweeps: int = 0
     first: str = ""
@@ -124,7 +129,17 @@ class SummaryJob:
         with closing(Book(self.book, write=True)) as book, self.source.open() as log:
             came_on = connections_of(log, self.day)
             summarizer = Summarizer(self.day, Reader(self.dictionary), book, came_on)
+            day_pass = DayPass(log, self.day)
             for exchange in exchanges(log, self.day):
                 summarizer.take(exchange)
+                day_pass.take(exchange)
             book.finish()
-        return summarizer.summary
+        return with_facts(summarizer.summary, day_pass)
+
+
+def with_facts(summary: Summary, day_pass: DayPass) -> Summary:
+    """A summary with the figures and the trades of its day."""
+    facts = day_pass.facts
+    summary.statistics = statistics_of(day_pass.day, facts, day_pass.refused)
+    summary.trades = {trade.request.number - 1: trade for trade in facts.trades}
+    return summary

@@ -10,6 +10,7 @@ from .log import Log
 from .records import Outgoing
 
 TEXT, TRADE = b"\x0158=", b"\x011003="
+MOST_KEPT = 8192  # more than one entry brings a firm
 
 
 class WireText(NamedTuple):
@@ -23,23 +24,28 @@ NOTHING = WireText()
 
 
 class WireTexts:
-    """Goes through a firm's session once, in the order of the venue's numbers."""
+    """Goes through a firm's session once, as far as it is asked for."""
 
     def __init__(self, log: Log, firm: str) -> None:
         self._rows: Iterator[Outgoing] = log.outgoing(firm) if log.has_chain else iter(())
-        self._next = self._after()
+        self._last = 0  # the venue's number of the last message that was looked at
+        self._kept: dict[int, WireText] = {}  # of the last ones to which something was added
 
     def of(self, number: int) -> WireText:
-        """What was added to the message that carries this number of the venue's."""
-        while self._next is not None and (self._next.sent or 0) < number:
-            self._next = self._after()
-        if self._next is None or self._next.sent != number:
-            return NOTHING
-        return added_to(self._next.bytes)
+        """What was added to the message that carries this number of the venue's: of the last ones
+        that were asked for, or of a later one.
+        """
+        while self._last < number and (row := next(self._rows, None)) is not None:
+            if row.sent is not None:
+                self._last = row.sent
+                self._keep(row.sent, added_to(row.bytes))
+        return self._kept.get(number, NOTHING)
 
-    def _after(self) -> Outgoing | None:
-        """The next message that carries one of the venue's."""
-        return next((row for row in self._rows if row.sent is not None), None)
+    def _keep(self, number: int, text: WireText) -> None:
+        if text != NOTHING:
+            self._kept[number] = text
+            if len(self._kept) > MOST_KEPT:
+                del self._kept[next(iter(self._kept))]
 
 
 def added_to(message: bytes) -> WireText:

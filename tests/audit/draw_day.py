@@ -40,6 +40,8 @@ class Firms:
 
     dealers: dict[str, tuple[str, ...]]
     investors: dict[str, tuple[str, ...]]
+    currencies: tuple[str, ...] = ()  # of the bonds, in their order; empty of one without
+    in_32nds: bool = False  # how all bonds are quoted
 
     @property
     def all(self) -> dict[str, tuple[str, ...]]:
@@ -52,8 +54,13 @@ def first_of(table: dict[str, tuple[str, ...]], count: int) -> dict[str, tuple[s
 
 def configuration(firms: Firms) -> bytes:
     text = 'version = 2\ndate = "%s"\n' % DATE
-    for bond, grid in BONDS.items():
+    more = itertools.chain(firms.currencies, itertools.repeat(""))
+    for (bond, grid), currency in zip(BONDS.items(), more):
         text += '\n[[bond]]\nid = "%s"\ngrid = %d\n' % (bond, grid)
+        if currency:
+            text += 'currency = "%s"\n' % currency
+        if firms.in_32nds:
+            text += 'quoted = "32nds"\n'
     for name, traders in firms.dealers.items():
         text += '\n[[dealer]]\nname = "%s"\ntraders = [%s]\n' % (name, quoted(traders))
         text += "quotes = 4096\nexposure = 60000000\n"
@@ -355,9 +362,16 @@ def main() -> None:
     parser.add_argument("venue", nargs="+")
     parser.add_argument("--dealers", type=int, default=len(ALL_DEALERS))
     parser.add_argument("--investors", type=int, default=len(ALL_INVESTORS))
+    parser.add_argument("--currencies", default="", help="of the bonds, with commas between them")
+    parser.add_argument("--in-32nds", action="store_true", help="quotes all bonds in 32nds")
     words = parser.parse_args()
     words.log.unlink(missing_ok=True)
-    firms = Firms(first_of(ALL_DEALERS, words.dealers), first_of(ALL_INVESTORS, words.investors))
+    firms = Firms(
+        first_of(ALL_DEALERS, words.dealers),
+        first_of(ALL_INVESTORS, words.investors),
+        tuple(words.currencies.split(",")) if words.currencies else (),
+        words.in_32nds,
+    )
     Market(words.log, words.seed, words.noise, firms, words.venue).play(words.requests)
 
 

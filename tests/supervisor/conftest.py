@@ -58,8 +58,9 @@ def drawn(run: Audit, drawn_log: Path, tmp_path_factory: pytest.TempPathFactory)
     return exported(run, drawn_log, tmp_path_factory.mktemp("drawn-export"), "csv")
 
 
-def draw(path: Path, requests: int, seed: int, venue: tuple[str, ...]) -> Path:
-    words = [path, "--requests", requests, "--seed", seed, "--", *venue]
+def draw(path: Path, requests: int, seed: int, venue: tuple[str, ...], *more: str) -> Path:
+    """The log of a drawn day; more has options of draw_day."""
+    words = [path, "--requests", requests, "--seed", seed, *more, "--", *venue]
     command = [sys.executable, "-m", "tests.audit.draw_day", *map(str, words)]
     subprocess.run(command, check=True)
     return path
