@@ -14,7 +14,7 @@ use Rattle.quote_messages.specs.declared.requests.QuoteRequest.{QuoteRequest}
 use Rattle.quote_messages.specs.declared.requests.RequestPass.{RequestPass}
 use Rattle.quote_messages.specs.declared.requests.InvestorMessage.{InvestorMessage}
 use Rattle.quote_messages.specs.declared.requests.InvestorMessage.TheVariants as asked
-use Rattle.quote_messages.specs.declared.reject_reasons.RequestRejectReason.{RequestRejectReason}
+use Rattle.investor_desk.specs.declared.refusals.RequestRefusal.{RequestRefusal}
 use Rattle.venue_rows.specs.Rows.{Configuration, dealer_numbered}
 use Rattle.venue_rows.specs.declared.bond_rows.BondRow.{BondRow}
 use Rattle.venue_rows.specs.declared.dealer_rows.DealerRow.{DealerRow}
@@ -68,7 +68,7 @@ length_found {X} {Y} h (x ∷ xs) = by_found (h x) (length_found h xs)
 
 module _ (market : InvestorMarket) (book : InvestorBook) (moment : ℕ) where
   request_few : (request : QuoteRequest) (bond : Option BondRow)
-      (refusal : Option RequestRejectReason)
+      (refusal : Option RequestRefusal)
       → request_refusal market book moment request ≡ refusal
       → AsksFew (request_answer market book moment request bond refusal)
   unfolding request_refusal

@@ -12,7 +12,8 @@ use Rattle.quote_messages.specs.declared.quotes.CancelScope.TheVariants as cance
 use Rattle.quote_messages.specs.declared.quotes.DealerMessage.{DealerMessage}
 use Rattle.quote_messages.specs.declared.quotes.DealerMessage.TheVariants as message
 use Rattle.quote_messages.specs.declared.quotes.Quote.{Quote}
-use Rattle.quote_messages.specs.declared.reject_reasons.QuoteRejectReason.{QuoteRejectReason}
+use Rattle.dealer_desk.specs.declared.refusals.QuoteRefusal.{QuoteRefusal}
+use Rattle.dealer_desk.specs.declared.refusals.DeclineRefusal.{DeclineRefusal}
 use Rattle.venue_rows.specs.declared.dealer_rows.DealerRow.{DealerRow}
 use Rattle.dealer_desk.specs.DealerFacts.{DealerBook, DealerFact, Shown, book_of, expected_number}
 use Rattle.dealer_desk.specs.DealerFacts.{quote_to_drop, quote_with_id, quotes_accepted}
@@ -64,7 +65,7 @@ module _ (row : DealerRow) (facts : List DealerFact) (moment : ℕ) where
   book = book_of facts
 
   quote_accepts : (quote : Quote) (request : Option StandingRequest)
-      (refusal : Option QuoteRejectReason) → quote_refusal row book moment quote request ≡ refusal
+      (refusal : Option QuoteRefusal) → quote_refusal row book moment quote request ≡ refusal
       → IfSome request (λ (shown : StandingRequest). 1 ≤ shown.number)
       → AcceptOk row (quote_answer book moment quote request refusal)
   unfolding quote_refusal
@@ -91,7 +92,7 @@ module _ (row : DealerRow) (facts : List DealerFact) (moment : ℕ) where
   cancel_accepts (cancels.Other cancel_type id) = tt
 
   decline_accepts : (name : List ℕ) (request : Option StandingRequest)
-      (refusal : Option QuoteRejectReason) → AcceptOk row (decline_answer name request refusal)
+      (refusal : Option DeclineRefusal) → AcceptOk row (decline_answer name request refusal)
   decline_accepts name request (Some reason) = tt
   decline_accepts name None None = tt
   decline_accepts name (Some request) None = tt

@@ -11,8 +11,10 @@ use Rattle.quote_messages.specs.declared.quotes.CancelScope.TheVariants as cance
 use Rattle.quote_messages.specs.declared.quotes.DealerMessage.{DealerMessage}
 use Rattle.quote_messages.specs.declared.quotes.DealerMessage.TheVariants as said
 use Rattle.quote_messages.specs.declared.quotes.Quote.{Quote}
-use Rattle.quote_messages.specs.declared.reject_reasons.QuoteRejectReason.{QuoteRejectReason}
-use Rattle.quote_messages.specs.declared.reject_reasons.RequestRejectReason.{RequestRejectReason}
+use Rattle.dealer_desk.specs.declared.refusals.QuoteRefusal.{QuoteRefusal}
+use Rattle.dealer_desk.specs.declared.refusals.CancelRefusal.{CancelRefusal}
+use Rattle.dealer_desk.specs.declared.refusals.DeclineRefusal.{DeclineRefusal}
+use Rattle.investor_desk.specs.declared.refusals.RequestRefusal.{RequestRefusal}
 use Rattle.quote_messages.specs.declared.requests.InvestorMessage.{InvestorMessage}
 use Rattle.quote_messages.specs.declared.requests.InvestorMessage.TheVariants as asked
 use Rattle.quote_messages.specs.declared.requests.QuoteHit.{QuoteHit}
@@ -48,13 +50,13 @@ DropsAccepted book other = Unit {0}
 
 module _ (row : DealerRow) (book : DealerBook) (moment : ℕ) where
   quote_drops : (quote : Quote) (request : Option StandingRequest)
-      (refusal : Option QuoteRejectReason)
+      (refusal : Option QuoteRefusal)
       → DropsAccepted book (quote_answer book moment quote request refusal)
   quote_drops quote request (Some reason) = tt
   quote_drops quote None None = tt
   quote_drops quote (Some request) None = tt
 
-  cancel_drops : (id : List ℕ) (own : StandingQuote) (refusal : Option QuoteRejectReason)
+  cancel_drops : (id : List ℕ) (own : StandingQuote) (refusal : Option CancelRefusal)
       → DropsAccepted book (cancel_answer id own refusal)
   cancel_drops id own (Some reason) = tt
   cancel_drops id own None = tt
@@ -72,11 +74,11 @@ module _ (row : DealerRow) (book : DealerBook) (moment : ℕ) where
   unfolding cancel_verdict
   scope_drops (cancels.One id) = found_drops id _
   scope_drops (cancels.All id) =
-      either_drops _ (verdict.Refused _) (verdict.DropsFollow (quotes_accepted book)) tt refl
+      either_drops _ (verdict.CancelRefused id _) (verdict.DropsFollow (quotes_accepted book)) tt refl
   scope_drops (cancels.Other cancel_type id) = tt
 
   decline_drops : (name : List ℕ) (request : Option StandingRequest)
-      (refusal : Option QuoteRejectReason)
+      (refusal : Option DeclineRefusal)
       → DropsAccepted book (decline_answer name request refusal)
   decline_drops name request (Some reason) = tt
   decline_drops name None None = tt
@@ -111,7 +113,7 @@ AsksAs name other = Unit {0}
 
 module _ (market : InvestorMarket) (book : InvestorBook) (moment : ℕ) where
   request_asks : (request : QuoteRequest) (bond : Option BondRow)
-      (refusal : Option RequestRejectReason)
+      (refusal : Option RequestRefusal)
       → AsksAs market.row.name (request_answer market book moment request bond refusal)
   request_asks request bond (Some reason) = tt
   request_asks request None None = tt

@@ -9,7 +9,7 @@ use Rattle.market_terms.specs.declared.rooms.ResponseRef.{ResponseRef}
 use Rattle.quote_messages.specs.Arrivals.{investor_arrival}
 use Rattle.quote_messages.specs.declared.arrivals.Arrival.{Arrival}
 use Rattle.quote_messages.specs.declared.arrivals.Arrival.TheVariants as arrival
-use Rattle.quote_messages.specs.declared.reject_reasons.RequestRejectReason.{RequestRejectReason}
+use Rattle.investor_desk.specs.declared.refusals.RequestRefusal.{RequestRefusal}
 use Rattle.quote_messages.specs.declared.requests.InvestorMessage.{InvestorMessage}
 use Rattle.quote_messages.specs.declared.requests.InvestorMessage.TheVariants as asked
 use Rattle.quote_messages.specs.declared.requests.QuoteHit.{QuoteHit}
@@ -129,7 +129,7 @@ module _ (rows : List DealerRow) (facts : List InvestorFact)
   book = book_of facts
 
   request_numbers : (request : QuoteRequest) (bond : Option BondRow)
-      (refusal : Option RequestRejectReason)
+      (refusal : Option RequestRefusal)
       → VerdictNumbers (request_answer market book moment request bond refusal)
   request_numbers request bond (Some reason) = tt
   request_numbers request None None = tt

@@ -10,7 +10,7 @@ use Rattle.quote_messages.specs.declared.requests.QuoteHit.{QuoteHit}
 use Rattle.quote_messages.specs.declared.requests.RequestPass.{RequestPass}
 use Rattle.quote_messages.specs.declared.requests.InvestorMessage.{InvestorMessage}
 use Rattle.quote_messages.specs.declared.requests.InvestorMessage.TheVariants as message
-use Rattle.quote_messages.specs.declared.reject_reasons.RequestRejectReason.{RequestRejectReason}
+use Rattle.investor_desk.specs.declared.refusals.RequestRefusal.{RequestRefusal}
 use Rattle.quote_messages.specs.Arrivals.{investor_arrival}
 use Rattle.quote_messages.specs.Written.{quote_name}
 use Rattle.venue_rows.specs.Texts.{same_text}
@@ -228,7 +228,7 @@ module _ (book : InvestorBook) where
     refusal_same request = rw (unused_same request.id, accepted_same, open_count_same) refl
 
     request_answer_same : (request : QuoteRequest) (bond : Option BondRow)
-        (refused : Option RequestRejectReason)
+        (refused : Option RequestRefusal)
         → request_answer (unnumbered market) (renamed_book book) moment request bond refused
         ≡ request_answer market book moment request bond refused
     unfolding dealer_named

@@ -29,7 +29,8 @@ use Rattle.quote_messages.specs.declared.quotes.CancelScope.TheVariants as cance
 use Rattle.quote_messages.specs.declared.quotes.DealerMessage.{DealerMessage}
 use Rattle.quote_messages.specs.declared.quotes.DealerMessage.TheVariants as message
 use Rattle.quote_messages.specs.declared.quotes.Quote.{Quote}
-use Rattle.quote_messages.specs.declared.reject_reasons.QuoteRejectReason.{QuoteRejectReason}
+use Rattle.dealer_desk.specs.declared.refusals.QuoteRefusal.{QuoteRefusal}
+use Rattle.dealer_desk.specs.declared.refusals.DeclineRefusal.{DeclineRefusal}
 use Rattle.quote_messages.specs.declared.session_faults.SessionRejectReason.{SessionRejectReason}
 use Rattle.quote_messages.specs.declared.session_faults.SessionRejectReason.TheVariants.{CompIdProblem}
 use Rattle.quote_messages.specs.declared.session_faults.SessionRejectReason.TheVariants.{InvalidMsgType}
@@ -153,7 +154,6 @@ module _ (date : List ℕ) (row : DealerRow) (facts : List DealerFact) (moment :
 
   abbrev pub AcceptOk : DealerVerdict → Type 0
   AcceptOk (verdict.QuoteAccepted name id quote replaced) = AcceptsQuote quote
-  AcceptOk (verdict.Refused message) = shows message ≡ false
   AcceptOk other = Unit {0}
 
   module _ (fields : List Field) (frame : frame_of bytes ≡ Some fields)
@@ -162,13 +162,13 @@ module _ (date : List ℕ) (row : DealerRow) (facts : List DealerFact) (moment :
     abbrev quote : Quote
     quote = quote_of date fields
 
-    quote_accepts : (request : Option StandingRequest) (refusal : Option QuoteRejectReason)
+    quote_accepts : (request : Option StandingRequest) (refusal : Option QuoteRefusal)
         → request_named book quote.request ≡ request
         → quote_refusal row book moment quote request ≡ refusal
         → AcceptOk (quote_answer book moment quote request refusal)
     unfolding quote_refusal request_named price_for
-    quote_accepts request (Some reason) found is = refl
-    quote_accepts None None found is = refl
+    quote_accepts request (Some reason) found is = tt
+    quote_accepts None None found is = tt
     quote_accepts (Some shown) None found is =
         let checks = none_holds (quote_checks row book moment quote (Some shown)) is in
         let at = asked_at (λ (r : StandingRequest). same_text (request_name r.number) quote.request)
@@ -223,26 +223,26 @@ module _ (date : List ℕ) (row : DealerRow) (facts : List DealerFact) (moment :
   -- Other messages.
 
   found_accepts : (id : List ℕ) (own : Option StandingQuote) → AcceptOk (cancel_of id own)
-  found_accepts id None = refl
+  found_accepts id None = tt
   found_accepts id (Some own) =
       elim (first_refusal (cancel_checks own))
       as (λ refusal. AcceptOk (cancel_answer id own refusal)) [
         | None ↦ tt
-        | Some reason ↦ refl
+        | Some reason ↦ tt
       ]
 
   cancel_accepts : (scope : CancelScope) → AcceptOk (cancel_verdict book scope)
   unfolding cancel_verdict
   cancel_accepts (cancels.One id) = found_accepts id (quote_with_id book id)
   cancel_accepts (cancels.All id) =
-      cond_both (is_none (quote_to_drop book (quotes_accepted book))) _ _ AcceptOk (λ is. refl)
+      cond_both (is_none (quote_to_drop book (quotes_accepted book))) _ _ AcceptOk (λ is. tt)
       (λ isnt. tt)
-  cancel_accepts (cancels.Other cancel_type id) = refl
+  cancel_accepts (cancels.Other cancel_type id) = tt
 
   decline_accepts : (name : List ℕ) (request : Option StandingRequest)
-      (refusal : Option QuoteRejectReason) → AcceptOk (decline_answer name request refusal)
-  decline_accepts name request (Some reason) = refl
-  decline_accepts name None None = refl
+      (refusal : Option DeclineRefusal) → AcceptOk (decline_answer name request refusal)
+  decline_accepts name request (Some reason) = tt
+  decline_accepts name None None = tt
   decline_accepts name (Some request) None = tt
 
   quote_said : (said : Quote) → ReadFrom date row bytes said

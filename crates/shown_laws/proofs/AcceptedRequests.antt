@@ -16,7 +16,7 @@ use Rattle.quote_messages.specs.SessionLines.{text_at}
 use Rattle.quote_messages.specs.ValueForms.{AnId, OneOf}
 use Rattle.quote_messages.specs.declared.arrivals.Arrival.{Arrival}
 use Rattle.quote_messages.specs.declared.arrivals.Arrival.TheVariants as arrival
-use Rattle.quote_messages.specs.declared.reject_reasons.RequestRejectReason.{RequestRejectReason}
+use Rattle.investor_desk.specs.declared.refusals.RequestRefusal.{RequestRefusal}
 use Rattle.quote_messages.specs.declared.requests.InvestorMessage.{InvestorMessage}
 use Rattle.quote_messages.specs.declared.requests.InvestorMessage.TheVariants as message
 use Rattle.quote_messages.specs.declared.requests.QuoteHit.{QuoteHit}
@@ -79,7 +79,6 @@ module _ (market : InvestorMarket) (book : InvestorBook) (moment : ℕ) (bytes :
 
   abbrev pub AcceptOk : InvestorVerdict → Type 0
   AcceptOk (verdict.RequestAccepted id request) = AcceptsRequest request
-  AcceptOk (verdict.Refused message) = shows message ≡ false
   AcceptOk other = Unit {0}
 
   module _ (fields : List Field) (frame : frame_of bytes ≡ Some fields)
@@ -88,12 +87,12 @@ module _ (market : InvestorMarket) (book : InvestorBook) (moment : ℕ) (bytes :
     abbrev request : QuoteRequest
     request = request_of market.date fields
 
-    request_accepts : (bond : Option BondRow) (refusal : Option RequestRejectReason)
+    request_accepts : (bond : Option BondRow) (refusal : Option RequestRefusal)
         → bond_with_id market request.bond ≡ bond
         → AcceptOk (request_answer market book moment request bond refusal)
     unfolding bond_with_id
-    request_accepts bond (Some reason) found = refl
-    request_accepts None None found = refl
+    request_accepts bond (Some reason) found = tt
+    request_accepts None None found = tt
     request_accepts (Some bond) None found =
         let date = market.date in
         let lines = lines_kept date fields request_lines read.lines in
@@ -124,12 +123,12 @@ module _ (market : InvestorMarket) (book : InvestorBook) (moment : ℕ) (bytes :
         }
 
   hit_accepts : (hit : QuoteHit) (shown : Option ShownOffer) → AcceptOk (rules.hit_of hit shown)
-  hit_accepts hit None = refl
+  hit_accepts hit None = tt
   hit_accepts hit (Some shown) = tt
 
   pass_accepts : (pass : RequestPass) (own : Option StandingRequest)
       → AcceptOk (rules.pass_of pass own)
-  pass_accepts pass None = refl
+  pass_accepts pass None = tt
   pass_accepts pass (Some own) = tt
 
   request_said : (said : QuoteRequest) → ReadFrom market.date market.row bytes said

@@ -106,7 +106,9 @@ module _ (config : Configuration) (facts : List Fact) (by : Actor) (firm : ℕ) 
     said_plain moment bytes verdict.Dropped accepts = tt
     said_plain moment bytes (verdict.OutOfSequence reject) accepts = (refl, tt)
     said_plain moment bytes (verdict.Rejected reject) accepts = (refl, tt)
-    said_plain moment bytes (verdict.Refused message) accepts = (accepts, tt)
+    said_plain moment bytes (verdict.RequestRefused request bond refusal) accepts = (refl, tt)
+    said_plain moment bytes (verdict.HitUnknown id quote) accepts = (refl, tt)
+    said_plain moment bytes (verdict.PassUnknown id request) accepts = (refl, tt)
     said_plain moment bytes (verdict.RequestAccepted id request) accepts = (refl, tt)
     said_plain moment bytes (verdict.Hits request response word) accepts = tt
     said_plain moment bytes (verdict.Passes request response) accepts = tt

@@ -187,7 +187,9 @@ module _ (config : Configuration) (facts : List Fact) (stood : Stood config fact
     said_plain verdict.Dropped settlement accepts = tt
     said_plain (verdict.OutOfSequence reject) settlement accepts = refl
     said_plain (verdict.Rejected reject) settlement accepts = refl
-    said_plain (verdict.Refused message) settlement accepts = accepts
+    said_plain (verdict.QuoteRefused request id refusal) settlement accepts = refl
+    said_plain (verdict.CancelRefused id refusal) settlement accepts = refl
+    said_plain (verdict.DeclineRefused request refusal) settlement accepts = refl
     said_plain (verdict.QuoteAccepted name id quote old) settlement accepts = refl
     said_plain (verdict.CancelAccepted id quote request) settlement accepts = refl
     said_plain (verdict.DropsFollow last) settlement accepts = tt

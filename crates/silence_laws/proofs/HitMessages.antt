@@ -16,7 +16,7 @@ use Rattle.quote_messages.specs.declared.arrivals.Arrival.{Arrival}
 use Rattle.quote_messages.specs.declared.arrivals.Arrival.TheVariants as arrival
 use Rattle.quote_messages.specs.declared.requests.InvestorMessage.{InvestorMessage}
 use Rattle.quote_messages.specs.declared.requests.InvestorMessage.TheVariants as message
-use Rattle.quote_messages.specs.declared.reject_reasons.RequestRejectReason.{RequestRejectReason}
+use Rattle.investor_desk.specs.declared.refusals.RequestRefusal.{RequestRefusal}
 use Rattle.quote_messages.specs.declared.session_faults.SessionFault.{SessionFault}
 use Rattle.quote_messages.specs.declared.requests.QuoteRequest.{QuoteRequest}
 use Rattle.quote_messages.specs.declared.requests.RequestPass.{RequestPass}
@@ -125,7 +125,7 @@ arrival_none date row expected bytes isnt = by_frame (frame_of bytes) isnt
 -- What the market makes of it.
 
 request_none : (market : InvestorMarket) (book : InvestorBook) (moment : ℕ) (request : QuoteRequest)
-    (bond : Option BondRow) (refused : Option RequestRejectReason)
+    (bond : Option BondRow) (refused : Option RequestRefusal)
     → hits (request_answer market book moment request bond refused) ≡ false
 request_none market book moment request bond (Some reason) = refl
 request_none market book moment request None None = refl

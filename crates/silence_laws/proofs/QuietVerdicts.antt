@@ -12,7 +12,7 @@ use Rattle.quote_messages.specs.declared.requests.QuoteHit.{QuoteHit}
 use Rattle.quote_messages.specs.declared.requests.RequestPass.{RequestPass}
 use Rattle.quote_messages.specs.declared.requests.InvestorMessage.{InvestorMessage}
 use Rattle.quote_messages.specs.declared.requests.InvestorMessage.TheVariants as message
-use Rattle.quote_messages.specs.declared.reject_reasons.RequestRejectReason.{RequestRejectReason}
+use Rattle.investor_desk.specs.declared.refusals.RequestRefusal.{RequestRefusal}
 use Rattle.quote_messages.specs.Arrivals.{investor_arrival}
 use Rattle.venue_rows.specs.Texts.{same_text}
 use Rattle.venue_rows.specs.declared.bond_rows.BondRow.{BondRow}
@@ -173,7 +173,7 @@ module _ (book : InvestorBook) where
       rw (unused_same request.id, accepted_same book, open_count_same book) refl
 
   request_answer_same : (market : InvestorMarket) (moment : ℕ) (request : QuoteRequest)
-      (bond : Option BondRow) (refused : Option RequestRejectReason)
+      (bond : Option BondRow) (refused : Option RequestRefusal)
       → request_answer market (quiet_book book) moment request bond refused
       ≡ request_answer market book moment request bond refused
   request_answer_same market moment request bond (Some reason) = refl

@@ -20,7 +20,8 @@ use Rattle.quote_messages.specs.declared.quotes.CancelScope.TheVariants as cance
 use Rattle.quote_messages.specs.declared.quotes.DealerMessage.{DealerMessage}
 use Rattle.quote_messages.specs.declared.quotes.DealerMessage.TheVariants as message
 use Rattle.quote_messages.specs.declared.quotes.Quote.{Quote}
-use Rattle.quote_messages.specs.declared.reject_reasons.QuoteRejectReason.{QuoteRejectReason}
+use Rattle.dealer_desk.specs.declared.refusals.QuoteRefusal.{QuoteRefusal}
+use Rattle.dealer_desk.specs.declared.refusals.DeclineRefusal.{DeclineRefusal}
 use Rattle.quote_word.specs.declared.settled.Settled.TheVariants as settled
 use Rattle.dealer_desk.specs.DealerFacts.{DealerBook, book_of, expected_number}
 use Rattle.dealer_desk.specs.DealerFacts.{quote_to_drop, quote_with_id, quotes_accepted}
@@ -203,7 +204,7 @@ module _ (row : DealerRow) (facts : List DealerFact) (moment : ℕ) where
   book = book_of facts
 
   quote_next : (quote : Quote) (request : Option StandingRequest)
-      (refusal : Option QuoteRejectReason)
+      (refusal : Option QuoteRefusal)
       → IfSome request (λ (shown : StandingRequest). In shown (requests_from 1 facts))
       → NextIn facts (quote_answer book moment quote request refusal)
   quote_next quote request (Some reason) is = tt
@@ -237,7 +238,7 @@ module _ (row : DealerRow) (facts : List DealerFact) (moment : ℕ) where
   cancel_next (cancels.Other cancel_type id) = tt
 
   decline_next : (name : List ℕ) (request : Option StandingRequest)
-      (refusal : Option QuoteRejectReason) → NextIn facts (decline_answer name request refusal)
+      (refusal : Option DeclineRefusal) → NextIn facts (decline_answer name request refusal)
   decline_next name request (Some reason) = tt
   decline_next name None None = tt
   decline_next name (Some request) None = tt

@@ -85,74 +85,29 @@ entries_fit before [] [] None sent = tt
 entries_fit before [] [] (Some bytes) sent =
     (subst (λ (l : List DealerEntry). SentBehind l bytes) (simp append-nil) (sent bytes refl), tt)
 
--- What a verdict says.
-
-abbrev CalmIn : DealerVerdict → Type 0
-CalmIn (verdict.Refused message) = Calm message
-CalmIn other = Unit {0}
-
-module _ (row : DealerRow) (book : DealerBook) (moment : ℕ) where
-  quote_calm : (quote : Quote) (request : Option StandingRequest)
-      (refusal : Option QuoteRejectReason) → CalmIn (quote_answer book moment quote request refusal)
-  quote_calm quote request (Some reason) = λ head. refl
-  quote_calm quote None None = λ head. refl
-  quote_calm quote (Some shown) None = tt
-
-  found_calm : (id : List ℕ) (own : Option StandingQuote) → CalmIn (cancel_of id own)
-  found_calm id None = λ head. refl
-  found_calm id (Some own) =
-      elim (first_refusal (cancel_checks own)) as (λ refusal. CalmIn (cancel_answer id own refusal)) [
-        | None ↦ tt
-        | Some reason ↦ λ head. refl
-      ]
-
-  cancel_calm : (scope : CancelScope) → CalmIn (cancel_verdict book scope)
-  unfolding cancel_verdict
-  cancel_calm (cancels.One id) = found_calm id (quote_with_id book id)
-  cancel_calm (cancels.All None) =
-      cond_both (is_none (quote_to_drop book (quotes_accepted book))) _ _ CalmIn (λ is. λ head. refl)
-      (λ isnt. tt)
-  cancel_calm (cancels.All (Some id)) =
-      cond_both (is_none (quote_to_drop book (quotes_accepted book))) _ _ CalmIn (λ is. λ head. refl)
-      (λ isnt. tt)
-  cancel_calm (cancels.Other cancel_type None) = λ head. refl
-  cancel_calm (cancels.Other cancel_type (Some id)) = λ head. refl
-
-  decline_calm : (name : List ℕ) (request : Option StandingRequest)
-      (refusal : Option QuoteRejectReason) → CalmIn (decline_answer name request refusal)
-  decline_calm name request (Some reason) = λ head. refl
-  decline_calm name None None = λ head. refl
-  decline_calm name (Some request) None = tt
-
-  arrival_calm : (came : Arrival DealerMessage) → CalmIn (arrival_verdict row book moment came)
-  unfolding quote_verdict decline_verdict request_named
-  arrival_calm (arrival.Taken (message.Quote quote)) = quote_calm quote _ _
-  arrival_calm (arrival.Taken (message.Cancel cancel)) = cancel_calm cancel.scope
-  arrival_calm (arrival.Taken (message.Decline decline)) = decline_calm decline.request _ _
-  arrival_calm other = tt
-
-  verdict_calm : (date : List ℕ) (bytes : List ℕ)
-      → CalmIn (dealer_verdict date row book moment bytes)
-  unfolding dealer_verdict
-  verdict_calm date bytes = arrival_calm (dealer_arrival date row (expected_number book) bytes)
-
 -- the messages of a verdict and of a drop
 said_calm : (before : List DealerEntry) (head : Head) (v : DealerVerdict)
-    (settlement : Option Settled) → CalmIn v → (sent : List ℕ)
+    (settlement : Option Settled) (sent : List ℕ)
     → option_map (written head) (verdict_message v settlement) ≡ Some sent → SentBehind before sent
-said_calm before head verdict.Dropped settlement calm sent is = cc
-said_calm before head (verdict.OutOfSequence reject) settlement calm sent is =
+said_calm before head verdict.Dropped settlement sent is = cc
+said_calm before head (verdict.OutOfSequence reject) settlement sent is =
     subst (SentBehind before) (same_Some _ sent is) (calm_sent before head _ (λ h. refl))
-said_calm before head (verdict.Rejected reject) settlement calm sent is =
+said_calm before head (verdict.Rejected reject) settlement sent is =
     subst (SentBehind before) (same_Some _ sent is) (calm_sent before head _ (λ h. refl))
-said_calm before head (verdict.Refused message) settlement calm sent is =
-    subst (SentBehind before) (same_Some _ sent is) (calm_sent before head message calm)
-said_calm before head (verdict.QuoteAccepted request id quote replaced) settlement calm sent is =
+said_calm before head (verdict.QuoteRefused request id refusal) settlement sent is =
     subst (SentBehind before) (same_Some _ sent is) (calm_sent before head _ (λ h. refl))
-said_calm before head (verdict.CancelAccepted id quote request) settlement calm sent is =
+said_calm before head (verdict.CancelRefused None refusal) settlement sent is =
     subst (SentBehind before) (same_Some _ sent is) (calm_sent before head _ (λ h. refl))
-said_calm before head (verdict.DropsFollow last) settlement calm sent is = cc
-said_calm before head (verdict.DeclineAccepted request number) settlement calm sent is =
+said_calm before head (verdict.CancelRefused (Some id) refusal) settlement sent is =
+    subst (SentBehind before) (same_Some _ sent is) (calm_sent before head _ (λ h. refl))
+said_calm before head (verdict.DeclineRefused request refusal) settlement sent is =
+    subst (SentBehind before) (same_Some _ sent is) (calm_sent before head _ (λ h. refl))
+said_calm before head (verdict.QuoteAccepted request id quote replaced) settlement sent is =
+    subst (SentBehind before) (same_Some _ sent is) (calm_sent before head _ (λ h. refl))
+said_calm before head (verdict.CancelAccepted id quote request) settlement sent is =
+    subst (SentBehind before) (same_Some _ sent is) (calm_sent before head _ (λ h. refl))
+said_calm before head (verdict.DropsFollow last) settlement sent is = cc
+said_calm before head (verdict.DeclineAccepted request number) settlement sent is =
     subst (SentBehind before) (same_Some _ sent is) (calm_sent before head _ (λ h. refl))
 
 dropped_calm : (before : List DealerEntry) (head : Head) (settlement : Option Settled)
@@ -205,8 +160,7 @@ module _ (date : List ℕ) (row : DealerRow) where
         fits_more trail _ before (entries_fit trail
         (event_facts date row (book_by trail) (event.Received moment bytes (settlement_of trail v))) []
         (message_by date row trail (event.Received moment bytes (settlement_of trail v)))
-        (said_calm _ (head_of trail moment) v (settlement_of trail v)
-        (verdict_calm row (book_by trail) moment date bytes)));
+        (said_calm _ (head_of trail moment) v (settlement_of trail v)));
     drop = λ trail last moment before.
         fits_more trail _ before (entries_fit trail
         (event_facts date row (book_by trail) (drop_at trail last moment)) []

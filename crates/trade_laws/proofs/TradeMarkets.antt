@@ -24,7 +24,7 @@ use Rattle.step_replay.specs.InvestorTrail.{sent_by}
 use Rattle.venue_laws.proofs.Common.{length, option_map, false, ◌+◌}
 use Rattle.trade_laws.specs.SentTrades.{is_answer}
 use Rattle.quote_messages.specs.declared.arrivals.Arrival.TheVariants as arrival
-use Rattle.quote_messages.specs.declared.reject_reasons.RequestRejectReason.{RequestRejectReason}
+use Rattle.investor_desk.specs.declared.refusals.RequestRefusal.{RequestRefusal}
 use Rattle.quote_messages.specs.declared.requests.InvestorMessage.TheVariants as message
 use Rattle.quote_messages.specs.declared.requests.QuoteHit.{QuoteHit}
 use Rattle.quote_messages.specs.declared.requests.QuoteRequest.{QuoteRequest}
@@ -118,7 +118,6 @@ expiry_harmless (Some own) = (λ head. refl, tt)
 abbrev Means : InvestorMarket → List InvestorFact → InvestorVerdict → Type 0
 Means market facts (verdict.RequestAccepted id request) =
     request.ask.investor ≡ market.row.name
-Means market facts (verdict.Refused message) = Harmless message
 Means market facts (verdict.Hits request response word) =
     (shown : ShownOffer) × (offer_numbered (book_of facts) shown.number ≡ Some shown)
     × (shown.request ≡ request) × (response.k ≡ Some shown.number) × (shown.offer.word ≡ word)
@@ -129,7 +128,10 @@ verdict_harmless : (market : InvestorMarket) (facts : List InvestorFact) (v : In
 verdict_harmless market facts verdict.Dropped means = tt
 verdict_harmless market facts (verdict.OutOfSequence reject) means = (λ head. refl, tt)
 verdict_harmless market facts (verdict.Rejected reject) means = (λ head. refl, tt)
-verdict_harmless market facts (verdict.Refused message) means = (means, tt)
+verdict_harmless market facts (verdict.RequestRefused request bond refusal) means =
+    (λ head. refl, tt)
+verdict_harmless market facts (verdict.HitUnknown id quote) means = (λ head. refl, tt)
+verdict_harmless market facts (verdict.PassUnknown id request) means = (λ head. refl, tt)
 verdict_harmless market facts (verdict.RequestAccepted id request) means = (λ head. refl, tt)
 verdict_harmless market facts (verdict.Hits request response word) means = tt
 verdict_harmless market facts (verdict.Passes request response) means = tt
@@ -141,7 +143,7 @@ module _ (market : InvestorMarket) (facts : List InvestorFact) where
   hit_means : (hit : QuoteHit) (shown : Option ShownOffer) → offer_named book hit.quote ≡ shown
       → Means market facts (hit_of hit shown)
   unfolding offer_named offer_numbered
-  hit_means hit None is = λ head. refl
+  hit_means hit None is = tt
   hit_means hit (Some shown) is =
       let named = found_passes (λ (s : ShownOffer). same_text (quote_name s.number) hit.quote)
       book.offers shown is in (
@@ -157,14 +159,14 @@ module _ (market : InvestorMarket) (facts : List InvestorFact) where
       )
 
   request_means : (moment : ℕ) (request : QuoteRequest) (bond : Option BondRow)
-      (refused : Option RequestRejectReason)
+      (refused : Option RequestRefusal)
       → Means market facts (request_answer market book moment request bond refused)
-  request_means moment request bond (Some reason) = λ head. refl
-  request_means moment request None None = λ head. refl
+  request_means moment request bond (Some reason) = tt
+  request_means moment request None None = tt
   request_means moment request (Some bond) None = refl
 
   pass_means : (pass : RequestPass) (own : Option StandingRequest) → Means market facts (pass_of pass own)
-  pass_means pass None = λ head. refl
+  pass_means pass None = tt
   pass_means pass (Some own) = tt
 
   verdict_means : (moment : ℕ) (bytes : List ℕ)

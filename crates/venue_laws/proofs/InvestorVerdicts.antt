@@ -16,7 +16,7 @@ use Rattle.std.proofs.lemmas.List.Quantifiers.{position-Some}
 use Rattle.market_terms.specs.declared.rooms.Offer.{Offer}
 use Rattle.quote_messages.specs.Arrivals.{investor_arrival}
 use Rattle.quote_messages.specs.declared.arrivals.Arrival.TheVariants as arrival
-use Rattle.quote_messages.specs.declared.reject_reasons.RequestRejectReason.{RequestRejectReason}
+use Rattle.investor_desk.specs.declared.refusals.RequestRefusal.{RequestRefusal}
 use Rattle.quote_messages.specs.declared.requests.InvestorMessage.TheVariants as message
 use Rattle.quote_messages.specs.declared.requests.QuoteHit.{QuoteHit}
 use Rattle.quote_messages.specs.declared.requests.QuoteRequest.{QuoteRequest}
@@ -107,7 +107,7 @@ module _ (config : Configuration) (firm : ℕ) (row : InvestorRow) (may : ℕ �
       ap (bond_with_id config) ((bytes_eq-Decides bond.id id).0 passes) ∙ found
 
   request_fits : (moment : ℕ) (request : QuoteRequest) (bond : Option BondRow)
-      (refused : Option RequestRejectReason) → bond_with_id config request.bond ≡ bond
+      (refused : Option RequestRefusal) → bond_with_id config request.bond ≡ bond
       → request_refusal market book moment request ≡ refused
       → VerdictFit config row facts (request_answer market book moment request bond refused)
   unfolding request_refusal
