@@ -1,0 +1,60 @@
+// What the cards of both sides have: the head, the countdown, and the line that tells what happened.
+import {h, set, show} from './dom.js';
+import {amount, span} from './amounts.js';
+import {isOpen} from './model.js';
+
+const said = 8000; // how long the desk's own words stand
+
+export class Card {
+  constructor(request, desk) {
+    this.desk = desk; // {model, link, close(id)}
+    this.bond = desk.model.bond(request.bond);
+    this.side = h('b', {className: 'side'});
+    this.what = h('span', {className: 'what'});
+    this.isin = h('span', {className: 'quiet isin'});
+    this.left = h('span', {className: 'number left'});
+    this.text = h('p', {className: 'told', role: 'status'});
+    this.close = h('button', {type: 'button', className: 'small', onclick: () => desk.close(request.id)}, 'Close');
+    this.head = h('div', {className: 'head'}, this.side, this.what, this.isin, this.left);
+    this.node = h('article', {className: 'card', tabIndex: -1});
+    this.own = ''; // why the desk did not do what was asked
+    this.request = request;
+  }
+  is() { return isOpen(this.request); }
+  isOff() { return !this.desk.model.isOn(); }
+  say(why) {
+    this.own = why;
+    clearTimeout(this.timer);
+    if (why) this.timer = setTimeout(() => this.say(''), said);
+    this.update(this.request);
+  }
+  act(command) {
+    this.desk.link.act({...command, request: this.request.id}, why => this.say(why));
+  }
+  drawHead(side) {
+    const request = this.request;
+    set(this.side, side);
+    set(this.what, `${amount(request.quantity)}  ${this.bond.name}`);
+    set(this.isin, this.bond.name === request.bond ? '' : request.bond);
+    this.node.dataset.state = request.state;
+    this.node.dataset.side = request.side;
+    this.node.setAttribute('aria-label', `${side} ${amount(request.quantity)} ${this.bond.name}`);
+    show(this.close, !this.is());
+  }
+  // What was sent and is not answered, in words; an empty text where there is nothing.
+  waits() {
+    const [first] = this.request.pending;
+    if (!first) return '';
+    const what = first.act[0].toUpperCase() + first.act.slice(1);
+    if (this.desk.model.isOn()) return `${what} sent, not answered yet`;
+    return first.act === 'withdrawal'
+      ? `${what} not answered: it is delivered as soon as the venue is back`
+      : `${what} sent, not answered. If it did not arrive, it never will`;
+  }
+  tick(moment) {
+    const left = this.request.deadline - moment;
+    set(this.left, !this.is() ? '' : left > 0 ? span(left) : 'time over');
+    this.left.classList.toggle('soon', this.is() && left < 15_000);
+    return left;
+  }
+}

@@ -1,0 +1,26 @@
+// The form that asks who it is.
+import {h, set} from './dom.js';
+
+export class Login {
+  constructor(link) {
+    this.login = h('input', {id: 'login', autocomplete: 'username', required: true});
+    this.password = h('input', {id: 'password', type: 'password', autocomplete: 'current-password', required: true});
+    this.button = h('button', {type: 'submit', className: 'strong'}, 'Log in');
+    this.why = h('p', {className: 'why', role: 'alert'});
+    this.node = h('form', {className: 'login', onsubmit: event => this.send(event, link)},
+      h('h1', {}, 'Mireseason desk'),
+      h('label', {htmlFor: 'login'}, 'Login'), this.login,
+      h('label', {htmlFor: 'password'}, 'Password'), this.password, this.button, this.why);
+  }
+  focus() { this.login.focus(); }
+  async send(event, link) {
+    event.preventDefault();
+    this.button.disabled = true;
+    set(this.why, '');
+    const why = await link.logIn(this.login.value, this.password.value);
+    this.button.disabled = false;
+    this.password.value = '';
+    set(this.why, why);
+    if (why) this.password.focus();
+  }
+}

@@ -1,0 +1,136 @@
+// The page as a whole: what comes from the desk goes to its parts, and keys to what they do.
+import {set, show} from './dom.js';
+import {toggleMode} from './price.js';
+import {Link} from './link.js';
+import {Login} from './login.js';
+import {Model} from './model.js';
+import {Ticket} from './ticket.js';
+import {Cards} from './cards.js';
+import {Blotter} from './blotter.js';
+import {Top, alarms} from './top.js';
+
+const tickTime = 200;
+const keys = {
+  dealer: 'F2 next request without a quote \u00b7 Enter send \u00b7 \u2191\u2193 one step of the grid \u00b7 Escape clear \u00b7 F4 decimals or 32nds \u00b7 F9 cancel all',
+  investor: 'F2 ticket \u00b7 F3 best quote of the next request \u00b7 \u2191\u2193 from quote to quote \u00b7 Enter twice hits \u00b7 Escape takes the first back \u00b7 F4 decimals or 32nds'};
+
+const of = id => document.getElementById(id);
+
+class Page {
+  constructor() {
+    this.model = new Model();
+    this.link = new Link(message => this.hear(message));
+    this.login = new Login(this.link);
+    this.cards = new Cards(of('cards'), this.model, this.link);
+    this.top = new Top({toggle: () => this.toggle(), cancelAll: () => this.cancelAll(), logOut: () => this.link.logOut()});
+    this.isKnown = true; // whether somebody is logged in
+    this.ticket = null;
+    this.blotter = null;
+    of('top').append(...this.top.nodes);
+    document.addEventListener('keydown', event => this.key(event));
+    setInterval(() => this.tick(), tickTime);
+    this.tick();
+    this.link.connect();
+  }
+
+  hear(message) {
+    this.isKnown = message.t !== 'login';
+    const changed = this.model.take(message);
+    if (message.t === 'login') this.leave();
+    else if (changed === null) this.begin();
+    else this.change(changed);
+    this.draw();
+  }
+  // Nothing of the day stays in the page of one who has left.
+  leave() {
+    if (this.model.hello) return location.reload();
+    show(of('body'), false);
+    document.body.insertBefore(this.login.node, of('body'));
+    this.login.focus();
+  }
+  begin() {
+    const {model} = this;
+    this.login.node.remove();
+    show(of('body'), true);
+    document.body.classList.add(model.hello.market.role);
+    const asks = !model.isDealer() && model.mayAct();
+    document.body.classList.toggle('asks', asks);
+    if (asks && !this.ticket) {
+      this.ticket = new Ticket(model, this.link);
+      of('ticket').append(this.ticket.node);
+      show(of('ticket'), true);
+    }
+    this.blotter ??= this.makeBlotter();
+    set(of('keys'), keys[model.hello.market.role]);
+    set(of('banner'), model.hello.banner);
+    show(of('banner'), Boolean(model.hello.banner));
+    this.cards.anew();
+  }
+  makeBlotter() {
+    const blotter = new Blotter(this.model, this.ticket ? request => this.ticket.fill(request) : null);
+    of('blotter').append(blotter.node);
+    return blotter;
+  }
+  change(requests) {
+    if (requests.length) {
+      this.cards.update(requests);
+      this.drawBlotterSoon();
+    }
+    const {notice} = this.model.session ?? {};
+    if (notice && notice.at !== this.noticeAt) {
+      if (this.noticeAt !== undefined || notice.at > this.link.now() - 10_000) this.top.say(notice.text, notice.refusal);
+      this.noticeAt = notice.at;
+    }
+  }
+  // Once for all that comes in one go.
+  drawBlotterSoon() {
+    this.blotterTimer ??= setTimeout(() => {
+      this.blotterTimer = null;
+      this.blotter.draw();
+    }, 50);
+  }
+  draw() {
+    const {model} = this;
+    document.body.classList.toggle('off', this.isKnown && !model.isOn());
+    this.top.draw(model, this.isKnown);
+    const lines = alarms(model, this.link.now());
+    set(of('alarm'), lines.join(' '));
+    show(of('alarm'), lines.length > 0);
+    const wants = this.cards.wanting();
+    const title = model.hello ? `${wants ? `(${wants}) ` : ''}${model.hello.firm} desk` : 'Desk';
+    if (document.title !== title) document.title = title;
+  }
+  tick() {
+    const moment = this.link.now();
+    this.top.tick(moment);
+    this.cards.tick(moment);
+    if (this.model.hello && !this.model.isOn()) this.draw();
+  }
+
+  toggle() {
+    toggleMode();
+    this.cards.redraw();
+    this.blotter?.draw();
+    this.draw();
+  }
+  cancelAll() {
+    if (this.model.hello && this.model.isDealer()) this.link.act({do: 'cancel all'}, why => why && this.top.say(why, true));
+  }
+  key(event) {
+    if (event.key === 'F2') {
+      if (this.ticket) this.ticket.focus();
+      else this.cards.next()?.focus();
+    } else if (event.key === 'F3' && this.ticket) {
+      this.cards.next()?.focus();
+    } else if (event.key === 'F4') {
+      this.toggle();
+    } else if (event.key === 'F9') {
+      if (!event.repeat) this.cancelAll();
+    } else {
+      return;
+    }
+    event.preventDefault();
+  }
+}
+
+new Page();

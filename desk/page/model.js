@@ -1,0 +1,48 @@
+// What the desk has told: the market, the session, and the requests of the day.
+
+export class Model {
+  constructor() {
+    this.hello = null;
+    this.session = null;
+    this.requests = new Map();
+    this.isLinked = false; // to the desk's process
+  }
+  // Takes a message of the desk; gives the requests that changed, or null where all are new.
+  take(message) {
+    switch (message.t) {
+    case 'hello':
+      this.hello = message;
+      this.session = message.session;
+      this.requests.clear();
+      this.isLinked = true;
+      return null;
+    case 'requests':
+      for (const request of message.requests) this.requests.set(request.id, request);
+      return message.requests;
+    case 'session':
+      this.session = message;
+      return [];
+    default:
+      this.isLinked = false;
+      return [];
+    }
+  }
+  isOn() { return this.isLinked && Boolean(this.session?.on); }
+  isDealer() { return this.hello.market.role === 'dealer'; }
+  mayAct() { return this.hello.trader.mayAct; }
+  bond(id) { return this.hello.market.bonds.find(one => one.id === id) ?? {id, name: id, grid: 256}; }
+}
+
+export const isOpen = request => request.state === 'open' || request.state === 'sent';
+export const hasTraded = request => request.state === 'done';
+export const pendingOf = (request, act) => request.pending.find(one => one.act === act);
+export const liveQuote = request => request.quotes.find(quote => quote.state === 'live');
+
+// Of an investor: best first; of equal prices the earlier. What can't be hit any more, since its
+// validity is over, comes last.
+export function ranked(request, moment) {
+  const sign = request.side === 'buy' ? 1 : -1;
+  const isOver = quote => quote.state !== 'hit' && quote.valid !== null && quote.valid <= moment;
+  return request.quotes.filter(quote => quote.state !== 'gone')
+    .sort((a, b) => isOver(a) - isOver(b) || sign * (a.price - b.price) || a.at - b.at);
+}

@@ -1,0 +1,67 @@
+// Prices are whole numbers of 256ths of a point, and are read and written as decimals or in 32nds.
+
+const key = 'prices';
+export const mode = {thirtySeconds: localStorage.getItem(key) === '32nds'};
+
+export function toggleMode() {
+  mode.thirtySeconds = !mode.thirtySeconds;
+  localStorage.setItem(key, mode.thirtySeconds ? '32nds' : 'decimal');
+}
+
+export const greatest = 255_999;
+
+// Exact: eight binary places.
+export function decimal(price) {
+  return String(price / 256);
+}
+
+// 99-16+ is 99 and 16.5/32; a third digit counts eighths of a 32nd, of which + is four.
+export function thirtySeconds(price) {
+  const rest = price % 256, eighths = rest % 8;
+  const whole = `${Math.floor(price / 256)}-${String(Math.floor(rest / 8)).padStart(2, '0')}`;
+  return whole + (eighths === 0 ? '' : eighths === 4 ? '+' : String(eighths));
+}
+
+export const text = price => mode.thirtySeconds ? thirtySeconds(price) : decimal(price);
+export const other = price => mode.thirtySeconds ? decimal(price) : thirtySeconds(price);
+
+// With figure spaces behind it, so that the points of a column stand under each other.
+export function aligned(price, grid) {
+  const out = text(price);
+  const at = out.search(/[.-]/);
+  const behind = at < 0 ? 0 : out.length - at;
+  const width = mode.thirtySeconds ? (grid > 32 ? 4 : 3) : 1 + Math.log2(grid);
+  return out + '\u2007'.repeat(Math.max(0, width - behind));
+}
+
+// How far two prices are apart, in 32nds, with a sign.
+export function apart(difference, grid) {
+  const [whole, part = ''] = String(Math.abs(difference) / 8).split('.');
+  const places = Math.log2(grid) - 5;
+  const sign = difference > 0 ? '+' : difference < 0 ? '\u2212' : '';
+  const point = part ? `.${part}` : places ? '\u2008' : '';
+  return sign + whole + point + '\u2007'.repeat(places - part.length);
+}
+
+function in256ths(typed) {
+  const parts = /^(\d{1,3})[-'](\d{1,2})([+1-7])?$/.exec(typed);
+  if (parts) {
+    if (Number(parts[2]) > 31) return {why: 'There are 32 thirty-seconds: 00 to 31.'};
+    const eighths = parts[3] === '+' ? 4 : Number(parts[3] ?? 0);
+    return {price: Number(parts[1]) * 256 + Number(parts[2]) * 8 + eighths};
+  }
+  if (/^(\d{1,3}(\.\d{0,10})?|\.\d{1,10})$/.test(typed)) return {price: Number(typed) * 256};
+  return {why: 'A price is 99.515625 or 99-16+.'};
+}
+
+// What a trader typed, as {price}, or {why} it is none, in words.
+export function parse(entry, grid) {
+  const {price, why} = in256ths(entry.trim());
+  if (why) return {why};
+  const step = 256 / grid;
+  if (price % step !== 0) {
+    const below = Math.floor(price / step) * step;
+    return {why: `Off the grid of 1/${grid}: ${text(below)} or ${text(below + step)}.`};
+  }
+  return price < 1 || price > greatest ? {why: 'Out of range.'} : {price};
+}

@@ -1,0 +1,73 @@
+#include "sample_dealer.h"
+
+#include <algorithm>
+
+namespace sample {
+
+namespace tag = desk::tag;
+using namespace std::chrono_literals;
+
+void SampleDealer::take(const desk::Message &message) {
+    const std::string request = message.get(tag::quote_req_id);
+    if (message.type() == "R") {
+        open_[request] = Shown{message.get(tag::security_id), message.get(tag::side) == "1", ""};
+        consider(request);
+    } else if (message.type() == "AJ") {
+        open_.erase(request);
+    }
+}
+
+// Of twelve requests one hears nothing, one a decline, and ten a quote; of these two have a
+// validity, three are replaced, and one is withdrawn.
+void SampleDealer::consider(const std::string &request) {
+    const int what = roll(12);
+    const auto delay = 800ms + std::chrono::milliseconds(roll(1700));
+    if (what == 0) {
+        return;
+    }
+    if (what == 1) {
+        return after(delay, [this, request] {
+            send("AG", {{tag::quote_req_id, request}, {tag::request_reason, "10"}});
+        });
+    }
+    after(delay, [this, request, what] { quote(request, what < 4 ? 20s : 0s); });
+    const auto later = delay + 4s + std::chrono::milliseconds(roll(6000));
+    if (what >= 9) {
+        after(later, [this, request] { quote(request, 0s); });
+    } else if (what == 8) {
+        after(later, [this, request] { withdraw(request); });
+    }
+}
+
+// Some 32nds off what the bond is worth, on its grid.
+void SampleDealer::quote(const std::string &request, std::chrono::seconds valid_for) {
+    const auto found = open_.find(request);
+    const desk::Bond *bond =
+        found == open_.end() ? nullptr : settings().market.bond(found->second.bond);
+    if (bond == nullptr) {
+        return;
+    }
+    const int step = 256 / bond->grid;
+    const int spread = 8 + 4 * roll(6);
+    const int price = worth(*bond) + (found->second.is_bought ? spread : -spread);
+    found->second.quote = name('Q');
+    std::vector<desk::FixField> fields{{tag::quote_req_id, request},
+                                       {tag::quote_id, found->second.quote},
+                                       {tag::security_id, bond->id},
+                                       {tag::id_source, "4"},
+                                       {found->second.is_bought ? tag::offer : tag::bid,
+                                        desk::text_of(desk::Price{price / step * step})}};
+    if (valid_for > 0s) {
+        fields.emplace_back(tag::valid_until, desk::fix_text(desk::now() + valid_for));
+    }
+    send("S", fields);
+}
+
+void SampleDealer::withdraw(const std::string &request) {
+    const auto found = open_.find(request);
+    if (found != open_.end() && !found->second.quote.empty()) {
+        send("Z", {{tag::quote_id, found->second.quote}, {tag::cancel_type, "5"}});
+    }
+}
+
+} // namespace sample

@@ -1,0 +1,94 @@
+#include "day.h"
+
+#include "dealer_day.h"
+#include "investor_day.h"
+#include "words.h"
+
+#include <charconv>
+#include <utility>
+
+namespace desk {
+
+std::unique_ptr<Day> Day::of(Role role) {
+    if (role == Role::investor) {
+        return std::make_unique<InvestorDay>();
+    }
+    return std::make_unique<DealerDay>();
+}
+
+void Day::apply(const Entry &entry) {
+    switch (entry.kind) {
+    case Entry::Kind::sent:
+        return apply_sent(entry);
+    case Entry::Kind::received:
+        return apply_received(entry);
+    case Entry::Kind::undelivered:
+        return apply_failure(entry.bytes,
+                             "never delivered: the connection broke first, and it is too old now",
+                             false, entry.moment);
+    case Entry::Kind::session:
+        return;
+    }
+}
+
+std::set<std::string> Day::take_changed() {
+    return std::exchange(changed_, {});
+}
+
+void Day::notice(Moment at, const std::string &text, bool is_refusal) {
+    notice_ = Told{at, text, is_refusal};
+}
+
+void Day::apply_sent(const Entry &entry) {
+    const Message message(entry.bytes);
+    const Sent own{message.type(), message.get(tag::quote_req_id), message.get(tag::quote_id),
+                   message.get(tag::sender_sub_id)};
+    sent_[message.number(tag::msg_seq_num)] = own;
+    sent(message, own, entry.moment);
+}
+
+void Day::count(const Message &message) {
+    const std::int64_t number = message.number(tag::venue_number);
+    if (number == 0) {
+        return;
+    }
+    if (number != venue_number_ + 1) {
+        set_alarm("Messages of the venue are missing (ApplSeqNum " +
+                  std::to_string(venue_number_ + 1) + " to " + std::to_string(number - 1) +
+                  "): what is shown may be incomplete. Call the venue.");
+    }
+    venue_number_ = number;
+}
+
+void Day::apply_received(const Entry &entry) {
+    const Message message(entry.bytes);
+    const std::int64_t number = message.number(tag::msg_seq_num);
+    if (number <= received_) {
+        return; // it came before
+    }
+    received_ = number;
+    count(message);
+    const Moment left = message.moment(tag::sending_time).value_or(entry.moment);
+    if (message.get(tag::poss_dup) != "Y") {
+        clock_offset_ = left - entry.moment;
+    }
+    const Moment at = message.moment(tag::transact_time).value_or(left);
+    if (message.type() == "3") {
+        apply_failure(message.get(tag::ref_seq_num), "refused: " + reject_words(message), true, at);
+    } else {
+        received(message, at);
+    }
+}
+
+void Day::apply_failure(const std::string &number, const std::string &why, bool is_refusal,
+                        Moment at) {
+    std::int64_t key = 0;
+    std::from_chars(number.data(), number.data() + number.size(), key);
+    const auto found = sent_.find(key);
+    if (found == sent_.end()) {
+        return notice(at, "A message of this desk was " + why, is_refusal);
+    }
+    failed(found->second, why, is_refusal, at);
+}
+
+} // namespace desk

@@ -1,0 +1,195 @@
+#include "desk.h"
+
+#include "connection_words.h"
+
+#include <utility>
+
+#include <boost/asio/post.hpp>
+#include <nlohmann/json.hpp>
+
+namespace desk {
+
+using nlohmann::json;
+
+namespace {
+
+constexpr std::size_t requests_a_part = 100;
+
+bool is_binding(const Message &message) {
+    const std::string &type = message.type();
+    return type == "S" || type == "R" || (type == "AJ" && message.number(tag::response_type) == 1);
+}
+
+json view_of(const Market &market, Role role) {
+    json bonds = json::array();
+    for (const Bond &bond : market.bonds) {
+        bonds.push_back({{"id", bond.id}, {"name", bond.name}, {"grid", bond.grid}});
+    }
+    return {{"role", role == Role::dealer ? "dealer" : "investor"},
+            {"bonds", bonds},
+            {"dealers", market.dealers},
+            {"limits",
+             {{"exposure", market.limits.exposure},
+              {"quotes", market.limits.quotes},
+              {"quantity", market.limits.quantity},
+              {"requests", market.limits.requests},
+              {"open", market.limits.open}}}};
+}
+
+} // namespace
+
+Desk::Desk(boost::asio::io_context &io, const Config &config, Events &events, int first_number)
+    : io_(io), config_(config), events_(events), groups_(config.data + "/groups.json"),
+      identifiers_(now()), day_(Day::of(config.role)), record_(config.data, [this] { wake(); }),
+      since_(now()) {
+    record_.skip_to(first_number);
+    FixListener &listener = *this;
+    fix_ = std::make_unique<FixSession>(config.fix, record_, listener);
+    apply_all();
+}
+
+Desk::~Desk() = default;
+
+void Desk::start(Audience &audience) {
+    audience_ = &audience;
+    fix_->start();
+}
+
+void Desk::stop() {
+    record_.let_through();
+    fix_->stop();
+}
+
+// What follows is called by QuickFIX's threads, or by this one through QuickFIX.
+
+void Desk::wake() {
+    boost::asio::post(io_, [this] { apply_all(); });
+}
+
+void Desk::received(const std::string &raw) {
+    record_.received(raw);
+}
+
+// A message that the connection lost is not news any more: what binds the firm is delivered within
+// seconds or never. A cancel only ever unbinds it.
+bool Desk::may_send_again(const std::string &raw) {
+    const Message message(raw);
+    const Moment first = message.moment(tag::orig_sending_time)
+                             .value_or(message.moment(tag::sending_time).value_or(Moment()));
+    if (!is_binding(message) || now() - first <= config_.deliver_within) {
+        return true;
+    }
+    record_.undelivered(static_cast<int>(message.number(tag::msg_seq_num)));
+    return false;
+}
+
+void Desk::logged_on(bool is_on) {
+    boost::asio::post(io_, [this, is_on] {
+        is_on_ = is_on;
+        since_ = now();
+        cause_.clear();
+        tell_changes();
+    });
+}
+
+void Desk::event(const std::string &text) {
+    events_.tell(text);
+    boost::asio::post(io_, [this, text] {
+        const std::string words = connection_words(text);
+        if (!is_on_ && !words.empty() && words != cause_) {
+            cause_ = words;
+            tell_changes();
+        }
+    });
+}
+
+// From here on all is on the thread of io_.
+
+void Desk::apply_all() {
+    bool is_anew = false;
+    for (const Happening &happening : record_.take()) {
+        apply(happening, is_anew);
+    }
+    if (audience_ == nullptr) {
+        day_->take_changed();
+    } else if (is_anew) {
+        day_->take_changed();
+        audience_->tell_all_anew();
+    } else {
+        tell_changes();
+    }
+}
+
+void Desk::apply(const Happening &happening, bool &is_anew) {
+    if (happening) {
+        day_->apply(*happening);
+    } else {
+        day_ = Day::of(config_.role);
+        is_anew = true;
+    }
+}
+
+void Desk::tell_changes() {
+    if (audience_ == nullptr) {
+        return;
+    }
+    const std::set<std::string> changed = day_->take_changed();
+    if (!changed.empty()) {
+        json requests = json::array();
+        for (const std::string &request : changed) {
+            requests.push_back(day_->view(request));
+        }
+        audience_->tell({{"t", "requests"}, {"requests", std::move(requests)}});
+    }
+    audience_->tell(session());
+}
+
+json Desk::session() const {
+    const Usage &usage = day_->usage();
+    return {{"t", "session"},
+            {"now", milliseconds_of(now())},
+            {"on", is_on_},
+            {"since", milliseconds_of(since_)},
+            {"cause", cause_},
+            {"clock", day_->clock_offset().count()},
+            {"alarm", day_->alarm()},
+            {"notice", day_->notice() ? json{{"at", milliseconds_of(day_->notice()->at)},
+                                             {"text", day_->notice()->text},
+                                             {"refusal", day_->notice()->is_refusal}}
+                                      : json()},
+            {"exposure", usage.exposure},
+            {"accepted", usage.accepted},
+            {"open", usage.open}};
+}
+
+json Desk::hello(const Trader &trader) const {
+    return {{"t", "hello"},
+            {"now", milliseconds_of(now())},
+            {"date", record_.date()},
+            {"firm", config_.firm},
+            {"banner", config_.banner},
+            {"trader",
+             {{"name", trader.name},
+              {"login", trader.login},
+              {"mayAct", trader.may_act},
+              {"quantity", trader.quantity ? json(*trader.quantity) : json()}}},
+            {"groups", groups_.of(trader.login)},
+            {"market", view_of(config_.market, config_.role)},
+            {"deliverWithin", config_.deliver_within.count()},
+            {"session", session()}};
+}
+
+std::vector<json> Desk::requests() const {
+    std::vector<json> parts;
+    json part = json::array();
+    for (const std::string &request : day_->requests()) {
+        part.push_back(day_->view(request));
+        if (part.size() == requests_a_part) {
+            parts.push_back({{"t", "requests"}, {"requests", std::exchange(part, json::array())}});
+        }
+    }
+    parts.push_back({{"t", "requests"}, {"requests", std::move(part)}, {"last", true}});
+    return parts;
+}
+
+} // namespace desk

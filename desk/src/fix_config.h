@@ -1,0 +1,17 @@
+// The part [fix] of a configuration: how the venue is reached, and who logs on.
+#ifndef DESK_FIX_CONFIG_H
+#define DESK_FIX_CONFIG_H
+
+#include "fix_session.h"
+#include "toml_file.h"
+
+#include <string>
+
+namespace desk {
+
+// Reads the file of the password too. Throws std::runtime_error with file, key and cause.
+FixSettings fix_settings_of(const TomlTable &part, const std::string &firm);
+
+} // namespace desk
+
+#endif

@@ -1,0 +1,122 @@
+#include "journal.h"
+
+#include <charconv>
+#include <cstdint>
+#include <cstdio>
+#include <cstdlib>
+#include <cstring>
+#include <fstream>
+#include <optional>
+#include <sstream>
+#include <stdexcept>
+#include <string_view>
+
+#include <boost/crc.hpp>
+#include <fcntl.h>
+#include <unistd.h>
+
+namespace desk {
+
+namespace {
+
+std::uint32_t check_of(std::string_view bytes) {
+    boost::crc_32_type check;
+    check.process_bytes(bytes.data(), bytes.size());
+    return check.checksum();
+}
+
+[[noreturn]] void end_process(const std::string &path, const char *what) {
+    std::fprintf(stderr, "%s: %s: %s. The desk ends.\n", path.c_str(), what, std::strerror(errno));
+    std::_Exit(1);
+}
+
+// Takes a number and what follows it off a text.
+template <typename Number> std::optional<Number> take_number(std::string_view &text, char behind) {
+    Number number{};
+    const auto [end, fault] = std::from_chars(text.data(), text.data() + text.size(), number);
+    if (fault != std::errc() || end == text.data() + text.size() || *end != behind) {
+        return {};
+    }
+    text.remove_prefix(static_cast<std::size_t>(end - text.data()) + 1);
+    return number;
+}
+
+// Takes the first record off a text; nothing where it is cut off or changed.
+std::optional<Entry> take_entry(std::string_view &text) {
+    std::string_view rest = text;
+    const auto check = take_number<std::uint32_t>(rest, ' ');
+    const std::string_view checked = rest;
+    if (!check || rest.size() < 2 || rest[1] != ' ') {
+        return {};
+    }
+    const auto kind = static_cast<Entry::Kind>(rest[0]);
+    rest.remove_prefix(2);
+    const auto moment = take_number<std::int64_t>(rest, ' ');
+    const auto length = moment ? take_number<std::size_t>(rest, ' ') : std::nullopt;
+    if (!length || *length >= rest.size() || rest[*length] != '\n') {
+        return {};
+    }
+    const std::size_t whole = checked.size() - rest.size() + *length;
+    if (check_of(checked.substr(0, whole)) != *check) {
+        return {};
+    }
+    text = rest.substr(*length + 1);
+    return Entry{kind, Moment(std::chrono::milliseconds(*moment)),
+                 std::string(rest.substr(0, *length))};
+}
+
+// Hands over the entries, and says how many bytes they have.
+std::size_t read_entries(const std::string &bytes, const std::function<void(const Entry &)> &each) {
+    std::string_view rest = bytes;
+    while (const std::optional<Entry> entry = take_entry(rest)) {
+        each(*entry);
+    }
+    return bytes.size() - rest.size();
+}
+
+std::string bytes_of(const std::string &path) {
+    std::ifstream file(path, std::ios::binary);
+    std::ostringstream bytes;
+    bytes << file.rdbuf();
+    return bytes.str();
+}
+
+} // namespace
+
+Journal::Journal(const std::string &path, const std::function<void(const Entry &)> &each)
+    : path_(path) {
+    const std::size_t good = read_entries(bytes_of(path), each);
+    file_ = ::open(path.c_str(), O_WRONLY | O_CREAT | O_APPEND | O_CLOEXEC, 0600);
+    if (file_ < 0 || ::ftruncate(file_, static_cast<off_t>(good)) != 0) {
+        throw std::runtime_error(path + " can't be opened: " + std::strerror(errno));
+    }
+}
+
+Journal::~Journal() {
+    if (file_ >= 0) {
+        ::close(file_);
+    }
+}
+
+void Journal::write(const Entry &entry) {
+    std::string checked{static_cast<char>(entry.kind), ' '};
+    checked += std::to_string(milliseconds_of(entry.moment)) + ' ';
+    checked += std::to_string(entry.bytes.size()) + ' ' + entry.bytes;
+    const std::string record = std::to_string(check_of(checked)) + ' ' + checked + '\n';
+    std::string_view rest = record;
+    while (!rest.empty()) {
+        const ssize_t written = ::write(file_, rest.data(), rest.size());
+        if (written < 0 && errno != EINTR) {
+            end_process(path_, "can't be written");
+        }
+        rest.remove_prefix(written < 0 ? 0 : static_cast<std::size_t>(written));
+    }
+}
+
+void Journal::synchronise() {
+    if (::fdatasync(file_) != 0) {
+        end_process(path_, "can't be synchronised");
+    }
+}
+
+} // namespace desk

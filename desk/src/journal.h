@@ -1,0 +1,50 @@
+// What the desk received and sent, in one order, in one file a day. All that a trader sees follows
+// from it: what is not here did not happen.
+//
+// A record is `CHECK KIND MOMENT LENGTH BYTES` and a newline; CHECK is the CRC-32 of all behind it up
+// to the newline. A last record that was cut off is dropped at the next start: what it told was not
+// counted by the venue's session, or did not leave.
+#ifndef DESK_JOURNAL_H
+#define DESK_JOURNAL_H
+
+#include "moment.h"
+
+#include <functional>
+#include <string>
+
+namespace desk {
+
+struct Entry {
+    enum class Kind : char {
+        received = 'R',    // a message of the venue
+        sent = 'S',        // a message of the firm's
+        session = 'A',     // a message of the firm's session (Logon, Heartbeat, ..)
+        undelivered = 'U', // in bytes, the number of a message that will never be delivered
+    };
+    Kind kind = Kind::received;
+    Moment moment; // of the desk's clock
+    std::string bytes;
+};
+
+class Journal {
+  public:
+    // Opens or begins a day's file, hands its entries to `each`, and goes on at its end. Throws
+    // std::runtime_error where it can't.
+    Journal(const std::string &path, const std::function<void(const Entry &)> &each);
+    ~Journal();
+    Journal(const Journal &) = delete;
+    Journal &operator=(const Journal &) = delete;
+
+    // Where it can't write it ends the process: nothing may happen that is not here.
+    void write(const Entry &entry);
+    // What was written is safe against a power cut from now on.
+    void synchronise();
+
+  private:
+    const std::string path_;
+    int file_ = -1;
+};
+
+} // namespace desk
+
+#endif

@@ -1,0 +1,161 @@
+#include "logins.h"
+
+#include "../../gateway/src/password.h"
+#include "file_store.h"
+#include "web/secrets.h"
+
+#include <algorithm>
+#include <exception>
+
+#include <boost/asio/post.hpp>
+#include <nlohmann/json.hpp>
+
+namespace desk {
+
+using nlohmann::json;
+
+namespace {
+
+constexpr std::size_t most_judged = 16;       // passwords that wait
+constexpr std::size_t most_sessions = 16;     // of one login; the oldest ends
+constexpr std::size_t most_remembered = 1024; // of those who failed
+constexpr std::chrono::minutes window{1};
+
+} // namespace
+
+bool Attempts::may_try(const std::string &who, Moment at) {
+    const auto found = failures_.find(who);
+    if (found == failures_.end()) {
+        return true;
+    }
+    std::erase_if(found->second, [&](Moment one) { return one + window <= at; });
+    return static_cast<int>(found->second.size()) < most_;
+}
+
+void Attempts::failed(const std::string &who, Moment at) {
+    if (failures_.size() >= most_remembered) {
+        std::erase_if(failures_, [&](auto &one) {
+            return one.second.empty() || one.second.back() + window <= at;
+        });
+    }
+    if (failures_.size() < most_remembered || failures_.contains(who)) {
+        failures_[who].push_back(at);
+    }
+}
+
+Logins::Logins(boost::asio::io_context &io, std::vector<Trader> traders, std::string path)
+    : io_(io), traders_(std::move(traders)), path_(std::move(path)) {
+    read();
+}
+
+Logins::~Logins() {
+    thread_.join();
+}
+
+const Trader *Logins::trader(const std::string &login) const {
+    const auto found = std::find_if(traders_.begin(), traders_.end(),
+                                    [&](const Trader &one) { return one.login == login; });
+    return found == traders_.end() ? nullptr : &*found;
+}
+
+void Logins::log_in(const std::string &address, const std::string &login,
+                    const std::string &password, std::function<void(Outcome)> tell) {
+    if (!of_address_.may_try(address, now()) || !of_login_.may_try(login, now())) {
+        return tell(Refusal::too_often);
+    }
+    if (judged_ >= most_judged) {
+        return tell(Refusal::busy);
+    }
+    ++judged_;
+    const Trader *own = trader(login);
+    // For a login that nobody has, the same work is done with somebody's hash.
+    const std::string hash = own != nullptr ? own->password : traders_.front().password;
+    boost::asio::post(thread_, [this, own, hash, address, login, password, tell] {
+        const bool is_right = gateway::has_hash(password, hash) && own != nullptr;
+        boost::asio::post(io_, [this, own, is_right, address, login, tell] {
+            --judged_;
+            if (!is_right) {
+                of_address_.failed(address, now());
+                of_login_.failed(login, now());
+                return tell(Refusal::wrong);
+            }
+            tell(begin(*own));
+        });
+    });
+}
+
+Logins::Ticket Logins::begin(const Trader &trader) {
+    drop_old(trader.login);
+    const Ticket ticket{web::new_secret(), web::new_secret()};
+    sessions_[web::digest_of(ticket.cookie)] = Session{
+        web::digest_of(ticket.token), trader.login, web::digest_of(trader.password), now() + lasts};
+    write();
+    return ticket;
+}
+
+// Makes room for one more.
+void Logins::drop_old(const std::string &login) {
+    std::erase_if(sessions_, [](const auto &one) { return one.second.until <= now(); });
+    const auto is_own = [&](const auto &one) { return one.second.login == login; };
+    if (static_cast<std::size_t>(std::count_if(sessions_.begin(), sessions_.end(), is_own)) <
+        most_sessions) {
+        return;
+    }
+    auto oldest = sessions_.end();
+    for (auto at = sessions_.begin(); at != sessions_.end(); ++at) {
+        if (is_own(*at) && (oldest == sessions_.end() || at->second.until < oldest->second.until)) {
+            oldest = at;
+        }
+    }
+    sessions_.erase(oldest);
+}
+
+void Logins::log_out(const std::string &cookie) {
+    sessions_.erase(web::digest_of(cookie));
+    write();
+}
+
+const Logins::Session *Logins::session(const std::string &cookie) {
+    const auto found = sessions_.find(web::digest_of(cookie));
+    return found == sessions_.end() || found->second.until <= now() ? nullptr : &found->second;
+}
+
+const Trader *Logins::trader_of(const std::string &cookie) {
+    const Session *own = session(cookie);
+    return own == nullptr ? nullptr : trader(own->login);
+}
+
+bool Logins::has_token(const std::string &cookie, const std::string &token) {
+    const Session *own = session(cookie);
+    return own != nullptr && web::are_equal(own->token, web::digest_of(token));
+}
+
+// A session of a login that has gone, or has another password by now, is over.
+void Logins::read() {
+    const json text = read_json(path_);
+    for (const auto &[cookie, one] : text.items()) {
+        try {
+            const Session session{one.at("token"), one.at("login"), one.at("password"),
+                                  Moment(std::chrono::milliseconds(one.at("until")))};
+            const Trader *own = trader(session.login);
+            if (own != nullptr && web::digest_of(own->password) == session.password) {
+                sessions_[cookie] = session;
+            }
+        } catch (const json::exception &) {
+            continue; // none of this form: whoever had it logs in again
+        }
+    }
+}
+
+void Logins::write() const {
+    json text = json::object();
+    for (const auto &[cookie, one] : sessions_) {
+        text[cookie] = {{"token", one.token},
+                        {"login", one.login},
+                        {"password", one.password},
+                        {"until", milliseconds_of(one.until)}};
+    }
+    write_json(path_, text);
+}
+
+} // namespace desk

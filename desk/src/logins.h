@@ -1,0 +1,85 @@
+// Who is logged in. A session is known by a cookie, which the browser sends by itself, and by a
+// token that only the page has: browsers share cookies between ports, so a cookie alone proves
+// nothing.
+#ifndef DESK_LOGINS_H
+#define DESK_LOGINS_H
+
+#include "config.h"
+#include "moment.h"
+
+#include <deque>
+#include <functional>
+#include <map>
+#include <optional>
+#include <string>
+#include <variant>
+#include <vector>
+
+#include <boost/asio/io_context.hpp>
+#include <boost/asio/thread_pool.hpp>
+
+namespace desk {
+
+// How often something may fail in a minute, for each of those who try.
+class Attempts {
+  public:
+    explicit Attempts(int most) : most_(most) {}
+    bool may_try(const std::string &who, Moment at);
+    void failed(const std::string &who, Moment at);
+
+  private:
+    const int most_;
+    std::map<std::string, std::deque<Moment>> failures_;
+};
+
+class Logins {
+  public:
+    static constexpr std::chrono::hours lasts{12};
+
+    struct Ticket {
+        std::string cookie;
+        std::string token;
+    };
+    enum class Refusal { wrong, too_often, busy };
+    using Outcome = std::variant<Ticket, Refusal>;
+
+    // Sessions are kept in a file, by their digests, so that a page goes on after a restart.
+    Logins(boost::asio::io_context &io, std::vector<Trader> traders, std::string path);
+    ~Logins();
+
+    // Passwords are judged on a thread of their own; `tell` is called on that of io.
+    void log_in(const std::string &address, const std::string &login, const std::string &password,
+                std::function<void(Outcome)> tell);
+    void log_out(const std::string &cookie);
+
+    // Null where the cookie is of no session.
+    const Trader *trader_of(const std::string &cookie);
+    bool has_token(const std::string &cookie, const std::string &token);
+
+  private:
+    struct Session {
+        std::string token; // its digest
+        std::string login;
+        std::string password; // the digest of its hash: a new password ends the session
+        Moment until;
+    };
+    const Trader *trader(const std::string &login) const;
+    Ticket begin(const Trader &trader);
+    const Session *session(const std::string &cookie);
+    void drop_old(const std::string &login);
+    void read();
+    void write() const;
+
+    boost::asio::io_context &io_;
+    const std::vector<Trader> traders_;
+    const std::string path_;
+    std::map<std::string, Session> sessions_; // by the digest of the cookie
+    Attempts of_address_{20};
+    Attempts of_login_{10};
+    std::size_t judged_ = 0; // passwords that wait for their thread
+    boost::asio::thread_pool thread_{1};
+};
+
+} // namespace desk
+
+#endif

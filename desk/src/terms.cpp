@@ -1,0 +1,40 @@
+#include "terms.h"
+
+#include <algorithm>
+
+namespace desk {
+
+namespace {
+
+constexpr std::size_t most_history = 256; // lines; the oldest goes
+
+} // namespace
+
+bool Request::awaits(Act act) const {
+    return std::any_of(pending.begin(), pending.end(),
+                       [&](const Pending &one) { return one.act == act; });
+}
+
+void Request::settle(Act act, const std::string &quote) {
+    const auto found = std::find_if(pending.begin(), pending.end(), [&](const Pending &one) {
+        return one.act == act && one.quote == quote;
+    });
+    if (found != pending.end()) {
+        pending.erase(found);
+    }
+}
+
+void Request::note(Moment at, const std::string &text) {
+    if (history.size() >= most_history) {
+        history.erase(history.begin());
+    }
+    history.push_back(Told{at, text, false});
+}
+
+void Request::tell(Moment at, const std::string &text, bool is_refusal) {
+    note(at, text);
+    history.back().is_refusal = is_refusal;
+    told = history.back();
+}
+
+} // namespace desk

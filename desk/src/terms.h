@@ -1,0 +1,63 @@
+// The words of the market that both sides of the desk use.
+#ifndef DESK_TERMS_H
+#define DESK_TERMS_H
+
+#include "moment.h"
+#include "price.h"
+
+#include <cstdint>
+#include <optional>
+#include <string>
+#include <vector>
+
+namespace desk {
+
+enum class Role { investor, dealer };
+
+// Of the investor, as Side (54): who buys is shown offers, who sells bids.
+enum class Side : char { buy = '1', sell = '2' };
+
+using Quantity = std::int64_t; // of nominal
+
+// What a trader may do to a request.
+enum class Act { ask, hit, pass, quote, withdraw, decline };
+
+// What was sent and is not answered yet.
+struct Pending {
+    Act act = Act::ask;
+    std::string quote;  // its QuoteID (117), if it has one
+    std::string trader; // SenderSubID (50)
+    Moment since;
+};
+
+// Something that a trader is told of a request.
+struct Told {
+    Moment at;
+    std::string text;
+    bool is_refusal = false;
+};
+
+// What a request of either side has. Its history has a limit.
+struct Request {
+    std::string id; // QuoteReqID (131)
+    std::string bond;
+    Side side = Side::buy;
+    Quantity quantity = 0;
+    Moment deadline;
+    Moment made;
+    std::optional<Moment> ended;
+    std::vector<Pending> pending;
+    std::optional<Told> told; // the last thing that matters now
+    std::vector<Told> history;
+    std::string trade; // its name, TradeID (1003), where the venue tells it
+
+    bool awaits(Act act) const;
+    // The first pending one of these was answered.
+    void settle(Act act, const std::string &quote);
+    void note(Moment at, const std::string &text);
+    void tell(Moment at, const std::string &text, bool is_refusal = false);
+};
+
+} // namespace desk
+
+#endif

@@ -1,0 +1,93 @@
+#include "toml_file.h"
+
+#include <algorithm>
+#include <filesystem>
+#include <sstream>
+#include <stdexcept>
+
+namespace desk {
+
+toml::table read_toml(const std::string &path) {
+    try {
+        return toml::parse_file(path);
+    } catch (const toml::parse_error &fault) {
+        std::ostringstream text;
+        text << path << ": line " << fault.source().begin.line << ": " << fault.description();
+        throw std::runtime_error(text.str());
+    }
+}
+
+void TomlTable::fail(const std::string &what) const {
+    throw std::runtime_error(path_ + ": " + (place_.empty() ? "" : place_ + ": ") + what);
+}
+
+void TomlTable::allow(std::initializer_list<std::string_view> keys) const {
+    for (const auto &[key, value] : *table_) {
+        if (std::find(keys.begin(), keys.end(), key.str()) == keys.end()) {
+            fail("there is no key '" + std::string(key.str()) + "'");
+        }
+    }
+}
+
+std::string TomlTable::text(std::string_view key) const {
+    const auto value = (*table_)[key].value<std::string>();
+    if (!value || value->empty()) {
+        fail("'" + std::string(key) + "' is missing, or no text");
+    }
+    return *value;
+}
+
+std::string TomlTable::file(std::string_view key) const {
+    const auto folder = std::filesystem::absolute(path_).parent_path();
+    return (folder / text(key)).lexically_normal().string();
+}
+
+std::int64_t TomlTable::number(std::string_view key, std::int64_t least,
+                               std::int64_t greatest) const {
+    const auto value = (*table_)[key].value_exact<std::int64_t>();
+    if (!value || *value < least || *value > greatest) {
+        fail("'" + std::string(key) + "' has to be a number from " + std::to_string(least) +
+             " to " + std::to_string(greatest));
+    }
+    return *value;
+}
+
+std::vector<std::string> TomlTable::texts(std::string_view key) const {
+    const toml::array *array = (*table_)[key].as_array();
+    if (array == nullptr) {
+        fail("'" + std::string(key) + "' is missing, or no list of texts");
+    }
+    std::vector<std::string> all;
+    for (const toml::node &node : *array) {
+        const auto value = node.value<std::string>();
+        if (!value) {
+            fail("'" + std::string(key) + "' has something that is no text");
+        }
+        all.push_back(*value);
+    }
+    return all;
+}
+
+TomlTable TomlTable::table(std::string_view key) const {
+    const toml::table *table = (*table_)[key].as_table();
+    if (table == nullptr) {
+        fail("there is no part [" + std::string(key) + "]");
+    }
+    return TomlTable(path_, "[" + std::string(key) + "]", *table);
+}
+
+std::vector<TomlTable> TomlTable::tables(std::string_view key) const {
+    std::vector<TomlTable> all;
+    const toml::array *array = (*table_)[key].as_array();
+    for (std::size_t at = 0; array != nullptr && at < array->size(); ++at) {
+        const toml::table *table = array->get(at)->as_table();
+        const std::string place = "[[" + std::string(key) + "]] " + std::to_string(at + 1);
+        if (table == nullptr) {
+            fail(place + " is no table");
+        }
+        all.emplace_back(path_, place, *table);
+    }
+    return all;
+}
+
+} // namespace desk

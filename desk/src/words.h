@@ -1,0 +1,25 @@
+// Why the venue refused something, in words: the name of its rule in Text (58) where it is given,
+// and otherwise what the code of its answer can mean.
+#ifndef DESK_WORDS_H
+#define DESK_WORDS_H
+
+#include "message.h"
+
+#include <string>
+
+namespace desk {
+
+// A QuoteRequestReject (35=AG) to a request, by 658.
+std::string request_refusal(const Message &answer);
+// A QuoteStatusReport (35=AI) with 297=5 or 9, by 300.
+std::string quote_refusal(const Message &answer);
+std::string cancel_refusal(const Message &answer);
+std::string decline_refusal(const Message &answer);
+// To a hit or a pass; 58 always has the room's name for it.
+std::string response_refusal(const Message &answer);
+// A Reject (35=3): the field of 371 and the reason of 373.
+std::string reject_words(const Message &reject);
+
+} // namespace desk
+
+#endif

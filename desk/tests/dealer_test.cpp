@@ -1,0 +1,236 @@
+// The dealer's day: its quotes, its exposure, and how requests end.
+#include <doctest/doctest.h>
+
+#include "checks.h"
+#include "dealer_day.h"
+#include "unit.h"
+
+#include <nlohmann/json.hpp>
+
+using namespace desk;
+using desk_tests::entry;
+using Kind = Entry::Kind;
+using State = DealerRequest::State;
+using Quote = OwnQuote::State;
+
+namespace {
+
+// A day on which two requests of two millions were shown.
+struct Fixture {
+    DealerDay day;
+    int number = 0; // of the venue's last message
+    Fixture() {
+        show("R1", "1");
+        show("R2", "2");
+    }
+    void receive(const std::string &text) {
+        ++number;
+        day.apply(entry(Kind::received, 1000 + number,
+                        "34=" + std::to_string(number) + "|1181=" + std::to_string(number) +
+                            "|52=20260314-00:00:01.000|" + text));
+    }
+    void show(const std::string &id, const std::string &side) {
+        receive("35=R|131=" + id + "|48=BONDA0000001|54=" + side +
+                "|38=2000000|126=20260314-00:05:00.000|448=INV1|");
+    }
+    void send(int own, const std::string &text) {
+        day.apply(entry(Kind::sent, 1000 + number, "34=" + std::to_string(own) + "|50=T3|" + text));
+    }
+    void quote_live(int own, const std::string &id, const std::string &request) {
+        send(own,
+             "35=S|131=" + request + "|117=" + id + (request == "R1" ? "|133=99.5|" : "|132=99|"));
+        receive("35=AI|131=" + request + "|117=" + id + "|297=0|");
+    }
+    const DealerRequest &shown(const std::string &id) const { return *day.request(id); }
+};
+
+} // namespace
+
+TEST_CASE_FIXTURE(Fixture,
+                  "a quote is live when the venue says so, and counts as exposure from then on") {
+    CHECK(day.usage().open == 2);
+    send(2, "35=S|131=R1|117=q1|133=99.5|62=20260314-00:02:00.000|");
+    CHECK(shown("R1").live() == nullptr);
+    CHECK(shown("R1").awaits(Act::quote));
+    CHECK(day.usage().exposure == 0);
+    CHECK(day.exposure_of("T3") == 2'000'000);
+    receive("35=AI|131=R1|117=q1|297=0|");
+    REQUIRE(shown("R1").live() != nullptr);
+    CHECK(shown("R1").live()->price == Price{99 * 256 + 128});
+    CHECK(shown("R1").pending.empty());
+    CHECK(day.usage().exposure == 2'000'000);
+    CHECK(day.usage().accepted == 1);
+}
+
+TEST_CASE_FIXTURE(Fixture,
+                  "a replacement takes the place of the live quote, a refused one does not") {
+    quote_live(2, "q1", "R1");
+    quote_live(3, "q2", "R1");
+    CHECK(shown("R1").quotes[0].state == Quote::replaced);
+    CHECK(shown("R1").live()->id == "q2");
+    CHECK(day.usage().exposure == 2'000'000);
+    CHECK(day.usage().accepted == 2);
+    send(4, "35=S|131=R1|117=q3|133=99.25|");
+    receive("35=AI|131=R1|117=q3|297=5|300=3|58=ExposureExceeded|");
+    CHECK(shown("R1").live()->id == "q2");
+    CHECK(shown("R1").quotes[2].state == Quote::refused);
+    CHECK(shown("R1").told->text == "Quote 99.25 refused: your firm's exposure would be above its "
+                                    "limit: withdraw another quote first");
+    CHECK(day.exposure_of("T3") == 2'000'000);
+}
+
+TEST_CASE_FIXTURE(Fixture, "a quote that was never delivered is told so and counts no more") {
+    send(2, "35=S|131=R1|117=q1|133=99.5|");
+    day.apply(entry(Kind::undelivered, 9000, "2"));
+    CHECK(shown("R1").quotes[0].state == Quote::undelivered);
+    CHECK(shown("R1").pending.empty());
+    CHECK(day.exposure_of("T3") == 0);
+    CHECK(shown("R1").told->text.rfind("Quote 99.5 never delivered", 0) == 0);
+}
+
+TEST_CASE_FIXTURE(Fixture, "a withdrawal is done when it is confirmed") {
+    quote_live(2, "q1", "R1");
+    send(3, "35=Z|298=5|117=q1|");
+    CHECK(shown("R1").awaits(Act::withdraw));
+    CHECK(day.usage().exposure == 2'000'000);
+    receive("35=AI|117=q1|297=17|");
+    CHECK(shown("R1").quotes[0].state == Quote::withdrawn);
+    CHECK(shown("R1").pending.empty());
+    CHECK(day.usage().exposure == 0);
+}
+
+TEST_CASE_FIXTURE(Fixture, "a withdrawal that came too late: the quote was hit") {
+    quote_live(2, "q1", "R1");
+    send(3, "35=Z|298=5|117=q1|");
+    receive("35=AI|117=q1|297=5|300=4|");
+    CHECK(shown("R1").told->text ==
+          "Withdrawal refused: too late: the quote was hit, or the request has ended");
+    CHECK(shown("R1").live() != nullptr);
+    receive("35=AJ|693=N1|131=R1|117=q1|694=1|133=99.5|1003=20260314-INV1-DLR3-1|");
+    CHECK(shown("R1").state == State::won);
+    CHECK(shown("R1").result == Price{99 * 256 + 128});
+    CHECK(shown("R1").quotes[0].state == Quote::hit);
+    CHECK(shown("R1").trade == "20260314-INV1-DLR3-1");
+    CHECK(day.usage().exposure == 0);
+    CHECK(day.usage().open == 1);
+}
+
+TEST_CASE_FIXTURE(Fixture, "a cancel of all waits for each quote, and for one that is on its way") {
+    quote_live(2, "q1", "R1");
+    send(3, "35=S|131=R2|117=q2|132=99|");
+    send(4, "35=Z|298=4|");
+    CHECK(shown("R1").awaits(Act::withdraw));
+    CHECK(shown("R2").awaits(Act::withdraw));
+    receive("35=AI|131=R2|117=q2|297=0|");
+    CHECK(shown("R2").awaits(Act::withdraw));
+    receive("35=AI|117=q1|297=17|");
+    CHECK(shown("R1").pending.empty());
+    receive("35=AI|117=q2|297=17|");
+    CHECK(shown("R2").pending.empty());
+    CHECK(day.usage().exposure == 0);
+}
+
+TEST_CASE_FIXTURE(Fixture, "a cancel of all that finds nothing is told, and waits for nothing") {
+    send(2, "35=S|131=R1|117=q1|133=99.5|");
+    send(3, "35=Z|298=4|");
+    receive("35=AI|131=R1|117=q1|297=5|300=8|");
+    CHECK(shown("R1").pending.empty());
+    receive("35=AI|297=9|");
+    CHECK(day.notice()->text == "Cancel of all: there was no live quote");
+}
+
+TEST_CASE_FIXTURE(Fixture, "each end of a request has its name") {
+    struct Row {
+        const char *type;
+        State state;
+    };
+    for (const Row &row : {Row{"3", State::expired}, Row{"4", State::cover}, Row{"5", State::away},
+                           Row{"6", State::passed}}) {
+        Fixture one;
+        one.quote_live(2, "q1", "R1");
+        one.receive(std::string("35=AJ|693=N1|131=R1|694=") + row.type + "|");
+        CHECK(one.shown("R1").state == row.state);
+        CHECK(one.shown("R1").result == Price{99 * 256 + 128});
+        CHECK(one.shown("R1").quotes[0].state == Quote::ended);
+        CHECK(one.day.usage().exposure == 0);
+    }
+}
+
+TEST_CASE_FIXTURE(Fixture,
+                  "how a request ended stays told, also where a quote came too late for it") {
+    quote_live(2, "q1", "R1");
+    send(3, "35=S|131=R1|117=q2|133=99.25|");
+    receive("35=AJ|693=N1|131=R1|117=q1|694=1|133=99.5|");
+    receive("35=AI|131=R1|117=q2|297=5|300=4|");
+    CHECK(shown("R1").state == State::won);
+    CHECK(shown("R1").told->text == "Done");
+    CHECK(shown("R1").pending.empty());
+    CHECK(shown("R1").quotes[1].state == Quote::refused);
+    CHECK(day.exposure_of("T3") == 0);
+}
+
+TEST_CASE_FIXTURE(Fixture, "a decline, and one that is refused") {
+    send(2, "35=AG|131=R1|658=10|");
+    receive("35=AI|131=R1|297=11|");
+    CHECK(shown("R1").is_declined);
+    quote_live(3, "q1", "R2");
+    send(4, "35=AG|131=R2|658=10|");
+    receive("35=AI|131=R2|297=5|300=99|58=LiveQuote|");
+    CHECK_FALSE(shown("R2").is_declined);
+    CHECK(shown("R2").told->text == "Decline refused: a quote of yours is live: withdraw it first");
+}
+
+TEST_CASE_FIXTURE(Fixture, "a quote that the journal does not have is an alarm") {
+    receive("35=AI|117=other|297=17|");
+    CHECK(day.alarm().find("incomplete") != std::string::npos);
+    Fixture one;
+    one.receive("35=AJ|693=N1|131=R1|117=other|694=1|133=99.5|");
+    CHECK(one.shown("R1").state == State::won);
+    CHECK(one.day.alarm().find("incomplete") != std::string::npos);
+}
+
+TEST_CASE_FIXTURE(Fixture, "the desk helps before it sends") {
+    const Moment at = *moment_of("20260314-00:00:04.000");
+    const Trader trader{"dora", "", "T3", true, {}, {}};
+    Market market{{Bond{"BONDA0000001", "Alder", 128}}, {}, {}};
+    market.limits.exposure = 3'000'000;
+    market.limits.quotes = 2;
+    const command::Quote quote{"R1", Price{99 * 256}, {}, ""};
+    const auto why = [&](const command::Quote &one,
+                         const Trader &who = {"dora", "", "T3", true, {}, {}}) {
+        return why_not(one, who, market, day, at);
+    };
+    CHECK(why(quote).empty());
+    CHECK_FALSE(why({"R9", Price{99 * 256}, {}, ""}).empty());
+    CHECK(why({"R1", Price{99 * 256 + 1}, {}, ""}) == "The price is off the bond's grid of 1/128.");
+    CHECK_FALSE(why({"R1", Price{0}, {}, ""}).empty());
+    CHECK_FALSE(why({"R1", Price{99 * 256}, {}, "q0"}).empty());
+    Trader small = trader;
+    small.exposure = 1'000'000;
+    CHECK(why(quote, small).rfind("Your own exposure", 0) == 0);
+    quote_live(2, "q1", "R1");
+    CHECK(why({"R2", Price{99 * 256}, {}, ""}) ==
+          "The exposure would be 4,000,000 of 3,000,000: withdraw another quote first.");
+    CHECK(why({"R1", Price{98 * 256}, {}, "q1"}).empty());
+    CHECK(why_not(command::Withdraw{"R1"}, day).empty());
+    CHECK_FALSE(why_not(command::Withdraw{"R2"}, day).empty());
+    CHECK(why_not(command::Decline{"R1"}, day) == "Withdraw the live quote first.");
+    CHECK(why_not(command::Decline{"R2"}, day).empty());
+    send(3, "35=Z|298=5|117=q1|");
+    CHECK_FALSE(why_not(command::Withdraw{"R1"}, day).empty());
+    CHECK(why({"R1", Price{98 * 256}, {}, "q1"}) ==
+          "Wait: the withdrawal of T3 is not answered yet.");
+}
+
+TEST_CASE_FIXTURE(Fixture, "the same entries give the same views, at once and later") {
+    quote_live(2, "q1", "R1");
+    send(3, "35=Z|298=4|");
+    receive("35=AI|117=q1|297=17|");
+    Fixture again;
+    again.quote_live(2, "q1", "R1");
+    again.send(3, "35=Z|298=4|");
+    again.receive("35=AI|117=q1|297=17|");
+    CHECK(day.view("R1") == again.day.view("R1"));
+    CHECK(day.view("R1")["history"].size() == 2);
+    CHECK(day.requests() == std::vector<std::string>{"R1", "R2"});
+}

@@ -1,0 +1,169 @@
+// Commands, attempts, the pace of a page, groups, the configuration.
+#include <doctest/doctest.h>
+
+#include "command.h"
+#include "config.h"
+#include "groups.h"
+#include "logins.h"
+#include "open_page.h"
+#include "unit.h"
+
+#include "../../gateway/src/password.h"
+
+#include <fstream>
+
+#include <nlohmann/json.hpp>
+#include <sys/stat.h>
+
+using namespace desk;
+using desk_tests::Folder;
+using nlohmann::json;
+
+namespace {
+
+void put(const std::string &path, const std::string &text) {
+    std::ofstream(path) << text;
+    ::chmod(path.c_str(), 0600);
+}
+
+// The messages of the errors that the configuration has to name.
+std::string fault_of(const std::string &path) {
+    try {
+        read_config(path);
+    } catch (const std::runtime_error &fault) {
+        return fault.what();
+    }
+    return {};
+}
+
+void replace(std::string &text, const std::string &old, const std::string &fresh) {
+    const std::size_t at = text.find(old);
+    REQUIRE(at != std::string::npos);
+    text.replace(at, old.size(), fresh);
+}
+
+} // namespace
+
+TEST_CASE("a command is read whole, or not at all") {
+    const auto ask = read_command(json::parse(
+        R"({"do":"ask","number":1,"bond":"B","side":"sell","quantity":5,"seconds":60,"dealers":["D"]})"));
+    REQUIRE(ask);
+    const auto &own = std::get<command::Ask>(*ask);
+    CHECK(own.side == Side::sell);
+    CHECK(own.within == std::chrono::seconds(60));
+    const auto quote = read_command(
+        json::parse(R"({"do":"quote","request":"R1","price":25473,"seconds":0,"replaces":""})"));
+    REQUIRE(quote);
+    CHECK_FALSE(std::get<command::Quote>(*quote).valid_for);
+    for (const char *text :
+         {R"({})", R"({"do":"fly"})", R"({"do":"hit","request":"A"})", R"({"do":5})", R"([])",
+          R"({"do":"ask","bond":"B","side":"up","quantity":5,"seconds":60,"dealers":[]})",
+          R"({"do":"ask","bond":"B","side":"buy","quantity":-5,"seconds":60,"dealers":[]})",
+          R"({"do":"ask","bond":"B","side":"buy","quantity":1.5,"seconds":60,"dealers":[]})",
+          R"({"do":"ask","bond":"B","side":"buy","quantity":1e300,"seconds":60,"dealers":[]})",
+          R"({"do":"ask","bond":"B","side":"buy","quantity":1,"seconds":60,"dealers":[7]})",
+          R"({"do":"quote","request":"R1","price":"x","seconds":0,"replaces":""})"}) {
+        CAPTURE(text);
+        CHECK_FALSE(read_command(json::parse(text)));
+    }
+    CHECK_FALSE(read_command(json{{"do", "pass"}, {"request", std::string(65, 'x')}}));
+    CHECK_FALSE(read_command(
+        json{{"do", "save group"}, {"name", "x"}, {"dealers", std::vector<std::string>(65, "D")}}));
+}
+
+TEST_CASE("who fails too often waits a minute, and nobody else") {
+    Attempts attempts(3);
+    const Moment at = *moment_of("20260314-09:00:00.000");
+    for (int count = 0; count < 3; ++count) {
+        CHECK(attempts.may_try("one", at));
+        attempts.failed("one", at);
+    }
+    CHECK_FALSE(attempts.may_try("one", at + std::chrono::seconds(59)));
+    CHECK(attempts.may_try("other", at));
+    CHECK(attempts.may_try("one", at + std::chrono::seconds(60)));
+}
+
+TEST_CASE("a page has a burst of commands, and then twenty a second") {
+    const Moment at = *moment_of("20260314-09:00:00.000");
+    Pace pace(at);
+    int gone = 0;
+    for (int count = 0; count < 200; ++count) {
+        gone += pace.may_go(at);
+    }
+    CHECK(gone == 60);
+    CHECK_FALSE(pace.may_go(at));
+    gone = 0;
+    for (int count = 0; count < 200; ++count) {
+        gone += pace.may_go(at + std::chrono::seconds(1));
+    }
+    CHECK(gone == 20);
+}
+
+TEST_CASE("groups are each trader's own, have a limit, and outlive the process") {
+    const Folder folder;
+    const std::string path = folder.file("groups.json");
+    {
+        GroupStore groups(path);
+        CHECK(groups.save("tess", "big", {"DLR1", "DLR2"}).empty());
+        CHECK(groups.save("tom", "big", {"DLR3"}).empty());
+        CHECK_FALSE(groups.save("tess", "", {"DLR1"}).empty());
+        CHECK_FALSE(groups.save("tess", std::string(25, 'x'), {"DLR1"}).empty());
+        for (int count = 1; count < 16; ++count) {
+            CHECK(groups.save("tess", std::to_string(count), {"DLR1"}).empty());
+        }
+        CHECK_FALSE(groups.save("tess", "more", {"DLR1"}).empty());
+        CHECK(groups.save("tess", "5", {}).empty());
+    }
+    const GroupStore groups(path);
+    CHECK(groups.of("tess").size() == 15);
+    CHECK(groups.of("tess").at("big") == std::vector<std::string>{"DLR1", "DLR2"});
+    CHECK(groups.of("tom").size() == 1);
+    CHECK(groups.of("nobody").empty());
+}
+
+TEST_CASE("each fault of the configuration names its key") {
+    const Folder folder;
+    put(folder.file("secret"), "fix-password\n");
+    put(folder.file("market.toml"),
+        "version = 2\n[[bond]]\nid = \"BONDA0000001\"\ngrid = 128\nname = \"Alder\"\n"
+        "[[dealer]]\nname = \"DLR1\"\n[[investor]]\nname = \"INV1\"\n"
+        "requests = 10\nopen = 2\nquantity = 5000000\n");
+    const std::string good =
+        "firm = \"INV1\"\nrole = \"investor\"\nmarket = \"market.toml\"\ndata = \"data\"\n"
+        "[fix]\naddresses = [\"127.0.0.1:9878\"]\nusername = \"u\"\npassword_file = \"secret\"\n"
+        "dictionaries = \"fix\"\n[page]\nport = 0\n"
+        "[[trader]]\nlogin = \"tess\"\nname = \"T8\"\nmay = [\"ask\"]\nquantity = 100\npassword = "
+        "\"" +
+        gateway::new_hash("x") + "\"\n";
+    const std::string path = folder.file("desk.toml");
+    put(path, good);
+    const Config config = read_config(path);
+    CHECK(config.market.bonds[0].grid == 128);
+    CHECK(config.market.limits.open == 2);
+    CHECK(config.fix.password == "fix-password");
+    CHECK(config.traders[0].may_act);
+    CHECK(config.traders[0].quantity == 100);
+    struct Row {
+        const char *old;
+        const char *fresh;
+        const char *named;
+    };
+    for (const Row &row :
+         {Row{"role = \"investor\"", "role = \"x\"", "'role'"},
+          Row{"firm = \"INV1\"\n", "", "'firm'"}, Row{"data = ", "dada = ", "no key 'dada'"},
+          Row{"9878", "x", "no HOST:PORT"}, Row{"\"ask\"", "\"quote\"", "'may'"},
+          Row{"port = 0", "port = 70000", "'port'"}, Row{"\"secret\"", "\"absent\"", "absent"},
+          Row{"market.toml", "other.toml", "other.toml"}, Row{"INV1", "INV2", "INV2"},
+          Row{"port = 0", "port = 0\nlisten = \"0.0.0.0\"", "certificate"},
+          Row{"[[trader]]", "[[traitor]]", "traitor"},
+          Row{"password = \"$", "password = \"", "no hash"}}) {
+        CAPTURE(row.fresh);
+        std::string text = good;
+        replace(text, row.old, row.fresh);
+        put(path, text);
+        CHECK(fault_of(path).find(row.named) != std::string::npos);
+    }
+    put(path, good);
+    ::chmod(folder.file("secret").c_str(), 0644);
+    CHECK(fault_of(path).find("chmod 600") != std::string::npos);
+}

@@ -1,0 +1,136 @@
+#include "server.h"
+
+#include "house.h"
+
+#include <chrono>
+#include <optional>
+#include <stdexcept>
+
+#include <boost/asio/ip/address.hpp>
+#include <boost/asio/steady_timer.hpp>
+
+namespace web {
+
+namespace asio = boost::asio;
+using asio::ip::tcp;
+
+namespace {
+
+asio::ssl::context tls_of(const Certificate &certificate) {
+    asio::ssl::context tls(asio::ssl::context::tls_server);
+    tls.set_options(asio::ssl::context::default_workarounds | asio::ssl::context::no_sslv2 |
+                    asio::ssl::context::no_sslv3 | asio::ssl::context::no_tlsv1 |
+                    asio::ssl::context::no_tlsv1_1 | SSL_OP_NO_RENEGOTIATION);
+    boost::system::error_code fault;
+    if (tls.use_certificate_chain_file(certificate.chain, fault)) {
+        throw std::runtime_error(certificate.chain + ": " + fault.message());
+    }
+    if (tls.use_private_key_file(certificate.key, asio::ssl::context::pem, fault)) {
+        throw std::runtime_error(certificate.key + ": " + fault.message());
+    }
+    return tls;
+}
+
+tcp::acceptor listening(asio::io_context &io, const Door &door) {
+    const tcp::endpoint place(asio::ip::make_address(door.address), door.port);
+    try {
+        return tcp::acceptor(io, place);
+    } catch (const boost::system::system_error &fault) {
+        throw std::runtime_error("can't listen on " + door.address + ":" +
+                                 std::to_string(door.port) + ": " + fault.code().message());
+    }
+}
+
+} // namespace
+
+class Server::Listener : public std::enable_shared_from_this<Listener> {
+  public:
+    Listener(asio::io_context &io, const Door &door, Site &site)
+        : acceptor_(listening(io, door)), pause_(io),
+          slots_(std::make_shared<Slots>(door.limits.connections,
+                                         door.limits.connections_per_address)),
+          house_(std::make_shared<const House>(
+              House{Names(door, port()), door.limits, door.certificate.has_value(), site})) {
+        if (door.certificate) {
+            tls_.emplace(tls_of(*door.certificate));
+        }
+    }
+
+    unsigned short port() const { return acceptor_.local_endpoint().port(); }
+    std::string address() const { return house_->names.address(); }
+
+    void accept() {
+        acceptor_.async_accept(
+            [self = shared_from_this()](boost::system::error_code fault, tcp::socket socket) {
+                if (fault == asio::error::operation_aborted) {
+                    return;
+                }
+                if (fault) { // such as no descriptor left
+                    return self->accept_later();
+                }
+                self->serve(std::move(socket));
+                self->accept();
+            });
+    }
+
+    void stop() {
+        boost::system::error_code ignored;
+        acceptor_.close(ignored);
+        pause_.cancel();
+    }
+
+  private:
+    void accept_later() {
+        pause_.expires_after(std::chrono::milliseconds(100));
+        pause_.async_wait([self = shared_from_this()](boost::system::error_code fault) {
+            if (!fault) {
+                self->accept();
+            }
+        });
+    }
+
+    void serve(tcp::socket socket) {
+        boost::system::error_code fault;
+        const tcp::endpoint peer = socket.remote_endpoint(fault);
+        if (fault) {
+            return; // it is gone
+        }
+        std::optional<Slots::Slot> slot = slots_->take(peer.address().to_string());
+        if (!slot) {
+            return;
+        }
+        // Two small messages in a row cost 40 ms otherwise.
+        socket.set_option(tcp::no_delay(true), fault);
+        if (tls_) {
+            serve_tls(house_, std::move(socket), *tls_, std::move(*slot));
+        } else {
+            serve_plain(house_, std::move(socket), std::move(*slot));
+        }
+    }
+
+    tcp::acceptor acceptor_;
+    asio::steady_timer pause_;
+    std::shared_ptr<Slots> slots_;
+    std::shared_ptr<const House> house_;
+    std::optional<asio::ssl::context> tls_;
+};
+
+Server::Server(asio::io_context &io, const Door &door, Site &site) {
+    check(door);
+    listener_ = std::make_shared<Listener>(io, door, site);
+    listener_->accept();
+}
+
+Server::~Server() {
+    listener_->stop();
+}
+
+std::string Server::address() const {
+    return listener_->address();
+}
+
+unsigned short Server::port() const {
+    return listener_->port();
+}
+
+} // namespace web

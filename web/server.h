@@ -1,0 +1,37 @@
+// Serves a site by HTTP/1.1 and WebSocket, over TLS where the door has a certificate. It looks at
+// Host and Origin itself, sets the headers that keep a page closed to other sites, and has a limit
+// for everything that a peer may send or leave unread.
+#ifndef WEB_SERVER_H
+#define WEB_SERVER_H
+
+#include "door.h"
+#include "site.h"
+
+#include <memory>
+#include <string>
+
+#include <boost/asio/io_context.hpp>
+
+namespace web {
+
+class Server {
+  public:
+    // Listens from now on; the site has to outlive the io_context's run. Throws std::runtime_error
+    // with what is wrong with the door.
+    Server(boost::asio::io_context &io, const Door &door, Site &site);
+    ~Server();
+    Server(const Server &) = delete;
+    Server &operator=(const Server &) = delete;
+
+    // To be opened in a browser.
+    std::string address() const;
+    unsigned short port() const;
+
+  private:
+    class Listener;
+    std::shared_ptr<Listener> listener_;
+};
+
+} // namespace web
+
+#endif
