@@ -15,7 +15,7 @@ import tempfile
 from dataclasses import dataclass
 from pathlib import Path
 
-from tests.gateway.door import Programs, free_port, programs_of, quoted, venue_text
+from tests.gateway.door import Programs, free_port, programs_of, quoted, seal_text, venue_text
 from tests.gateway.firm import Identity, Places, settings_text
 from tests.gateway.market import moment_in
 
@@ -43,6 +43,7 @@ class Bench:
             hashed = subprocess.run([self.programs.gateway, "--hash"], input=who.password + "\n", text=True,
                                     capture_output=True, check=True).stdout.strip()
             credentials += '[%s]\nusername = "%s"\npassword = "%s"\n' % (who.name, who.name, hashed)
+        text += seal_text(self.programs.gateway, self.folder)
         text += '[log]\nsqlite = "{venue}.db"\n[fix]\nport = %d\ncredentials = "credentials.toml"\n' % port
         (self.folder / "credentials.toml").write_text(credentials)
         (self.folder / "gateway.toml").write_text(text)

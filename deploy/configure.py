@@ -16,7 +16,7 @@ from parts.run import Fault
 from parts.site import Folders, read_site
 
 DATABASE_HOST = Folders("/etc/patroni", "/var/lib/mireseason", "/run/mireseason")
-GATEWAY_HOST = Folders("/etc/mireseason")
+GATEWAY_HOST = Folders("/etc/mireseason", "/var/lib/mireseason")
 MODES = {"make_database.sh": 0o750}  # the others have passwords, too: 0640
 SECRET = 0o640
 

@@ -3,15 +3,16 @@
 
 -- The form of these tables: one row, the same in SQLite and PostgreSQL. A gateway of another form refuses the
 -- log, so no day has two. (Forms 1, in SQLite, and 2, in PostgreSQL, had no table connection, and neither
--- received nor connection in entry.)
+-- received nor connection in entry. Form 3 had neither seal nor checkpoint, and no venue in entry 0.)
 CREATE TABLE form (
     number INTEGER NOT NULL
 );
-INSERT INTO form (number) VALUES (3);
+INSERT INTO form (number) VALUES (4);
 
 -- What the venue was given, in its order. Places have no gap.
 --
 -- Place 0 is the day itself. Its line is
+--     venue NAME          the venue's name at the gateway, `-` where it is the only one
 --     version TEXT        what the venue's program says with --version, or `unknown`
 --     program HEX         the SHA-256 of the program's file
 --     configuration HEX   the SHA-256 of the configuration
@@ -106,4 +107,39 @@ CREATE TABLE session (
     firm      TEXT PRIMARY KEY,
     target    INTEGER NOT NULL,
     logged_on INTEGER NOT NULL
+);
+
+-- What no one can make who may write here and has no key of a gateway.
+--
+-- Each transaction that puts rows into entry or connection puts one row here. Numbers begin at 1 and have no gap.
+-- place is the last place of entry then, event that of connection (0 where it has none). mac is the HMAC-SHA-256,
+-- under the secret of the log's gateways, of the text
+--     mireseason log 4
+--     venue NAME          as in entry 0
+--     day YYYYMMDD        of its configuration
+--     configuration HEX   the SHA-256 of that
+--     term TERM
+--     entry PLACE HEX     place, and the hash that the entry there has
+--     connection PLACE HEX   event, and the hash that the row there has; 64 zeros where event is 0
+-- (small hexadecimal digits, a line feed after each line). The hashes are those of the chains, so a seal covers
+-- all that stands in these two tables up to it. The last seal is that of the last entry and the last row.
+CREATE TABLE seal (
+    number INTEGER PRIMARY KEY,
+    term   INTEGER NOT NULL, -- as in entry: of the gateway that sealed
+    place  INTEGER NOT NULL,
+    event  INTEGER NOT NULL,
+    mac    BYTEA   NOT NULL
+);
+
+-- The same for readers who have no secret. Less than a second after an entry, at each change of term and at the end
+-- of the day the gateway that speaks signs where its log stands; numbers rise with each. signature is the Ed25519
+-- signature, by that gateway's own key, of the text above with one more line
+--     checkpoint NUMBER
+-- A row here may come later than the entries behind it. What the last one does not cover, nobody has signed yet.
+CREATE TABLE checkpoint (
+    number    INTEGER PRIMARY KEY,
+    term      INTEGER NOT NULL,
+    place     INTEGER NOT NULL,
+    event     INTEGER NOT NULL,
+    signature BYTEA   NOT NULL
 );

@@ -223,7 +223,7 @@ try_audit() {
     told=$work/browser
     [ "$(what_is_left)" -lt "$least" ] || can_have "$(what_is_left)" chromium ||
         echo "audit: without a browser: chromium can't be installed"
-    day_form audit 5400 "python3 python3-jinja2 python3-psycopg2 openssl sqlite3 postgresql" "$passes" \
+    day_form audit 5400 "python3 python3-jinja2 python3-psycopg2 python3-cryptography openssl sqlite3 postgresql" "$passes" \
         env VENUE="$program" GATEWAY="$gateway" SEED="$seed" tests/audit/run.sh short
 }
 
@@ -309,7 +309,7 @@ quick() {
     program="python3 tests/model/program.py"
     told=$work/all
     # shellcheck disable=SC2046 # a word for each package
-    can_have "$(what_is_left)" $(gateway/packages.sh) openssl postgresql python3-jinja2 python3-psycopg2 sqlite3 chromium ||
+    can_have "$(what_is_left)" $(gateway/packages.sh) openssl postgresql python3-jinja2 python3-psycopg2 python3-cryptography sqlite3 chromium ||
         echo "can't be installed: $(paste -sd ' ' "$told.lacking")"
     export PROVE=no # no part of the gateway's tests does
     aside try_cases

@@ -65,6 +65,8 @@ class Commands:
 def with_seal(parser: argparse.ArgumentParser) -> None:
     parser.add_argument("--key", type=Path, help="the public key of the seal, in PEM")
     parser.add_argument("--seal", type=Path, help=SEAL_HELP)
+    text = "the public key of a gateway of the log, in PEM; once for each"
+    parser.add_argument("--gateway-key", type=Path, action="append", default=[], help=text)
 
 
 def with_moment(parser: argparse.ArgumentParser) -> None:

@@ -5,7 +5,7 @@ from dataclasses import dataclass, field
 from hashlib import sha256
 from pathlib import Path
 
-from .door import Door, DoorReader
+from .door import DOOR, Door, DoorReader
 from .findings import Finding
 from .lines import firm_and_time
 from .log import Log
@@ -14,7 +14,7 @@ from .records import Day, Entries, Entry, EntryRow
 from .streams import FEED, Growing
 
 NO_HASH = bytes(32)
-CHECKPOINT = 100  # entries from one hash of a seal to the next
+MARK = 100  # entries from one hash of a seal to the next
 NO_NUMBER = (0, 0)
 
 Numbers = dict[str, tuple[int, int]]  # of each firm, a number of its session, and an entry's place
@@ -57,7 +57,7 @@ class Chained:
     entries: int = 0
     last_place: int = 0
     last: bytes = NO_HASH  # the hash of the last entry
-    checkpoints: dict[int, str] = field(default_factory=dict)  # place to hash, in hexadecimal
+    marks: dict[int, str] = field(default_factory=dict)  # place to hash, in hexadecimal
     findings: list[Finding] = field(default_factory=list)
     firms: set[str] = field(default_factory=set)  # that entries name
     numbers: Numbers = field(default_factory=dict)  # the greatest, and the last entry with one
@@ -97,9 +97,9 @@ class ChainReader:
         self._before = block.entry(-1)
         found.last_place, found.last = block.places[-1], block.hashes[-1]
         found.firms.update(firm for firm in set(block.firms) if firm is not None)
-        marked = slice(-block.places[0] % CHECKPOINT, None, CHECKPOINT)
+        marked = slice(-block.places[0] % MARK, None, MARK)
         marks = zip(block.places[marked], map(bytes.hex, block.hashes[marked]))
-        found.checkpoints.update(marks)
+        found.marks.update(marks)
 
     def tell(self, kind: str, entry: Entry, text: str) -> None:
         if kind not in self._told:
@@ -226,7 +226,22 @@ def read_chain(log: Log, step: Step) -> Chained:
         found.door = door.end()
         found.firms |= found.door.firms
         found.findings += found.door.findings
+    if log.has_seals:
+        found.findings += unsealed(found, *log.last_seal())
     return found
+
+
+def unsealed(found: Chained, place: int, event: int) -> Iterator[Finding]:
+    """What follows the last seal: each gateway seals what it writes. Whether a seal is right, only
+    who has the gateways' secret can tell.
+    """
+    if place != found.last_place:
+        text = "it is not sealed: the last seal is of entry %d" % place
+        yield Finding("entries", text, found.last_place)
+    events = 0 if found.door is None else found.door.events
+    if event != events:
+        text = "row %d is not sealed: the last seal is of row %d" % (events, event)
+        yield Finding(DOOR, text)
 
 
 def write_day(log: Log, day: Day, path: Path, step: Step) -> None:

@@ -40,6 +40,7 @@ class Verdict:
     chained: Chained = field(default_factory=Chained)
     findings: list[Finding] = field(default_factory=list)
     seal: str = ""  # what was found of the seal, where there is one
+    signed: str = ""  # and of the gateways' signatures, where a key of theirs is given
 
     @property
     def is_good(self) -> bool:
@@ -215,6 +216,8 @@ def report(verdict: Verdict) -> list[str]:
     day = verdict.day
     lines = [entries_line(verdict), *door_lines(verdict), venue_line(verdict)]
     lines += [firm_line(verdict, firm) for firm in day.firms]
+    if verdict.signed:
+        lines.append("signed    %s" % verdict.signed)
     if verdict.seal:
         lines.append("seal      %s" % verdict.seal)
     for finding in verdict.findings:

@@ -55,17 +55,23 @@ def seal_path(work: Work, named: Path | None) -> Path:
 def seal_of(work: Work) -> Sealed | None:
     """The seal that the arguments name; it is read first, since it may be none of the key."""
     words = work.words
+    is_part = getattr(words, "until", None) is not None or getattr(words, "at", None) is not None
+    if is_part and words.gateway_key:
+        text = "signatures are of the whole log: leave out --gateway-key, or --until and --at"
+        raise Unreadable(text)
     if words.key is None and words.seal is not None:
         raise Unreadable("a seal says nothing without --key, the public key that signed it")
     if words.key is None:
         return None
-    if getattr(words, "until", None) is not None or getattr(words, "at", None) is not None:
+    if is_part:
         raise Unreadable("a seal is of the whole log: leave out --key, or --until and --at")
     return read_seal(seal_path(work, words.seal), words.key)
 
 
 def compared_with(work: Work, seal: Sealed | None, verdict: Verdict) -> Verdict:
-    """The verdict with what the seal says."""
+    """The verdict with what the gateways' signatures and the seal say."""
+    if work.words.gateway_key:
+        signed_with(work, verdict)
     if seal is not None:
         with work.source.open() as log:
             now = sealed(log, verdict.day, verdict.chained)
@@ -73,6 +79,17 @@ def compared_with(work: Work, seal: Sealed | None, verdict: Verdict) -> Verdict:
         verdict.findings += found
         verdict.seal = seal_words(verdict, found)
     return verdict
+
+
+def signed_with(work: Work, verdict: Verdict) -> None:
+    """Puts what the gateways have signed into the verdict."""
+    from .signatures import check_signatures, read_keys
+
+    keys = read_keys(work.words.gateway_key)
+    with work.source.open() as log:
+        signed = check_signatures(log, verdict.day, keys)
+    verdict.findings += signed.findings
+    verdict.signed = signed.words
 
 
 def seal_words(verdict: Verdict, found: list[Finding]) -> str:

@@ -7,6 +7,7 @@ from collections.abc import Iterator, Sequence
 from .closing import Closing
 from .faults import Wrong
 from .records import (
+    Checkpoint,
     ConnectionEvent,
     Day,
     Entries,
@@ -24,6 +25,7 @@ class Log(Closing):
 
     has_chain: bool = True  # whether the entries have hashes, and the sessions their messages
     has_door: bool = False  # whether it says who connected, and what came on which connection
+    has_seals: bool = False  # whether a gateway has sealed and signed what it wrote
 
     @abstractmethod
     def entry_blocks(self) -> Iterator[Entries]:
@@ -40,6 +42,18 @@ class Log(Closing):
     @abstractmethod
     def event_hash_at(self, place: int) -> bytes:
         """The hash of what happened to a connection at a place; empty where there is none."""
+
+    def checkpoints(self) -> Iterator[Checkpoint]:
+        """What a gateway has signed, in its order; of a log that has seals."""
+        return iter(())
+
+    def last_seal(self) -> tuple[int, int]:
+        """The entry, and the row of what happened to connections, up to which a log is sealed."""
+        return -1, 0
+
+    def last_event(self) -> int:
+        """The last place of what happened to connections; 0 where nothing did."""
+        return 0
 
     @abstractmethod
     def came(self, firm: str) -> Iterator[Entry]:

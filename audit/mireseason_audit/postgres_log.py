@@ -10,7 +10,7 @@ from psycopg2 import sql
 
 from .faults import Unreadable
 from .log import Log, Source
-from .sql_log import DOOR_FORM, Rows, SqlLog, form_of
+from .sql_log import DOOR_FORM, SEAL_FORM, Rows, SqlLog, form_of
 
 OLD_FORM = 2  # of the tables: without connections
 ROWS_AT_A_TIME = 1024  # each time the server is asked
@@ -47,7 +47,8 @@ class PostgresLog(SqlLog):
                 forms = cursor.fetchall()
         except psycopg2.Error as fault:
             raise Unreadable("%s: no log can be read: %s" % (self._name, one_line(fault))) from None
-        self.has_door = form_of(self._name, forms, OLD_FORM) == DOOR_FORM
+        form = form_of(self._name, forms, OLD_FORM)
+        self.has_door, self.has_seals = form >= DOOR_FORM, form >= SEAL_FORM
 
     def blocks(self, query: str, *values: object) -> Iterator[Rows]:
         try:

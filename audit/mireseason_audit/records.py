@@ -11,7 +11,9 @@ from .faults import Wrong
 
 SOH = b"\x01"
 DIVIDER = b"%%\n"
+VENUE = b"venue "  # since form 4
 HEAD = (b"version ", b"program ", b"configuration ")
+NO_NAME = "-"  # of a venue that is the only one
 NAME = re.compile(r"[A-Z][A-Z0-9]{0,7}")  # of a firm
 
 
@@ -90,6 +92,18 @@ class ConnectionEvent(NamedTuple):
         return self.address + (", certificate %s" % self.certificate if self.certificate else "")
 
 
+class Checkpoint(NamedTuple):
+    """Where a gateway has signed that the log stood, with the hashes that stand there now."""
+
+    number: int
+    term: int
+    place: int  # of the last entry
+    hash: bytes
+    event: int  # of the last row of what happened to connections, 0 without one
+    event_hash: bytes
+    signature: bytes
+
+
 class Messages(NamedTuple):
     """Some messages of a firm, column by column."""
 
@@ -137,6 +151,7 @@ class Day:
     configuration: bytes
     firms: tuple[Firm, ...]  # dealers, then investors, in the order of their rows
     date: str
+    venue: str = ""  # its name at the gateway, where it is not the only one
 
     @property
     def dealers(self) -> tuple[Firm, ...]:
@@ -156,20 +171,22 @@ def day_of(line: bytes) -> Day:
     """Reads the line of entry 0."""
     values = []
     rest = line
-    for name in HEAD:
+    for word in (VENUE, *HEAD) if line.startswith(VENUE) else HEAD:
         first, feed, rest = rest.partition(b"\n")
-        if not feed or not first.startswith(name):
-            raise Wrong("entry 0 has no line `%s`" % name.decode().strip())
-        values.append(first[len(name) :].decode("utf-8", "replace"))
+        if not feed or not first.startswith(word):
+            raise Wrong("entry 0 has no line `%s`" % word.decode().strip())
+        values.append(first[len(word) :].decode("utf-8", "replace"))
     if not rest.startswith(DIVIDER):
         raise Wrong("entry 0 has no line `%%`")
     configuration = rest[len(DIVIDER) :]
-    if hashlib.sha256(configuration).hexdigest() != values[2]:
+    *venue, version, program, digest = values
+    if hashlib.sha256(configuration).hexdigest() != digest:
         raise Wrong("entry 0 was changed: its configuration has another SHA-256 than it says")
-    return configured(values[0], values[1], configuration)
+    name = venue[0] if venue and venue[0] != NO_NAME else ""
+    return configured(version, program, configuration, name)
 
 
-def configured(version: str, program: str, configuration: bytes) -> Day:
+def configured(version: str, program: str, configuration: bytes, venue: str = "") -> Day:
     """The day of a configuration. Names are looked at here, since files are called by them; all
     else is for the venue to say.
     """
@@ -183,4 +200,4 @@ def configured(version: str, program: str, configuration: bytes) -> Day:
     for firm in firms:
         if not NAME.fullmatch(firm.name):
             raise Wrong("entry 0: the configuration has a firm named %r" % firm.name)
-    return Day(version, program, configuration, tuple(firms), date)
+    return Day(version, program, configuration, tuple(firms), date, venue)

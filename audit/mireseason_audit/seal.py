@@ -53,7 +53,7 @@ def sealed(log: Log, day: Day, chained: Chained) -> Sealed:
     lines.append("program day %s" % day.program)
     configuration = hashlib.sha256(day.configuration).hexdigest()
     lines.append("configuration day %s" % configuration)
-    lines += ["entry %d %s" % item for item in sorted(chained.checkpoints.items())]
+    lines += ["entry %d %s" % item for item in sorted(chained.marks.items())]
     lines.append("last %d %s" % (chained.last_place, chained.last.hex()))
     if chained.door is not None:
         lines.append("door rows %d %s" % (chained.door.events, chained.door.last.hex()))

@@ -6,9 +6,10 @@ from typing import Any
 
 from .faults import Unreadable
 from .log import Log
-from .records import ConnectionEvent, Entries, Entry, EntryRow, Messages
+from .records import Checkpoint, ConnectionEvent, Entries, Entry, EntryRow, Messages
 
 DOOR_FORM = 3  # of the tables: since it, a log says who connected
+SEAL_FORM = 4  # since it, it is sealed and signed
 ENTRY = "SELECT place, term, moment, firm, number, line, before, hash, %s FROM entry"
 DOOR_COLUMNS, NO_DOOR_COLUMNS = "received, connection", "NULL, NULL"
 EVENT = (
@@ -17,6 +18,11 @@ EVENT = (
 )
 EVENTS = EVENT + " ORDER BY place"
 LOGONS = EVENT + " WHERE event = 'logon' AND firm = ? ORDER BY place"
+CHECKPOINTS = """SELECT checkpoint.number, checkpoint.term, checkpoint.place, entry.hash,
+    checkpoint.event, connection.hash, signature FROM checkpoint
+    LEFT JOIN entry ON entry.place = checkpoint.place
+    LEFT JOIN connection ON connection.place = checkpoint.event ORDER BY checkpoint.number"""
+LAST_SEAL = "SELECT place, event FROM seal ORDER BY number DESC LIMIT 1"
 LINES = "SELECT line FROM entry WHERE place > 0 ORDER BY place"
 SENT = "SELECT number, place, bytes FROM sent WHERE firm = ? ORDER BY number"
 OUTGOING = "SELECT number, sent, bytes FROM outgoing WHERE firm = ? ORDER BY number"
@@ -36,6 +42,7 @@ SENT_TYPES: Types = ({int}, {int}, {bytes})
 OUTGOING_TYPES: Types = ({int}, {int, NONE}, {bytes})
 
 Rows = list[tuple[Any, ...]]
+NO_HASH = bytes(32)  # of a row that is not there
 
 
 class SqlLog(Log):
@@ -114,6 +121,30 @@ class SqlLog(Log):
             before=self.bytes_of(event.before),
             hash=self.bytes_of(event.hash),
         )
+
+    def checkpoints(self) -> Iterator[Checkpoint]:
+        rows = self.rows(CHECKPOINTS) if self.has_seals else ()
+        return (self._checkpoint(*row) for row in rows)
+
+    def _checkpoint(
+        self, number: int, term: int, place: int, hash_: Any, event: int, *data: Any
+    ) -> Checkpoint:
+        """A checkpoint with each column as it should be."""
+        check_numbers("checkpoint", number, number, term, place, event)
+        event_hash, signature = data
+        hashes = hash_, event_hash
+        entry, door = (NO_HASH if one is None else self.bytes_of(one) for one in hashes)
+        return Checkpoint(number, term, place, entry, event, door, self.bytes_of(signature))
+
+    def last_seal(self) -> tuple[int, int]:
+        for place, event in self.rows(LAST_SEAL) if self.has_seals else ():
+            check_numbers("seal", "of the end", place, event)
+            return place, event
+        return -1, 0
+
+    def last_event(self) -> int:
+        ((place,),) = self.rows("SELECT max(place) FROM connection") if self.has_door else ((0,),)
+        return 0 if place is None else int(place)
 
     def event_hash_at(self, place: int) -> bytes:
         rows = self.rows("SELECT hash FROM connection WHERE place = ?", place)
@@ -194,11 +225,13 @@ def are_of(columns: Any, types: Types) -> bool:
 
 
 def form_of(name: str, rows: Rows, old: int) -> int:
-    """The one row of the table `form`: the form of old logs in this database, or that of now."""
-    for form in (old, DOOR_FORM):
+    """The one row of the table `form`: the form of old logs in this database, or a later one."""
+    forms = (old, DOOR_FORM, SEAL_FORM)
+    for form in forms:
         if [tuple(row) for row in rows] == [(form,)]:
             return form
-    raise Unreadable("%s: the form of its tables is neither %d nor %d" % (name, old, DOOR_FORM))
+    text = "%s: the form of its tables is none of %d, %d and %d"
+    raise Unreadable(text % (name, *forms))
 
 
 def check_numbers(table: str, row: object, *values: object) -> None:

@@ -1,6 +1,7 @@
 """A gateway host: the gateway, and the venues that it starts."""
 
 import re
+import shutil
 from collections.abc import Iterable, Mapping
 from dataclasses import dataclass
 from pathlib import Path
@@ -34,10 +35,15 @@ class GatewayHost(Place):
         """All that it told, of all its starts."""
         return self.logs / self.name
 
-    def make(self, configurations: Mapping[str, str], credentials: str) -> None:
-        """With the configurations of the venues by their names, and these credentials."""
+    def make(self, configurations: Mapping[str, str], credentials: str, keys: Path) -> None:
+        """With the configurations of the venues by their names, these credentials, and the keys of
+        all gateways.
+        """
         self.own.mkdir(parents=True, exist_ok=True)
-        files = self.site.files(self.name, Folders(str(self.own)))
+        files = self.site.files(self.name, Folders(str(self.own), str(self.own)))
+        (self.own / "keys").mkdir(exist_ok=True)
+        for path in (keys / "seal.key", keys / (self.name + ".pem"), *keys.glob("*.pub")):
+            shutil.copy(path, self.own / "keys")
         files |= {file_of(name): text for name, text in configurations.items()}
         files["credentials.toml"] = credentials
         for name, text in files.items():
@@ -68,6 +74,13 @@ class GatewayHost(Place):
 
     def last_words(self) -> str:
         return "\n".join(self.told()[-6:])
+
+
+def make_keys(gateway: Path, names: Iterable[str], folder: Path) -> Path:
+    """The folder with the keys of the gateways of these names."""
+    shutil.rmtree(folder, ignore_errors=True)
+    run(str(gateway), "--make-keys", str(folder), *names)
+    return folder
 
 
 def credentials_of(gateway: Path, firms: Iterable[Firm]) -> str:

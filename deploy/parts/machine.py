@@ -8,7 +8,7 @@ from pathlib import Path
 
 from .cluster import Cluster
 from .database import DatabaseHost
-from .gateway import PORT, GatewayHost
+from .gateway import PORT, GatewayHost, make_keys
 from .network import NETWORK, Host, Network
 from .run import Fault, run, tried, until
 from .service import Supervisor
@@ -56,8 +56,10 @@ class Machine:
         speaks.
         """
         self.bring_up_databases()
+        names = [gateway.name for gateway in self.gateways]
+        keys = make_keys(self.gateway, names, self.folder / "keys")
         for gateway in self.gateways:
-            gateway.make(configurations, credentials)
+            gateway.make(configurations, credentials, keys)
             gateway.start()
         until("a gateway speaks", 420, lambda: self.speaking() is not None)
 

@@ -27,7 +27,7 @@ class Folders:
     """Where the files of a host are."""
 
     config: str
-    data: str = ""  # of etcd and PostgreSQL
+    data: str = ""  # of etcd and PostgreSQL; of a gateway what it keeps from day to day
     run: str = ""  # sockets
 
 
@@ -57,10 +57,15 @@ class Site:
 
     def _gateway_files(self, host: str, folders: Folders) -> dict[str, str]:
         words = {"NAME": host, "ADDRESS": self.gateways[host], "CONFIG": folders.config,
+                 "STATE": folders.data, "GATEWAY_KEYS": self._gateway_keys(),
                  "SYNCHRONOUS": self.synchronous, "SCHEMA": self.schema, "VENUES": self._venues(),
                  "SECURITY": self.security}
         return {"gateway.toml": self._filled("gateway.toml", words),
                 "pgpass": "*:*:*:gateway:%s\n" % self.passwords["GATEWAY"]}
+
+    def _gateway_keys(self) -> str:
+        """The public keys of all gateways, by which each knows what another has signed."""
+        return json.dumps(["keys/%s.pub" % name for name in self.gateways])
 
     @property
     def schema(self) -> str:

@@ -70,6 +70,7 @@ sed -i "s/^SocketConnectPort=.*/SocketConnectPort=$port/" "$day"/*.cfg
 g++ -std=c++14 -O1 -Wall -Wextra -Wno-deprecated -o "$day/firm" "$here/firm.cpp" -lquickfix -lpthread
 
 cd "$day"
+[ -d keys ] || "$gateway" --make-keys keys >keys.made
 : >gateway.events # it is looked at before the gateway may have begun to write it
 "$gateway" gateway.toml 2>gateway.events &
 server=$!

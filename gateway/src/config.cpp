@@ -1,14 +1,11 @@
 #include "config.h"
 
+#include "config_section.h"
 #include "password.h"
 #include "venue_file.h"
 
 #include <algorithm>
 #include <array>
-#include <fstream>
-#include <set>
-#include <sstream>
-#include <stdexcept>
 
 #include <fmt/format.h>
 #include <toml++/toml.h>
@@ -20,123 +17,10 @@ namespace {
 
 namespace fs = std::filesystem;
 
-[[noreturn]] void fail(const fs::path &file, std::string_view what) {
-    throw std::runtime_error(fmt::format("{}: {}", file.string(), what));
-}
-
-std::string read_file(const fs::path &path) {
-    std::ifstream file(path, std::ios::binary);
-    std::ostringstream text;
-    if (!file || !(text << file.rdbuf())) {
-        fail(path, "can't be read");
-    }
-    return text.str();
-}
-
 std::string host_name() {
     std::array<char, 256> name{};
     return ::gethostname(name.data(), name.size() - 1) == 0 ? std::string(name.data()) : "";
 }
-
-toml::table parse(const fs::path &path, const std::string &text) {
-    try {
-        return toml::parse(text);
-    } catch (const toml::parse_error &fault) {
-        fail(path, fmt::format("line {}: {}", fault.source().begin.line, fault.description()));
-    }
-}
-
-// A table of a file, whose keys are all asked for: one that is not is a fault, since it is a
-// misspelling.
-class Section {
-  public:
-    Section(fs::path file, std::string name, const toml::table *table)
-        : file_(std::move(file)), name_(std::move(name)), table_(table) {}
-
-    bool stands() const { return table_ != nullptr; }
-
-    template <typename Value> std::optional<Value> find(std::string_view key) {
-        asked_.emplace(key);
-        const toml::node *node = table_ == nullptr ? nullptr : table_->get(key);
-        if (node == nullptr) {
-            return std::nullopt;
-        }
-        const auto value = node->value_exact<Value>();
-        if (!value) {
-            fail_at(key, "is of another kind");
-        }
-        return *value;
-    }
-
-    std::string text(std::string_view key, std::string_view otherwise = "") {
-        return find<std::string>(key).value_or(std::string(otherwise));
-    }
-    std::string text_of_need(std::string_view key) {
-        const std::string value = text(key);
-        if (value.empty()) {
-            fail_at(key, "is missing");
-        }
-        return value;
-    }
-    bool flag(std::string_view key) { return find<bool>(key).value_or(false); }
-    std::size_t number(std::string_view key, std::size_t otherwise, std::size_t least,
-                       std::size_t most) {
-        const auto value = find<std::int64_t>(key);
-        if (!value) {
-            return otherwise;
-        }
-        if (*value < static_cast<std::int64_t>(least) || *value > static_cast<std::int64_t>(most)) {
-            fail_at(key, fmt::format("is not from {} to {}", least, most));
-        }
-        return static_cast<std::size_t>(*value);
-    }
-    std::vector<std::string> words(std::string_view key) {
-        asked_.emplace(key);
-        const toml::array *array = table_ == nullptr ? nullptr : (*table_)[key].as_array();
-        if (array == nullptr || array->empty()) {
-            fail_at(key, "is no list of words");
-        }
-        std::vector<std::string> all;
-        for (const toml::node &node : *array) {
-            const auto word = node.value_exact<std::string>();
-            if (!word) {
-                fail_at(key, "is no list of words");
-            }
-            all.push_back(*word);
-        }
-        return all;
-    }
-
-    // A path relative to the file, empty without one.
-    fs::path path(std::string_view key) {
-        const std::string value = text(key);
-        return value.empty() ? fs::path() : beside(value);
-    }
-    fs::path beside(const fs::path &path) const {
-        return path.is_absolute() ? path : (file_.parent_path() / path).lexically_normal();
-    }
-
-    void end() const {
-        if (table_ == nullptr) {
-            return;
-        }
-        for (const auto &[key, node] : *table_) {
-            if (!asked_.contains(std::string(key.str()))) {
-                fail_at(key.str(), "is no key");
-            }
-        }
-    }
-
-    [[noreturn]] void fail_at(std::string_view key, std::string_view what) const {
-        fail(file_, fmt::format("[{}] {} {}", name_, key, what));
-    }
-
-  private:
-    fs::path file_;
-    std::string name_;
-    const toml::table *table_;
-    std::set<std::string> asked_;
-};
 
 class ConfigReader {
   public:
@@ -169,6 +53,7 @@ class ConfigReader {
         }
         read_venue();
         read_log();
+        read_seal();
         read_sessions();
         read_tls();
         read_limits();
@@ -189,8 +74,8 @@ class ConfigReader {
     }
 
   private:
-    static constexpr std::array<std::string_view, 7> sections = {
-        "venue", "log", "fix", "tls", "limits", "metrics", "events"};
+    static constexpr std::array<std::string_view, 8> sections = {
+        "venue", "log", "seal", "fix", "tls", "limits", "metrics", "events"};
     static constexpr std::array<std::string_view, 4> levels = {"debug", "info", "warning", "error"};
 
     Section section(std::string_view name) const {
@@ -255,6 +140,19 @@ class ConfigReader {
         } else {
             config_.schema = filled(schema);
         }
+    }
+
+    void read_seal() {
+        Section seal = section("seal");
+        SealFiles files{seal.beside(seal.text_of_need("key")),
+                        seal.beside(seal.text_of_need("signing_key")),
+                        {}};
+        for (const std::string &file : seal.words("gateways")) {
+            files.gateways.push_back(seal.beside(file));
+        }
+        config_.checkpoints = seal.beside(seal.text_of_need("checkpoints"));
+        seal.end();
+        config_.keys = read_seal_keys(files);
     }
 
     void read_sessions() {

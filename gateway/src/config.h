@@ -4,9 +4,11 @@
 #define GATEWAY_CONFIG_H
 
 #include "engine.h"
+#include "seals.h"
 
 #include <filesystem>
 #include <map>
+#include <memory>
 #include <string>
 #include <string_view>
 #include <vector>
@@ -37,6 +39,9 @@ struct Config {
     std::string schema;
     std::string name;               // of this gateway, for those who look who speaks
     std::string synchronous_commit; // of PostgreSQL: `on` waits for a standby, if there is one
+
+    std::shared_ptr<const SealKeys> keys; // of the log's seals and signatures
+    std::filesystem::path checkpoints;    // the folder in which the last signature is kept
 
     EngineSettings engine;
     std::map<std::string, Credentials> credentials;

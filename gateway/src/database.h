@@ -21,10 +21,12 @@ struct Batch {
     std::vector<Sent> sent;
     std::vector<Outgoing> outgoing;
     std::map<std::string, SessionRow> sessions;
+    std::optional<Seal> seal; // of what connections and entries end with
+    std::vector<Checkpoint> checkpoints;
 
     bool empty() const {
         return connections.empty() && entries.empty() && sent.empty() && outgoing.empty() &&
-               sessions.empty();
+               sessions.empty() && checkpoints.empty();
     }
 };
 
@@ -39,7 +41,7 @@ struct FirmState {
 };
 
 // The form of the tables that this gateway reads and writes (schema.sql).
-constexpr std::uint32_t form_of_log = 3;
+constexpr std::uint32_t form_of_log = 4;
 
 // Why a log whose tables are of another form is not gone on with.
 inline std::string another_form(const std::string &log, std::uint32_t form) {
@@ -74,6 +76,11 @@ class LogReader {
     // The state of every firm that stands anywhere in the log.
     virtual std::map<std::string, FirmState> states() = 0;
     virtual ConnectionState connections() = 0;
+    // The seals from a number on, `limit` at most, in order, with the hashes that stand now in the
+    // rows that they name.
+    virtual std::vector<Seal> seals(std::uint32_t from, std::uint32_t limit) = 0;
+    // The last checkpoint, likewise, if there is one.
+    virtual std::optional<Checkpoint> last_checkpoint() = 0;
 };
 
 // Writes through a connection of its own; one thread at a time.
@@ -139,6 +146,15 @@ inline std::string select_entry(std::string_view rest) {
 }
 inline std::string select_connection(std::string_view rest) {
     return fmt::format("SELECT {} FROM connection {}", connection_columns, rest);
+}
+
+// Of the tables `seal` and `checkpoint`, with the hashes of the rows that a row names.
+inline std::string select_position(std::string_view table, std::string_view last,
+                                   std::string_view rest) {
+    return fmt::format("SELECT {0}.number, {0}.term, {0}.place, entry.hash, {0}.event, "
+                       "connection.hash, {0}.{1} FROM {0} LEFT JOIN entry ON entry.place = "
+                       "{0}.place LEFT JOIN connection ON connection.place = {0}.event {2}",
+                       table, last, rest);
 }
 
 // Of the table `connection`: the Logons of connections that have no end.

@@ -72,11 +72,12 @@ Day day_now(const Config &config) {
     day.version = first_line({config.program.string(), "--version"});
     day.program = sha256(read_program(config.program));
     day.configuration = config.configuration;
+    day.venue = config.venue;
     return day;
 }
 
-Entry begin_log(const Day &day, Database &database, std::optional<std::uint32_t> term,
-                DayClock &clock) {
+Entry begin_log(const Day &day, Database &database, LogGuard &guard,
+                std::optional<std::uint32_t> term, DayClock &clock) {
     if (!term) {
         throw std::runtime_error("the log has no begin");
     }
@@ -89,20 +90,22 @@ Entry begin_log(const Day &day, Database &database, std::optional<std::uint32_t>
     first.hash = hash_of(first);
     Batch batch;
     batch.entries.push_back(first);
+    batch.seal = guard.begin(first);
     database.writer()->commit(batch);
     return first;
 }
 
 } // namespace
 
-OpenedDay open_day(const Config &config, Database &database, std::optional<std::uint32_t> term,
-                   DayClock &clock, const std::shared_ptr<spdlog::logger> &events) {
+OpenedDay open_day(const Config &config, Database &database, LogGuard &guard,
+                   std::optional<std::uint32_t> term, DayClock &clock,
+                   const std::shared_ptr<spdlog::logger> &events) {
     const Day now = day_now(config);
     const auto reader = database.reader();
     const std::vector<Entry> found = reader->entries(0, 1);
     if (found.empty()) {
         try_configuration(config.command, config.configuration);
-        const Entry first = begin_log(now, database, term, clock);
+        const Entry first = begin_log(now, database, guard, term, clock);
         events->info("log begun date={} program=\"{}\"", clock.date(), now.version);
         return {first, first};
     }
@@ -113,6 +116,12 @@ OpenedDay open_day(const Config &config, Database &database, std::optional<std::
         throw std::runtime_error("entry 0: the venue's configuration is not the one that the day "
                                  "began with");
     }
+    if (begun.venue != now.venue) {
+        throw std::runtime_error(
+            fmt::format("entry 0: the log is that of the venue `{}`, and this one is `{}`",
+                        begun.venue, now.venue));
+    }
+    guard.check_found(*reader);
     if (begun.program != now.program) {
         events->warn("the venue's program is another than at the day's begin was=\"{}\" is=\"{}\"",
                      begun.version, now.version);

@@ -4,6 +4,7 @@
 
 #include "config.h"
 #include "database.h"
+#include "log_guard.h"
 #include "moment.h"
 
 #include <memory>
@@ -21,9 +22,10 @@ struct OpenedDay {
 // Holds the day of the configuration against the one that the log began with. A log that has none
 // is begun with it, in this term, once the venue's program has taken the configuration. Throws
 // std::runtime_error where they differ, where the program does not take it, and where there is no
-// term in which to begin it.
-OpenedDay open_day(const Config &config, Database &database, std::optional<std::uint32_t> term,
-                   DayClock &clock, const std::shared_ptr<spdlog::logger> &events);
+// term in which to begin it; LogNotAccepted where the guard does not take the log.
+OpenedDay open_day(const Config &config, Database &database, LogGuard &guard,
+                   std::optional<std::uint32_t> term, DayClock &clock,
+                   const std::shared_ptr<spdlog::logger> &events);
 
 } // namespace gateway
 

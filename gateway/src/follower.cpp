@@ -23,7 +23,7 @@ constexpr auto sign_of_life = 500ms;
 } // namespace
 
 Follower::Follower(VenueDay &day, std::optional<std::uint32_t> term)
-    : Follower(day, open_day(day.config, *day.database, term, day.clock, day.events)) {
+    : Follower(day, open_day(day.config, *day.database, day.guard, term, day.clock, day.events)) {
     if (!term) {
         day_.events->info("follows{} entries={}", day_.of_venue(), last_.place);
     }
@@ -87,6 +87,7 @@ bool Follower::read_on(LogReader &log) {
         last_ = entry;
         entries.push_back({std::move(entry), std::chrono::steady_clock::now()});
     }
+    day_.guard.read_on(log);
     const bool some = !entries.empty();
     committed_.put(entries);
     return some;
@@ -101,6 +102,7 @@ std::optional<Follower::End> Follower::catch_up() {
     }
     while (read_on(*reader)) {
     }
+    day_.guard.check_end(*reader, last_);
     ahead_.lift_limit();
     const auto writer = day_.database->writer();
     const auto lock = all_answered([&writer] { writer->be_seen(); });

@@ -56,10 +56,12 @@ std::unique_ptr<Speaker> Gateway::follow_one(std::size_t at) {
     try {
         return begin_day(*days_[at], engine_,
                          [this, at] { return at == 0 || days_[at - 1]->has_term; });
+    } catch (const LogNotAccepted &fault) {
+        status_.fail(fault.what(), log_not_accepted);
     } catch (const std::exception &fault) {
         status_.fail(fault.what());
-        return nullptr;
     }
+    return nullptr;
 }
 
 void Gateway::listen() {

@@ -19,6 +19,9 @@
 
 namespace gateway {
 
+// The status of a process whose log is not the one that was left: it waits for an operator.
+constexpr int log_not_accepted = 3;
+
 class Gateway final {
   public:
     // One configuration for each venue. Throws std::runtime_error where a log can't be served.
@@ -38,6 +41,8 @@ class Gateway final {
     // Until it is asked to stop, the day is over, or something fails. Logs sessions out, lets the
     // venue answer what came, and commits. Returns the cause of a failure, or nothing.
     std::optional<std::string> run();
+    // Of the process, after run().
+    int exit_status() { return status_.exit_status(); }
 
   private:
     void follow();

@@ -32,6 +32,15 @@ constexpr int looks_to_rest = 5;
 // After so many a gateway that has nothing to commit says that it is there: each second.
 constexpr int looks_to_be_seen = 50;
 
+Position end_of(const Log::Start &start) {
+    Position end{start.term, start.last.place, start.last.hash, 0, {}};
+    if (start.connections.last) {
+        end.event = start.connections.last->place;
+        end.event_hash = start.connections.last->hash;
+    }
+    return end;
+}
+
 } // namespace
 
 Log::Log(Database &database, Committed &committed, DayClock &clock, Metrics &metrics, Start start,
@@ -40,8 +49,8 @@ Log::Log(Database &database, Committed &committed, DayClock &clock, Metrics &met
       writer_(database.writer()), limit_(start.waiting), sessions_(std::move(start.sessions)),
       next_place_(start.last.place + 1), committed_place_(start.last.place),
       last_event_(start.connections.last ? start.connections.last->place : 0),
-      last_connection_(start.connections.greatest), term_(start.term), before_(start.last.hash),
-      event_before_(start.connections.last ? start.connections.last->hash : Digest{}),
+      last_connection_(start.connections.greatest), term_(start.term),
+      committed_end_(end_of(start)), chain_(committed_end_, std::move(start.sealer), start.seals),
       thread_([this](const std::stop_token &stop) { write(stop); }) {}
 
 Log::~Log() = default;
@@ -175,6 +184,17 @@ void Log::put_logged_on(const std::string &firm, bool logged_on) {
     row.firm = firm;
     row.logged_on = logged_on;
     filling_.rows.sessions[firm] = row;
+}
+
+void Log::put_checkpoint(const Checkpoint &checkpoint) {
+    const std::lock_guard lock(mutex_);
+    filling_.rows.checkpoints.push_back(checkpoint);
+    ++filling_.size;
+}
+
+Position Log::position() {
+    const std::lock_guard lock(mutex_);
+    return committed_end_;
 }
 
 void Log::wait(Ticket ticket) {
@@ -315,6 +335,7 @@ void Log::commit_some(std::unique_lock<std::mutex> &lock, bool all) {
     const auto last = hand_on(filling);
     lock.lock();
     writing_ = false;
+    committed_end_ = chain_.end();
     committed_place_ = last.value_or(committed_place_);
     committed_ += filling.is_whole ? 1 : 0;
     done_.notify_all();
@@ -324,16 +345,7 @@ void Log::commit_some(std::unique_lock<std::mutex> &lock, bool all) {
 }
 
 void Log::write_rows(Filling &filling) {
-    for (Entry &entry : filling.rows.entries) {
-        entry.before = before_;
-        entry.hash = hash_of(entry);
-        before_ = entry.hash;
-    }
-    for (ConnectionEvent &event : filling.rows.connections) {
-        event.before = event_before_;
-        event.hash = hash_of(event);
-        event_before_ = event.hash;
-    }
+    chain_.link(filling.rows);
     if (filling.rows.empty()) {
         return;
     }

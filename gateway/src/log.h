@@ -2,10 +2,12 @@
 #ifndef GATEWAY_LOG_H
 #define GATEWAY_LOG_H
 
+#include "chain.h"
 #include "committed.h"
 #include "database.h"
 #include "metrics.h"
 #include "moment.h"
+#include "seals.h"
 
 #include <chrono>
 #include <condition_variable>
@@ -33,6 +35,9 @@ class Log {
         Entry last; // the last entry of the log
         ConnectionState connections;
         std::uint32_t term = 0; // in which this gateway writes
+        // Of each batch. Without one nothing is sealed, and no start takes the log.
+        std::optional<Sealer> sealer;
+        std::uint32_t seals = 0; // the last one's number
         std::map<std::string, SessionRow> sessions;
         std::size_t waiting = 4096; // rows that may wait
     };
@@ -87,6 +92,11 @@ class Log {
     Ticket put(Outgoing outgoing, std::optional<Sent> carried);
     void put_target(const std::string &firm, std::uint32_t target);
     void put_logged_on(const std::string &firm, bool logged_on);
+
+    // A signature of what is committed. Waits for nothing.
+    void put_checkpoint(const Checkpoint &checkpoint);
+    // Up to where the log is committed.
+    Position position();
 
     // Returns when the batch is on disk.
     void wait(Ticket ticket);
@@ -163,10 +173,10 @@ class Log {
     std::uint32_t last_event_; // place of what happened to a connection
     std::uint32_t last_connection_;
     const std::uint32_t term_;
+    Position committed_end_;
 
     // Of whoever has the writer.
-    Digest before_;
-    Digest event_before_{};
+    Chain chain_;
     std::jthread thread_;
 };
 

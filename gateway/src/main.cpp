@@ -1,6 +1,8 @@
 // mireseason-gateway CONFIG
+#include "accept_loss.h"
 #include "check_settings.h"
 #include "gateway.h"
+#include "make_keys.h"
 #include "moment.h"
 #include "password.h"
 #include "start_check.h"
@@ -22,6 +24,10 @@ constexpr const char *usage = R"(usage: mireseason-gateway CONFIG
        mireseason-gateway --check CONFIG [--date YYYYMMDD]
                                            looks for what a start on that day would find, and ends
        mireseason-gateway --hash           reads a password, a line, and prints its salted hash
+       mireseason-gateway --make-keys DIR [NAME ..]
+                                           makes the secret of a log, and for each gateway its keys
+       mireseason-gateway --accept-loss CONFIG
+                                           takes the log as it is, where its end was lost
        mireseason-gateway --version
 )";
 
@@ -116,8 +122,22 @@ int serve(const std::string &path) {
     gateway::Gateway gateway(std::move(configs), events);
     const std::jthread watching = signals.watch(gateway);
     gateway.start();
-    const auto failure = gateway.run();
-    return failure ? 1 : 0;
+    gateway.run();
+    return gateway.exit_status();
+}
+
+void make_keys(const std::vector<std::string> &words) {
+    for (const std::string &file : gateway::make_keys(words[1], {words.begin() + 2, words.end()})) {
+        std::cout << file << '\n';
+    }
+}
+
+void accept_loss(const std::string &path) {
+    const std::vector<gateway::Config> configs = gateway::read_configs(path, gateway::today());
+    const auto events = make_events(configs.front().event_level);
+    for (const gateway::Config &config : configs) {
+        std::cout << gateway::accept_loss(config, events) << '\n';
+    }
 }
 
 } // namespace
@@ -131,6 +151,14 @@ int main(int count, char **words) {
         }
         if (arguments == std::vector<std::string>{"--hash"}) {
             return print_hash();
+        }
+        if (arguments.size() >= 2 && arguments[0] == "--make-keys") {
+            make_keys(arguments);
+            return 0;
+        }
+        if (arguments.size() == 2 && arguments[0] == "--accept-loss") {
+            accept_loss(arguments[1]);
+            return 0;
         }
         if (arguments.size() == 2 && arguments[0] == "--check") {
             return check(arguments[1], gateway::today());

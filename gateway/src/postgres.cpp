@@ -26,7 +26,7 @@ std::string bytea(std::string_view bytes) {
     return fmt::format("\\x{}", hexadecimal(bytes));
 }
 
-std::string bytea(const Digest &digest) {
+template <std::size_t Size> std::string bytea(const std::array<unsigned char, Size> &digest) {
     return bytea({reinterpret_cast<const char *>(digest.data()), digest.size()});
 }
 
@@ -121,17 +121,31 @@ class WritingConnection {
         for (const auto &[firm, row] : batch.sessions) {
             work.exec_prepared("session", firm, row.target, row.logged_on ? 1 : 0);
         }
-        const auto now = std::chrono::steady_clock::now();
-        if (now - seen_ >= seen_each) {
-            work.exec_prepared("speak and be seen", term_);
-            seen_ = now;
-        } else {
-            work.exec_prepared("speak", term_);
+        for (const Checkpoint &row : batch.checkpoints) {
+            work.exec_prepared("checkpoint", row.number, row.at.term, row.at.place, row.at.event,
+                               bytea(row.signature));
         }
+        end_with_words(work, batch.seal);
         commit(work);
     }
 
   private:
+    // The seal goes with the words that each transaction ends with: a round trip of its own would
+    // keep every answer waiting.
+    void end_with_words(pqxx::work &work, const std::optional<Seal> &seal) {
+        const auto now = std::chrono::steady_clock::now();
+        if (now - seen_ >= seen_each) {
+            work.exec_prepared("speak and be seen", term_);
+            seen_ = now;
+        } else if (!seal) {
+            work.exec_prepared("speak", term_);
+        }
+        if (seal) {
+            work.exec_prepared("seal and speak", term_, seal->number, seal->at.term, seal->at.place,
+                               seal->at.event, bytea(seal->mac));
+        }
+    }
+
     void commit(pqxx::work &work) {
         warnings_.listen();
         work.commit();
@@ -159,6 +173,11 @@ class WritingConnection {
                              "INSERT INTO session (firm, target, logged_on) VALUES ($1, $2, $3) "
                              "ON CONFLICT (firm) DO UPDATE SET target = excluded.target, "
                              "logged_on = excluded.logged_on");
+        connection_->prepare("checkpoint", "INSERT INTO checkpoint (number, term, place, event, "
+                                           "signature) VALUES ($1, $2, $3, $4, $5)");
+        connection_->prepare("seal and speak",
+                             "WITH sealed AS (INSERT INTO seal (number, term, place, event, mac) "
+                             "VALUES ($2, $3, $4, $5, $6)) SELECT speak($1)");
         connection_->prepare("speak", "SELECT speak($1)");
         connection_->prepare("speak and be seen", "SELECT speak_and_be_seen($1)");
     }

@@ -9,9 +9,10 @@ std::string bytes_of(const pqxx::field &field) {
     return pqxx::binarystring(field).str();
 }
 
-Digest digest_of(const pqxx::field &field) {
-    const std::string text = bytes_of(field);
-    Digest digest{};
+// Zeros where it has not so many bytes.
+template <typename Bytes = Digest> Bytes digest_of(const pqxx::field &field) {
+    const std::string text = field.is_null() ? std::string() : bytes_of(field);
+    Bytes digest{};
     if (text.size() == digest.size()) {
         std::copy(text.begin(), text.end(), digest.begin());
     }
@@ -59,12 +60,21 @@ ConnectionEvent read_connection(const pqxx::row &row) {
     return event;
 }
 
+// Of what select_position gives.
+Position read_position(const pqxx::row &row) {
+    return {number_of(row[1]), number_of(row[2]), digest_of(row[3]), number_of(row[4]),
+            digest_of(row[5])};
+}
+
 class PostgresReader final : public LogReader {
   public:
     PostgresReader(const std::string &connection, const std::string &schema)
         : connection_(connect(connection, schema)) {
         connection_->prepare("entries", select_entry("WHERE place >= $1 ORDER BY place LIMIT $2"));
         connection_->prepare("last", select_entry("ORDER BY place DESC LIMIT 1"));
+        connection_->prepare("seals", select_position("seal", "mac",
+                                                      "WHERE seal.number >= $1 ORDER BY "
+                                                      "seal.number LIMIT $2"));
         connection_->prepare("sent", "SELECT number, place, bytes FROM sent "
                                      "WHERE firm = $1 AND number >= $2 ORDER BY number LIMIT $3");
         connection_->prepare("outgoing",
@@ -163,6 +173,30 @@ class PostgresReader final : public LogReader {
                 state.open.push_back(read_connection(row));
             }
             return state;
+        });
+    }
+
+    std::vector<Seal> seals(std::uint32_t from, std::uint32_t limit) override {
+        return told("seals", [&] {
+            pqxx::nontransaction work(*connection_);
+            std::vector<Seal> all;
+            for (const pqxx::row &row : work.exec_prepared("seals", from, limit)) {
+                all.push_back({number_of(row[0]), read_position(row), digest_of(row[6])});
+            }
+            return all;
+        });
+    }
+
+    std::optional<Checkpoint> last_checkpoint() override {
+        return told("the last checkpoint", [&]() -> std::optional<Checkpoint> {
+            pqxx::nontransaction work(*connection_);
+            const pqxx::result rows = work.exec(select_position(
+                "checkpoint", "signature", "ORDER BY checkpoint.number DESC LIMIT 1"));
+            if (rows.empty()) {
+                return std::nullopt;
+            }
+            return Checkpoint{number_of(rows[0][0]), read_position(rows[0]),
+                              digest_of<Signature>(rows[0][6])};
         });
     }
 

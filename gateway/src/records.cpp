@@ -22,25 +22,19 @@ std::string_view take_line(std::string_view &text, std::string_view name) {
     return line.substr(name.size() + 1);
 }
 
-Digest digest_of(std::string_view digits) {
-    Digest digest{};
-    if (digits.size() != digest.size() * 2) {
-        throw std::runtime_error("entry 0: a SHA-256 has 64 digits");
+Digest digest_of_day(std::string_view digits) {
+    const auto digest = digest_of(digits);
+    if (!digest) {
+        throw std::runtime_error("entry 0: a SHA-256 has 64 small hexadecimal digits");
     }
-    const auto value = [](char c) -> int {
-        if (c >= '0' && c <= '9') {
-            return c - '0';
-        }
-        if (c >= 'a' && c <= 'f') {
-            return c - 'a' + 10;
-        }
-        throw std::runtime_error("entry 0: a SHA-256 has small hexadecimal digits");
-    };
-    for (std::size_t at = 0; at < digest.size(); ++at) {
-        digest[at] =
-            static_cast<unsigned char>(value(digits[2 * at]) * 16 + value(digits[2 * at + 1]));
+    return *digest;
+}
+
+int value_of_digit(char c) {
+    if (c >= '0' && c <= '9') {
+        return c - '0';
     }
-    return digest;
+    return c >= 'a' && c <= 'f' ? c - 'a' + 10 : -1;
 }
 
 std::string or_dash(const std::optional<std::uint32_t> &number) {
@@ -48,6 +42,9 @@ std::string or_dash(const std::optional<std::uint32_t> &number) {
 }
 
 constexpr std::string_view end_of_head = "%%\n";
+
+// For a venue that is the only one.
+constexpr std::string_view no_name = "-";
 
 struct FreeMethod {
     void operator()(EVP_MD *method) const { EVP_MD_free(method); }
@@ -83,6 +80,22 @@ std::string text_of(const Digest &digest) {
         text += digits[byte & 15];
     }
     return text;
+}
+
+std::optional<Digest> digest_of(std::string_view digits) {
+    Digest digest{};
+    if (digits.size() != digest.size() * 2) {
+        return std::nullopt;
+    }
+    for (std::size_t at = 0; at < digest.size(); ++at) {
+        const int high = value_of_digit(digits[2 * at]);
+        const int low = value_of_digit(digits[2 * at + 1]);
+        if (high < 0 || low < 0) {
+            return std::nullopt;
+        }
+        digest[at] = static_cast<unsigned char>(high * 16 + low);
+    }
+    return digest;
 }
 
 Digest hash_of(const Entry &entry) {
@@ -123,16 +136,20 @@ void check_link(const Entry &entry, std::uint32_t place, const Digest &before) {
 }
 
 std::string line_of(const Day &day) {
-    return fmt::format("version {}\nprogram {}\nconfiguration {}\n{}{}", day.version,
-                       text_of(day.program), text_of(sha256(day.configuration)), end_of_head,
-                       day.configuration);
+    return fmt::format("venue {}\nversion {}\nprogram {}\nconfiguration {}\n{}{}",
+                       day.venue.empty() ? no_name : day.venue, day.version, text_of(day.program),
+                       text_of(sha256(day.configuration)), end_of_head, day.configuration);
 }
 
 Day day_of(std::string_view line) {
     Day day;
+    day.venue = take_line(line, "venue");
+    if (day.venue == no_name) {
+        day.venue.clear();
+    }
     day.version = take_line(line, "version");
-    day.program = digest_of(take_line(line, "program"));
-    const Digest configuration = digest_of(take_line(line, "configuration"));
+    day.program = digest_of_day(take_line(line, "program"));
+    const Digest configuration = digest_of_day(take_line(line, "configuration"));
     if (!line.starts_with(end_of_head)) {
         throw std::runtime_error("entry 0 has no line `%%`");
     }

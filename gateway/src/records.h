@@ -12,6 +12,7 @@
 namespace gateway {
 
 using Digest = std::array<unsigned char, 32>;
+using Signature = std::array<unsigned char, 64>; // Ed25519
 
 struct Entry {
     std::uint32_t place = 0;
@@ -72,10 +73,39 @@ struct SessionRow {
     bool logged_on = false;
 };
 
+// Up to where a log goes: its last entry, and the last row of `connection`, place 0 where there is
+// none yet.
+struct Position {
+    std::uint32_t term = 0; // of the gateway that says so
+    std::uint32_t place = 0;
+    Digest hash{};
+    std::uint32_t event = 0;
+    Digest event_hash{};
+
+    bool operator==(const Position &) const = default;
+};
+
+// A row of `seal`. The hashes of its position are those of the rows that it names, and zeros where
+// there is no such row.
+struct Seal {
+    std::uint32_t number = 0;
+    Position at;
+    Digest mac{};
+};
+
+// A row of `checkpoint`, likewise.
+struct Checkpoint {
+    std::uint32_t number = 0;
+    Position at;
+    Signature signature{};
+};
+
 Digest sha256(std::string_view bytes);
 
 // Small hexadecimal digits.
 std::string text_of(const Digest &digest);
+// Reads what text_of wrote, and nothing else.
+std::optional<Digest> digest_of(std::string_view digits);
 
 // The hash that a row must have, from its other columns.
 Digest hash_of(const Entry &entry);
@@ -90,6 +120,7 @@ struct Day {
     std::string version;
     Digest program{};
     std::string configuration;
+    std::string venue; // its name, empty where it is the only one
 };
 
 std::string line_of(const Day &day);

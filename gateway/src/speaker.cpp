@@ -31,6 +31,8 @@ Log::Start start_of(VenueDay &day, const Follower::End &end, std::uint32_t term)
         start.sessions[name] = state.session;
     }
     start.connections = day.database->reader()->connections();
+    start.sealer = day.guard.sealer();
+    start.seals = day.guard.seals();
     set_clock_behind(day.clock, start.last, start.connections);
     return start;
 }
@@ -42,8 +44,9 @@ Speaker::Speaker(VenueDay &day, std::unique_ptr<Follower> follower, const Follow
     : day_(day), follower_(std::move(follower)), lost_(start.connections.open),
       log_(*day.database, follower_->committed(), day.clock, day.metrics, std::move(start),
            [&status = day.status](const std::string &cause) { status.fail(cause); }),
-      deliveries_(day, engine, log_), sessions_(day, log_, deliveries_, end.states),
-      stall_(day.events, day.of_venue()), sweeper_(follower_->answers(), log_, day.clock) {}
+      notary_(day.guard.notary(log_)), deliveries_(day, engine, log_),
+      sessions_(day, log_, deliveries_, end.states), stall_(day.events, day.of_venue()),
+      sweeper_(follower_->answers(), log_, day.clock) {}
 
 Speaker::Speaker(VenueDay &day, std::unique_ptr<Follower> follower, const Follower::End &end,
                  std::uint32_t term, Engine &engine)
@@ -78,6 +81,7 @@ void Speaker::end() {
     deliveries_.wait_until_handed_over();
     sessions_.rows().put_last_rest();
     log_.flush();
+    notary_->end();
     day_.events->info("ended{} entries={}", day_.of_venue(), log_.last_place());
 }
 

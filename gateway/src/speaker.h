@@ -7,6 +7,7 @@
 #include "firm_sessions.h"
 #include "follower.h"
 #include "log.h"
+#include "notary.h"
 #include "silence.h"
 #include "sweeper.h"
 #include "venue_day.h"
@@ -56,6 +57,7 @@ class Speaker final {
     const std::unique_ptr<Follower> follower_;
     const std::vector<ConnectionEvent> lost_; // connections that the log had open
     Log log_;
+    const std::unique_ptr<Notary> notary_;
     Deliveries deliveries_;
     FirmSessions sessions_;
     Stall stall_;

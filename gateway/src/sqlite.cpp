@@ -2,6 +2,7 @@
 #include "database.h"
 
 #include "descriptor.h"
+#include "sqlite_parts.h"
 #include "sqlite_statement.h"
 
 #include <stdexcept>
@@ -21,152 +22,6 @@ using sqlite::connect;
 using sqlite::ConnectionPointer;
 using sqlite::execute;
 using sqlite::Statement;
-
-Entry read_entry(const Statement &row) {
-    Entry entry;
-    entry.place = row.number(0);
-    entry.term = row.number(1);
-    entry.moment = row.bytes(2);
-    entry.received = row.bytes(3);
-    entry.firm = row.text_or_null(4);
-    entry.number = row.number_or_null(5);
-    entry.connection = row.number_or_null(6);
-    entry.line = row.bytes(7);
-    entry.before = row.digest(8);
-    entry.hash = row.digest(9);
-    return entry;
-}
-
-ConnectionEvent read_connection(const Statement &row) {
-    ConnectionEvent event;
-    event.place = row.number(0);
-    event.term = row.number(1);
-    event.moment = row.bytes(2);
-    event.event = row.bytes(3);
-    event.entry = row.number(4);
-    event.number = row.number_or_null(5);
-    event.firm = row.text_or_null(6);
-    event.address = row.bytes(7);
-    event.certificate = row.text_or_null(8);
-    event.why = row.text_or_null(9);
-    event.left_out = row.number(10);
-    event.before = row.digest(11);
-    event.hash = row.digest(12);
-    return event;
-}
-
-class SqliteReader final : public LogReader {
-  public:
-    explicit SqliteReader(const std::string &path)
-        : connection_(connect(path, SQLITE_OPEN_READONLY)),
-          entries_(connection_.get(), select_entry("WHERE place >= ? ORDER BY place LIMIT ?")),
-          last_(connection_.get(), select_entry("ORDER BY place DESC LIMIT 1")),
-          last_connection_(connection_.get(), select_connection("ORDER BY place DESC LIMIT 1")),
-          open_connections_(connection_.get(), select_connection(open_connections)),
-          greatest_connection_(connection_.get(),
-                               "SELECT coalesce(max(number), 0) FROM connection"),
-          sent_(connection_.get(), "SELECT number, place, bytes FROM sent "
-                                   "WHERE firm = ? AND number >= ? ORDER BY number LIMIT ?"),
-          outgoing_(connection_.get(), "SELECT number, sent, bytes FROM outgoing "
-                                       "WHERE firm = ? AND number BETWEEN ? AND ? ORDER BY number"),
-          session_(connection_.get(), "SELECT firm, target, logged_on FROM session"),
-          came_(connection_.get(), "SELECT firm, count(*), coalesce(max(number), 0) FROM entry "
-                                   "WHERE firm IS NOT NULL GROUP BY firm"),
-          gave_(connection_.get(), "SELECT firm, max(number) FROM sent GROUP BY firm"),
-          went_(connection_.get(), "SELECT firm, max(number), coalesce(max(sent), 0) "
-                                   "FROM outgoing GROUP BY firm") {}
-
-    std::vector<Entry> entries(std::uint32_t from, std::uint32_t limit) override {
-        std::vector<Entry> all;
-        entries_.bind(std::int64_t{from}).bind(std::int64_t{limit});
-        while (entries_.step()) {
-            all.push_back(read_entry(entries_));
-        }
-        return all;
-    }
-
-    std::optional<Entry> last_entry() override {
-        std::optional<Entry> last;
-        while (last_.step()) {
-            last = read_entry(last_);
-        }
-        return last;
-    }
-
-    std::vector<Sent> sent(const std::string &firm, std::uint32_t from,
-                           std::uint32_t limit) override {
-        std::vector<Sent> all;
-        sent_.bind(firm).bind(std::int64_t{from}).bind(std::int64_t{limit});
-        while (sent_.step()) {
-            all.push_back({firm, sent_.number(0), sent_.number(1), sent_.bytes(2)});
-        }
-        return all;
-    }
-
-    std::vector<Outgoing> outgoing(const std::string &firm, std::uint32_t first,
-                                   std::uint32_t last) override {
-        std::vector<Outgoing> all;
-        outgoing_.bind(firm).bind(std::int64_t{first}).bind(std::int64_t{last});
-        while (outgoing_.step()) {
-            Outgoing row{firm, outgoing_.number(0), {}, outgoing_.bytes(2)};
-            if (!outgoing_.is_null(1)) {
-                row.sent = outgoing_.number(1);
-            }
-            all.push_back(std::move(row));
-        }
-        return all;
-    }
-
-    std::map<std::string, FirmState> states() override {
-        std::map<std::string, FirmState> all;
-        while (session_.step()) {
-            const std::string firm = session_.bytes(0);
-            all[firm].session = {firm, session_.number(1), session_.number(2) != 0};
-        }
-        while (came_.step()) {
-            FirmState &state = all[came_.bytes(0)];
-            state.entries = came_.number(1);
-            state.last_number = came_.number(2);
-        }
-        while (gave_.step()) {
-            all[gave_.bytes(0)].sent = gave_.number(1);
-        }
-        while (went_.step()) {
-            FirmState &state = all[went_.bytes(0)];
-            state.outgoing = went_.number(1);
-            state.carried = went_.number(2);
-        }
-        return all;
-    }
-
-    ConnectionState connections() override {
-        ConnectionState state;
-        while (last_connection_.step()) {
-            state.last = read_connection(last_connection_);
-        }
-        while (greatest_connection_.step()) {
-            state.greatest = greatest_connection_.number(0);
-        }
-        while (open_connections_.step()) {
-            state.open.push_back(read_connection(open_connections_));
-        }
-        return state;
-    }
-
-  private:
-    ConnectionPointer connection_;
-    Statement entries_;
-    Statement last_;
-    Statement last_connection_;
-    Statement open_connections_;
-    Statement greatest_connection_;
-    Statement sent_;
-    Statement outgoing_;
-    Statement session_;
-    Statement came_;
-    Statement gave_;
-    Statement went_;
-};
 
 // A write-ahead log that has its length beforehand is synchronised in half the time of one that
 // grows. SQLite reads it up to the first frame that is none, and begins it anew after each
@@ -213,7 +68,11 @@ class SqliteWriter final : public LogWriter {
           session_(connection_.get(),
                    "INSERT INTO session (firm, target, logged_on) VALUES (?, ?, ?) "
                    "ON CONFLICT (firm) DO UPDATE SET target = excluded.target, "
-                   "logged_on = excluded.logged_on") {}
+                   "logged_on = excluded.logged_on"),
+          seal_(connection_.get(),
+                "INSERT INTO seal (number, term, place, event, mac) VALUES (?, ?, ?, ?, ?)"),
+          checkpoint_(connection_.get(), "INSERT INTO checkpoint (number, term, place, event, "
+                                         "signature) VALUES (?, ?, ?, ?, ?)") {}
 
     void commit(const Batch &batch) override {
         begin_.run();
@@ -235,6 +94,12 @@ class SqliteWriter final : public LogWriter {
             session_.bind(firm).bind(std::int64_t{row.target});
             session_.bind(std::int64_t{row.logged_on}).run();
         }
+        if (batch.seal) {
+            put(seal_, batch.seal->number, batch.seal->at, batch.seal->mac);
+        }
+        for (const Checkpoint &row : batch.checkpoints) {
+            put(checkpoint_, row.number, row.at, row.signature);
+        }
         commit_.run();
         ++commits_;
     }
@@ -253,6 +118,11 @@ class SqliteWriter final : public LogWriter {
     void be_seen() override {}
 
   private:
+    template <typename Bytes>
+    static void put(Statement &row, std::uint32_t number, const Position &at, const Bytes &bytes) {
+        row.bind(std::int64_t{number}).bind(std::int64_t{at.term}).bind(std::int64_t{at.place});
+        row.bind(std::int64_t{at.event}).bind_bytes(bytes).run();
+    }
     void put(const Entry &entry) {
         entry_.bind(std::int64_t{entry.place}).bind(std::int64_t{entry.term}).bind(entry.moment);
         entry_.bind(entry.received).bind(entry.firm).bind(entry.number).bind(entry.connection);
@@ -287,6 +157,8 @@ class SqliteWriter final : public LogWriter {
     Statement sent_;
     Statement outgoing_;
     Statement session_;
+    Statement seal_;
+    Statement checkpoint_;
 };
 
 // A lock on a file, for as long as it lives.
@@ -333,7 +205,7 @@ class Sqlite final : public Database {
         }
     }
 
-    std::unique_ptr<LogReader> reader() override { return std::make_unique<SqliteReader>(path_); }
+    std::unique_ptr<LogReader> reader() override { return sqlite::read(path_); }
     std::optional<std::uint32_t> take_over() override { return 0; }
     std::unique_ptr<LogWriter> writer() override { return std::make_unique<SqliteWriter>(path_); }
 

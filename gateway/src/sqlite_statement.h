@@ -58,7 +58,8 @@ class Statement {
         return bound(sqlite3_bind_blob64(statement_.get(), ++parameters_, bytes.data(),
                                          bytes.size(), SQLITE_STATIC));
     }
-    Statement &bind_bytes(const Digest &digest) {
+    template <std::size_t Size>
+    Statement &bind_bytes(const std::array<unsigned char, Size> &digest) {
         return bound(sqlite3_bind_blob64(statement_.get(), ++parameters_, digest.data(),
                                          digest.size(), SQLITE_STATIC));
     }
@@ -105,9 +106,10 @@ class Statement {
                    ? std::string()
                    : std::string(static_cast<const char *>(data), static_cast<std::size_t>(size));
     }
-    Digest digest(int column) const {
+    // Zeros where it has not so many bytes.
+    template <typename Bytes = Digest> Bytes digest(int column) const {
         const std::string text = bytes(column);
-        Digest digest{};
+        Bytes digest{};
         if (text.size() == digest.size()) {
             std::copy(text.begin(), text.end(), digest.begin());
         }

@@ -14,13 +14,14 @@ void Status::ask_to_stop(const std::string &why) {
     changed_.notify_all();
 }
 
-void Status::fail(const std::string &cause) {
+void Status::fail(const std::string &cause, int status) {
     {
         const std::lock_guard lock(mutex_);
         if (ending_ || failure_) {
             return;
         }
         failure_ = cause;
+        exit_status_ = status;
     }
     events_->critical("stop cause=\"{}\"", cause);
     failed_.request_stop();
@@ -40,6 +41,11 @@ bool Status::wait(std::chrono::milliseconds longest) {
 std::string Status::why() {
     const std::lock_guard lock(mutex_);
     return why_;
+}
+
+int Status::exit_status() {
+    const std::lock_guard lock(mutex_);
+    return exit_status_;
 }
 
 std::optional<std::string> Status::failure() {

@@ -20,8 +20,8 @@ class Status {
     explicit Status(std::shared_ptr<spdlog::logger> events);
 
     void ask_to_stop(const std::string &why);
-    // The first cause is the one that is told.
-    void fail(const std::string &cause);
+    // The first cause is the one that is told, and its status is that of the process.
+    void fail(const std::string &cause, int status = 1);
     // What fails from now on is a part of the end.
     void end();
 
@@ -29,6 +29,8 @@ class Status {
     bool wait(std::chrono::milliseconds longest);
     std::string why();
     std::optional<std::string> failure();
+    // Of the process: 0 without a failure.
+    int exit_status();
 
     // Asked to stop, or failed.
     std::stop_token stopping() const { return stopping_.get_token(); }
@@ -44,6 +46,7 @@ class Status {
     bool ending_ = false;
     std::string why_;
     std::optional<std::string> failure_;
+    int exit_status_ = 0;
 };
 
 } // namespace gateway

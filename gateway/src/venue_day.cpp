@@ -1,5 +1,7 @@
 #include "venue_day.h"
 
+#include "log_places.h"
+
 #include <stdexcept>
 #include <utility>
 
@@ -15,10 +17,7 @@ std::unique_ptr<Database> open_database(const Config &config, DayClock &clock) {
         throw std::runtime_error(fmt::format(
             "the venue's configuration is of {}, and today is {} in UTC", clock.date(), today()));
     }
-    if (!config.sqlite.empty()) {
-        return open_sqlite(config.sqlite.string());
-    }
-    return open_postgres({config.postgres, config.schema, config.name, config.synchronous_commit});
+    return open_database(config);
 }
 
 } // namespace
@@ -26,7 +25,8 @@ std::unique_ptr<Database> open_database(const Config &config, DayClock &clock) {
 VenueDay::VenueDay(const Config &given, Metrics &counted, Status &state,
                    std::shared_ptr<spdlog::logger> lines, OperatorEvents &listener)
     : config(given), metrics(counted), status(state), events(std::move(lines)), told(listener),
-      clock(config.firms.date), database(open_database(config, clock)) {}
+      clock(config.firms.date), guard(sealer_of(config), config.checkpoints, events),
+      database(open_database(config, clock)) {}
 
 void VenueDay::look_at_clock() {
     switch (clock.day()) {

@@ -4,6 +4,7 @@
 
 #include "config.h"
 #include "database.h"
+#include "log_guard.h"
 #include "metrics.h"
 #include "moment.h"
 #include "operator_events.h"
@@ -35,6 +36,7 @@ struct VenueDay {
     const std::shared_ptr<spdlog::logger> events;
     OperatorEvents &told;
     DayClock clock;
+    LogGuard guard;
     const std::unique_ptr<Database> database;
     // Nobody else writes the log: this gateway speaks, or is about to.
     std::atomic<bool> has_term{false};

@@ -14,7 +14,7 @@ inline Entry begin_day(Database &database) {
     Entry first;
     first.term = database.take_over().value();
     first.moment = "00:00:00.000";
-    first.line = line_of({"program 1", Digest{}, "version = 1\n"});
+    first.line = line_of({"program 1", Digest{}, "version = 1\n", ""});
     first.hash = hash_of(first);
     Batch batch;
     batch.entries.push_back(first);

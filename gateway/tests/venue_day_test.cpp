@@ -4,9 +4,12 @@
 // usage: venue_day_test FOLDER
 #include "begin_day.h"
 #include "check.h"
+#include "checkpoint_file.h"
 #include "day.h"
+#include "log_places.h"
 #include "password.h"
 #include "sqlite_statement.h"
+#include "test_keys.h"
 
 #include <chrono>
 #include <csignal>
@@ -53,6 +56,7 @@ Config config_of(const std::filesystem::path &folder) {
     config.firms = {today(), {"F"}};
     config.sqlite = folder / "day.db";
     config.credentials["F"] = {"F", new_hash("x"), ""};
+    give_keys(config, folder);
     return config;
 }
 
@@ -63,7 +67,7 @@ void put_message(const Config &config) {
     Entry &first = batch.entries[0];
     Entry &second = batch.entries[1];
     first.moment = second.moment = "00:00:00.000";
-    first.line = line_of({"unknown", Digest{}, config.configuration});
+    first.line = line_of({"unknown", Digest{}, config.configuration, ""});
     first.hash = hash_of(first);
     second.place = 1;
     second.firm = "F";
@@ -72,6 +76,9 @@ void put_message(const Config &config) {
     second.line = "hex F 00:00:00.000 00";
     second.before = first.hash;
     second.hash = hash_of(second);
+    const Sealer sealer = sealer_of(config);
+    batch.seal = sealer.seal(1, {0, 1, second.hash, 0, {}});
+    CheckpointFile(config.checkpoints, sealer).write(sealer.sign(0, Position{}));
     open_sqlite(config.sqlite.string())->writer()->commit(batch);
 }
 
@@ -131,7 +138,9 @@ void begun_without_a_version(const std::filesystem::path &folder) {
     const auto database = open_sqlite(config.sqlite.string());
     DayClock clock(today());
     auto opened = std::async(std::launch::async, [&] {
-        return open_day(config, *database, 0, clock, std::make_shared<spdlog::logger>("none"));
+        LogGuard guard(sealer_of(config), config.checkpoints, nullptr);
+        return open_day(config, *database, guard, 0, clock,
+                        std::make_shared<spdlog::logger>("none"));
     });
     check(opened.wait_for(60s) == std::future_status::ready, "the program is waited for");
     same<std::string>("unknown", day_of(opened.get().first.line).version, "its version");

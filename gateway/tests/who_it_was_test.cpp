@@ -10,6 +10,7 @@
 #include "reader.h"
 #include "refusal_words.h"
 #include "sqlite_statement.h"
+#include "test_keys.h"
 #include "translation.h"
 
 #include <chrono>
@@ -51,6 +52,7 @@ Config config_of(const std::filesystem::path &folder) {
     config.sqlite = folder / "day.db";
     config.credentials["F"] = {"fred", new_hash("right"), ""};
     config.credentials["G"] = {"gail", new_hash("other"), ""};
+    give_keys(config, folder);
     return config;
 }
 

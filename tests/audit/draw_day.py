@@ -2,7 +2,7 @@
 """Draws a day of a venue by a seed, and writes its log as the gateway does.
 
 usage: draw_day.py LOG [--requests N] [--seed N] [--noise N] [--dealers N] [--investors N]
-                   -- VENUE WORDS ..
+                   [--form N] -- VENUE WORDS ..
 
 Investors ask, dealers quote, replace, withdraw and decline, by what each was sent so far: the
 venue's program answers each line before the next is drawn. `--noise` has so many messages more for
@@ -95,10 +95,12 @@ class Request:
 class Market:
     """The venue, its firms and what is still to come."""
 
-    def __init__(self, path: Path, seed: int, noise: int, firms: Firms, venue: list[str]) -> None:
+    def __init__(
+        self, path: Path, seed: int, noise: int, firms: Firms, venue: list[str], form: int = 4
+    ) -> None:
         self.draw, self.noise, self.firms = random.Random(seed), noise, firms
         self.door = random.Random("door %d" % seed)  # its own: the day is the same without it
-        self.ledger = Ledger(path, DATE, configuration(firms))
+        self.ledger = Ledger(path, DATE, configuration(firms), form=form)
         self.venue = subprocess.Popen(
             [*venue, "live", "--frames", "--marks"], stdin=subprocess.PIPE, stdout=subprocess.PIPE
         )
@@ -362,6 +364,7 @@ def main() -> None:
     parser.add_argument("venue", nargs="+")
     parser.add_argument("--dealers", type=int, default=len(ALL_DEALERS))
     parser.add_argument("--investors", type=int, default=len(ALL_INVESTORS))
+    parser.add_argument("--form", type=int, default=4, choices=(3, 4), help="of the log")
     parser.add_argument("--currencies", default="", help="of the bonds, with commas between them")
     parser.add_argument("--in-32nds", action="store_true", help="quotes all bonds in 32nds")
     words = parser.parse_args()
@@ -372,7 +375,7 @@ def main() -> None:
         tuple(words.currencies.split(",")) if words.currencies else (),
         words.in_32nds,
     )
-    Market(words.log, words.seed, words.noise, firms, words.venue).play(words.requests)
+    Market(words.log, words.seed, words.noise, firms, words.venue, words.form).play(words.requests)
 
 
 if __name__ == "__main__":

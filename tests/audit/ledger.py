@@ -5,17 +5,30 @@ It is written from gateway/README.md and gateway/schema.sql, and shares nothing 
 """
 
 import hashlib
+import hmac
 import sqlite3
 from dataclasses import dataclass, field
 from pathlib import Path
+
+from cryptography.hazmat.primitives.asymmetric.ed25519 import Ed25519PrivateKey
+from cryptography.hazmat.primitives.serialization import Encoding, PublicFormat
 
 ROOT = Path(__file__).resolve().parent.parent.parent
 SCHEMA = ROOT / "gateway" / "schema.sql"
 VERSION = "rfq_venue 1.0.0"
 PROGRAM = hashlib.sha256(b"the program of a drawn day").hexdigest()
 PLACES_OF_TIME = {"S": "537", "AI": "297", "R": "453"}
+SECRET = hashlib.sha256(b"the secret of the gateways of drawn days").digest()
+KEY = Ed25519PrivateKey.from_private_bytes(hashlib.sha256(b"and what one signs with").digest())
+SEALED = 40  # entries from one seal to the next
+OLD_TABLES = "DROP TABLE seal; DROP TABLE checkpoint; UPDATE form SET number = 3;"
 
 Fields = list[tuple[str, str]]
+
+
+def public_key() -> bytes:
+    """That of the gateway of drawn days, in PEM."""
+    return KEY.public_key().public_bytes(Encoding.PEM, PublicFormat.SubjectPublicKeyInfo)
 
 
 def time_text(moment: int) -> str:
@@ -67,12 +80,17 @@ class Ledger:
     connections: int = 0
     before_event: bytes = bytes(32)
     clock_at: int = 0  # microseconds, the last that it said
+    form: int = 4  # or 3, which has no seals
+    seals: int = 0
+    checkpoints: int = 0
 
     def __post_init__(self) -> None:
         self.database = sqlite3.connect(self.path, isolation_level=None)
-        self.database.executescript(SCHEMA.read_text())
+        self.database.executescript(SCHEMA.read_text() + (OLD_TABLES if self.form == 3 else ""))
         self.database.execute("BEGIN")
         head = "version %s\nprogram %s\nconfiguration %s\n%%%%\n"
+        if self.form > 3:
+            head = "venue -\n" + head
         digest = hashlib.sha256(self.configuration).hexdigest()
         line = (head % (VERSION, PROGRAM, digest)).encode() + self.configuration
         self.entry(time_text(28_800_000), None, None, line)
@@ -95,7 +113,36 @@ class Ledger:
             "INSERT INTO entry VALUES (?, ?, ?, ?, ?, ?, ?, ?, ?, ?)", (*row, self.before, digest)
         )
         self.before = digest
+        if self.place % SEALED == 0:
+            self.seal()
         return self.place
+
+    # ------------------------------------------------------------ seals
+
+    def sealed_text(self) -> str:
+        text = "mireseason log 4\nvenue -\nday %s\nconfiguration %s\nterm 0\nentry %d %s\n"
+        configuration = hashlib.sha256(self.configuration).hexdigest()
+        text %= self.date, configuration, self.place, self.before.hex()
+        return text + "connection %d %s\n" % (self.events, self.before_event.hex())
+
+    def seal(self) -> None:
+        """A seal of all that there is, and each third time the gateway's signature, too."""
+        if self.form == 3:
+            return
+        self.seals += 1
+        mac = hmac.new(SECRET, self.sealed_text().encode(), hashlib.sha256).digest()
+        row = (self.seals, 0, self.place, self.events, mac)
+        self.database.execute("INSERT INTO seal VALUES (?, ?, ?, ?, ?)", row)
+        if self.seals % 3 == 1:
+            self.sign()
+
+    def sign(self) -> None:
+        self.checkpoints += 1
+        signature = KEY.sign((self.sealed_text() + "checkpoint %d\n" % self.checkpoints).encode())
+        row = (self.checkpoints, 0, self.place, self.events, signature)
+        self.database.execute("INSERT INTO checkpoint VALUES (?, ?, ?, ?, ?)", row)
+
+    # ------------------------------------------------------------ times
 
     def made_in(self, moment: str) -> str:
         """A time of this millisecond, not before the last that the clock said."""
@@ -226,6 +273,9 @@ class Ledger:
         self.session_message(firm, kind, moment + 1, body, session.messages)
 
     def close(self) -> None:
+        self.seal()
+        if self.form > 3:
+            self.sign()
         self.database.execute("COMMIT")
         self.database.execute("VACUUM")
         self.database.close()

@@ -3,7 +3,7 @@
 # by hand, a log in PostgreSQL, the gateway's example, and a long day. README.md says what is looked
 # at.
 #
-#     apt-get install -y python3 python3-jinja2 python3-psycopg2 openssl sqlite3 chromium postgresql
+#     apt-get install -y python3 python3-jinja2 python3-psycopg2 python3-cryptography openssl sqlite3 chromium postgresql
 #     tests/audit/run.sh [short]
 #
 # VENUE has the words of the venue's program: crates/rfq_venue/out/rfq_venue if it is not set, or

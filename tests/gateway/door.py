@@ -61,6 +61,14 @@ def quoted(words: tuple[str, ...]) -> str:
     return json.dumps(words)  # texts of JSON are texts of TOML
 
 
+def seal_text(gateway: Path, folder: Path) -> str:
+    """The part [seal] of a gateway that is the only one of its log, with keys that are made where there are none."""
+    if not (folder / "keys").exists():
+        subprocess.run([gateway, "--make-keys", folder / "keys"], capture_output=True, check=True)
+    names = 'key = "keys/seal.key"\nsigning_key = "keys/gateway.pem"\ngateways = ["keys/gateway.pub"]\n'
+    return "[seal]\n" + names + 'checkpoints = "checkpoints"\n'
+
+
 @dataclass
 class Door:
     programs: Programs
@@ -98,7 +106,7 @@ class Door:
         """The gateway's configuration, the firms' credentials, and the venue's own configuration if there is none."""
         command = quoted((*self.programs.venue, "live", "--frames", "--marks"))
         text = '[venue]\ncommand = %s\nconfiguration = "venue.toml"\n' % command
-        text += "[log]\n" + self.log_text()
+        text += "[log]\n" + self.log_text() + self.seal_text()
         text += '[fix]\nlisten = "127.0.0.1"\nport = %d\ncredentials = "credentials.toml"\n' % self.port
         if self.tls:
             text += "[tls]\n" + "".join("%s = %s\n" % item for item in self.tls.items())
@@ -114,6 +122,18 @@ class Door:
         if self.postgres is None:
             return 'sqlite = "day.db"\n'
         return "postgres = %s\nschema = %s\n" % (json.dumps(self.postgres.connection), json.dumps(self.postgres.schema))
+
+    @property
+    def keys(self) -> Path:
+        return self.folder / "keys"
+
+    @property
+    def kept(self) -> Path:
+        """The last checkpoint of the log, which the gateway keeps outside of its database."""
+        return self.folder / "checkpoints" / ("day-%s.checkpoint" % today())
+
+    def seal_text(self) -> str:
+        return seal_text(self.programs.gateway, self.folder)
 
     def write_credentials(self) -> None:
         text = ""

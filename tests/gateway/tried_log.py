@@ -75,11 +75,11 @@ def entry_taken_out(stage: Stage) -> None:
 
 
 def last_entry_taken_out(stage: Stage) -> None:
-    """Of the last entry no gap tells; the messages that answered it do."""
+    """Of the last entry no gap tells; its seal does."""
     ended_day(stage)
     last = stage.door.ledger().entries[-1]
     changed(stage, "DELETE FROM entry WHERE place = ?", last.place)
-    nothing_sent(stage, lambda: stage.refused("INV1|DLR1|DLR2"))
+    nothing_sent(stage, lambda: stage.refused("the log was changed at or before entry %d" % last.place))
 
 
 def byte_of_an_entry(stage: Stage) -> None:

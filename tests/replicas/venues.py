@@ -19,7 +19,7 @@ from pathlib import Path
 
 from deploy.parts.run import whole_paths
 from deploy.parts.site import file_of, venues_text
-from tests.gateway.door import Port
+from tests.gateway.door import Port, seal_text
 from tests.gateway.firm import Firm
 from tests.gateway.ledger import Ledger, read_ledger
 from tests.gateway.midnight import wait_for_room
@@ -60,6 +60,7 @@ class TwoVenues:
         credentials = CAST.credentials(self.words.gateway.resolve())
         (self.folder / "credentials.toml").write_text(credentials)
         text = venues_text(NAMES, tuple(self.venue)) + REST % self._port.number
+        text += seal_text(self.words.gateway, self.folder)
         (self.folder / "gateway.toml").write_text(text)
 
     def side(self, name: str, seed: int) -> Side:

@@ -1,0 +1,22 @@
+// What an operator does where the end of a log was lost.
+#ifndef GATEWAY_ACCEPT_LOSS_H
+#define GATEWAY_ACCEPT_LOSS_H
+
+#include "config.h"
+
+#include <memory>
+#include <string>
+
+#include <spdlog/logger.h>
+
+namespace gateway {
+
+// Takes a venue's log as it is: the next start goes on behind its last entry, whatever the
+// checkpoint that was kept says. Returns what was given up. Throws std::runtime_error where the log
+// can't be read, another gateway has it, or its seals are not right: what no gateway has sealed is
+// never accepted.
+std::string accept_loss(const Config &config, const std::shared_ptr<spdlog::logger> &events);
+
+} // namespace gateway
+
+#endif

@@ -1,0 +1,23 @@
+#include "chain.h"
+
+namespace gateway {
+
+void Chain::link(Batch &rows) {
+    for (Entry &entry : rows.entries) {
+        entry.before = end_.hash;
+        entry.hash = hash_of(entry);
+        end_.hash = entry.hash;
+        end_.place = entry.place;
+    }
+    for (ConnectionEvent &event : rows.connections) {
+        event.before = end_.event_hash;
+        event.hash = hash_of(event);
+        end_.event_hash = event.hash;
+        end_.event = event.place;
+    }
+    if (sealer_ && (!rows.entries.empty() || !rows.connections.empty())) {
+        rows.seal = sealer_->seal(++seals_, end_);
+    }
+}
+
+} // namespace gateway

@@ -1,0 +1,115 @@
+#include "checkpoint_file.h"
+
+#include "private_file.h"
+
+#include <algorithm>
+#include <charconv>
+#include <stdexcept>
+#include <string_view>
+#include <utility>
+
+#include <fmt/format.h>
+
+namespace gateway {
+
+namespace {
+
+// What a line has behind its word, in a text of lines; nothing where the next line is another.
+std::optional<std::string_view> take(std::string_view &text, std::string_view word) {
+    const std::size_t end = text.find('\n');
+    if (end == std::string_view::npos || !text.starts_with(word) || word.size() >= end ||
+        text[word.size()] != ' ') {
+        return std::nullopt;
+    }
+    const std::string_view value = text.substr(word.size() + 1, end - word.size() - 1);
+    text.remove_prefix(end + 1);
+    return value;
+}
+
+std::optional<std::uint32_t> number_in(std::string_view text) {
+    std::uint32_t number = 0;
+    const auto [end, fault] = std::from_chars(text.data(), text.data() + text.size(), number);
+    const bool is_number = fault == std::errc() && end == text.data() + text.size();
+    return is_number ? std::optional(number) : std::nullopt;
+}
+
+// `NUMBER HEX`
+bool read_place(std::optional<std::string_view> value, std::uint32_t &place, Digest &hash) {
+    const std::size_t space = value ? value->find(' ') : std::string_view::npos;
+    if (space == std::string_view::npos) {
+        return false;
+    }
+    const auto number = number_in(value->substr(0, space));
+    const auto digest = digest_of(value->substr(space + 1));
+    place = number.value_or(0);
+    hash = digest.value_or(Digest{});
+    return number && digest;
+}
+
+// Two halves of 64 digits.
+bool read_signature(std::optional<std::string_view> value, Signature &signature) {
+    const auto first = value ? digest_of(value->substr(0, 64)) : std::nullopt;
+    const auto second = value && value->size() > 64 ? digest_of(value->substr(64)) : std::nullopt;
+    if (!first || !second) {
+        return false;
+    }
+    std::copy(first->begin(), first->end(), signature.begin());
+    std::copy(second->begin(), second->end(), signature.begin() + 32);
+    return true;
+}
+
+std::string digits_of(const Signature &signature) {
+    Digest first{};
+    Digest second{};
+    std::copy_n(signature.begin(), first.size(), first.begin());
+    std::copy_n(signature.begin() + first.size(), second.size(), second.begin());
+    return text_of(first) + text_of(second);
+}
+
+std::optional<Checkpoint> checkpoint_of(std::string_view text) {
+    Checkpoint found;
+    take(text, "mireseason log");
+    for (const char *word : {"venue", "day", "configuration"}) {
+        take(text, word);
+    }
+    const auto term = take(text, "term");
+    found.at.term = term ? number_in(*term).value_or(0) : 0;
+    if (!read_place(take(text, "entry"), found.at.place, found.at.hash) ||
+        !read_place(take(text, "connection"), found.at.event, found.at.event_hash)) {
+        return std::nullopt;
+    }
+    const auto number = take(text, "checkpoint");
+    found.number = number ? number_in(*number).value_or(0) : 0;
+    return read_signature(take(text, "signature"), found.signature) ? std::optional(found)
+                                                                    : std::nullopt;
+}
+
+} // namespace
+
+CheckpointFile::CheckpointFile(const std::filesystem::path &folder, Sealer sealer)
+    : sealer_(std::move(sealer)),
+      path_(folder / fmt::format("{}-{}.checkpoint",
+                                 sealer_.log().venue.empty() ? "day" : sealer_.log().venue,
+                                 sealer_.log().date)) {
+    std::filesystem::create_directories(folder);
+}
+
+std::optional<Checkpoint> CheckpointFile::read() const {
+    if (!std::filesystem::exists(path_)) {
+        return std::nullopt;
+    }
+    const auto checkpoint = checkpoint_of(read_public(path_));
+    // The whole text follows from the log and the position: another one has another signature.
+    if (!checkpoint || !sealer_.is_signed(*checkpoint)) {
+        throw std::runtime_error(fmt::format(
+            "{} is no checkpoint of this log that one of its gateways signed", path_.string()));
+    }
+    return checkpoint;
+}
+
+void CheckpointFile::write(const Checkpoint &checkpoint) const {
+    replace_file(path_, fmt::format("{}signature {}\n", text_of(sealer_.log(), checkpoint),
+                                    digits_of(checkpoint.signature)));
+}
+
+} // namespace gateway

@@ -1,0 +1,36 @@
+// The last checkpoint of a log, in a file outside of its database: what tells that the end of the
+// log was cut off.
+#ifndef GATEWAY_CHECKPOINT_FILE_H
+#define GATEWAY_CHECKPOINT_FILE_H
+
+#include "seals.h"
+
+#include <filesystem>
+#include <optional>
+#include <string>
+
+namespace gateway {
+
+// The file is text: what was signed, as it was signed, and a line with the signature in hexadecimal
+// digits. One thread at a time.
+class CheckpointFile {
+  public:
+    // In a folder, named after the venue and the day.
+    CheckpointFile(const std::filesystem::path &folder, Sealer sealer);
+
+    const std::filesystem::path &path() const { return path_; }
+
+    // What stands there; nothing where there is no file. Throws std::runtime_error where it is no
+    // checkpoint of this log by one of its gateways.
+    std::optional<Checkpoint> read() const;
+    // Puts a checkpoint in the place of what stands there. On disk when it returns.
+    void write(const Checkpoint &checkpoint) const;
+
+  private:
+    Sealer sealer_;
+    std::filesystem::path path_;
+};
+
+} // namespace gateway
+
+#endif

@@ -1,0 +1,119 @@
+// A part of a file of TOML: keys with their kinds and limits, and faults that name them.
+#ifndef GATEWAY_CONFIG_SECTION_H
+#define GATEWAY_CONFIG_SECTION_H
+
+#include <cstdint>
+#include <filesystem>
+#include <optional>
+#include <set>
+#include <string>
+#include <string_view>
+#include <vector>
+
+#include <fmt/format.h>
+#include <toml++/toml.h>
+
+namespace gateway {
+
+// Throws std::runtime_error that names the file.
+[[noreturn]] void fail(const std::filesystem::path &file, std::string_view what);
+
+std::string read_file(const std::filesystem::path &path);
+
+toml::table parse(const std::filesystem::path &path, const std::string &text);
+
+// A table of a file, whose keys are all asked for: one that is not is a fault, since it is a
+// misspelling.
+class Section {
+  public:
+    Section(std::filesystem::path file, std::string name, const toml::table *table)
+        : file_(std::move(file)), name_(std::move(name)), table_(table) {}
+
+    bool stands() const { return table_ != nullptr; }
+
+    template <typename Value> std::optional<Value> find(std::string_view key) {
+        asked_.emplace(key);
+        const toml::node *node = table_ == nullptr ? nullptr : table_->get(key);
+        if (node == nullptr) {
+            return std::nullopt;
+        }
+        const auto value = node->value_exact<Value>();
+        if (!value) {
+            fail_at(key, "is of another kind");
+        }
+        return *value;
+    }
+
+    std::string text(std::string_view key, std::string_view otherwise = "") {
+        return find<std::string>(key).value_or(std::string(otherwise));
+    }
+    std::string text_of_need(std::string_view key) {
+        const std::string value = text(key);
+        if (value.empty()) {
+            fail_at(key, "is missing");
+        }
+        return value;
+    }
+    bool flag(std::string_view key) { return find<bool>(key).value_or(false); }
+    std::size_t number(std::string_view key, std::size_t otherwise, std::size_t least,
+                       std::size_t most) {
+        const auto value = find<std::int64_t>(key);
+        if (!value) {
+            return otherwise;
+        }
+        if (*value < static_cast<std::int64_t>(least) || *value > static_cast<std::int64_t>(most)) {
+            fail_at(key, fmt::format("is not from {} to {}", least, most));
+        }
+        return static_cast<std::size_t>(*value);
+    }
+    std::vector<std::string> words(std::string_view key) {
+        asked_.emplace(key);
+        const toml::array *array = table_ == nullptr ? nullptr : (*table_)[key].as_array();
+        if (array == nullptr || array->empty()) {
+            fail_at(key, "is no list of words");
+        }
+        std::vector<std::string> all;
+        for (const toml::node &node : *array) {
+            const auto word = node.value_exact<std::string>();
+            if (!word) {
+                fail_at(key, "is no list of words");
+            }
+            all.push_back(*word);
+        }
+        return all;
+    }
+
+    // A path relative to the file, empty without one.
+    std::filesystem::path path(std::string_view key) {
+        const std::string value = text(key);
+        return value.empty() ? std::filesystem::path() : beside(value);
+    }
+    std::filesystem::path beside(const std::filesystem::path &path) const {
+        return path.is_absolute() ? path : (file_.parent_path() / path).lexically_normal();
+    }
+
+    void end() const {
+        if (table_ == nullptr) {
+            return;
+        }
+        for (const auto &[key, node] : *table_) {
+            if (!asked_.contains(std::string(key.str()))) {
+                fail_at(key.str(), "is no key");
+            }
+        }
+    }
+
+    [[noreturn]] void fail_at(std::string_view key, std::string_view what) const {
+        fail(file_, fmt::format("[{}] {} {}", name_, key, what));
+    }
+
+  private:
+    std::filesystem::path file_;
+    std::string name_;
+    const toml::table *table_;
+    std::set<std::string> asked_;
+};
+
+} // namespace gateway
+
+#endif

@@ -1,0 +1,116 @@
+#include "private_file.h"
+
+#include "descriptor.h"
+
+#include <array>
+#include <stdexcept>
+#include <string_view>
+#include <system_error>
+
+#include <fcntl.h>
+#include <fmt/format.h>
+#include <sys/stat.h>
+
+namespace gateway {
+
+namespace {
+
+namespace fs = std::filesystem;
+
+// What nobody but the owner, and for reading the group, may do.
+constexpr mode_t forbidden = S_IWGRP | S_IRWXO;
+
+[[noreturn]] void fail(const fs::path &path) {
+    throw std::runtime_error(
+        fmt::format("{}: {}", path.string(), std::generic_category().message(errno)));
+}
+
+std::string read_all(const Descriptor &file, const fs::path &path) {
+    std::string text;
+    std::array<char, 4096> bytes{};
+    for (;;) {
+        const ssize_t count = ::read(file.number(), bytes.data(), bytes.size());
+        if (count < 0) {
+            fail(path);
+        }
+        if (count == 0) {
+            return text;
+        }
+        text.append(bytes.data(), static_cast<std::size_t>(count));
+    }
+}
+
+void write_all(const Descriptor &file, const fs::path &path, std::string_view text) {
+    while (!text.empty()) {
+        const ssize_t count = ::write(file.number(), text.data(), text.size());
+        if (count < 0) {
+            fail(path);
+        }
+        text.remove_prefix(static_cast<std::size_t>(count));
+    }
+    if (::fsync(file.number()) != 0) {
+        fail(path);
+    }
+}
+
+// The names in a folder are on disk when it returns.
+void synchronise_folder(const fs::path &path) {
+    const fs::path folder = path.has_parent_path() ? path.parent_path() : fs::path(".");
+    const Descriptor opened(::open(folder.c_str(), O_RDONLY | O_DIRECTORY | O_CLOEXEC));
+    if (opened.number() < 0 || ::fsync(opened.number()) != 0) {
+        fail(folder);
+    }
+}
+
+} // namespace
+
+std::string read_private(const fs::path &path) {
+    const Descriptor file(::open(path.c_str(), O_RDONLY | O_CLOEXEC));
+    struct stat found {};
+    if (file.number() < 0 || ::fstat(file.number(), &found) != 0) {
+        fail(path);
+    }
+    if ((found.st_mode & forbidden) != 0) {
+        throw std::runtime_error(fmt::format(
+            "{}: has the mode {:04o}: its group may not write it, and others may not read it (0640 "
+            "or 0600)",
+            path.string(), found.st_mode & 07777));
+    }
+    return read_all(file, path);
+}
+
+std::string read_public(const fs::path &path) {
+    const Descriptor file(::open(path.c_str(), O_RDONLY | O_CLOEXEC));
+    if (file.number() < 0) {
+        fail(path);
+    }
+    return read_all(file, path);
+}
+
+void write_new(const fs::path &path, const std::string &text, unsigned mode) {
+    const Descriptor file(
+        ::open(path.c_str(), O_WRONLY | O_CREAT | O_EXCL | O_CLOEXEC, static_cast<mode_t>(mode)));
+    if (file.number() < 0) {
+        fail(path);
+    }
+    write_all(file, path, text);
+    synchronise_folder(path);
+}
+
+void replace_file(const fs::path &path, const std::string &text) {
+    const fs::path other = path.string() + ".new";
+    {
+        const Descriptor file(
+            ::open(other.c_str(), O_WRONLY | O_CREAT | O_TRUNC | O_CLOEXEC, 0640));
+        if (file.number() < 0) {
+            fail(other);
+        }
+        write_all(file, other, text);
+    }
+    if (::rename(other.c_str(), path.c_str()) != 0) {
+        fail(path);
+    }
+    synchronise_folder(path);
+}
+
+} // namespace gateway

@@ -1,0 +1,459 @@
+// Seals and checkpoints: what somebody who may write the database, and has no key, can make a start
+// believe; a log that was cut off, was put back, or is another's; and a notary that is in time.
+//
+// usage: seal_test FOLDER [CONNECTION]    SQLite in the folder, or a PostgreSQL database
+#include "check.h"
+#include "log_days.h"
+#include "log_guard.h"
+#include "private_file.h"
+#include "sqlite_statement.h"
+#include "test_keys.h"
+
+#include <chrono>
+#include <ctime>
+#include <filesystem>
+#include <fstream>
+#include <functional>
+#include <iostream>
+#include <thread>
+
+#include <pqxx/pqxx>
+#include <unistd.h>
+
+namespace gateway::tests {
+
+namespace {
+
+using namespace std::chrono_literals;
+namespace fs = std::filesystem;
+
+const auto silent = std::make_shared<spdlog::logger>("none");
+
+// A database, and the intruder's hand in it.
+class Place {
+  public:
+    Place(fs::path folder, std::string connection)
+        : folder_(std::move(folder)), connection_(std::move(connection)),
+          schema_(fmt::format("seal_test_{}", ::getpid())) {
+        fs::remove_all(folder_);
+        fs::create_directories(folder_);
+    }
+    ~Place() {
+        if (is_postgres()) {
+            run("DROP SCHEMA IF EXISTS " + schema_ + " CASCADE");
+        }
+    }
+    Place(const Place &) = delete;
+    Place &operator=(const Place &) = delete;
+
+    std::unique_ptr<Database> open() const {
+        return is_postgres() ? open_postgres({connection_, schema_, "seal_test"})
+                             : open_sqlite(file());
+    }
+    void run(const std::string &statement) const {
+        if (is_postgres()) {
+            pqxx::connection connection(connection_);
+            pqxx::nontransaction(connection)
+                .exec(fmt::format("SET search_path TO {}; {}", schema_, statement));
+        } else {
+            const auto connection = sqlite::connect(file(), SQLITE_OPEN_READWRITE);
+            sqlite::execute(connection.get(), statement.c_str());
+        }
+    }
+    // An SQL literal of bytes.
+    std::string literal(const Digest &digest) const {
+        return fmt::format(fmt::runtime(is_postgres() ? "'\\x{}'" : "x'{}'"), text_of(digest));
+    }
+    const fs::path &folder() const { return folder_; }
+
+  private:
+    bool is_postgres() const { return !connection_.empty(); }
+    std::string file() const { return (folder_ / "day.db").string(); }
+
+    fs::path folder_;
+    std::string connection_;
+    std::string schema_;
+};
+
+Sealer sealer_at(const fs::path &folder, const std::string &venue = "") {
+    return {{venue, today(), sha256("version = 1\n")}, test_keys(folder / "keys")};
+}
+
+LogGuard guard_at(const Place &place) {
+    return {sealer_at(place.folder()), place.folder() / "checkpoints", silent};
+}
+
+// Appends so many messages, each with what happened to a connection, and signs the end.
+void write_some(Database &database, LogGuard &guard, std::uint32_t term, std::uint32_t count) {
+    Log::Start start = DayThatGoesOn::start_of(database);
+    start.term = term;
+    start.sealer = guard.sealer();
+    start.seals = guard.seals();
+    const std::uint32_t last = start.last.place;
+    DayClock clock{today()};
+    Metrics metrics{0};
+    Committed committed{last};
+    Log log(database, committed, clock, metrics, std::move(start),
+            [](const std::string &cause) { std::cerr << cause << '\n'; });
+    const auto notary = guard.notary(log);
+    for (std::uint32_t number = 1; number <= count; ++number) {
+        ConnectionEvent event;
+        event.event = connection_events::stranger;
+        event.address = "192.0.2.7:1";
+        log.put_connection(event);
+        log.wait(log.append_message("F", came(last + number), "x"));
+    }
+    notary->end();
+}
+
+// A day of some messages, of a gateway that ended well.
+void write_day(const Place &place, std::uint32_t count) {
+    const auto database = place.open();
+    LogGuard guard = guard_at(place);
+    Entry first;
+    first.term = database->take_over().value();
+    first.moment = "00:00:00.000";
+    first.line = line_of({"program 1", Digest{}, "version = 1\n", ""});
+    first.hash = hash_of(first);
+    Batch batch;
+    batch.entries.push_back(first);
+    batch.seal = guard.begin(first);
+    database->writer()->commit(batch);
+    write_some(*database, guard, first.term, count);
+}
+
+// What a start says of the log; empty where it takes it.
+std::string start(const Place &place) {
+    const auto database = place.open();
+    LogGuard guard = guard_at(place);
+    const auto reader = database->reader();
+    try {
+        guard.check_found(*reader);
+        guard.check_end(*reader, reader->last_entry().value());
+    } catch (const LogNotAccepted &fault) {
+        return fmt::format("not accepted: {}", fault.what());
+    } catch (const std::runtime_error &fault) {
+        return fault.what();
+    }
+    return "";
+}
+
+void told(const std::string &words, const std::string &part, const std::string &what) {
+    check(words.find(part) != std::string::npos,
+          fmt::format("{}: `{}` is not in `{}`", what, part, words));
+}
+
+// An entry behind the last one, with number and hash right.
+Entry next_entry(const Place &place) {
+    const auto last = place.open()->reader()->last_entry().value();
+    Entry entry = last;
+    ++entry.place;
+    entry.number = last.number.value() + 1;
+    entry.before = last.hash;
+    entry.hash = hash_of(entry);
+    return entry;
+}
+
+std::string insert_of(const Place &place, const Entry &entry) {
+    return fmt::format("INSERT INTO entry (place, term, moment, received, firm, number, "
+                       "connection, line, before, hash) SELECT {}, term, moment, received, firm, "
+                       "{}, connection, line, {}, {} FROM entry WHERE place = {};",
+                       entry.place, *entry.number, place.literal(entry.before),
+                       place.literal(entry.hash), entry.place - 1);
+}
+
+// What makes the chain whole again behind an entry whose receipt is another.
+std::string chain_anew(const Place &place, std::uint32_t from) {
+    const auto entries = place.open()->reader()->entries(from, 1000);
+    std::string statements;
+    Digest before = entries.front().before;
+    for (Entry entry : entries) {
+        if (entry.place == from) {
+            entry.received = entry.moment + "999";
+            statements += fmt::format("UPDATE entry SET received = '{}' WHERE place = {};",
+                                      entry.received, from);
+        }
+        entry.before = before;
+        entry.hash = before = hash_of(entry);
+        statements +=
+            fmt::format("UPDATE entry SET before = {}, hash = {} WHERE place = {};",
+                        place.literal(entry.before), place.literal(entry.hash), entry.place);
+    }
+    return statements;
+}
+
+std::string seal_row(const Place &place, std::uint32_t number, const Entry &entry,
+                     const Digest &mac) {
+    return fmt::format("INSERT INTO seal VALUES ({}, {}, {}, 5, {});", number, entry.term,
+                       entry.place, place.literal(mac));
+}
+
+// What is done to a log of six entries and seals while no gateway runs, and what a start says.
+struct Act {
+    std::string what;
+    std::function<std::string(const Place &)> statements;
+    std::string told;
+};
+
+const std::vector<Act> &acts() {
+    static const std::vector<Act> all = {
+        {"nothing", [](const Place &) { return "SELECT 1;"; }, ""},
+        {"an entry put in", [](const Place &p) { return insert_of(p, next_entry(p)); },
+         "entry 6 is not sealed"},
+        {"an entry put in with a seal of another key",
+         [](const Place &p) {
+             const Entry entry = next_entry(p);
+             return insert_of(p, entry) + seal_row(p, 7, entry, sha256("guessed"));
+         },
+         "at or before entry 6: seal 7"},
+        {"an entry put in with the last seal's words",
+         [](const Place &p) {
+             const Entry entry = next_entry(p);
+             return insert_of(p, entry) +
+                    "UPDATE seal SET place = 6 WHERE number = (SELECT max(number) FROM seal);";
+         },
+         "at or before entry 6: seal 6"},
+        {"an entry changed, and the chain made anew",
+         [](const Place &p) { return chain_anew(p, 3); }, "at or before entry 3: seal 4"},
+        {"no seals", [](const Place &) { return "DELETE FROM seal;"; }, "is not sealed"},
+        {"a row of the door put in",
+         [](const Place &) {
+             return "INSERT INTO connection SELECT 6, term, moment, event, entry, number, firm, "
+                    "address, certificate, why, left_out, before, hash FROM connection WHERE "
+                    "place = 5;";
+         },
+         "row 6 of the table connection is not sealed"},
+        {"the last entries cut off with their seals",
+         [](const Place &) {
+             return "DELETE FROM entry WHERE place > 3; DELETE FROM connection WHERE place > 3; "
+                    "DELETE FROM seal WHERE place > 3; DELETE FROM checkpoint WHERE place > 3;";
+         },
+         "not accepted: the log ends at entry 3: it was cut off, or is an old backup"},
+    };
+    return all;
+}
+
+void intruders(const fs::path &folder, const std::string &connection) {
+    for (const Act &act : acts()) {
+        const Place place(folder / "sealed_days", connection);
+        write_day(place, 5);
+        place.run(act.statements(place));
+        const std::string words = start(place);
+        if (act.told.empty()) {
+            same<std::string>("", words, act.what);
+        } else {
+            told(words, act.told, act.what);
+        }
+    }
+}
+
+// A log that was cut off is taken once the operator has said so, and goes on.
+void accepted(const fs::path &folder, const std::string &connection) {
+    const Place place(folder / "sealed_days", connection);
+    write_day(place, 5);
+    place.run("DELETE FROM entry WHERE place > 3; DELETE FROM connection WHERE place > 3; "
+              "DELETE FROM seal WHERE place > 3; DELETE FROM checkpoint WHERE place > 3;");
+    told(start(place), "--accept-loss", "the way out");
+    LogGuard guard = guard_at(place);
+    told(guard.accept(*place.open()->reader()),
+         "behind entry 3; the checkpoint that was kept had entry 5", "what is accepted");
+    same<std::string>("", start(place), "a start after it");
+    // What nobody has sealed is never accepted.
+    place.run(insert_of(place, next_entry(place)));
+    bool refused = false;
+    try {
+        guard_at(place).accept(*place.open()->reader());
+    } catch (const std::runtime_error &) {
+        refused = true;
+    }
+    check(refused, "an entry that is not sealed is accepted");
+}
+
+// Without what was kept it is not known whether the log was cut off.
+void nothing_kept(const fs::path &folder, const std::string &connection) {
+    const Place place(folder / "sealed_days", connection);
+    write_day(place, 5);
+    const fs::path kept =
+        CheckpointFile(place.folder() / "checkpoints", sealer_at(place.folder())).path();
+    const std::string text = read_public(kept);
+    fs::remove(kept);
+    told(start(place), "not accepted: there is no checkpoint in", "no file");
+    std::ofstream(kept) << text.substr(0, text.size() / 2);
+    told(start(place), "is no checkpoint of this log", "a part of the file");
+    std::string other = text;
+    other[other.find("entry 5") + 6] = '3';
+    std::ofstream(kept) << other;
+    told(start(place), "is no checkpoint of this log", "a changed file");
+    std::ofstream(kept) << text;
+    same<std::string>("", start(place), "the file as it was");
+}
+
+// A gateway that follows has no file yet, and takes what the one that speaks has signed since; what
+// was signed before, under another number, is no sign of it.
+void one_that_follows(const fs::path &folder, const std::string &connection) {
+    const Place place(folder / "sealed_days", connection);
+    write_day(place, 5);
+    const auto database = place.open();
+    const auto reader = database->reader();
+    LogGuard other(sealer_at(place.folder()), place.folder() / "other", silent);
+    other.check_found(*reader);
+    other.read_on(*reader);
+    place.run("INSERT INTO checkpoint SELECT number + 100, term, place, event, signature FROM "
+              "checkpoint ORDER BY number DESC LIMIT 1;");
+    bool refused = false;
+    try {
+        other.read_on(*reader);
+    } catch (const std::runtime_error &) {
+        refused = true;
+    }
+    check(refused, "an old signature under a new number is taken");
+    place.run("DELETE FROM checkpoint WHERE number > 100;");
+    LogGuard speaks = guard_at(place);
+    speaks.check_found(*reader);
+    speaks.read_on(*reader);
+    write_some(*database, speaks, database->take_over().value(), 2);
+    other.read_on(*reader);
+    other.check_end(*reader, reader->last_entry().value());
+}
+
+// No seal is good for another venue, day, configuration, term, place or hash.
+void of_one_log(const fs::path &folder) {
+    const auto keys = test_keys(folder / "seal_keys");
+    const LogName log{"north", "20261127", sha256("a")};
+    const Position at{1, 2, sha256("b"), 3, sha256("c")};
+    const Seal seal = Sealer(log, keys).seal(1, at);
+    const Checkpoint signed_here = Sealer(log, keys).sign(1, at);
+    const auto refuses = [&](const LogName &name, const Position &where, const std::string &what) {
+        const Sealer other(name, keys);
+        check(!other.is_sealed({1, where, seal.mac}), what + ": a seal of another log is right");
+        check(!other.is_signed({1, where, signed_here.signature}), what + ": so is a signature");
+    };
+    check(Sealer(log, keys).is_sealed(seal), "its own seal is wrong");
+    check(Sealer(log, keys).is_signed(signed_here), "its own signature is wrong");
+    check(!Sealer(log, keys).is_signed({2, at, signed_here.signature}), "another number");
+    refuses({"south", "20261127", sha256("a")}, at, "venue");
+    refuses({"north", "20261128", sha256("a")}, at, "day");
+    refuses({"north", "20261127", sha256("x")}, at, "configuration");
+    refuses(log, {2, 2, sha256("b"), 3, sha256("c")}, "term");
+    refuses(log, {1, 3, sha256("b"), 3, sha256("c")}, "place");
+    refuses(log, {1, 2, sha256("x"), 3, sha256("c")}, "hash");
+    refuses(log, {1, 2, sha256("b"), 4, sha256("c")}, "event");
+    refuses(log, {1, 2, sha256("b"), 3, sha256("x")}, "hash of the event");
+    make_keys(folder / "seal_keys_of_others", {"gateway"});
+    const Sealer stranger(log, test_keys(folder / "seal_keys_of_others"));
+    check(!stranger.is_sealed(seal) && !stranger.is_signed(signed_here), "other keys");
+}
+
+// HMAC-SHA-256 by another implementation (the module hmac of Python).
+void known_answers() {
+    Digest secret{};
+    for (std::size_t at = 0; at < secret.size(); ++at) {
+        secret[at] = static_cast<unsigned char>(at);
+    }
+    same<std::string>("099805f4ac310786968565c098db515cc50862b420ae31e20238312344bed36a",
+                      text_of(SealKey(secret).mac_of("what do ya want for nothing?")), "HMAC");
+}
+
+void keys_of_all_modes(const fs::path &folder) {
+    const fs::path keys = folder / "seal_keys_of_modes";
+    fs::remove_all(keys);
+    make_keys(keys, {"gw1", "gw2"});
+    const SealFiles files{keys / "seal.key", keys / "gw1.pem", {keys / "gw2.pub"}};
+    read_seal_keys(files);
+    const auto refused = [&](const SealFiles &given) {
+        try {
+            read_seal_keys(given);
+        } catch (const std::runtime_error &fault) {
+            return std::string(fault.what());
+        }
+        return std::string();
+    };
+    for (const fs::path &file : {files.secret, files.own}) {
+        for (const unsigned mode : {0644U, 0604U, 0602U, 0660U, 0620U}) {
+            fs::permissions(file, static_cast<fs::perms>(mode));
+            told(refused(files), fmt::format("has the mode {:04o}", mode), file.string());
+        }
+        fs::permissions(file, static_cast<fs::perms>(0640));
+        same<std::string>("", refused(files), file.string());
+    }
+    told(refused({files.own, files.own, {}}), "is no key", "a secret that is none");
+    told(refused({files.secret, files.secret, {}}), "is no private key", "a private key");
+    told(refused({files.secret, files.own, {files.secret}}), "is no public key", "a public key");
+    bool stays = false;
+    try {
+        make_keys(keys, {"gw3"});
+    } catch (const std::runtime_error &) {
+        stays = true;
+    }
+    check(stays, "keys are overwritten");
+}
+
+// An entry is signed, and kept outside of the database, in less than a second: here in three, since
+// a machine may be busy.
+void in_time(const fs::path &folder) {
+    const Place place(folder / "sealed_days", "");
+    write_day(place, 1);
+    const auto database = place.open();
+    LogGuard guard = guard_at(place);
+    const auto reader = database->reader();
+    guard.check_found(*reader);
+    guard.check_end(*reader, reader->last_entry().value());
+    Log::Start begin = DayThatGoesOn::start_of(*database);
+    begin.sealer = guard.sealer();
+    begin.seals = guard.seals();
+    DayClock clock{today()};
+    Metrics metrics{0};
+    Committed committed{begin.last.place};
+    Log log(*database, committed, clock, metrics, std::move(begin), [](const std::string &) {});
+    const auto notary = guard.notary(log);
+    const CheckpointFile file(place.folder() / "checkpoints", guard.sealer());
+    for (std::uint32_t number = 10; number < 13; ++number) {
+        log.wait(log.append_message("F", came(number), "x"));
+        const std::uint32_t last = log.last_place();
+        const auto begun = std::chrono::steady_clock::now();
+        while (file.read()->at.place < last) {
+            check(std::chrono::steady_clock::now() - begun < 3s, "it is kept late");
+            std::this_thread::sleep_for(5ms);
+        }
+    }
+}
+
+// What a seal adds to a batch.
+void tell_cost(const fs::path &folder) {
+    const Sealer sealer({"", today(), Digest{}}, test_keys(folder / "seal_keys"));
+    constexpr int count = 20000;
+    Position at;
+    const std::clock_t begin = std::clock();
+    for (int number = 0; number < count; ++number) {
+        at.hash = sealer.seal(1, at).mac;
+    }
+    const double took = static_cast<double>(std::clock() - begin) / CLOCKS_PER_SEC;
+    std::cout << fmt::format("a seal takes {:.2f} microseconds\n", took * 1e6 / count);
+}
+
+void run(const fs::path &folder, const std::string &connection) {
+    intruders(folder, connection);
+    accepted(folder, connection);
+    nothing_kept(folder, connection);
+    one_that_follows(folder, connection);
+    if (connection.empty()) {
+        fs::remove_all(folder / "seal_keys");
+        fs::remove_all(folder / "seal_keys_of_others");
+        of_one_log(folder);
+        known_answers();
+        keys_of_all_modes(folder);
+        in_time(folder);
+        tell_cost(folder);
+    }
+}
+
+} // namespace
+
+} // namespace gateway::tests
+
+int main(int count, char **words) {
+    return gateway::tests::run_with(
+        count, words, 1, 2, "seal_test FOLDER [CONNECTION]", [](std::span<char *> given) {
+            gateway::tests::run(given[0], given.size() > 1 ? given[1] : "");
+        });
+}

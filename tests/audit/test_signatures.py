@@ -1,0 +1,151 @@
+"""Seals and signatures of a log: an entry that somebody put in with number and hash right, one that
+was changed with the chain made anew, a log that was cut off, other keys, and logs of older forms.
+"""
+
+import hashlib
+import sqlite3
+import subprocess
+import unittest
+from contextlib import closing
+from pathlib import Path
+from typing import Any
+
+from tests.audit import ledger
+from tests.audit.common import ROOT, Ran, audit, folder, keys, venue_words
+from tests.audit.tamper import ENTRIES, hash_of
+
+SIGNED = r"signed +\d+ checkpoints, each by a gateway; no entry follows the last, of entry \d+\n"
+
+
+def rows_of(log: Path, query: str, *values: object) -> list[Any]:
+    with closing(sqlite3.connect(log, isolation_level=None)) as connection:
+        return connection.execute(query, values).fetchall()
+
+
+def draw(path: Path, form: int) -> None:
+    words = ["/usr/bin/python3", "-m", "tests.audit.draw_day", str(path), "--requests", "6"]
+    words += ["--form", str(form), "--", *venue_words()]
+    subprocess.run(words, check=True, cwd=ROOT)
+
+
+class Signatures(unittest.TestCase):
+    place: Path
+
+    @classmethod
+    def setUpClass(cls) -> None:
+        kept = folder()
+        cls.addClassCleanup(kept.cleanup)
+        cls.place = Path(kept.name)
+        for form in (3, 4):
+            draw(cls.place / ("drawn-%d.db" % form), form)
+        (cls.place / "gateway.pub").write_bytes(ledger.public_key())
+        _, other = keys(cls.place)
+        other.rename(cls.place / "other.pub")
+
+    def setUp(self) -> None:
+        self.log = self.place / "day.db"
+        self.log.write_bytes((self.place / "drawn-4.db").read_bytes())
+
+    def check_log(self, *words: str) -> Ran:
+        key = str(self.place / "gateway.pub")
+        return audit("check", self.log, *(words or ("--gateway-key", key)))
+
+    def do(self, query: str, *values: object) -> None:
+        rows_of(self.log, query, *values)
+
+    def put_in(self) -> int:
+        """The last entry once more behind itself, with number and hash as they have to be."""
+        row = list(rows_of(self.log, ENTRIES)[-1])
+        before = rows_of(self.log, "SELECT hash FROM entry ORDER BY place DESC LIMIT 1")[0][0]
+        row[0] += 1
+        place, term, moment, firm, number, line, _, _, received, connection = row
+        values = place, term, moment, received, firm, number, connection, line, before
+        digest = hash_of(tuple(row), before)
+        self.do("INSERT INTO entry VALUES (?, ?, ?, ?, ?, ?, ?, ?, ?, ?)", *values, digest)
+        return int(place)
+
+    def found(self, ran: Ran, pattern: str) -> None:
+        self.assertEqual(ran.status, 1, ran.text)
+        self.assertRegex(ran.out, pattern)
+
+    def test_whole(self) -> None:
+        ran = self.check_log()
+        self.assertEqual(ran.status, 0, ran.text)
+        self.assertRegex(ran.out, SIGNED)
+
+    def test_several_keys(self) -> None:
+        named = (str(self.place / name) for name in ("other.pub", "gateway.pub"))
+        ran = self.check_log(*(word for name in named for word in ("--gateway-key", name)))
+        self.assertEqual(ran.status, 0, ran.text)
+
+    def test_put_in(self) -> None:
+        place = self.put_in()
+        ran = self.check_log()
+        self.found(ran, r"entries: entry %d: it is not sealed: the last seal is of entry" % place)
+        self.found(ran, r"entries: entry %d: 1 entry follows the last checkpoint" % place)
+
+    def test_put_in_with_a_seal(self) -> None:
+        """A seal that is none, which only the gateways can tell: nobody has signed the entry."""
+        place = self.put_in()
+        seal = "INSERT INTO seal SELECT max(number) + 1, 0, ?, max(event), ? FROM seal"
+        self.do(seal, place, hashlib.sha256(b"guessed").digest())
+        ran = self.check_log()
+        self.found(ran, r"entries: entry %d: 1 entry follows the last checkpoint" % place)
+
+    def test_chain_anew(self) -> None:
+        """The hash of an early entry, and each that follows from it."""
+        before = bytes(32)
+        for row in rows_of(self.log, ENTRIES):
+            if row[0] == 5:
+                row = (*row[:8], row[8][:-1] + ("1" if row[8][-1] == "0" else "0"), *row[9:])
+            digest = hash_of(row, before)
+            change = "UPDATE entry SET received = ?, before = ?, hash = ? WHERE place = ?"
+            self.do(change, row[8], before, digest, row[0])
+            before = digest
+        pattern = r"entries: entry \d+: checkpoint \d+ is signed by none of the keys"
+        self.found(self.check_log(), pattern)
+
+    def test_door_row_changed(self) -> None:
+        self.do(
+            "INSERT INTO connection SELECT place + 1, term, moment, 'stranger', entry, NULL, NULL,"
+            " address, NULL, 'no Logon', 0, hash, hash FROM connection ORDER BY place DESC LIMIT 1"
+        )
+        ran = self.check_log()
+        self.found(ran, r"door: row \d+ is not sealed: the last seal is of row \d+")
+        self.found(ran, r"door: no gateway has signed the rows from \d+ on")
+
+    def test_no_checkpoints(self) -> None:
+        self.do("DELETE FROM checkpoint")
+        self.found(self.check_log(), r"signed +0 checkpoints, NOT AS THEY SHOULD BE")
+
+    def test_last_checkpoint_out(self) -> None:
+        self.do("DELETE FROM checkpoint WHERE number = (SELECT max(number) FROM checkpoint)")
+        self.found(self.check_log(), r"entries: entry \d+: \d+ entr\w+ follows? the last checkpoint")
+
+    def test_other_key(self) -> None:
+        ran = self.check_log("--gateway-key", str(self.place / "other.pub"))
+        self.found(ran, r"checkpoint 1 is signed by none of the keys")
+
+    def test_no_key(self) -> None:
+        for text in (b"", b"-----BEGIN PUBLIC KEY-----\nAAAA\n-----END PUBLIC KEY-----\n"):
+            (self.place / "none.pub").write_bytes(text)
+            ran = self.check_log("--gateway-key", str(self.place / "none.pub"))
+            self.assertEqual(ran.status, 2, ran.text)
+            self.assertIn("none.pub can't be read", ran.err)
+
+    def test_until(self) -> None:
+        key = str(self.place / "gateway.pub")
+        ran = audit("stats", self.log, "--until", "9", "--gateway-key", key)
+        self.assertEqual(ran.status, 2, ran.text)
+        self.assertIn("signatures are of the whole log", ran.err)
+
+    def test_form_3(self) -> None:
+        """A log of the last release: checked as it was, and nobody has signed it."""
+        self.log.write_bytes((self.place / "drawn-3.db").read_bytes())
+        ran = audit("check", self.log)
+        self.assertEqual(ran.status, 0, ran.text)
+        self.assertNotIn("signed", ran.out)
+        ran = self.check_log()
+        self.assertEqual(ran.status, 2, ran.text)
+        self.assertIn("of a form in which gateways did not sign", ran.err)
+

@@ -1,0 +1,229 @@
+"""What somebody can make a start believe who may write to the log's database and has no key of a gateway: entries that are
+put in or changed while no gateway runs, a log that is cut off or put back; and what an operator can do then.
+"""
+
+import hashlib
+import re
+import shutil
+import sqlite3
+import subprocess
+from collections.abc import Callable
+from pathlib import Path
+
+import pytest
+
+from tests.gateway.door import Door
+from tests.gateway.market import moment_in
+from tests.gateway.stage import Stage, check
+from tests.gateway.tried_log import ended_day, goes_on, nothing_sent
+from tests.gateway.wait import LONG, until
+from tests.harness.budget import Budget, seconds_of
+from tests.model.frames import write_frame
+
+ROOT = Path(__file__).resolve().parent.parent.parent
+COLUMNS = "place, term, moment, received, firm, number, connection"
+
+
+class Intruder:
+    """Somebody with write access to the log's database, whichever it is."""
+
+    def __init__(self, door: Door) -> None:
+        self.door = door
+
+    def rows(self, query: str) -> list[list[str]]:
+        """The rows of a query, as texts; nothing is a dash, bytes are hexadecimal digits (HEX(..))."""
+        if self.door.postgres is not None:
+            return self.door.postgres.rows(re.sub(r"HEX\((\w+)\)", r"encode(\1, 'hex')", query))
+        connection = sqlite3.connect(self.door.database, isolation_level=None)
+        found = connection.execute(query).fetchall()
+        connection.close()
+        return [["-" if value is None else str(value) for value in row] for row in found]
+
+    def bytes(self, data: bytes) -> str:
+        """Bytes as they stand in a statement."""
+        return ("'\\x%s'" if self.door.postgres is not None else "x'%s'") % data.hex()
+
+    def put_in(self, firm: str, moment: str, message: bytes) -> int:
+        """Puts an entry behind the last one: a message of a firm, on the connection that it had, with everything right that
+        one can know; its place."""
+        (term, connection, number), = self.rows(
+            "SELECT max(term), max(connection), max(number) + 1 FROM entry WHERE firm = '%s'" % firm)
+        (place, before), = self.rows("SELECT place, HEX(hash) FROM entry ORDER BY place DESC LIMIT 1")
+        line = b"hex %s %s %s" % (firm.encode(), moment.encode(), message.hex().upper().encode())
+        row = int(place) + 1, term, moment, moment + "000", firm, number, connection
+        text = " ".join([before.lower(), *map(str, row), str(len(line))]).encode() + b"\n" + line
+        values = ["%d" % row[0], term, "'%s'" % row[2], "'%s'" % row[3], "'%s'" % firm, number, connection]
+        values += [self.bytes(line), self.bytes(bytes.fromhex(before)), self.bytes(hashlib.sha256(text).digest())]
+        self.rows("INSERT INTO entry (%s, line, before, hash) VALUES (%s)" % (COLUMNS, ", ".join(values)))
+        return row[0]
+
+    def put_seal(self, place: int) -> None:
+        """A seal for it, whose bytes nobody without the secret can know."""
+        self.rows("INSERT INTO seal (number, term, place, event, mac) SELECT max(number) + 1, max(term), %d, max(event), %s FROM seal" % (
+            place, self.bytes(hashlib.sha256(b"guessed").digest())))
+
+
+def asked_and_quoted(stage: Stage) -> bytes:
+    """A quote that stands on an investor's request when the gateway ends; how the investor knows it."""
+    stage.open(*stage.firms)
+    request = stage.ask()
+    stage.quote(stage.dealer, request)
+    quote = stage.answer(stage.investor, "a quote", lambda message: message.kind == b"S" and message.value(131) == stage.asked)
+    check(stage.door.stop() == 0, "the gateway does not end well")
+    return quote.value(117) or b""
+
+
+def hit_of(stage: Stage, quote: bytes, moment: str) -> bytes:
+    """The investor's hit of a quote, as the gateway writes it."""
+    count = stage.entries_of(stage.investor) + 1
+    fields = [(35, b"AJ"), (49, b"INV1"), (56, b"VENUE"), (34, b"%d" % count), (52, b"%s-%s" % (moment_in(0)[:8], moment.encode()))]
+    fields += [(50, b"V1"), (693, b"stolen"), (694, b"1"), (117, quote)]
+    return write_frame(fields)
+
+
+def now_text() -> str:
+    return moment_in(0)[9:].decode()
+
+
+def audited(stage: Stage, *words: str) -> subprocess.CompletedProcess[str]:
+    """The audit's check of the log as it stands."""
+    door = stage.door
+    log = [str(door.database)] if door.postgres is None else ["postgres:" + door.postgres.connection, "--schema", door.postgres.schema]
+    program = " ".join(stage.tools.programs.venue)
+    command = [str(ROOT / "audit" / "mireseason-audit"), "check", *log, "--venue", program, *words]
+    return subprocess.run(command, capture_output=True, text=True, check=False)
+
+
+@pytest.mark.parametrize("with_seal", [False, True], ids=["without a seal", "with a seal"])
+def test_an_entry_that_is_put_in(stage_of_log: Stage, with_seal: bool) -> None:
+    """A hit in an investor's name, put in while no gateway runs: no start takes it, and the audit finds it."""
+    stage = stage_of_log
+    quote = asked_and_quoted(stage)
+    key = str(stage.door.keys / "gateway.pub")
+    check(audited(stage, "--gateway-key", key).returncode == 0, "the log is not whole before: %s" % audited(stage).stdout)
+    intruder, moment = Intruder(stage.door), now_text()
+    place = intruder.put_in("INV1", moment, hit_of(stage, quote, moment))
+    if with_seal:
+        intruder.put_seal(place)
+    words = "entry %d is not sealed" if not with_seal else "the log was changed at or before entry %d"
+    nothing_sent(stage, lambda: stage.refused(words % place))
+    found = audited(stage, "--gateway-key", key)
+    check(found.returncode == 1 and "entry %d: 1 entry follows the last checkpoint" % place in found.stdout, found.stdout)
+
+
+def kept_aside(stage: Stage) -> Path:
+    """The log as it is now, as a backup has it."""
+    backup = stage.folder / "backup.db"
+    source, target = sqlite3.connect(stage.door.database), sqlite3.connect(backup)
+    source.backup(target)
+    source.close()
+    target.close()
+    return backup
+
+
+def put_back(stage: Stage, backup: Path) -> None:
+    for ending in ("-wal", "-shm"):
+        stage.door.database.with_name(stage.door.database.name + ending).unlink(missing_ok=True)
+    shutil.copyfile(backup, stage.door.database)
+
+
+def not_accepted(stage: Stage, *words: str) -> None:
+    """A start that leaves the log alone, ends with status 3, and names the way out."""
+    stage.door.start()
+    check(stage.door.wait_end() == 3, "it ended with another status: %s" % stage.door.last_words())
+    text = stage.door.last_words()
+    for word in (*words, "mireseason-gateway --accept-loss"):
+        check(word in text, "it does not say %r: %s" % (word, text))
+
+
+def accept(stage: Stage) -> str:
+    words = [stage.door.programs.gateway, "--accept-loss", stage.folder / "gateway.toml"]
+    done = subprocess.run(words, capture_output=True, text=True, check=True)
+    return done.stdout
+
+
+def backup_put_back(stage: Stage) -> int:
+    """A day that went on after a backup, which is put back; the last entry that there was."""
+    ended_day(stage)
+    backup = kept_aside(stage)
+    goes_on(stage)  # and is ended
+    last = stage.door.ledger().entries[-1].place
+    put_back(stage, backup)
+    return last
+
+
+def test_a_backup_that_is_put_back(stage: Stage) -> None:
+    """It opens no day until an operator has accepted what is lost; then it goes on at its end."""
+    last = backup_put_back(stage)
+    end = stage.door.ledger().entries[-1].place
+    check(end < last, "the backup lacks nothing")
+    nothing_sent(stage, lambda: not_accepted(stage, "the log ends at entry %d" % end, "had entry %d" % last))
+    said = accept(stage)
+    check("entry %d" % last in said and "entry %d" % end in said, said)
+    stage.door.start()
+    stage.door.wait_open()
+
+
+def test_a_log_that_is_gone(stage: Stage) -> None:
+    """A day that had begun does not begin anew."""
+    ended_day(stage)
+    last = stage.door.ledger().entries[-1].place
+    stage.door.database.unlink()
+    for ending in ("-wal", "-shm"):
+        stage.door.database.with_name(stage.door.database.name + ending).unlink(missing_ok=True)
+    nothing_sent(stage, lambda: not_accepted(stage, "the log is empty", "had entry %d" % last))
+
+
+def test_a_checkpoint_that_is_gone(stage: Stage) -> None:
+    """Without it nobody knows whether the log was cut off."""
+    ended_day(stage)
+    stage.door.kept.unlink()
+    nothing_sent(stage, lambda: not_accepted(stage, "there is no checkpoint"))
+
+
+def test_a_day_that_was_killed(stage: Stage) -> None:
+    """A gateway that was killed leaves a log that goes on beyond its last checkpoint: the day goes on."""
+    stage.open(*stage.firms)
+    stage.auction()
+    stage.door.kill()
+    goes_on(stage)
+
+
+SPOILT: list[tuple[str, Callable[[Path], object]]] = [
+    ("seal.key: has the mode 0644", lambda keys: (keys / "seal.key").chmod(0o644)),
+    ("gateway.pem: has the mode 0604", lambda keys: (keys / "gateway.pem").chmod(0o604)),
+    ("seal.key: No such file", lambda keys: (keys / "seal.key").unlink()),
+    ("seal.key: is no key", lambda keys: (keys / "seal.key").write_text("00" * 31)),
+    ("gateway.pub: is no public key of Ed25519", lambda keys: (keys / "gateway.pub").write_text("none")),
+]
+
+
+@pytest.mark.parametrize("words, spoil", SPOILT, ids=[words for words, _ in SPOILT])
+def test_keys_that_are_none(stage: Stage, words: str, spoil: Callable[[Path], object]) -> None:
+    """Nothing is opened where a key can't be used, or others may read it."""
+    stage.door.write()
+    spoil(stage.door.keys)
+    stage.refused(re.escape(words))
+
+
+def test_another_secret(stage: Stage) -> None:
+    """A log that was sealed under another secret is none of this gateway."""
+    ended_day(stage)
+    (stage.door.keys / "seal.key").write_text("5a" * 32 + "\n")
+    nothing_sent(stage, lambda: stage.refused("the log was changed at or before entry 0"))
+
+
+def test_a_checkpoint_is_in_time(stage: Stage) -> None:
+    """The last checkpoint outside of the database is a second late at most."""
+    stage.open(*stage.firms)
+
+    def kept() -> int:
+        found = re.search(r"^entry (\d+) ", stage.door.kept.read_text(), re.MULTILINE)
+        return int(found[1]) if found else -1
+
+    def late() -> float:
+        stage.ping(stage.dealer)
+        place = stage.door.ledger().entries[-1].place
+        return seconds_of(lambda: until("it is kept", LONG, lambda: kept() >= place))
+
+    Budget("the last checkpoint is kept outside of the database", most=1).hold(late)
