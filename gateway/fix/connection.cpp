@@ -2,6 +2,7 @@
 
 #include "refusal_words.h"
 
+#include <algorithm>
 #include <array>
 #include <cerrno>
 #include <cstring>
@@ -24,6 +25,10 @@ constexpr auto last_words = seconds(2);
 // gone.
 constexpr auto tick = milliseconds(500);
 constexpr auto look = milliseconds(20);
+
+// How long a firm may be above its rate, and how much of it is read at once meanwhile.
+constexpr auto longest_held = seconds(5);
+constexpr std::size_t read_while_held = 4096;
 
 } // namespace
 
@@ -187,7 +192,7 @@ void Connection::turn() {
         wait(false);
         conversation_.look_again();
     } else {
-        wait(true);
+        wait(!is_held());
         read();
     }
     if (!admitted_ && conversation_.is_admitted()) {
@@ -211,7 +216,7 @@ void Connection::wait(bool reads) {
     set[0].events = static_cast<short>((reads ? POLLIN : 0) | (wants_write_ ? POLLOUT : 0));
     set[1].fd = bell_.number();
     set[1].events = POLLIN;
-    const milliseconds limit = conversation_.waits() ? look : tick;
+    const auto limit = std::chrono::duration_cast<milliseconds>(longest_wait()) + milliseconds(1);
     ::poll(set.data(), set.size(), static_cast<int>(limit.count()));
     if ((set[1].revents & POLLIN) != 0) {
         std::uint64_t rung = 0;
@@ -220,13 +225,25 @@ void Connection::wait(bool reads) {
     }
 }
 
+// A firm that is above its rate is read when its rate lets it.
+Connection::Clock::duration Connection::longest_wait() const {
+    const Clock::duration usual = conversation_.waits() ? look : tick;
+    const Clock::time_point now = Clock::now();
+    return reads_from_ > now ? std::min(usual, reads_from_ - now) : usual;
+}
+
 void Connection::read() {
-    if (is_ending()) {
+    if (is_ending() || is_held()) {
         return;
     }
     std::array<char, 65536> bytes;
     std::size_t count = 0;
-    const Channel::Progress progress = channel_.read(bytes.data(), bytes.size(), count);
+    const bool was_held = held_since_ != Clock::time_point();
+    const Channel::Progress progress =
+        channel_.read(bytes.data(), was_held ? read_while_held : bytes.size(), count);
+    if (progress == Channel::Progress::wants_read) {
+        held_since_ = {};
+    }
     if (progress == Channel::Progress::ended) {
         shut(channel_.fault());
         return;
@@ -240,6 +257,10 @@ void Connection::read() {
         wake();
     }
     conversation_.hear(bytes.data(), count, at);
+    reads_from_ = conversation_.may_hear_from(count);
+    if (!was_held && is_held()) {
+        held_since_ = Clock::now();
+    }
 }
 
 void Connection::write() {
@@ -282,9 +303,22 @@ void Connection::drain() {
     }
 }
 
+void Connection::rest_until(Clock::time_point moment) {
+    while (!shut_ && Clock::now() < moment) {
+        reads_from_ = moment;
+        wait(false);
+        write();
+        keep_time();
+    }
+}
+
 void Connection::keep_time() {
     const Clock::time_point now = Clock::now();
     if (admitted_) {
+        if (held_since_ != Clock::time_point() && now - held_since_ >= longest_held) {
+            held_since_ = now;
+            conversation_.is_held_too_long();
+        }
         if (wants_write_ && now - progress_ >= seconds(settings_.send_seconds)) {
             shut("the firm takes no byte");
         }

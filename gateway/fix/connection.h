@@ -21,6 +21,8 @@ namespace gateway {
 // be written, or shut it.
 class Connection final : public Line {
   public:
+    using Clock = std::chrono::steady_clock;
+
     Connection(Descriptor socket, std::string peer, const TlsServer *tls, StrangerSlot slot,
                const Sessions &sessions, const EngineSettings &settings, EngineEvents &events);
     // Shuts it and waits for the thread.
@@ -36,6 +38,7 @@ class Connection final : public Line {
     void shut(const std::string &why) override;
     bool is_ending() const override;
     void drain() override;
+    void rest_until(Clock::time_point moment) override;
     void wake() override;
     ConnectionFacts facts() const override;
     void is_judged() override { slot_.judges(); }
@@ -47,14 +50,14 @@ class Connection final : public Line {
     bool has_ended() const { return ended_; }
 
   private:
-    using Clock = std::chrono::steady_clock;
-
     void run();
     void talk();
     bool shake_hands();
     void turn();
     // Waits until there is something to read, where that is looked for, to write, or to look at.
     void wait(bool reads);
+    bool is_held() const { return Clock::now() < reads_from_; }
+    Clock::duration longest_wait() const;
     void read();
     void write();
     void keep_time();
@@ -79,6 +82,8 @@ class Connection final : public Line {
     bool wants_write_ = false;
     Clock::time_point progress_;
     Clock::time_point ticked_;
+    Clock::time_point reads_from_; // before it nothing is read: the firm is above its rate
+    Clock::time_point held_since_; // its messages wait since then; none where they do not
 
     mutable std::mutex mutex_;
     std::string waiting_;

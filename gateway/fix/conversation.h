@@ -28,6 +28,10 @@ class Conversation {
     // the next call is look_again(), soon.
     bool waits() const { return waits_; }
     void look_again();
+    // From when on the firm may be read again, by its rate: these are the bytes that it was heard.
+    std::chrono::steady_clock::time_point may_hear_from(std::size_t bytes);
+    // The firm has sent more than it may for too long.
+    void is_held_too_long();
     // What time brings about in the session; to be called every half second.
     void tick();
     // Ends a connection whose Logon was not accepted; `word` is one of stranger_words.
@@ -43,8 +47,9 @@ class Conversation {
     Line &line_;
     Admission admission_;
     Reader reader_;
-    WireMessage piece_; // that was read last
-    Received at_{};     // when the last bytes were read
+    WireMessage piece_;      // that was read last
+    std::size_t pieces_ = 0; // since may_hear_from()
+    Received at_{};          // when the last bytes were read
     bool waits_ = false;
 };
 

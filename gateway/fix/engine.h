@@ -102,6 +102,14 @@ class SessionHost {
     virtual void store_target(const std::string &firm, std::uint32_t target) = 0;
     virtual std::vector<StoredMessage> stored_messages(const std::string &firm, std::uint32_t first,
                                                        std::uint32_t last) = 0;
+
+    // So much of the firm was read from its socket, and so many messages were sent to it again:
+    // from when on more may be.
+    using Time = std::chrono::steady_clock::time_point;
+    virtual Time was_read(const std::string &, std::size_t /*messages*/, std::size_t /*bytes*/) {
+        return {};
+    }
+    virtual Time was_sent_again(const std::string &, std::size_t /*messages*/) { return {}; }
 };
 
 // Where a session is when the gateway starts.

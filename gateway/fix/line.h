@@ -5,6 +5,7 @@
 
 #include "engine.h"
 
+#include <chrono>
 #include <string>
 
 namespace gateway {
@@ -25,6 +26,8 @@ class Line {
 
     // Writes until nothing waits, or the peer takes nothing for too long. Of the thread that reads.
     virtual void drain() = 0;
+    // Reads nothing until then, and writes what waits; of the thread that reads.
+    virtual void rest_until(std::chrono::steady_clock::time_point) {}
     // Has the thread that reads look at its session. Any thread may call it.
     virtual void wake() = 0;
 

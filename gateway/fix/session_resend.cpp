@@ -74,6 +74,7 @@ bool FirmSession::resend(const WireMessage &request, int first, int last) {
         // Not under the engine's lock: others have to be able to shut a connection that takes
         // nothing.
         line()->drain();
+        line()->rest_until(host_.was_sent_again(firm_, static_cast<std::size_t>(to - from + 1)));
     }
     return phase_ == Phase::on;
 }

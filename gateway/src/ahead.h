@@ -24,6 +24,7 @@ class Ahead final : public Outlet {
     // Outlet. A message waits for room where the log lacks too many of its firm.
     void take(Delivery delivery) override;
     void pauses() override {}
+    void answered(std::uint32_t) override {}
     void begins_again() override;
 
     // Whether the venue waits: the log lacks more of a firm's messages than may wait.

@@ -239,7 +239,24 @@ class ConfigReader {
         config_.waiting_entries = limits.number("waiting_entries", 4096, 1, 1048576);
         config_.waiting_messages = limits.number("waiting_messages", 16384, 16, 1048576);
         config_.venue_starts = static_cast<unsigned>(limits.number("venue_starts", 3, 1, 60));
+        read_rates(limits);
+        config_.shares.batch = limits.number("entries_per_batch", 64, 1, 65536);
+        config_.shares.unanswered = limits.number("unanswered_per_firm", 256, 1, 1048576);
+        config_.shares.all_unanswered = limits.number("unanswered", 4096, 1, 1048576);
         limits.end();
+    }
+
+    // The least of each is so much that what is read at once holds a firm back for less than two
+    // seconds, however short its heartbeat: that is no silence of it.
+    void read_rates(Section &limits) {
+        constexpr std::int64_t most = 1073741824;
+        RateLimits &rates = config_.rates;
+        rates.messages_per_second = limits.number("messages_per_second", 2000, 500, most);
+        rates.messages_burst = limits.number("messages_burst", 10000, 500, most);
+        rates.bytes_per_second = limits.number("bytes_per_second", 1048576, 65536, most);
+        rates.bytes_burst = limits.number("bytes_burst", 8388608, 65536, most);
+        rates.resends_per_second = limits.number("resends_per_second", 5000, 500, most);
+        rates.resends_burst = limits.number("resends_burst", 20000, 500, most);
     }
 
     void read_rest() {

@@ -4,7 +4,9 @@
 #define GATEWAY_CONFIG_H
 
 #include "engine.h"
+#include "firm_rate.h"
 #include "seals.h"
+#include "shares.h"
 
 #include <filesystem>
 #include <map>
@@ -49,6 +51,8 @@ struct Config {
     std::size_t waiting_entries = 4096;
     std::size_t waiting_messages = 16384;
     unsigned venue_starts = 3;
+    RateLimits rates;
+    ShareLimits shares;
 
     unsigned short metrics_port = 0;
     std::string event_level = "info";

@@ -40,8 +40,15 @@ void Deliveries::pauses() {
     is_first_ = true;
 }
 
+void Deliveries::answered(std::uint32_t place) {
+    log_.answered(place);
+}
+
+// No firm is waited for: what its mailbox has not handed over is given again.
 void Deliveries::begins_again() {
-    wait_until_handed_over();
+    for (auto &[firm, mailbox] : mailboxes_) {
+        mailbox.begin_again();
+    }
     log_.flush();
 }
 

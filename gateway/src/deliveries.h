@@ -26,6 +26,7 @@ class Deliveries final : public Outlet {
     // threads takes time. Throws std::runtime_error where there is no such firm.
     void take(Delivery delivery) override;
     void pauses() override;
+    void answered(std::uint32_t place) override;
     void begins_again() override;
 
     // The firm's session settles no more; of any thread.

@@ -1,5 +1,6 @@
 #include "firm_sessions.h"
 
+#include "patient_reader.h"
 #include "translation.h"
 
 #include <algorithm>
@@ -10,8 +11,7 @@
 namespace gateway {
 
 FirmSessions::FirmSessions(VenueDay &day, Log &log, Deliveries &deliveries, const States &states)
-    : day_(day), log_(log), deliveries_(deliveries), doorkeeper_(day.config), rows_(day, log),
-      stored_(*day.database, day.status.stopping()) {
+    : day_(day), log_(log), deliveries_(deliveries), doorkeeper_(day.config), rows_(day, log) {
     open_firms(states);
     for (const auto &[name, state] : states) {
         if (!firms_.contains(name)) {
@@ -22,7 +22,7 @@ FirmSessions::FirmSessions(VenueDay &day, Log &log, Deliveries &deliveries, cons
 
 void FirmSessions::open_firms(const States &states) {
     for (const std::string &name : day_.config.firms.names) {
-        Firm &firm = firms_[name];
+        Firm &firm = firms_.try_emplace(name, day_.config.rates).first->second;
         const auto credentials = day_.config.credentials.find(name);
         if (credentials != day_.config.credentials.end()) {
             firm.cancel_on_disconnect = credentials->second.cancel_on_disconnect;
@@ -203,13 +203,23 @@ void FirmSessions::store_target(const std::string &firm, std::uint32_t target) {
 std::vector<StoredMessage> FirmSessions::stored_messages(const std::string &firm,
                                                          std::uint32_t first, std::uint32_t last) {
     log_.flush();
-    const std::lock_guard lock(stored_mutex_);
+    // A reader of its own: no firm waits for what another is sent again.
+    PatientReader stored(*day_.database, day_.status.stopping());
     std::vector<StoredMessage> messages;
     for (Outgoing &row :
-         stored_.ask([&](LogReader &log) { return log.outgoing(firm, first, last); })) {
+         stored.ask([&](LogReader &log) { return log.outgoing(firm, first, last); })) {
         messages.push_back({row.number, row.sent.has_value(), std::move(row.bytes)});
     }
     return messages;
+}
+
+FirmSessions::Time FirmSessions::was_read(const std::string &firm, std::size_t messages,
+                                          std::size_t bytes) {
+    return firm_of(firm).rate.came(messages, bytes);
+}
+
+FirmSessions::Time FirmSessions::was_sent_again(const std::string &firm, std::size_t messages) {
+    return firm_of(firm).rate.sent_again(messages);
 }
 
 } // namespace gateway

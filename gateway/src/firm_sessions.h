@@ -7,8 +7,8 @@
 #include "deliveries.h"
 #include "doorkeeper.h"
 #include "engine.h"
+#include "firm_rate.h"
 #include "log.h"
-#include "patient_reader.h"
 #include "venue_day.h"
 
 #include <chrono>
@@ -43,6 +43,9 @@ class FirmSessions final : private SessionHost {
   private:
     // One firm, as its venue's day sees it.
     struct Firm {
+        explicit Firm(const RateLimits &limits) : rate(limits) {}
+
+        FirmRate rate;
         std::string cancel_on_disconnect; // a trader, or empty
         FirmState found;                  // as the log had it at the start
 
@@ -78,6 +81,8 @@ class FirmSessions final : private SessionHost {
     void store_target(const std::string &firm, std::uint32_t target) override;
     std::vector<StoredMessage> stored_messages(const std::string &firm, std::uint32_t first,
                                                std::uint32_t last) override;
+    Time was_read(const std::string &firm, std::size_t messages, std::size_t bytes) override;
+    Time was_sent_again(const std::string &firm, std::size_t messages) override;
 
     VenueDay &day_;
     Log &log_;
@@ -85,9 +90,6 @@ class FirmSessions final : private SessionHost {
     const Doorkeeper doorkeeper_;
     ConnectionRows rows_;
     std::map<std::string, Firm> firms_;
-
-    std::mutex stored_mutex_;
-    PatientReader stored_; // for what sessions send again
 };
 
 } // namespace gateway

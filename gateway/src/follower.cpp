@@ -179,6 +179,7 @@ void Follower::venue_pauses() {
 
 void Follower::venue_answered(std::uint32_t place, std::optional<Moment> deadline) {
     answers_.put(place, deadline);
+    outlet_.load()->answered(place);
 }
 
 void Follower::venue_failed(const std::string &cause) {

@@ -2,6 +2,7 @@
 
 #include "frame.h"
 
+#include <algorithm>
 #include <stdexcept>
 #include <utility>
 
@@ -46,8 +47,11 @@ Position end_of(const Log::Start &start) {
 Log::Log(Database &database, Committed &committed, DayClock &clock, Metrics &metrics, Start start,
          std::function<void(const std::string &)> failed)
     : entries_(committed), clock_(clock), metrics_(metrics), failed_(std::move(failed)),
-      writer_(database.writer()), limit_(start.waiting), sessions_(std::move(start.sessions)),
-      next_place_(start.last.place + 1), committed_place_(start.last.place),
+      writer_(database.writer()), limit_(start.waiting), shares_(start.shares),
+      sessions_(std::move(start.sessions)), next_place_(start.last.place + 1),
+      taken_place_(start.last.place),
+      taken_moment_(ExactMoment::end_of(moment_of(start.last.moment).value_or(Moment{}))),
+      committed_place_(start.last.place),
       last_event_(start.connections.last ? start.connections.last->place : 0),
       last_connection_(start.connections.greatest), term_(start.term),
       committed_end_(end_of(start)), chain_(committed_end_, std::move(start.sealer), start.seals),
@@ -57,26 +61,58 @@ Log::~Log() = default;
 
 Log::Ticket Log::append_message(const std::string &firm, const std::optional<Came> &came,
                                 std::string_view frame, Committer committer) {
-    Entry entry;
-    entry.firm = firm;
+    Arrival arrival;
+    arrival.entry.firm = firm;
+    arrival.at = came ? clock_.moment_at(came->at) : clock_.exact_now();
     if (came) {
-        entry.number = came->number;
-        entry.connection = came->connection;
-        entry.received = text_of(clock_.moment_at(came->at));
+        arrival.entry.number = came->number;
+        arrival.entry.connection = came->connection;
     }
-    const std::string verb = fmt::format("hex {} ", firm);
-    const std::string rest = fmt::format(" {}", hexadecimal(frame));
-    const auto received = std::chrono::steady_clock::now();
+    arrival.verb = fmt::format("hex {} ", firm);
+    arrival.rest = fmt::format(" {}", hexadecimal(frame));
+    arrival.received = std::chrono::steady_clock::now();
     std::unique_lock lock(mutex_);
-    if (held_ || !has_room()) {
+    wait_for_turn(lock, {firm, arrival.at, came.has_value()});
+    throw_if_failed();
+    shares_.put(firm);
+    return append_here(std::move(arrival), committer);
+}
+
+void Log::wait_for_turn(std::unique_lock<std::mutex> &lock, const Waiter &waiter) {
+    const auto own = waiters_.insert(waiters_.end(), waiter);
+    if (!may_go(own)) {
         // What this thread has not committed yet is not to wait with it.
         work_.notify_one();
     }
-    ++waiting_;
-    room_.wait(lock, [&] { return (!held_ && has_room()) || !failure_.empty(); });
-    --waiting_;
-    throw_if_failed();
-    return append_here(std::move(entry), verb, rest, received, committer);
+    room_.wait(lock, [&] { return may_go(own) || !failure_.empty(); });
+    waiters_.erase(own);
+    if (!waiters_.empty()) {
+        room_.notify_all();
+    }
+}
+
+// One that has waited longer goes first, if it may.
+bool Log::may_go(Waiters::const_iterator waiter) const {
+    const auto goes_first = [this](const Waiter &other) {
+        return !is_held(other) && has_share(other);
+    };
+    return has_room() && goes_first(*waiter) && std::none_of(waiters_.begin(), waiter, goes_first);
+}
+
+bool Log::has_share(const Waiter &waiter) const {
+    return !waiter.is_firms || shares_.has_room(waiter.firm);
+}
+
+bool Log::is_held(const Waiter &waiter) const {
+    return held_from_ && waiter.at >= *held_from_;
+}
+
+void Log::answered(std::uint32_t place) {
+    const std::lock_guard lock(mutex_);
+    shares_.answered(place);
+    if (!waiters_.empty()) {
+        room_.notify_all();
+    }
 }
 
 void Log::commit() {
@@ -90,54 +126,66 @@ void Log::commit() {
     }
 }
 
-std::optional<std::uint32_t> Log::append_clock_behind(std::uint32_t place) {
-    const auto now = std::chrono::steady_clock::now();
+std::optional<std::uint32_t> Log::append_clock_behind(std::uint32_t place, Moment deadline) {
+    Arrival arrival;
+    arrival.verb = "clock ";
+    arrival.received = std::chrono::steady_clock::now();
     std::unique_lock lock(mutex_);
     wait_for_room(lock);
-    if (next_place_ != place + 1) {
+    const bool is_late =
+        std::any_of(waiters_.begin(), waiters_.end(),
+                    [deadline](const Waiter &waiter) { return waiter.at.cut() < deadline; });
+    if (next_place_ != place + 1 || is_late) {
         return std::nullopt;
     }
-    append_here(Entry{}, "clock ", "", now, Committer::thread);
+    arrival.at = clock_.exact_now();
+    append_here(std::move(arrival), Committer::thread);
+    // What was received before it is behind it all the same.
+    arrivals_.fence();
     return place + 1;
 }
 
-Log::Hold::Hold(Log &log) : log_(log) {
+Log::Hold::Hold(Log &log, Moment deadline) : log_(log) {
     const std::lock_guard lock(log_.mutex_);
-    log_.held_ = true;
+    log_.held_from_ = ExactMoment{std::int64_t{deadline.milliseconds} * 1000};
 }
 
 Log::Hold::~Hold() {
     const std::lock_guard lock(log_.mutex_);
-    log_.held_ = false;
+    log_.held_from_.reset();
     log_.room_.notify_all();
 }
 
-Log::Ticket Log::append_here(Entry entry, std::string_view verb, std::string_view rest,
-                             std::chrono::steady_clock::time_point received, Committer committer) {
-    entry.place = next_place_;
-    entry.term = term_;
-    // Under the lock, so that places and moments rise together. The clock knows of the receipt:
-    // the moment is not before it.
-    const ExactMoment now = clock_.exact_now();
-    entry.moment = text_of(now.cut());
-    if (entry.received.empty()) {
-        entry.received = text_of(now);
-    }
-    entry.line.reserve(verb.size() + entry.moment.size() + rest.size());
-    entry.line.append(verb).append(entry.moment).append(rest);
-    const std::size_t bytes = entry.line.size();
-    filling_.received.push_back(received);
-    filling_.rows.entries.push_back(std::move(entry));
-    // Only now: where there was no memory for it, a place that was given all the same would be a
+Log::Ticket Log::append_here(Arrival arrival, Committer committer) {
+    arrivals_.put(std::move(arrival));
+    // Only now: where there was no memory for it, a place that was counted all the same would be a
     // gap of the log for good.
     ++next_place_;
-    filling_.bytes += bytes;
     ++filling_.size;
     // Where there is a second one, its thread may be busy with more for a while.
-    if (!writing_ && (committer == Committer::thread || filling_.received.size() > 1)) {
+    if (!writing_ && (committer == Committer::thread || arrivals_.size() > 1)) {
         work_.notify_one();
     }
     return filling_ticket_;
+}
+
+void Log::place_arrivals(Filling &filling) {
+    for (Arrival &arrival : arrivals_.take()) {
+        Entry &entry = arrival.entry;
+        taken_moment_ = std::max(taken_moment_, arrival.at);
+        entry.place = ++taken_place_;
+        entry.term = term_;
+        entry.moment = text_of(taken_moment_.cut());
+        entry.received = text_of(arrival.at);
+        entry.line.reserve(arrival.verb.size() + entry.moment.size() + arrival.rest.size());
+        entry.line.append(arrival.verb).append(entry.moment).append(arrival.rest);
+        if (entry.firm) {
+            shares_.committed(*entry.firm, entry.place);
+        }
+        filling.received.push_back(arrival.received);
+        filling.rows.entries.push_back(std::move(entry));
+    }
+    shares_.batch_taken();
 }
 
 std::uint32_t Log::put_connection(ConnectionEvent event) {
@@ -152,6 +200,8 @@ std::uint32_t Log::put_connection(ConnectionEvent event) {
         event.number = last_connection_ + 1;
     }
     filling_.rows.connections.push_back(std::move(event));
+    // Its last entry stays in front of what comes.
+    arrivals_.fence();
     ++last_event_;
     ++filling_.size;
     return is_logon ? ++last_connection_ : 0;
@@ -209,7 +259,7 @@ void Log::wait(Ticket ticket) {
 
 void Log::flush() {
     std::unique_lock lock(mutex_);
-    const Ticket ticket = filling_.rows.empty() ? filling_ticket_ - 1 : filling_ticket_;
+    const Ticket ticket = is_empty() ? filling_ticket_ - 1 : filling_ticket_;
     const std::uint32_t place = next_place_ - 1;
     lock.unlock();
     wait(ticket);
@@ -226,7 +276,7 @@ std::uint32_t Log::last_place() {
 
 std::size_t Log::waiting() {
     const std::lock_guard lock(mutex_);
-    return waiting_;
+    return waiters_.size();
 }
 
 std::optional<std::chrono::steady_clock::time_point> Log::commits_since() {
@@ -239,8 +289,12 @@ std::string Log::failure() {
     return failure_;
 }
 
+bool Log::is_empty() const {
+    return filling_.rows.empty() && arrivals_.empty();
+}
+
 bool Log::has_room() const {
-    return filling_.size < limit_ && filling_.bytes < many_bytes;
+    return filling_.size < limit_ && arrivals_.bytes() < many_bytes;
 }
 
 void Log::wait_for_room(std::unique_lock<std::mutex> &lock) {
@@ -270,7 +324,7 @@ void Log::write_all(const std::stop_token &stop) {
 }
 
 bool Log::is_pressing() const {
-    return urgent_ || !filling_.rows.entries.empty() || filling_.size >= many;
+    return urgent_ || !arrivals_.empty() || filling_.size >= many;
 }
 
 bool Log::wait_for_work(std::unique_lock<std::mutex> &lock, const std::stop_token &stop) {
@@ -278,14 +332,14 @@ bool Log::wait_for_work(std::unique_lock<std::mutex> &lock, const std::stop_toke
         // Rows that nobody waits for wake nobody: they are found when it looks again.
         const bool pressing =
             work_.wait_for(lock, stop, patience, [&] { return !writing_ && is_pressing(); });
-        if (pressing || (!writing_ && !filling_.rows.empty())) {
+        if (pressing || (!writing_ && !is_empty())) {
             return true;
         }
         if (!writing_) {
             use_lull(lock, looks);
         }
     }
-    return failure_.empty() && !filling_.rows.empty();
+    return failure_.empty() && !is_empty();
 }
 
 void Log::begin_writing() {
@@ -312,16 +366,16 @@ Log::Filling Log::take(bool all) {
         urgent_ = false;
         whole_at_ = now;
         ++filling_ticket_;
-        return std::exchange(filling_, Filling{});
+        Filling whole = std::exchange(filling_, Filling{});
+        place_arrivals(whole);
+        return whole;
     }
     Filling entries;
     entries.is_whole = false;
-    entries.rows.entries.swap(filling_.rows.entries);
     // An entry names its connection.
     entries.rows.connections.swap(filling_.rows.connections);
-    entries.received.swap(filling_.received);
+    place_arrivals(entries);
     filling_.size -= entries.rows.entries.size() + entries.rows.connections.size();
-    filling_.bytes = 0;
     return entries;
 }
 

@@ -2,16 +2,19 @@
 #ifndef GATEWAY_LOG_H
 #define GATEWAY_LOG_H
 
+#include "arrivals.h"
 #include "chain.h"
 #include "committed.h"
 #include "database.h"
 #include "metrics.h"
 #include "moment.h"
 #include "seals.h"
+#include "shares.h"
 
 #include <chrono>
 #include <condition_variable>
 #include <functional>
+#include <list>
 #include <mutex>
 #include <stop_token>
 #include <thread>
@@ -22,7 +25,10 @@ namespace gateway {
 // committed and there is an entry, or somebody waits for it: by the thread that put the entry, so
 // that it need not wait for another, or by a thread of the log, where more has come meanwhile. Rows
 // that nobody waits for stay in it for a few milliseconds, so that an entry is not kept waiting for
-// them. Any thread may put rows, and waits where too many are there.
+// them. Any thread may put rows, and waits where too many are there. Of each firm a batch has no
+// more than its share, and of those that wait the one goes first that has waited longest. Within a
+// batch messages stand in the order of their receipt, and the moment of an entry is that of its
+// receipt, or the one before it if that is later.
 //
 // Where a commit fails nothing is written any more: every call that needs the log throws, with the
 // cause, and `failed` is called once.
@@ -40,6 +46,7 @@ class Log {
         std::uint32_t seals = 0; // the last one's number
         std::map<std::string, SessionRow> sessions;
         std::size_t waiting = 4096; // rows that may wait
+        ShareLimits shares;
     };
 
     // What is committed is put into `committed`.
@@ -62,20 +69,21 @@ class Log {
         std::chrono::system_clock::time_point at; // of its receipt
     };
 
-    // A message of a firm: the next place and the moment are given here. came is nothing where the
-    // gateway speaks for the firm.
+    // A message of a firm: its place and its moment are given here. came is nothing where the
+    // gateway speaks for the firm: that waits for no share.
     Ticket append_message(const std::string &firm, const std::optional<Came> &came,
                           std::string_view frame, Committer committer = Committer::thread);
     // Commits the entries that wait; where another thread is committing they are left to the log's.
     void commit();
-    // A sweep of the clock, at the moment of now, if this place is the last one: then its own
-    // place.
-    std::optional<std::uint32_t> append_clock_behind(std::uint32_t place);
+    // A sweep of the clock for a deadline, at the moment of now, if this place is the last one and
+    // nothing waits that was received before the deadline: then its own place.
+    std::optional<std::uint32_t> append_clock_behind(std::uint32_t place, Moment deadline);
 
-    // Messages of firms wait for as long as it lives; sweeps do not. One at a time.
+    // Messages of firms that were received at a deadline or later wait for as long as it lives;
+    // sweeps do not. One at a time.
     class Hold {
       public:
-        explicit Hold(Log &log);
+        Hold(Log &log, Moment deadline);
         ~Hold();
         Hold(const Hold &) = delete;
         Hold &operator=(const Hold &) = delete;
@@ -97,6 +105,8 @@ class Log {
     void put_checkpoint(const Checkpoint &checkpoint);
     // Up to where the log is committed.
     Position position();
+    // The venue has answered all entries up to this place.
+    void answered(std::uint32_t place);
 
     // Returns when the batch is on disk.
     void wait(Ticket ticket);
@@ -114,16 +124,29 @@ class Log {
 
   private:
     struct Filling {
-        Batch rows;
+        Batch rows; // its entries only once it is taken
         std::vector<std::chrono::steady_clock::time_point> received;
         std::size_t size = 0;
-        std::size_t bytes = 0; // of its entries' lines
-        bool is_whole = true;  // not its entries alone
+        bool is_whole = true; // not its entries alone
     };
+    // A message that has to wait.
+    struct Waiter {
+        const std::string &firm;
+        ExactMoment at; // of its receipt
+        bool is_firms = true;
+    };
+    using Waiters = std::list<Waiter>;
 
-    // The lock is held. When its message was received stands in it, or now does.
-    Ticket append_here(Entry entry, std::string_view verb, std::string_view rest,
-                       std::chrono::steady_clock::time_point received, Committer committer);
+    // The lock is held.
+    Ticket append_here(Arrival arrival, Committer committer);
+    // Waits for its turn; the lock is held before and after.
+    void wait_for_turn(std::unique_lock<std::mutex> &lock, const Waiter &waiter);
+    bool may_go(Waiters::const_iterator waiter) const;
+    bool has_share(const Waiter &waiter) const;
+    bool is_held(const Waiter &waiter) const;
+    // Gives the arrivals their places and moments. The lock is held.
+    void place_arrivals(Filling &filling);
+    bool is_empty() const;
     bool has_room() const;
     // Waits for room; the lock is held before and after.
     void wait_for_room(std::unique_lock<std::mutex> &lock);
@@ -158,17 +181,21 @@ class Log {
     std::condition_variable_any done_; // for whoever waits for a commit
     std::condition_variable_any room_; // for whoever has rows
     Filling filling_;
+    Arrivals arrivals_;
+    Shares shares_;
+    Waiters waiters_; // the first that came first
     bool urgent_ = false;
     std::chrono::steady_clock::time_point whole_at_; // when a whole batch was taken last
-    bool held_ = false;
-    std::size_t waiting_ = 0; // messages that have no place yet
-    bool writing_ = false;    // some thread has the writer
+    std::optional<ExactMoment> held_from_;
+    bool writing_ = false; // some thread has the writer
     std::chrono::steady_clock::time_point writing_since_;
     Ticket filling_ticket_ = 1;
     Ticket committed_ = 0;
     std::string failure_;
     std::map<std::string, SessionRow> sessions_;
-    std::uint32_t next_place_;
+    std::uint32_t next_place_;  // behind the arrivals
+    std::uint32_t taken_place_; // the last one that was given
+    ExactMoment taken_moment_;  // and its moment, or a later one
     std::uint32_t committed_place_;
     std::uint32_t last_event_; // place of what happened to a connection
     std::uint32_t last_connection_;

@@ -10,6 +10,7 @@
 #include <functional>
 #include <mutex>
 #include <stop_token>
+#include <string>
 #include <thread>
 
 namespace gateway {
@@ -23,11 +24,16 @@ class Mailbox {
             std::function<void(const std::string &)> failed);
 
     // Where too many wait, the firm's connection is ended, and room waited for: without a
-    // connection messages are handed over as fast as the log takes them. One thread puts.
+    // connection messages are handed over as fast as the log takes them. One thread puts. Throws
+    // std::runtime_error where it is handed over already, and was another message then.
     void put(Delivery delivery);
     // Hands it over on this thread, if nothing is before it and the session does nothing else;
     // otherwise as put().
     void put_now(Delivery delivery);
+
+    // All is put again from now on. What waits is dropped, and nothing is waited for: a message
+    // that is being handed over is known when it comes again.
+    void begin_again();
 
     // The session settles no more.
     void settled();
@@ -37,10 +43,12 @@ class Mailbox {
 
   private:
     void run(const std::stop_token &stop);
+    bool was_handed_over(const Delivery &delivery) const;
     void wait_while_settling(std::unique_lock<std::mutex> &lock, const std::stop_token &stop);
     // Without the lock, which is held before and after. What `deliver` returned, or false where it
     // failed.
-    bool hand_over(std::unique_lock<std::mutex> &lock, const std::function<bool()> &deliver);
+    bool hand_over(std::unique_lock<std::mutex> &lock, const Delivery &delivery,
+                   const std::function<bool()> &deliver);
 
     const std::string session_;
     Engine &engine_;
@@ -51,6 +59,8 @@ class Mailbox {
     std::condition_variable_any came_; // for the thread
     std::condition_variable_any went_; // for whoever waits for room or for the end
     std::deque<Delivery> waiting_;
+    std::uint32_t last_number_ = 0; // of what was handed over, or is
+    std::string last_frame_;        // that message
     bool handing_over_ = false;
     bool broken_ = false;
     std::jthread thread_;

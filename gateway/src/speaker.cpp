@@ -25,6 +25,7 @@ void set_clock_behind(DayClock &clock, const Entry &last, const ConnectionState 
 Log::Start start_of(VenueDay &day, const Follower::End &end, std::uint32_t term) {
     Log::Start start;
     start.waiting = day.config.waiting_entries;
+    start.shares = day.config.shares;
     start.last = end.last;
     start.term = term;
     for (const auto &[name, state] : end.states) {

@@ -62,7 +62,7 @@ void Sweeper::run(const std::stop_token &stop) {
 void Sweeper::sweep(Answers::Deadline due, const std::stop_token &stop) {
     const Moment moment = due.moment;
     const auto latest = std::chrono::steady_clock::now() + patience;
-    while (!sweep_behind(due.place, stop)) {
+    while (!sweep_behind(due, stop)) {
         answers_.wait_for_other(moment, look, stop);
         const auto now_due = answers_.deadline();
         if (stop.stop_requested() || !now_due || now_due->moment != moment) {
@@ -70,7 +70,7 @@ void Sweeper::sweep(Answers::Deadline due, const std::stop_token &stop) {
         }
         due = *now_due;
         if (std::chrono::steady_clock::now() >= latest) {
-            sweep_held(stop);
+            sweep_held(moment, stop);
             return;
         }
     }
@@ -78,14 +78,14 @@ void Sweeper::sweep(Answers::Deadline due, const std::stop_token &stop) {
 
 // Its answer is waited for after the hold: what the venue gives for it may have to wait for a firm
 // that waits for the log.
-void Sweeper::sweep_held(const std::stop_token &stop) {
+void Sweeper::sweep_held(Moment moment, const std::stop_token &stop) {
     std::optional<std::uint32_t> swept;
     {
-        const Log::Hold hold(log_);
+        const Log::Hold hold(log_, moment);
         answers_.wait(log_.last_place(), longest_hold, stop);
         const auto due = answers_.deadline();
         if (due && clock_.until(due->moment) <= 0ms) {
-            swept = log_.append_clock_behind(due->place);
+            swept = log_.append_clock_behind(due->place, due->moment);
         }
     }
     if (swept) {
@@ -93,8 +93,8 @@ void Sweeper::sweep_held(const std::stop_token &stop) {
     }
 }
 
-bool Sweeper::sweep_behind(std::uint32_t place, const std::stop_token &stop) {
-    const auto swept = log_.append_clock_behind(place);
+bool Sweeper::sweep_behind(const Answers::Deadline &due, const std::stop_token &stop) {
+    const auto swept = log_.append_clock_behind(due.place, due.moment);
     return swept && (answers_.wait(*swept, stop), true);
 }
 

@@ -30,8 +30,8 @@ class Sweeper {
     void run(const std::stop_token &stop);
     void sweep(Answers::Deadline due, const std::stop_token &stop);
     // Whether it was committed; then it is answered.
-    bool sweep_behind(std::uint32_t place, const std::stop_token &stop);
-    void sweep_held(const std::stop_token &stop);
+    bool sweep_behind(const Answers::Deadline &due, const std::stop_token &stop);
+    void sweep_held(Moment moment, const std::stop_token &stop);
 
     Answers &answers_;
     Log &log_;

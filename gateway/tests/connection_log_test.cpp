@@ -83,8 +83,10 @@ void times_of_receipt(Database &database) {
     // One that came before the last one, and one whose clock was set back behind it.
     for (const auto at : {now, now - 3s, now + 3s, now}) {
         day.log.append_message("F0", Log::Came{6, 1, at}, "x");
+        // Each in a batch of its own: within one they stand in the order of receipt.
+        day.log.flush();
     }
-    check(day.log.append_clock_behind(day.last + 4).has_value(), "no sweep");
+    check(day.log.append_clock_behind(day.last + 4, Moment{0}).has_value(), "no sweep");
     day.log.flush();
     const auto entries = database.reader()->entries(day.last + 1, 9);
     same<std::size_t>(5, entries.size(), "entries");

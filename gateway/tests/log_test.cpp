@@ -131,8 +131,10 @@ void many_threads(Database &database) {
         }
         writers.clear();
         log.flush();
-        check(!log.append_clock_behind(threads * messages - 1), "a sweep after an entry");
-        same(threads * messages + 1, log.append_clock_behind(threads * messages).value_or(0),
+        check(!log.append_clock_behind(threads * messages - 1, Moment{0}),
+              "a sweep after an entry");
+        same(threads * messages + 1,
+             log.append_clock_behind(threads * messages, Moment{0}).value_or(0),
              "a sweep after the last entry");
     }
     check_rows(*database.reader());
@@ -145,13 +147,14 @@ void a_held_log(Database &database) {
     const std::uint32_t last = day.last;
     std::jthread writer;
     {
-        const Log::Hold hold(log);
+        const Log::Hold hold(log, Moment{0});
         writer = std::jthread([&log] { log.append_message("F0", came(messages + 1), "x"); });
         // Until it waits, or has a place, where it is not held.
         while (log.waiting() == 0 && log.last_place() == last) {
             std::this_thread::yield();
         }
-        same(last + 1, log.append_clock_behind(last).value_or(0), "a sweep in a held log");
+        same(last + 1, log.append_clock_behind(last, Moment{0}).value_or(0),
+             "a sweep in a held log");
     }
     writer.join();
     log.flush();

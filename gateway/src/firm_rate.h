@@ -1,0 +1,53 @@
+// What one firm may send, and have sent again.
+#ifndef GATEWAY_FIRM_RATE_H
+#define GATEWAY_FIRM_RATE_H
+
+#include "rate.h"
+
+#include <mutex>
+
+namespace gateway {
+
+// For every firm the same.
+struct RateLimits {
+    std::size_t messages_per_second = 2000;
+    std::size_t messages_burst = 10000;
+    std::size_t bytes_per_second = 1048576;
+    std::size_t bytes_burst = 8388608;
+    std::size_t resends_per_second = 5000;
+    std::size_t resends_burst = 20000;
+};
+
+// Outlives the firm's connections, so that another connection is no way around it. Any thread may
+// call it.
+class FirmRate {
+  public:
+    using Clock = Rate::Clock;
+
+    explicit FirmRate(const RateLimits &limits)
+        : messages_(limits.messages_per_second, limits.messages_burst),
+          bytes_(limits.bytes_per_second, limits.bytes_burst),
+          resends_(limits.resends_per_second, limits.resends_burst) {}
+
+    // So much came, the session's own messages too: from when on more may be read.
+    Clock::time_point came(std::size_t messages, std::size_t bytes) {
+        const Clock::time_point now = Clock::now();
+        const std::lock_guard<std::mutex> lock(mutex_);
+        return std::max(messages_.take(messages, now), bytes_.take(bytes, now));
+    }
+    // So many were sent again: from when on more may be.
+    Clock::time_point sent_again(std::size_t messages) {
+        const std::lock_guard<std::mutex> lock(mutex_);
+        return resends_.take(messages, Clock::now());
+    }
+
+  private:
+    std::mutex mutex_;
+    Rate messages_;
+    Rate bytes_;
+    Rate resends_;
+};
+
+} // namespace gateway
+
+#endif

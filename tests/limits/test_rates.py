@@ -1,0 +1,71 @@
+"""A rate for each firm: it is read no faster, and whoever is held for five seconds is told so and disconnected."""
+
+import time
+
+from tests.gateway.stage import DEALER, Stage
+from tests.gateway.wait import LONG, until
+from tests.gateway.wire import now
+from tests.limits.flood import Flood, cancel, logged_on
+
+SLOW = {"messages_per_second": 500, "messages_burst": 500}
+TOLD = b"58=more messages or bytes than the rate of a firm allows, for five seconds\x01"
+
+
+def entries_within(stage: Stage, seconds: float) -> int:
+    """How many messages of the dealer are in the log after so long."""
+    end = time.monotonic() + seconds
+    until("the time is over", LONG, lambda: time.monotonic() > end)
+    return stage.entries_of(stage.dealer)
+
+
+def test_a_flood_is_read_at_its_rate_and_ends(stage: Stage) -> None:
+    """The log has of a flood what burst and rate allow; after five seconds the firm is logged out with the reason, its quotes are
+    cancelled, and the rest is not counted: its next session begins where the log ends."""
+    stage.door.limits |= SLOW
+    stage.door.cancelled["DLR1"] = "T1"
+    stage.open(stage.other, stage.investor)
+    began = time.monotonic()
+    with logged_on(stage, DEALER, heartbeat=b"1") as wire, Flood(wire) as flood:
+        seen = entries_within(stage, 2)
+        allowed = 500 + 500 * (time.monotonic() - began) + 1000  # what is read at once before anything is counted
+        assert seen <= allowed, "%d entries, and %d are allowed" % (seen, allowed)
+        stage.ping(stage.other)
+        until("the flood is ended", LONG, flood.has_ended)
+        held = time.monotonic() - began
+        assert held >= 5, "it is ended after %.1f s" % held
+        assert TOLD in flood.came, "it is not told why: %r" % flood.came[-300:]
+    log = stage.door.told.read_text()
+    assert "cancel of all firm=DLR1" in log, "its quotes are not cancelled"
+    assert "rate of a firm allows" in log, "the operator is not told"
+    entries = stage.entries_of(stage.dealer)
+    assert entries < flood.sent, "all %d messages of a flood are in the log" % flood.sent
+    stage.auction([stage.other])
+
+
+def test_held_back_is_no_silence(stage: Stage) -> None:
+    """A firm above its rate, whose heartbeat is a second, is not taken for silent while it is held; and what it sent is in the log
+    once it is below its rate again."""
+    stage.door.limits |= SLOW
+    stage.open(stage.other)
+    with logged_on(stage, DEALER, heartbeat=b"1") as wire:
+        number = wire.number
+        count = 2000  # the burst, and three seconds of what is owed
+        assert wire.raw(b"".join(cancel(wire, number + at) for at in range(count)))
+        wire.number += count
+        until("all of them are in the log", LONG, lambda: stage.entries_of(stage.dealer) == count)
+        assert wire.raw(wire.message(b"1", wire.name, [(112, b"still there")]))
+        assert wire.read_until(lambda message: message.value(112) == b"still there") is not None
+
+
+def test_the_sessions_own_messages_count(stage: Stage) -> None:
+    """TestRequests with texts of 4,000 bytes are bytes of the firm, too."""
+    stage.door.limits |= {"bytes_per_second": 65536, "bytes_burst": 65536}
+    stage.open(stage.other)
+    with logged_on(stage, DEALER) as wire:
+        began = time.monotonic()
+        for _ in range(60):  # 240,000 bytes
+            assert wire.raw(wire.message(b"1", wire.name, [(112, b"y" * 3500), (58, now())]))
+        assert wire.raw(wire.message(b"1", wire.name, [(112, b"last")]))
+        assert wire.read_until(lambda message: message.value(112) == b"last") is not None
+        took = time.monotonic() - began
+        assert took >= 1, "210,000 bytes at 65,536 a second after a burst of as many, in %.2f s" % took
