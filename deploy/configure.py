@@ -12,7 +12,7 @@ import argparse
 import sys
 from pathlib import Path
 
-from parts.run import Fault
+from parts.fault import Fault
 from parts.site import Folders, read_site
 
 DATABASE_HOST = Folders("/etc/patroni", "/var/lib/mireseason", "/run/mireseason")

@@ -1,24 +1,22 @@
 #!/bin/sh
-# The gate, and then short forms of most tests that stand beside it, which take a quarter of an hour at most
-# on a machine of four processors that does nothing else (not among them: edits and long days). Installs
-# what is missing from Debian. The last line counts all: `N passed, M failed`.
+# All tests: the gate (rt ci), ctest (the gateway's own tests in C++) and pytest (the folders below tests/). What is
+# counted is what these three report, and nothing else. The last line is `N passed, M failed`.
 #
-#     tests/run.sh                 the gate first
-#     tests/run.sh --beside        the short forms alone, with the program that stands
+#     tests/run.sh                 the gate first, and then the short forms of the others, in the time that is left
+#     tests/run.sh --beside        the others alone, with the program that stands
 #     tests/run.sh --quick         ten minutes from a fresh clone, with `rt` or without: the second
 #                                  implementation of the venue stands in the program's place, and
 #                                  nothing is proved
 #
-# Each short form tells that it begins, and what it installs, and prints a line of its own with its seed
-# and its time; one that fails is counted, its last lines are printed, and the others go on. Its limit of
-# time is many times what it takes, also on two processors that have other work: one that is not done by
-# then hangs, has failed, and ends with all that it started. What a machine can't do (a package that can't be
-# had, no root) is told as not run, and counts neither as passed nor as failed; nor does a test that is
-# skipped, and the form's line says why it was. The day of a gateway ends at midnight in UTC: what would
-# come too near to it waits for the next day, on top of its limit of time.
+# Each folder is a part: it tells that it begins, and what it installs from Debian, and prints a line with its seed and
+# its time, and one for each reason for which a test was skipped. A skipped test is neither passed nor failed. A part
+# that fails prints its last lines, and the others go on. Its limit of time is many times what it takes, also on two
+# processors that have other work: one that is not done by then hangs, has failed, and ends with all that it started.
+# What a machine can't do (a package that can't be had) is told as not run. The day of a gateway ends at midnight in
+# UTC: what would come too near to it waits for the next day, on top of its limit of time.
 #
 # SEED is the seed of all (1), JOBS how many processors they take (all). GATEWAY has a gateway that is
-# built already. MINUTES is the time for everything (no limit): a form that can't be done in what is left
+# built already. MINUTES is the time for everything (no limit): a part that can't be done in what is left
 # of it is told as not run.
 set -u
 root=$(cd "$(dirname "$0")/.." && pwd)
@@ -31,23 +29,22 @@ least=300 # seconds: no form is begun with less
 in_day=1500 # seconds: so near to midnight in UTC a test waits for it at most, by gateway/midnight.py
 program=$root/crates/rfq_venue/out/rfq_venue
 gateway=${GATEWAY:-$root/gateway/out/mireseason-gateway}
-passes='s/^\([0-9]*\) passed, 0 failed$/\1/p'
-unittests='/^Ran /h; /^OK$/{x;s/^Ran \([0-9]*\) tests* in .*/\1/p;}' # with none skipped
+second="python3 tests/model/program.py"
+testers="python3-pytest python3-pytest-xdist python3-hypothesis" # Debian's packages of pytest
 work=$(mktemp -d) || exit 2
-images=
 child=
 asides=
 end() {
     # shellcheck disable=SC2086 # a word for each process
     kill $child $asides 2>/dev/null
-    rm -rf "$work" ${images:+"$images"}
+    rm -rf "$work"
 }
 trap end EXIT
 trap 'exit 143' HUP INT TERM
 exec </dev/null
 : >"$work/absent"
 : >"$work/counts"
-export LC_ALL=C.UTF-8 PYTHONPATH="$root:$root/audit"
+export LC_ALL=C.UTF-8
 # Compilers, databases and browsers want a place of their own.
 [ -n "${HOME:-}" ] && [ -w "$HOME" ] || export HOME="$work"
 
@@ -118,16 +115,31 @@ can_have() {
     return 1
 }
 
-# skips: what the tests of $told have skipped, how often and why.
-skips() {
-    sed -n -e "s/.* \.\.\. skipped ['\"]\(.*\)['\"]\$/\1/p" -e 's/: its part is left out$//p' "$told" | sort | uniq -c |
-        while read -r times why; do printf ', %s skipped: %s' "$times" "$why"; done
+# tell NAME REPORT STATUS TOOK: counts a report, and tells of it. A part without a report, or with one that does not
+# say why its command failed, has failed.
+tell() {
+    name=$1 report=$2 status=$3 took=$4
+    counted=$work/$name.counted
+    if ! [ -s "$report" ] || ! python3 -m tests.harness.reports "$report" >"$counted" 2>>"$told"; then
+        echo "0 0" >"$counted"
+    fi
+    read -r good bad <"$counted"
+    [ "$status" = 0 ] && [ "$good" != 0 ] || [ "$bad" != 0 ] || ! is_fault "$status" "$report" || bad=1
+    [ "$bad" = 0 ] || tail -n 60 "$told"
+    echo "$name: $good passed, $bad failed, seed $seed, $took s"
+    sed -n "s/^skipped /$name: skipped /p; s/^failed /$name: failed /p" "$counted"
+    count "$good" "$bad"
 }
 
-# form NAME SECONDS PACKAGES COUNT COMMAND ..: COUNT is a sed script that prints how many passed.
+# is_fault STATUS REPORT: whether a command that reported nothing failed is at fault all the same.
+is_fault() {
+    [ "$1" != 0 ] || ! [ -s "$2" ]
+}
+
+# form NAME SECONDS PACKAGES COMMAND ..: the command writes its report to $work/NAME.xml.
 form() {
-    name=$1 limit=$2 packages=$3 tried=$4 told=$work/$1
-    shift 4
+    name=$1 limit=$2 packages=$3 told=$work/$1
+    shift 3
     left=$(what_is_left)
     # shellcheck disable=SC2086 # a word for each package
     if [ "$left" -ge "$least" ] && ! can_have "$left" $packages; then
@@ -142,41 +154,26 @@ form() {
     fi
     [ "$limit" -lt "$left" ] || limit=$left
     echo "$name: begins, $limit s at most" >&2
-    good=
-    ! in_time "$limit" "$@" || good=$(sed -n "$tried" "$told" | tail -n 1)
-    took=$(($(date +%s) - began))
+    status=0
+    in_time "$limit" "$@" || status=$?
     if [ -n "$cut" ] && [ "$limit" = "$left" ]; then
         echo "$name: not run to its end: $left s were left"
         return
     fi
-    sed -n '/^[a-z_]*: not run: /p' "$told" # parts of it
-    if [ -n "$good" ]; then
-        echo "$name: $good passed$(skips), seed $seed, $took s"
-        count "$good" 0
-        return
-    fi
-    good=$(sed -n 's/^\([0-9]*\) passed, [1-9][0-9]* failed$/\1/p' "$told" | tail -n 1)
-    bad=$(sed -n 's/^[0-9]* passed, \([1-9][0-9]*\) failed$/\1/p' "$told" | tail -n 1)
-    tail -n 30 "$told" >"$told.end"
-    echo "$name: ${good:-0} passed, ${bad:-1} failed$(skips), seed $seed, $took s" | cat "$told.end" -
-    count "${good:-0}" "${bad:-1}"
+    tell "$name" "$work/$name.xml" "$status" $(($(date +%s) - began))
 }
 
-# day_form NAME SECONDS ..: a form whose tests play days, each within one of UTC. What they wait for the next one is not
-# of its time.
-day_form() {
-    name=$1 limit=$2
-    shift 2
+# in_one_day NAME: whether a part may begin, whose tests play days, each within one of UTC. What they wait for the next one
+# is not of its time.
+in_one_day() {
     left=$(what_is_left)
     midnight=$((86400 - $(date +%s) % 86400))
-    if [ "$midnight" -lt "$in_day" ]; then
-        if [ $((left - midnight)) -lt "$least" ]; then
-            echo "$name: not run: $left s are left, and it might wait $midnight s for midnight in UTC"
-            return
-        fi
-        echo "$name: may wait $midnight s for midnight in UTC" >&2
+    [ "$midnight" -lt "$in_day" ] || return 0
+    if [ $((left - midnight)) -lt "$least" ]; then
+        echo "$1: not run: $left s are left, and it might wait $midnight s for midnight in UTC"
+        return 1
     fi
-    form "$name" $((limit + in_day)) "$@"
+    echo "$1: may wait $midnight s for midnight in UTC" >&2
 }
 
 gate() {
@@ -192,80 +189,59 @@ gate() {
     fi
 }
 
-try_pages() {
-    form pages 1800 python3 "$passes" python3 tests/pages.py --venue "$program"
-    form page_checks 1800 python3 "$unittests" env PYTHONPATH=tests python3 -m unittest page_checks.test_checks
+# folder NAME SECONDS PACKAGES WORDS ..: pytest on a folder of tests. Status 5 is that of one that has no test.
+folder() {
+    name=$1 limit=$2 packages=$3
+    shift 3
+    form "$name" "$limit" "$testers $packages" \
+        python3 -m pytest "tests/$name" --venue "$program" --seed "$seed" --junitxml "$work/$name.xml" \
+        -o junit_family=xunit1 -q --durations 5 --gateway "$gateway" "$@"
 }
 
-# What the gateway's tests stand on.
-try_midnight() {
-    form midnight 1800 python3 "$unittests" python3 -m unittest tests.gateway.test_midnight
-}
-
-try_engines() {
-    form engines 1800 "g++ libquickfix-dev" '$s/.*/1/p' tests/engines/run.sh "$program"
+# day_folder NAME SECONDS PACKAGES WORDS ..: one whose tests play days.
+day_folder() {
+    name=$1 limit=$2
+    shift 2
+    in_one_day "$name" || return 0
+    folder "$name" $((limit + in_day)) "$@"
 }
 
 build_gateway() {
-    [ -z "${GATEWAY:-}" ] || return
+    [ -z "${GATEWAY:-}" ] || return 0
+    in_one_day ctest || return 0
     # shellcheck disable=SC2016 # of the inner shell
-    day_form build 7200 "$(gateway/packages.sh)" 's/^100% tests passed, 0 tests failed out of \([0-9]*\)$/\1/p' \
+    form ctest 7200 "$(gateway/packages.sh)" \
         sh -c 'cmake -S gateway -B gateway/out && cmake --build gateway/out -j "$1" &&
-            python3 -m tests.gateway.midnight && ctest --test-dir gateway/out --output-on-failure' build "$jobs"
+            python3 -m tests.gateway.midnight &&
+            ctest --test-dir gateway/out --output-on-failure --output-junit "$2"' build "$jobs" "$work/ctest.xml"
 }
 
-try_gateway() {
-    day_form gateway 5400 "$(gateway/packages.sh) openssl postgresql clang libclang-rt-dev" "$passes" \
-        env VENUE="$program" GATEWAY="$gateway" SEED="$seed" tests/gateway/run.sh short
+# part NAME: a folder of tests, with its limit of time and what it needs.
+part() {
+    case $1 in
+    pages) folder pages 1800 "" ;;
+    cases) folder cases 2400 "" ;;
+    model | isolation | hostile) folder "$1" 3600 "" -n "$jobs" ;;
+    refused_memory) folder "$1" 3600 "gcc libc6-dev" -n "$jobs" ;;
+    engines) folder engines 1800 "g++ libquickfix-dev" ;;
+    gateway) day_folder gateway 5400 "$(gateway/packages.sh) openssl postgresql clang libclang-rt-dev" -n 3 ;;
+    audit) day_folder audit 5400 "python3-jinja2 python3-psycopg2 python3-cryptography openssl sqlite3 postgresql" ;;
+    replicas) day_folder replicas 3600 "$(gateway/packages.sh) postgresql patroni etcd-server etcd-client iproute2" ;;
+    *) day_folder "$1" 3600 "$(cat "tests/$1/packages" 2>/dev/null)" ;;
+    esac
 }
 
-try_audit() {
+# others: the folders with tests that `part` has no line for.
+others() {
+    for file in tests/*/test_*.py; do basename "$(dirname "$file")"; done | sort -u |
+        grep -vxE 'pages|cases|model|isolation|hostile|refused_memory|engines|gateway|audit|replicas'
+}
+
+# browser: what a part does without where it can't be had.
+browser() {
     told=$work/browser
-    [ "$(what_is_left)" -lt "$least" ] || can_have "$(what_is_left)" chromium ||
-        echo "audit: without a browser: chromium can't be installed"
-    day_form audit 5400 "python3 python3-jinja2 python3-psycopg2 python3-cryptography openssl sqlite3 postgresql" "$passes" \
-        env VENUE="$program" GATEWAY="$gateway" SEED="$seed" tests/audit/run.sh short
-}
-
-# The text cases of the crates, by a program that is compiled without its proofs. It checks each step, so days at their
-# limits would take it more minutes than all else.
-try_cases() {
-    if ! command -v rt >/dev/null; then
-        echo "cases: not run: there is no rt on the PATH"
-        return
-    fi
-    long='commands-greatest|commands-limits|commands-long_days|dealer-full-days|due-limits|investor-full-days'
-    files=$(cd crates/all_cases && printf '%s\n' data/*.cases | grep -vE "/($long)\.cases")
-    echo "cases: not run: $(echo "$long" | tr '|' ' '): days at their limits, which the gate runs"
-    # shellcheck disable=SC2086 # a word for each file
-    form cases 1800 python3 "$passes" env -C crates/all_cases nice rt try --seconds 900 -- $files
-}
-
-# It runs tests of crates, too, as the gate has built them.
-try_refused_memory() {
-    if ! [ -x crates/venue_tests/out/venue_tests_tests ]; then
-        echo "refused_memory: not run: there are no built tests, which 'rt test' in crates/venue_tests builds"
-        return
-    fi
-    form refused_memory 1800 "gcc libc6-dev python3" 's/^\([0-9]*\) calls refused in all$/\1/p' \
-        tests/refused_memory/run.sh "$program"
-}
-
-# Hosts are network namespaces, whose disks are files.
-try_replicas() {
-    if [ "$(id -u)" != 0 ] || ! unshare --net --mount-proc --pid --fork true 2>"$work/why" || ! losetup -f >"$work/why" 2>&1; then
-        echo "replicas: not run: namespaces and file systems are made by root alone, and not in each container"
-        return
-    fi
-    if [ "$(df --output=avail -k /dev/shm 2>/dev/null | tail -n 1)" -gt 1500000 ]; then
-        images=$(mktemp -d /dev/shm/mireseason.XXXXXX)
-    else
-        images=$work/images
-    fi
-    day_form replicas 3600 "$(gateway/packages.sh) postgresql patroni etcd-server etcd-client iproute2" \
-        "$passes" env VENUE="$program" GATEWAY="$gateway" \
-        tests/replicas/run.sh short --messages 200 --faults 4 --seed "$seed" --images "$images"
-    rm -rf "$images"
+    [ "$(what_is_left)" -lt "$least" ] || can_have "$(what_is_left)" chromium || echo "chromium can't be installed"
+    can_have "$(what_is_left)" tshark || echo "tshark can't be installed"
 }
 
 beside() {
@@ -277,48 +253,31 @@ beside() {
         return
     fi
     began_beside=$(date +%s)
-    try_pages
-    try_midnight
-    try_engines
-    form model 1800 python3 's/^\([0-9]*\) inputs, .*: no difference$/\1/p' \
-        python3 -m tests.model.compare "$program" 1000 "$seed" "$jobs"
-    form threads 1800 python3 "$passes" python3 -m tests.model.lawful "$program" 40 "$seed"
-    form trades 1800 python3 "$passes" python3 -m tests.model.trades replay "$program" 300 "$seed"
-    form live_trades 1800 python3 "$passes" python3 -m tests.model.trades live "$program" 300 "$seed"
-    form trades_on_threads 1800 python3 "$passes" python3 -m tests.model.trades threads "$program" 40 "$seed"
-    form isolation 1800 python3 's/^seeds .*: \([0-9]*\) pairs with equal due lists.*/\1/p' \
-        python3 -m tests.isolation.pairs "$program" 1000 "$seed" "$jobs"
-    form investors 1800 python3 's/^seeds .*: \([0-9]*\) pairs with equal lists.*/\1/p' \
-        python3 -m tests.isolation.investors "$program" 500 "$seed" "$jobs"
-    form views 1800 python3 's/^[0-9]* counted, \([0-9]*\) passed, 0 failed$/\1/p' \
-        python3 -m tests.model.investors threads 40 "$seed" "$program"
-    form hostile 1800 python3 's/^\([0-9]*\) inputs from seed .*/\1/p' \
-        python3 -m tests.hostile.inputs "$program" spoilt 1000 "$seed" "$jobs"
-    form full_day 1800 python3 's/^\([0-9]*\) days, each by the rules$/\1/p' \
-        python3 -m tests.hostile.full_day run "$program" 3
-    try_refused_memory
+    browser
+    for each in pages model isolation hostile refused_memory engines; do part "$each"; done
     build_gateway
-    try_gateway
-    try_audit
-    try_replicas
+    for each in gateway audit $(others) replicas; do part "$each"; done
     echo "beside the gate: $(($(date +%s) - began_beside)) s"
 }
 
-# The second implementation stands in the program's place. What needs no gateway is tried while it is built.
+# The second implementation stands in the program's place, and is not held against itself. What needs no gateway is tried while it
+# is built.
 quick() {
-    program="python3 tests/model/program.py"
+    program=$second
     told=$work/all
     # shellcheck disable=SC2046 # a word for each package
-    can_have "$(what_is_left)" $(gateway/packages.sh) openssl postgresql python3-jinja2 python3-psycopg2 python3-cryptography sqlite3 chromium ||
+    can_have "$(what_is_left)" $(gateway/packages.sh) $testers openssl postgresql python3-jinja2 python3-psycopg2 python3-cryptography \
+        sqlite3 ||
         echo "can't be installed: $(paste -sd ' ' "$told.lacking")"
-    export PROVE=no # no part of the gateway's tests does
-    aside try_cases
-    aside try_pages
-    aside try_midnight
+    browser
+    echo "model, isolation, hostile, refused_memory, replicas: not run: there is no proved program"
+    aside part cases
+    aside part pages
     build_gateway
-    aside try_gateway
-    aside try_engines
-    try_audit
+    aside part gateway
+    aside part engines
+    part audit
+    for each in $(others); do part "$each"; done
     wait
     echo "quick: $(($(date +%s) - start)) s"
 }

@@ -1,1 +1,1 @@
-"""The parts of which one_machine.py makes a whole installation on one machine."""
+"""What configure.py writes the configurations of hosts with."""

@@ -10,7 +10,7 @@ from dataclasses import dataclass
 from pathlib import Path
 from typing import Any
 
-from .run import Fault
+from .fault import Fault
 
 CONFIG = Path(__file__).resolve().parent.parent / "config"
 DATABASE_FILES = ("etcd.yml", "patroni.yml", "make_database.sh")

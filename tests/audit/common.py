@@ -20,6 +20,9 @@ SQLITE = "file:%s?mode=ro"
 
 
 
+IS_SHORT = os.environ.get("FORM", "long") == "short"  # how much is drawn
+
+
 def venue_words() -> list[str]:
     """The words of the venue's program that the tests are run with."""
     program = ROOT / "crates" / "rfq_venue" / "out" / "rfq_venue"

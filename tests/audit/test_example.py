@@ -9,19 +9,24 @@ import subprocess
 import unittest
 from pathlib import Path
 
+import pytest
+
 from tests.audit.common import ROOT, audit, folder, venue_words
 from tests.audit.pages import read_page, rows_of, table_behind
 from tests.gateway.midnight import wait_for_room
 
-GATEWAY = Path(os.environ.get("GATEWAY", ROOT / "gateway" / "out" / "mireseason-gateway"))
 
-
-@unittest.skipUnless(GATEWAY.exists(), "the gateway is not built")
 class Example(unittest.TestCase):
+    gateway: Path
+
+    @pytest.fixture(autouse=True)
+    def built(self, gateway_program: Path) -> None:
+        self.gateway = gateway_program
+
     def test_a_day_of_the_gateway(self) -> None:
         wait_for_room("the gateway's example")
         with folder() as name:
-            own = {"VENUE": shlex.join(venue_words()), "GATEWAY": str(GATEWAY)}
+            own = {"VENUE": shlex.join(venue_words()), "GATEWAY": str(self.gateway)}
             script = ROOT / "examples" / "gateway" / "run.sh"
             words, environment = [str(script), name + "/day"], {**os.environ, **own}
             done = subprocess.run(

@@ -10,10 +10,10 @@ import unittest
 from dataclasses import dataclass, field
 from pathlib import Path
 
-from tests.audit.common import AUDIT, folder, venue_words
+from tests.audit.common import AUDIT, IS_SHORT, folder, venue_words
 from tests.audit.test_commands import day_text
 
-FRAMES = int(os.environ.get("FRAMES", "300000"))
+FRAMES = 3000 if IS_SHORT else 300_000
 TIMES, PAGE_SECONDS, MEGABYTES = 3, 120, 200
 LOOK = 0.02  # seconds from one look at the processes to the next
 

@@ -22,11 +22,11 @@ from mireseason_audit.main import parser_of
 from mireseason_audit.streams import Growing
 from mireseason_audit.venue import Run, Venue
 
-from tests.audit.common import Folder, audit, folder, keys, venue_words
+from tests.audit.common import IS_SHORT, Folder, audit, folder, keys, venue_words
 from tests.audit.tamper import KINDS, Tamperer
 from tests.audit.tamper_door import DOOR_KINDS
 
-CHANGES = int(os.environ.get("CHANGES", "500"))
+CHANGES = 40 if IS_SHORT else 500
 SEED = int(os.environ.get("SEED", "1"))
 AT_ONCE = 4
 BLOCKS = ((1024, 1 << 20), (7, 300), (1, 64))  # rows and bytes that are read at one time

@@ -1,31 +1,21 @@
-#!/usr/bin/env python3
-"""Plays drawn days of stock initiators over TCP, and ends gateway, venue and initiators by SIGKILL on the way.
+"""A drawn day of stock initiators over TCP, in which gateway, venue and initiators are ended by SIGKILL.
 
-usage: play.py GATEWAY PLAYER [--days N] [--messages N] [--ends N] [--seed N] [--keep FOLDER]
-               [--postgres CONNECTION] -- VENUE WORDS ..
-
-The log is a file of SQLite, or a schema of the PostgreSQL database that is named.
-
-At the end of each day every message that an initiator's engine had sent is in the log once, and each initiator
-has the messages that `VENUE WORDS replay --live` gives for the log, and the second implementation of the venue too: none is
-missing, none is different, and none came under two numbers of the session.
+The log is a file of SQLite, or a schema of the PostgreSQL database that is named. At the end of each day every message that
+an initiator's engine had sent is in the log once, and each initiator has the messages that the venue gives for the log, and
+the second implementation of the venue too: none is missing, none is different, and none came under two numbers of the session.
 """
 
-import argparse
 import os
 import random
-import sys
 import time
 from pathlib import Path
 
-from tests.gateway.door import Door, Programs, programs_of
+from tests.gateway.door import Door, Programs
 from tests.gateway.firm import Firm, Identity, Places
-from tests.gateway.held import count_of
 from tests.gateway.ledger import PostgresLog
 from tests.gateway.market import Act, Market, play
-from tests.gateway.played import parser_of, play_all
-from tests.gateway.settle import settled, wait_all_on
-from tests.gateway.wait import LONG, TooLong, until, within
+from tests.gateway.settle import wait_all_on
+from tests.gateway.wait import LONG, until, within
 
 HERE = Path(__file__).resolve().parent
 ROOT = HERE.parent.parent
@@ -112,30 +102,3 @@ class Day:
             if firm.process:
                 firm.kill()
         self.door.close()
-
-
-def one_day(words: argparse.Namespace, folder: Path, seed: int) -> list[str]:
-    programs, player = programs_of(words.gateway, words.venue), words.player.resolve()
-    day, began = Day(programs, player, folder, seed, words.postgres), time.monotonic()
-    try:
-        day.open()
-        day.play(words.messages, words.ends)
-        faults = settled(day.door, day.firms, SHORT_DEADLINE)
-        count, again = sum(count_of(firm) for firm in day.firms), sum(len(firm.received) for firm in day.firms)
-        print("day %d: %d messages of 6 firms, %d distinct ones to them, %d came again; ended %s; %.0f s" % (
-            seed, words.messages, count, again - count, ", ".join("%s %d" % item for item in day.ends.items()), time.monotonic() - began))
-        return faults
-    except (TooLong, RuntimeError) as fault:
-        return ["%s; the gateway's last words: %s" % (fault, day.door.last_words())]
-    finally:
-        day.close()
-
-
-def read_words() -> argparse.Namespace:
-    parser = parser_of("--ends", 40)
-    parser.add_argument("--postgres", default="", help="a connection string of libpq")
-    return parser.parse_args()
-
-
-if __name__ == "__main__":
-    sys.exit(play_all(read_words(), one_day))

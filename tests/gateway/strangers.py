@@ -8,7 +8,7 @@ from dataclasses import dataclass
 
 from tests.gateway.firm import Firm
 from tests.gateway.stage import INVESTOR, OTHER, Stage, check
-from tests.gateway.tried_logon import authority, certificate, context, secured
+from tests.gateway.test_logon import authority, certificate, context, secured
 from tests.gateway.wait import LONG, until
 from tests.gateway.wire import Wire, framed, now
 

@@ -15,7 +15,7 @@ import pytest
 from tests.gateway.door import Door
 from tests.gateway.market import moment_in
 from tests.gateway.stage import Stage, check
-from tests.gateway.tried_log import ended_day, goes_on, nothing_sent
+from tests.gateway.test_log import ended_day, goes_on, nothing_sent
 from tests.gateway.wait import LONG, until
 from tests.harness.budget import Budget, seconds_of
 from tests.model.frames import write_frame

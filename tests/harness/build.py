@@ -47,8 +47,9 @@ def built_gateway() -> Path:
 
 
 def compiled(name: str, form: str, sources: list[Path]) -> Path:
-    """A program of one command of a compiler; one that stands already of the same sources is taken."""
-    text = form.encode() + b"".join(source.read_bytes() for source in sources)
+    """A program of one command of a compiler; one that stands already of the same sources and headers is taken."""
+    headers = sorted(header for folder in {source.parent for source in sources} for header in folder.glob("*.h"))
+    text = form.encode() + b"".join(file.read_bytes() for file in [*sources, *headers])
     folder = ROOT / "tests" / "out"
     out = folder / ("%s-%s" % (name, hashlib.sha256(text).hexdigest()[:16]))
     with alone(folder):

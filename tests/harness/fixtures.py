@@ -9,7 +9,6 @@ from pathlib import Path
 
 import pytest
 
-from deploy.parts.machine import Machine
 from tests.gateway.door import Door, Programs
 from tests.gateway.firm import Identity
 from tests.gateway.ledger import PostgresLog
@@ -19,7 +18,8 @@ from tests.gateway.wire import Wire
 from tests.harness import build, lab, postgres
 from tests.harness.browser import Browser
 from tests.harness.clock import Clock
-from tests.harness.options import OPTIONS, ROOT, Form, Options
+from tests.harness.options import OPTIONS, ROOT, SECOND, Form, Options
+from tests.lab.machine import Machine
 
 DICTIONARIES = (ROOT / "fix" / "FIXT11.xml", ROOT / "fix" / "MIRESEASON.xml")
 REPORT = pytest.StashKey[pytest.TestReport]()
@@ -63,6 +63,14 @@ def venue(options: Options) -> tuple[str, ...]:
     return options.venue
 
 
+@pytest.fixture(scope="session")
+def first_program(venue: tuple[str, ...]) -> list[str]:
+    """The words of a program that is held against the second implementation."""
+    if venue == SECOND:
+        pytest.skip("the second implementation is not held against itself")
+    return list(venue)
+
+
 # ------------------------------------------------------------ programs
 
 
@@ -75,9 +83,9 @@ def gateway_program(options: Options) -> Path:
 
 
 @pytest.fixture(scope="session")
-def tools(gateway_program: Path, venue: tuple[str, ...]) -> Tools:
+def tools(gateway_program: Path, venue: tuple[str, ...], options: Options) -> Tools:
     """All programs of a stage."""
-    return Tools(Programs(gateway_program, venue), build.player(), DICTIONARIES, build.shim())
+    return Tools(Programs(gateway_program, venue), build.player(), DICTIONARIES, build.shim(), options.measures)
 
 
 # ------------------------------------------------------------ a folder, a database

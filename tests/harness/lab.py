@@ -4,8 +4,9 @@ import os
 import subprocess
 from pathlib import Path
 
-from deploy.parts.machine import PACKAGES, Machine, site_here
-from deploy.parts.site import ALONE
+from parts.site import ALONE
+
+from tests.lab.machine import PACKAGES, Machine, site_here
 
 
 def lacks() -> str:

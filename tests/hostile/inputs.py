@@ -1,30 +1,21 @@
-#!/usr/bin/env python3
 """Inputs that nobody would send: each command has to answer with a status and a line of its table.
 
-`spoilt` takes lawful inputs of every command and flips bytes, cuts, doubles, swaps and mixes lines.
-`large` fills 16 MiB with each kind of line. Each run has 400 MB of memory and ten seconds of a processor, and has to
-end with status 0 and nothing on standard error (`live` tells of lines at fault there and goes on),
-or with status 1 and one line of the table of faults (docs/PROGRAM.md) that an input can give: none
-of `day` and of `weave`, which are faults of the venue. Inputs of a usual size are never refused for
-memory.
-
-usage: inputs.py PROGRAM spoilt COUNT [FIRST_SEED [PROCESSES]]
-       inputs.py PROGRAM large
+Lawful inputs of every command have bytes flipped and lines cut, doubled, swapped and mixed; and 16 MiB are filled with each
+kind of line. Each run has 400 MB of memory and ten seconds of a processor, and has to end with status 0 and nothing on
+standard error (`live` tells of lines at fault there and goes on), or with status 1 and one line of the table of faults
+(docs/PROGRAM.md) that an input can give: none of `day` and of `weave`, which are faults of the venue. Inputs of a usual size
+are never refused for memory.
 """
 
-import collections
-import multiprocessing
 import os
 import random
 import re
 import resource
 import signal
 import subprocess
-import sys
-import time
+from dataclasses import dataclass
 
-from tests.isolation.dealer_days import Day, Story  # noqa: E402
-from tests.model.venue_command import words_of  # noqa: E402
+from tests.isolation.dealer_days import Day, Story
 
 ROOT = os.path.dirname(os.path.dirname(os.path.dirname(os.path.abspath(__file__))))
 MEMORY = 400_000_000
@@ -126,19 +117,6 @@ def spoilt(work):
     return seed, words, answer, wrong
 
 
-def spoilt_inputs(program, count, first, processes):
-    counts = collections.Counter()
-    with multiprocessing.Pool(processes) as pool:
-        work = ((program, seed) for seed in range(first, first + count))
-        for seed, words, answer, wrong in pool.imap_unordered(spoilt, work, 16):
-            if wrong:
-                sys.exit("seed %d, %s: %s" % (seed, " ".join(words), wrong))
-            counts[words[0], answer] += 1
-    for (word, answer), times in sorted(counts.items()):
-        print("%-8s %-14s %6d" % (word, answer, times))
-    print("%d inputs from seed %d, each answered" % (count, first))
-
-
 def filled(head, line):
     """A text of at most 16 MiB: the head, and then this line with its number, as often as it fits."""
     parts, size, number = [head], len(head), 1
@@ -180,34 +158,29 @@ DUES = {
 }
 
 
-def large_inputs(program):
-    cases = [("replay, " + kind, ["replay"], VENUE, line) for kind, line in STEPS.items()]
-    cases += [("alone, " + kind, ["alone"], DUE, line) for kind, line in DUES.items()]
+@dataclass(frozen=True)
+class Large:
+    """An input as long as one may be: a head, and one line again and again; without a line a byte too much."""
+
+    name: str
+    words: list[str]
+    head: str
+    line: str | None
+
+    def text(self) -> bytes:
+        return b"x" * (MOST_INPUT + 1) if self.line is None else filled(self.head, self.line)
+
+
+def large_cases() -> list[Large]:
+    cases = [Large("replay, " + kind, ["replay"], VENUE, line) for kind, line in STEPS.items()]
+    cases += [Large("alone, " + kind, ["alone"], DUE, line) for kind, line in DUES.items()]
     without = [kind for kind in STEPS if not kind.startswith("turn")]
-    cases += [("live, " + kind, ["live"], VENUE, STEPS[kind]) for kind in without]
-    cases += [("day, " + kind, ["day"], VENUE, STEPS[kind]) for kind in without]
-    cases += [
-        ("bonds", ["replay"], "", '[[bond]]\nid = "BONDA0000001"'),
-        ("traders", ["replay"], "version = 1\n", "x%d = [1, 2, 3]"),
-        ("one line", ["replay"], "", "x" * (MOST_INPUT - 1)),
-        ("one step line", ["replay"], VENUE, "say DLR1 T1 09:00:00 S 58=" + "x" * (MOST_INPUT - len(VENUE) - 40)),
-        ("a byte too much", ["replay"], "", None),
+    cases += [Large("live, " + kind, ["live"], VENUE, STEPS[kind]) for kind in without]
+    cases += [Large("day, " + kind, ["day"], VENUE, STEPS[kind]) for kind in without]
+    return cases + [
+        Large("bonds", ["replay"], "", '[[bond]]\nid = "BONDA0000001"'),
+        Large("traders", ["replay"], "version = 1\n", "x%d = [1, 2, 3]"),
+        Large("one line", ["replay"], "", "x" * (MOST_INPUT - 1)),
+        Large("one step line", ["replay"], VENUE, "say DLR1 T1 09:00:00 S 58=" + "x" * (MOST_INPUT - len(VENUE) - 40)),
+        Large("a byte too much", ["replay"], "", None),
     ]
-    failed = 0
-    for name, words, head, line in cases:
-        text = b"x" * (MOST_INPUT + 1) if line is None else filled(head, line)
-        begun = time.time()
-        answer, wrong = answered(program, words, text)
-        failed += wrong is not None
-        print("%-28s %10d bytes %6.2f s  %s" % (name, len(text), time.time() - begun, answer or "FAILED: " + wrong), flush=True)
-    print("%d inputs, %d failed" % (len(cases), failed))
-    sys.exit(failed != 0)
-
-
-if __name__ == "__main__":
-    venue = words_of(sys.argv[1])
-    if sys.argv[2] == "large":
-        large_inputs(venue)
-    else:
-        more = [int(word) for word in sys.argv[4:]]
-        spoilt_inputs(venue, int(sys.argv[3]), *(more + [1, 2][len(more) :]))

@@ -1,24 +1,18 @@
-#!/usr/bin/env python3
 """Pairs of days that agree on what is due to one investor, and on nothing else.
 
 Two days of one story (investor_days.py) are drawn. Where by the second implementation one list was
 due to INV1 in both, `PROGRAM replay INV1` has to print the same bytes for both: those of the view of
 that list. `PROGRAM compare --investor INV1` has to say where the lists and the messages differ.
-
-usage: investors.py PROGRAM PAIRS [FIRST_SEED [PROCESSES]]
 """
 
-import multiprocessing
 import random
 import subprocess
-import sys
 from typing import NamedTuple
 
 from tests.isolation.investor_days import Day, Story
 from tests.isolation.pairs import difference
 from tests.model.lines import message_line  # of tests/model, as investor_days has it
 from tests.model.replay import investor_alone, seen_by
-from tests.model.venue_command import words_of
 
 
 class Compared(NamedTuple):
@@ -77,27 +71,3 @@ def compared(work: tuple[list[str], int]) -> Compared:
             fault = "another comparison"
     size = sum(len(day.text()) for day in days)
     return Compared(seed, lists[0] == lists[1], outs[0].count(b"\n"), size, fault)
-
-
-def main() -> None:
-    program, pairs = words_of(sys.argv[1]), int(sys.argv[2])
-    first = int(sys.argv[3]) if len(sys.argv) > 3 else 1
-    processes = int(sys.argv[4]) if len(sys.argv) > 4 else 2
-    equal = other = messages = size = 0
-    with multiprocessing.Pool(processes) as pool:
-        work = ((program, seed) for seed in range(first, 2**62))
-        for pair in pool.imap(compared, work, 16):
-            if pair.fault:
-                sys.exit("seed %d: %s" % (pair.seed, pair.fault))
-            equal, other = equal + pair.equal, other + (not pair.equal)
-            messages, size = messages + pair.messages, size + pair.size
-            if equal == pairs:
-                pool.terminate()
-                break
-    said = first, pair.seed, equal, messages
-    print("seeds %d to %d: %d pairs with equal lists, 0 with other messages; %d messages;" % said)
-    print("%d more whose lists differ; %d MB of input" % (other, size // 1_000_000))
-
-
-if __name__ == "__main__":
-    main()

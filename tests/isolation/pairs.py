@@ -1,18 +1,13 @@
-#!/usr/bin/env python3
 """Pairs of days that agree on what is due to one dealer, and on nothing else.
 
 Two days of one story (dealer_days.py) are drawn. Where by the second implementation one list was
 due to DLR1 in both, `PROGRAM replay DLR1` has to print the same bytes for both: those of the view
 of that list. `PROGRAM compare DLR1` has to say where the lists and the messages differ.
-
-usage: pairs.py PROGRAM PAIRS [FIRST_SEED [PROCESSES]]
 """
 
 import itertools
-import multiprocessing
 import random
 import subprocess
-import sys
 from collections.abc import Sequence
 from typing import NamedTuple
 
@@ -20,7 +15,6 @@ from tests.isolation.dealer_days import Day, Story
 from tests.model.configuration import read_configuration
 from tests.model.lines import StepReader, message_line
 from tests.model.replay import Venue, alone
-from tests.model.venue_command import words_of
 
 
 class Whole(NamedTuple):
@@ -123,28 +117,3 @@ def compared(work: tuple[list[str], int]) -> Compared:
     size = len(one.text()) + len(other.text())
     fault = fault_of(program, days, outs)
     return Compared(seed, one.due == other.due, outs[0].count(b"\n"), size, fault)
-
-
-def main() -> None:
-    program, pairs = words_of(sys.argv[1]), int(sys.argv[2])
-    first = int(sys.argv[3]) if len(sys.argv) > 3 else 1
-    processes = int(sys.argv[4]) if len(sys.argv) > 4 else 2
-    equal = other = messages = size = 0
-    with multiprocessing.Pool(processes) as pool:
-        work = ((program, seed) for seed in range(first, 2**62))
-        for pair in pool.imap(compared, work, 16):
-            if pair.fault:
-                sys.exit("seed %d: %s" % (pair.seed, pair.fault))
-            equal, other = equal + pair.equal, other + (not pair.equal)
-            messages, size = messages + pair.messages, size + pair.size
-            if equal == pairs:
-                pool.terminate()
-                break
-    said = first, pair.seed, equal, messages
-    text = "seeds %d to %d: %d pairs with equal due lists, 0 with other messages; %d messages;"
-    print(text % said)
-    print("%d more whose due lists differ; %d MB of input" % (other, size // 1_000_000))
-
-
-if __name__ == "__main__":
-    main()

@@ -1,7 +1,4 @@
-#!/usr/bin/env python3
 """Holds what is said of investors, and of dealers that hear nothing, against the model on days that are drawn.
-
-usage: investors.py views DAYS | silence PAIRS | apart PAIRS | channels 1 | threads DAYS  [FIRST_SEED [PROGRAM]]
 
 `views`: what an investor was sent is its view of what was due to it, on days drawn as for `compare.py`.
 `silence`: two days on which nobody hits, and which are one but for the steps of other dealers: what was
@@ -13,9 +10,7 @@ in common, and why no duties of the clock may be left: in two small days of each
 actions that gives what was printed, which is searched as `lawful.py` does it.
 """
 
-import sys
 from collections.abc import Callable
-from functools import partial
 
 from .configuration import Configuration, read_configuration
 from .days import Day, Draw
@@ -24,7 +19,6 @@ from .lines import LineFault, StepReader
 from .live import LiveDay
 from .prices import price_text
 from .replay import Venue, investor_alone, seen_by
-from .venue_command import words_of
 
 Lines = list[bytes]
 BONDS = ("BONDA0000001", "BONDB0000002")
@@ -316,22 +310,3 @@ def threads(program: list[str], seed: int) -> tuple[int, list[str]]:
 
 
 TRIALS: dict[str, Callable[[int], tuple[int, list[str]]]] = {"views": views, "silence": silence, "apart": apart, "channels": channels}
-
-
-def main() -> None:
-    words = sys.argv[1:]
-    trial = partial(threads, words_of(words[3])) if words[0] == "threads" else TRIALS[words[0]]
-    count, first = int(words[1]), int(words[2]) if len(words) > 2 else 1
-    found = failed = 0
-    for seed in range(first, first + count):
-        weight, faults = trial(seed)
-        found += weight
-        failed += bool(faults)
-        for fault in faults:
-            print("seed %d: %s" % (seed, fault))
-    print("%d counted, %d passed, %d failed" % (found, count - failed, failed))
-    sys.exit(1 if failed else 0)
-
-
-if __name__ == "__main__":
-    main()

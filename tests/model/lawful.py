@@ -1,7 +1,4 @@
-#!/usr/bin/env python3
 """Holds days on threads against the rules: is there an order of their actions that gives these bytes?
-
-usage: lawful.py PROGRAM DAYS [FIRST_SEED]
 
 A day is drawn, half of them so that a few words are fought over; `PROGRAM day --frames` runs it on
 threads. What each firm was sent is given to a search, which knows nothing of how the threads went:
@@ -12,7 +9,6 @@ action sends, and goes no further where that is not what the firm was sent.
 
 import pickle
 import subprocess
-import sys
 from collections.abc import Callable, Iterator
 from dataclasses import dataclass
 from functools import partial
@@ -23,9 +19,8 @@ from .configuration import Configuration, read_configuration
 from .days import Day, Draw
 from .dealer import DealerDesk
 from .frames import SOH, moment_text, read_frame
-from .lines import LineFault, StepReader
+from .lines import StepReader
 from .replay import CLOCK, Venue
-from .venue_command import words_of
 
 Actor = int | str
 Place = tuple[str, object]
@@ -308,25 +303,3 @@ def held(program: list[str], seed: int) -> tuple[str, int]:
     except RuntimeError as fault:
         return str(fault), 0
     return "" if found else "no order of its actions gives these messages", sum(map(len, wanted))
-
-
-def main() -> None:
-    program, count = words_of(sys.argv[1]), int(sys.argv[2])
-    first = int(sys.argv[3]) if len(sys.argv) > 3 else 1
-    failed, messages = 0, 0
-    for seed in range(first, first + count):
-        try:
-            fault, sent = held(program, seed)
-        except (ValueError, LineFault) as caught:
-            fault, sent = str(caught), 0
-        messages += sent
-        if fault:
-            failed += 1
-            print("day %d: %s" % (seed, fault))
-    print("%d messages in all" % messages)
-    print("%d passed, %d failed" % (count - failed, failed))
-    sys.exit(1 if failed else 0)
-
-
-if __name__ == "__main__":
-    main()

@@ -1,7 +1,4 @@
-#!/usr/bin/env python3
 """Asks of a program, or of the model, what has to hold between its commands, on days that are drawn.
-
-usage: laws.py DAYS [PROGRAM]
 
 For every day of `live` and every firm: `replay --live FIRM` prints what `live` printed of that firm;
 `due --live FIRM` (with `--investor` of an investor) and then `alone` print it too; `dues --live` prints
@@ -11,15 +8,13 @@ there is one mark.
 
 import re
 import subprocess
-import sys
 from collections.abc import Callable, Iterator
 
 from .compare import head, joined, model_answer
-from .days import Day, Draw
+from .days import Day
 from .investor_lines import investor_text, read_investor_text
 from .lines import due_text, read_due_text
 from .replay import seen_by
-from .venue_command import words_of
 
 Answer = tuple[int, bytes, bytes]
 Ask = Callable[[list[str], bytes], Answer]
@@ -90,20 +85,3 @@ def unread(day: Day) -> Iterator[str]:
         due, seen = day.venue.due[firm], seen_by(day.configuration, firm)
         if read_investor_text(list(investor_text(seen, due)), 1) != (seen, due):
             yield "the due text of %s" % day.configuration.firms[firm].name.decode()
-
-
-def main() -> None:
-    count, ask = int(sys.argv[1]), asker(words_of(sys.argv[2]) if len(sys.argv) > 2 else None)
-    failed = 0
-    for seed in range(1, count + 1):
-        day = Day(Draw(seed))
-        faults = list(broken(day, ask)) + list(unread(day))
-        failed += bool(faults)
-        for fault in faults:
-            print("day %d: %s" % (seed, fault))
-    print("%d passed, %d failed" % (count - failed, failed))
-    sys.exit(1 if failed else 0)
-
-
-if __name__ == "__main__":
-    main()

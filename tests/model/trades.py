@@ -1,7 +1,4 @@
-#!/usr/bin/env python3
 """Holds the laws on trades against days of a program, by what the two firms of each trade wrote and were sent.
-
-usage: trades.py replay|live|threads PROGRAM DAYS [FIRST_SEED]
 
 `replay` draws days of steps, half of which leave no duty; `live` takes them line by line, so that none is left;
 `threads` runs `PROGRAM day`. No rule of the market stands here. For each investor and each dealer, only their own messages are looked at:
@@ -14,8 +11,7 @@ usage: trades.py replay|live|threads PROGRAM DAYS [FIRST_SEED]
 """
 
 import subprocess
-import sys
-from collections.abc import Iterator, Sequence
+from collections.abc import Callable, Iterator, Sequence
 from dataclasses import dataclass, field
 from fractions import Fraction
 from itertools import pairwise, zip_longest
@@ -25,9 +21,7 @@ from .configuration import Configuration, read_configuration
 from .days import Day, Draw
 from .frames import read_frame
 from .lawful import Inboxes, Message, day_of, inboxes_of, sent_in
-from .lines import LineFault
 from .replay import CLOCK
-from .venue_command import words_of
 
 Texts = dict[int, bytes]
 
@@ -313,6 +307,9 @@ def winners_of(day: Played) -> Iterator[str]:
             yield "%s was awarded a request twice" % day.name(investor).decode()
 
 
+Kind = Callable[[list[str], int], "Played"]
+
+
 def faults_of(day: Played) -> tuple[int, list[str]]:
     """How many trades a day had, and what is wrong with it."""
     trades, faults = 0, list(winners_of(day))
@@ -398,32 +395,3 @@ def threaded(program: list[str], seed: int) -> Played:
     configuration = read_configuration("\n".join(head).encode())
     output = output_of(program, ["day", "--frames"], head, lines)
     return Played(configuration, inboxes_of(configuration, lines), sent_in(configuration, output), True)
-
-
-def main() -> None:
-    kind, command, days, *rest = sys.argv[1:]
-    play = {"replay": replayed, "live": lived, "threads": threaded}[kind]
-    program, first = words_of(command), int(rest[0]) if rest else 1
-    failed, trades, unclear = 0, 0, 0
-    for seed in range(first, first + int(days)):
-        try:
-            won, faults = faults_of(play(program, seed))
-        except Ambiguous:
-            won, faults = 0, []
-            unclear += 1
-        except (ValueError, LineFault) as caught:
-            won, faults = 0, [str(caught)]
-        trades += won
-        failed += bool(faults)
-        for fault in faults:
-            print("day %d: %s" % (seed, fault))
-    print("%d trades in all; %d days were unclear, and count for nothing" % (trades, unclear))
-    if trades == 0:
-        failed += 1
-        print("no day had a trade")
-    print("%d passed, %d failed" % (max(0, int(days) - failed - unclear), failed))
-    sys.exit(1 if failed else 0)
-
-
-if __name__ == "__main__":
-    main()

@@ -15,9 +15,10 @@ import sys
 import tempfile
 from pathlib import Path
 
-from deploy.parts.database import DATABASE
-from deploy.parts.machine import DATABASES, GATEWAYS, Machine, site_here
-from deploy.parts.site import Site
+from parts.site import Site
+
+from tests.lab.database import DATABASE
+from tests.lab.machine import DATABASES, GATEWAYS, Machine, site_here
 
 LOADS = ((1, 1), (1, 8), (1, 32), (2, 32), (4, 32))  # logs, threads of each
 

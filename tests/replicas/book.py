@@ -1,9 +1,9 @@
 """The day's log as PostgreSQL has it, in the form of the gateway's own tests."""
 
-from deploy.parts.database import DatabaseHost
-from deploy.parts.machine import Machine
-from deploy.parts.run import found_in
 from tests.gateway.ledger import Entry, Ledger
+from tests.lab.database import DatabaseHost
+from tests.lab.machine import Machine
+from tests.lab.run import found_in
 
 # Seconds in which hosts are as they were. On a machine that is busy a fail-over takes minutes,
 # also one that nobody asked for.

@@ -5,10 +5,10 @@ import time
 from collections.abc import Callable
 from dataclasses import dataclass, field
 
-from deploy.parts.database import DatabaseHost
-from deploy.parts.gateway import GatewayHost
-from deploy.parts.machine import DATABASES, GATEWAYS, Machine
-from deploy.parts.run import found_in
+from tests.lab.database import DatabaseHost
+from tests.lab.gateway import GatewayHost
+from tests.lab.machine import DATABASES, GATEWAYS, Machine
+from tests.lab.run import found_in
 from tests.replicas.book import PATIENCE, primary
 
 CUT_SECONDS = 20.0

@@ -14,7 +14,7 @@ import sys
 import tempfile
 from pathlib import Path
 
-from deploy.parts.disk import Disk
+from tests.lab.disk import Disk
 
 MEGABYTES = 32
 USER = "postgres"

@@ -20,15 +20,16 @@ import sys
 import time
 from pathlib import Path
 
-from deploy.parts.gateway import PORT
-from deploy.parts.machine import FIRMS, GATEWAYS, Machine, site_here
-from deploy.parts.run import Fault, found_in, whole_paths
-from deploy.parts.site import ALONE
+from parts.site import ALONE
+
 from tests.gateway.door import today
 from tests.gateway.held import count_of
 from tests.gateway.midnight import TEST
 from tests.gateway.played import parser_of, play_all
 from tests.gateway.wait import TooLong, until, within
+from tests.lab.gateway import PORT
+from tests.lab.machine import FIRMS, GATEWAYS, Machine, site_here
+from tests.lab.run import Fault, found_in, whole_paths
 from tests.replicas.book import PATIENCE, last_place, read_ledger, terms
 from tests.replicas.damage import Course, Damage, Damages
 from tests.replicas.figures import Figures

@@ -4,7 +4,7 @@ from collections.abc import Callable, Iterator
 from dataclasses import dataclass
 from pathlib import Path
 
-import deploy.parts.gateway as parts_gateway
+import tests.lab.gateway as parts_gateway
 from tests.gateway.door import venue_text
 from tests.gateway.firm import Firm, Identity, Places
 from tests.gateway.held import altered, clock_faults, count_of, differences, unkept, unlogged

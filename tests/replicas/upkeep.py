@@ -4,9 +4,9 @@ the primary by a switch to its standby, and one whose disk is lost is replaced.
 
 from collections.abc import Callable
 
-from deploy.parts.database import DatabaseHost, as_user
-from deploy.parts.machine import Machine
-from deploy.parts.run import found_in, run, tried, until
+from tests.lab.database import DatabaseHost, as_user
+from tests.lab.machine import Machine
+from tests.lab.run import found_in, run, tried, until
 from tests.replicas.book import PATIENCE
 from tests.replicas.damage import Course, Damage
 

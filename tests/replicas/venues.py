@@ -17,14 +17,15 @@ import tempfile
 from collections.abc import Iterator
 from pathlib import Path
 
-from deploy.parts.run import whole_paths
-from deploy.parts.site import file_of, venues_text
+from parts.site import file_of, venues_text
+
 from tests.gateway.door import Port, seal_text
 from tests.gateway.firm import Firm
 from tests.gateway.ledger import Ledger, read_ledger
 from tests.gateway.midnight import wait_for_room
 from tests.gateway.played import TOLD_FAULTS
 from tests.gateway.wait import TooLong, until, within
+from tests.lab.run import whole_paths
 from tests.replicas.side import Cast, Side, Stage
 
 CAST = Cast.of(dealers=2, investors=1)

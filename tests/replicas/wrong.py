@@ -1,7 +1,7 @@
 """Wrong set-ups, with which the days have to fail."""
 
-from deploy.parts.machine import Machine
-from deploy.parts.run import Fault
+from tests.lab.machine import Machine
+from tests.lab.run import Fault
 from tests.replicas.book import primary
 
 # Tables as they would be without terms: whoever comes may write, as many as there are, and each

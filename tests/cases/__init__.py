@@ -1,0 +1,1 @@
+"""The text cases of the crates, without a proof."""

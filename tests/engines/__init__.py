@@ -1,0 +1,1 @@
+"""Engines that others wrote, on what the venue prints."""

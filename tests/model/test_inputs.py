@@ -1,0 +1,53 @@
+"""A program beside the second implementation: drawn inputs of every command but `day`, byte for byte."""
+
+from pathlib import Path
+
+import pytest
+from hypothesis import given
+from hypothesis import strategies as st
+
+from tests.model.compare import compared, head, joined, model_answer, program_answer, report, same
+from tests.model.days import Day, Draw
+
+MOST_SEED = 2**32
+COMMANDS = (["replay", "--frames"], ["dues"], ["blotter", "DLR1"])
+LEAVES_OUT = 16  # a line in so many, so that a day that fails shrinks line by line
+
+
+@pytest.mark.draws(short=350, long=20_000)
+def test_inputs_of_a_seed(first_program: list[str], drawn: int, place: Path, monkeypatch: pytest.MonkeyPatch) -> None:
+    """Status, output and standard error of all inputs of a seed."""
+    monkeypatch.chdir(place)  # an input at fault is written there
+    seed, difference, count, _ = compared((first_program, drawn))
+    assert difference is None, report(seed, difference)
+    assert count > 0 or drawn_is_empty(drawn)
+
+
+def drawn_is_empty(seed: int) -> bool:
+    """Whether a seed draws no input: the list of a dealer or investor of a day that has none."""
+    from tests.model.compare import inputs
+
+    return not inputs(seed)
+
+
+@st.composite
+def days(draw: st.DrawFn) -> bytes:
+    """A drawn day of which a line is missing here and there; one that fails shrinks to the lines that it takes."""
+    day = Day(Draw(draw(st.integers(0, MOST_SEED))), length=draw(st.integers(1, 60)))
+    lines = [line for line in day.text().split(b"\n") if draw(st.integers(0, LEAVES_OUT - 1))]
+    return joined(head(day), b"\n".join(lines)) + b"\n"
+
+
+@given(days(), st.sampled_from(COMMANDS))
+def test_days_with_lines_left_out(first_program: list[str], day: bytes, words: list[str]) -> None:
+    mine, other = model_answer(words, day), program_answer(first_program, words, day)
+    assert same(mine, other), "%r prints %r, and the second implementation %r" % (words, other, mine)
+
+
+@given(days())
+def test_days_line_by_line(first_program: list[str], day: bytes) -> None:
+    """`live` answers as `replay --live` does."""
+    lines = b"\n".join(line for line in day.split(b"\n") if not line.startswith(b"turn "))
+    words = ["live", "--frames", "--marks"]
+    mine, other = model_answer(words, lines), program_answer(first_program, words, lines)
+    assert same(mine, other), "it prints %r, and the second implementation %r" % (other, mine)

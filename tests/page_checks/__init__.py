@@ -1,1 +1,0 @@
-"""What tests/pages.py asks of the pages of this repository."""

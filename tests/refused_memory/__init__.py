@@ -1,0 +1,1 @@
+"""Programs that are refused one allocation."""

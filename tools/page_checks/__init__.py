@@ -1,0 +1,1 @@
+"""What tools/pages.py asks of the pages of this repository."""
