@@ -3,8 +3,8 @@
 
 usage: configure.py SITE HOST FOLDER
 
-SITE is a file as site.toml, which names all hosts. Of a database host etcd.yml, patroni.yml and
-make_database.sh are written into FOLDER, of a gateway host gateway.toml and pgpass; README.md says
+SITE is a file as site.toml, which names all hosts. Of a database host etcd.yml, patroni.yml,
+make_database.sh and database.sql are written into FOLDER, of a gateway host gateway.toml and pgpass; README.md says
 where each has its place.
 """
 
@@ -15,8 +15,9 @@ from pathlib import Path
 from parts.fault import Fault
 from parts.site import Folders, read_site
 
-DATABASE_HOST = Folders("/etc/patroni", "/var/lib/mireseason", "/run/mireseason")
-GATEWAY_HOST = Folders("/etc/mireseason", "/var/lib/mireseason")
+DATABASE_HOST = Folders("/etc/patroni", "/var/lib/mireseason", "/run/mireseason",
+                        "/etc/patroni/tls", "/etc/etcd/tls")
+GATEWAY_HOST = Folders("/etc/mireseason", "/var/lib/mireseason", tls="/etc/mireseason/site")
 MODES = {"make_database.sh": 0o750}  # the others have passwords, too: 0640
 SECRET = 0o640
 

@@ -13,8 +13,10 @@ from typing import Any
 from .fault import Fault
 
 CONFIG = Path(__file__).resolve().parent.parent / "config"
-DATABASE_FILES = ("etcd.yml", "patroni.yml", "make_database.sh")
-WORDS = ("GATEWAY", "READER", "REPLICATION", "REWIND")  # what has a password
+GATEWAY = CONFIG.parent.parent / "gateway"
+DATABASE_FILES = ("etcd.yml", "patroni.yml", "make_database.sh", "database.sql")
+TABLES = {"SCHEMA_SQL": "schema.sql", "TERMS_SQL": "terms.sql"}  # of the gateway
+WORDS = ("GATEWAY", "READER", "REPLICATION", "REWIND", "REST")  # what has a password
 ALONE = ""  # the name of a venue that is the only one
 LEFT = re.compile(r"@[A-Z0-9_]+@")
 # They stand in YAML, in SQL within a command of a shell, and in a pgpass: no other character is the
@@ -29,6 +31,8 @@ class Folders:
     config: str
     data: str = ""  # of etcd and PostgreSQL; of a gateway what it keeps from day to day
     run: str = ""  # sockets
+    tls: str = ""  # host.pem, host.key and authority.pem; of Patroni and PostgreSQL, or of a gateway
+    etcd_tls: str = ""  # the same of etcd
 
 
 @dataclass(frozen=True)
@@ -52,12 +56,14 @@ class Site:
 
     def _database_files(self, host: str, folders: Folders) -> dict[str, str]:
         words = {"NAME": host, "ADDRESS": self.databases[host], "NETWORK": self.network,
-                 "DATA": folders.data, "RUN": folders.run, "CONFIG": folders.config}
+                 "DATA": folders.data, "RUN": folders.run, "CONFIG": folders.config,
+                 "TLS": folders.tls, "ETCD_TLS": folders.etcd_tls}
+        words |= {word: (GATEWAY / name).read_text() for word, name in TABLES.items()}
         return {name: self._filled(name, words) for name in DATABASE_FILES}
 
     def _gateway_files(self, host: str, folders: Folders) -> dict[str, str]:
         words = {"NAME": host, "ADDRESS": self.gateways[host], "CONFIG": folders.config,
-                 "STATE": folders.data, "GATEWAY_KEYS": self._gateway_keys(),
+                 "STATE": folders.data, "TLS": folders.tls, "GATEWAY_KEYS": self._gateway_keys(),
                  "SYNCHRONOUS": self.synchronous, "SCHEMA": self.schema, "VENUES": self._venues(),
                  "SECURITY": self.security}
         return {"gateway.toml": self._filled("gateway.toml", words),

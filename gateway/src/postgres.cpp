@@ -182,23 +182,43 @@ class WritingConnection {
         connection_->prepare("speak and be seen", "SELECT speak_and_be_seen($1)");
     }
 
-    // Two gateways that begin at once make them one after the other.
+    // Of two gateways that begin at once the second waits for the first by the schema's name, which
+    // nobody can hold who may not make one, and finds the tables then.
     static void make_tables(pqxx::nontransaction &work, const std::string &schema) {
-        const std::string tables =
-            fmt::format("SELECT FROM pg_tables WHERE schemaname = {}", work.quote(schema));
-        if (!work.exec(tables).empty()) {
+        if (has_tables(work, schema)) {
             return;
         }
-        const std::string name = work.quote_name(schema);
-        work.exec("BEGIN");
-        work.exec(fmt::format("SELECT pg_advisory_xact_lock(hashtext({}))",
-                              work.quote(fmt::format("mireseason {}", schema))));
-        if (work.exec(tables).empty()) {
-            work.exec(
-                fmt::format("CREATE SCHEMA IF NOT EXISTS {0}; SET LOCAL search_path TO {0}", name));
-            work.exec(schema_text());
-            work.exec(terms_text());
+        try {
+            if (has_owner(work)) {
+                work.exec_params("SELECT mireseason.make_log($1)", schema);
+            } else {
+                make_own_tables(work, work.quote_name(schema));
+            }
+        } catch (const pqxx::sql_error &) {
+            work.exec("ROLLBACK");
+            if (!has_tables(work, schema)) {
+                throw;
+            }
         }
+    }
+
+    static bool has_tables(pqxx::nontransaction &work, const std::string &schema) {
+        return !work.exec_params("SELECT FROM pg_tables WHERE schemaname = $1", schema).empty();
+    }
+
+    // Whether the logs of this database have an owner, whose function makes their tables
+    // (deploy/config/database.sql): then this role may not.
+    static bool has_owner(pqxx::nontransaction &work) {
+        return work.exec("SELECT to_regprocedure('mireseason.make_log(text)') IS NOT NULL")[0][0]
+            .as<bool>();
+    }
+
+    static void make_own_tables(pqxx::nontransaction &work, const std::string &name) {
+        work.exec("BEGIN");
+        work.exec(
+            fmt::format("CREATE SCHEMA IF NOT EXISTS {0}; SET LOCAL search_path TO {0}", name));
+        work.exec(schema_text());
+        work.exec(terms_text());
         work.exec("COMMIT");
     }
 

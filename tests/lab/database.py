@@ -7,6 +7,7 @@ from contextlib import suppress
 from dataclasses import dataclass
 from pathlib import Path
 
+from parts.certificates import put_certificate
 from parts.site import Folders
 
 from tests.lab.disk import Disk
@@ -39,10 +40,29 @@ class DatabaseHost(Place):
         self.disk.make(USERS)
         owner = pwd.getpwnam("postgres")
         os.chown(self.own, owner.pw_uid, owner.pw_gid)
-        folders = Folders(str(self.own), str(self.disk.mount), str(self.own))
+        for folder, user in ((self.tls, "postgres"), (self.etcd_tls, "etcd")):
+            put_certificate(self.folder / "certificates", self.name, folder, user)
+        folders = Folders(str(self.own), str(self.disk.mount), str(self.own), str(self.tls),
+                          str(self.etcd_tls))
         for name, text in self.site.files(self.name, folders).items():
             (self.own / name).write_text(text)
             (self.own / name).chmod(0o755)
+
+    @property
+    def tls(self) -> Path:
+        return self.own / "tls"
+
+    @property
+    def etcd_tls(self) -> Path:
+        return self.own / "etcd-tls"
+
+    def etcdctl(self, *words: str, limit: float = 15) -> str:
+        """What the command of etcd prints on this host, which asks its own etcd."""
+        tls = self.etcd_tls
+        return run(*self.network.words(self.name), "etcdctl", "--endpoints",
+                   "https://%s:2379" % self.host.address, "--cacert", str(tls / "authority.pem"),
+                   "--cert", str(tls / "host.pem"), "--key", str(tls / "host.key"), *words,
+                   limit=limit)
 
     def start(self) -> None:
         self.logs.mkdir(exist_ok=True)
@@ -93,9 +113,8 @@ class DatabaseHost(Place):
 
     def leads_etcd(self) -> bool:
         try:
-            text = run(*self.network.words(self.name), "etcdctl", "--endpoints",
-                       "http://%s:2379" % self.host.address, "--command-timeout=2s",
-                       "endpoint", "status", "-w", "simple", limit=5)
+            text = self.etcdctl("--command-timeout=2s", "endpoint", "status", "-w", "simple",
+                                limit=5)
         except Fault:
             return False
         return text.split(", ")[4] == "true"

@@ -6,6 +6,7 @@ from collections.abc import Iterable, Mapping
 from dataclasses import dataclass
 from pathlib import Path
 
+from parts.certificates import put_certificate
 from parts.site import ALONE, Folders, file_of
 
 from tests.lab.place import Place
@@ -41,7 +42,9 @@ class GatewayHost(Place):
         all gateways.
         """
         self.own.mkdir(parents=True, exist_ok=True)
-        files = self.site.files(self.name, Folders(str(self.own), str(self.own)))
+        tls = self.own / "site"
+        put_certificate(self.folder / "certificates", self.name, tls, "root")
+        files = self.site.files(self.name, Folders(str(self.own), str(self.own), tls=str(tls)))
         (self.own / "keys").mkdir(exist_ok=True)
         for path in (keys / "seal.key", keys / (self.name + ".pem"), *keys.glob("*.pub")):
             shutil.copy(path, self.own / "keys")

@@ -6,6 +6,7 @@ from collections.abc import Mapping
 from dataclasses import dataclass, field
 from pathlib import Path
 
+from parts.certificates import make_certificates
 from parts.site import ALONE, WORDS, Site
 
 from tests.lab.cluster import Cluster
@@ -49,6 +50,7 @@ class Machine:
         self.network.up()
         self.folder.mkdir(parents=True, exist_ok=True)
         self.images.mkdir(parents=True, exist_ok=True)
+        make_certificates({**self.site.databases, **self.site.gateways}, self.folder / "certificates")
         self.cluster.up()
         self.cluster.wait_ready()
 

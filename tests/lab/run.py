@@ -6,27 +6,13 @@ from collections.abc import Callable, Iterable
 from pathlib import Path
 from typing import TypeVar
 
+from parts.command import run
 from parts.fault import Fault
 
 __all__ = ["Fault", "found_in", "run", "tried", "until", "whole_paths"]
 
 STEP = 0.05
 Found = TypeVar("Found")
-
-
-def run(*words: str, text: str | None = None, limit: float = 60) -> str:
-    """What a command prints; Fault with its last words where it fails."""
-    try:
-        done = subprocess.run(words, input=text, capture_output=True, text=True, timeout=limit,
-                              check=False)
-    except subprocess.TimeoutExpired as fault:
-        raise Fault("%s: no end within %g s" % (" ".join(words), limit)) from fault
-    except OSError as fault:
-        raise Fault("%s: %s" % (" ".join(words), fault)) from fault
-    if done.returncode != 0:
-        cause = done.stderr.strip() or "status %d" % done.returncode
-        raise Fault("%s: %s" % (" ".join(words), cause))
-    return done.stdout
 
 
 def tried(*words: str) -> bool:

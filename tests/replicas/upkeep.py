@@ -6,7 +6,7 @@ from collections.abc import Callable
 
 from tests.lab.database import DatabaseHost, as_user
 from tests.lab.machine import Machine
-from tests.lab.run import found_in, run, tried, until
+from tests.lab.run import Fault, found_in, run, until
 from tests.replicas.book import PATIENCE
 from tests.replicas.damage import Course, Damage
 
@@ -54,14 +54,20 @@ class Upkeep(Course):
     def join_anew(self, host: DatabaseHost) -> None:
         """Takes the member that is lost out of etcd's cluster, and its successor in."""
         leader = found_in("etcd has a leader", PATIENCE, self.machine.cluster.etcd_leader)
-        etcdctl = (*self.machine.network.words(leader.name), "etcdctl", "--endpoints",
-                   "http://%s:2379" % leader.host.address, "member")
-        members = [line.split(", ") for line in run(*etcdctl, "list").splitlines()]
+        members = [line.split(", ") for line in leader.etcdctl("member", "list").splitlines()]
         lost = next(words[0] for words in members if words[2] == host.name)
-        peer = "--peer-urls=http://%s:2380" % host.host.address
-        until("etcd lets %s go" % host.name, PATIENCE, lambda: tried(*etcdctl, "remove", lost))
-        until("etcd takes %s" % host.name, PATIENCE,
-              lambda: tried(*etcdctl, "add", host.name, peer))
+        peer = "--peer-urls=https://%s:2380" % host.host.address
+        until("etcd lets %s go" % host.name, PATIENCE, lambda: does(leader, "remove", lost))
+        until("etcd takes %s" % host.name, PATIENCE, lambda: does(leader, "add", host.name, peer))
         file = host.own / "etcd.yml"
         text = file.read_text().replace('state: "new"', 'state: "existing"')
         file.write_text(text)
+
+
+def does(leader: DatabaseHost, *words: str) -> bool:
+    """Whether etcd does something with its members."""
+    try:
+        leader.etcdctl("member", *words)
+        return True
+    except Fault:
+        return False

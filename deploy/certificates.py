@@ -1,0 +1,33 @@
+#!/usr/bin/env python3
+"""Makes the certificates of an installation's hosts, and the authority that signs them.
+
+usage: certificates.py SITE FOLDER
+
+SITE is a file as site.toml. FOLDER gets authority.pem and authority.key, and of each host HOST.pem
+and HOST.key; what is there stays, so that a new host is added by running it again. README.md says
+where each has its place. Keep authority.key away from all hosts: whoever has it can be any of them.
+"""
+
+import argparse
+import sys
+from pathlib import Path
+
+from parts.certificates import make_certificates
+from parts.run import Fault
+from parts.site import read_site
+
+
+def main() -> None:
+    parser = argparse.ArgumentParser(usage=__doc__)
+    parser.add_argument("site", type=Path)
+    parser.add_argument("folder", type=Path)
+    words = parser.parse_args()
+    try:
+        site = read_site(words.site)
+        make_certificates({**site.databases, **site.gateways}, words.folder)
+    except (Fault, OSError) as fault:
+        sys.exit("certificates.py: %s" % fault)
+
+
+if __name__ == "__main__":
+    main()

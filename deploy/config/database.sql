@@ -1,0 +1,64 @@
+-- Who may do what in the database of the logs, and how a day's tables are made. Its superuser runs it in that database
+-- when it is new, and again with each version of the gateway whose tables have another form.
+-- configure.py replaces the words between two @.
+
+-- The owner of all tables: no process connects as it.
+DO $$ BEGIN
+    IF NOT EXISTS (SELECT FROM pg_roles WHERE rolname = 'log_owner') THEN
+        CREATE ROLE log_owner NOLOGIN;
+    END IF;
+END $$;
+DO $$ BEGIN
+    EXECUTE format('ALTER DATABASE %I OWNER TO log_owner', current_database());
+    EXECUTE format('REVOKE ALL ON DATABASE %I FROM PUBLIC, gateway, reader', current_database());
+    EXECUTE format('GRANT CONNECT ON DATABASE %I TO gateway, reader', current_database());
+END $$;
+
+-- A reader reads, and nobody waits for it for long. (It may set the two timeouts otherwise: what it can hold is a snapshot.)
+ALTER ROLE reader CONNECTION LIMIT 5;
+ALTER ROLE reader SET default_transaction_read_only = on;
+ALTER ROLE reader SET statement_timeout = '10min';
+ALTER ROLE reader SET lock_timeout = '5s';
+ALTER ROLE reader SET idle_in_transaction_session_timeout = '10min';
+ALTER ROLE gateway CONNECTION LIMIT 50;
+ALTER ROLE gateway SET lock_timeout = '10s';
+
+-- What PostgreSQL lets everybody do that no role here needs: large objects, words in the WAL, and locks by a number, which
+-- whoever holds one could keep others waiting with.
+DO $$
+DECLARE
+    one REGPROCEDURE;
+BEGIN
+    FOR one IN SELECT oid FROM pg_proc WHERE pronamespace = 'pg_catalog'::regnamespace
+        AND (proname ~ '^(lo_|lo(read|write)$)' OR proname IN ('pg_logical_emit_message', 'pg_export_snapshot')
+             OR proname ~ '^pg_(try_)?advisory_')
+    LOOP
+        EXECUTE format('REVOKE ALL ON FUNCTION %s FROM PUBLIC', one);
+    END LOOP;
+END $$;
+REVOKE ALL ON SCHEMA public FROM PUBLIC;
+
+CREATE SCHEMA IF NOT EXISTS mireseason AUTHORIZATION log_owner;
+GRANT USAGE ON SCHEMA mireseason TO gateway;
+
+-- Makes the schema of a day with its tables, which belong to the owner, and says what the others may: a gateway puts rows
+-- there, and changes where a session stands and who speaks; a reader reads. Two gateways that begin at once: the second waits
+-- for the first by the schema's name, and fails then.
+CREATE OR REPLACE FUNCTION mireseason.make_log(name TEXT) RETURNS VOID
+LANGUAGE plpgsql SECURITY DEFINER SET search_path = pg_catalog, pg_temp AS $make_log$
+BEGIN
+    IF name !~ '^[a-z][a-z0-9_]{0,50}_[0-9]{8}$' THEN
+        RAISE 'no log is called %', name;
+    END IF;
+    EXECUTE format('CREATE SCHEMA %I', name);
+    EXECUTE format('SET LOCAL search_path TO %I, pg_temp', name);
+    EXECUTE $tables$@SCHEMA_SQL@$tables$;
+    EXECUTE $tables$@TERMS_SQL@$tables$;
+    EXECUTE format('GRANT USAGE ON SCHEMA %I TO gateway, reader', name);
+    EXECUTE format('GRANT SELECT ON ALL TABLES IN SCHEMA %I TO gateway, reader', name);
+    GRANT INSERT ON entry, connection, sent, outgoing, session, seal, checkpoint TO gateway;
+    GRANT UPDATE ON session, speaker TO gateway;
+END $make_log$;
+ALTER FUNCTION mireseason.make_log(TEXT) OWNER TO log_owner;
+REVOKE ALL ON FUNCTION mireseason.make_log(TEXT) FROM PUBLIC;
+GRANT EXECUTE ON FUNCTION mireseason.make_log(TEXT) TO gateway;

@@ -1,0 +1,121 @@
+"""What somebody on a host of the site's network can reach of the database hosts without a certificate and a password: nothing
+of etcd, of Patroni's interface, of replication, or of the log.
+"""
+
+import subprocess
+from collections.abc import Iterator
+from pathlib import Path
+
+import pytest
+
+from deploy.parts.database import PSQL
+from deploy.parts.machine import Machine, check_root, remove, site_here
+from tests.gateway.wait import LONG
+from tests.harness import lab
+
+ATTACKER = "firms"  # a host in the same network, which has nothing of the site's
+PREFIX = "closed"
+CONFIG_KEY = "/v2/keys/service/mireseason/config"
+
+
+@pytest.fixture(scope="module")
+def machine(tmp_path_factory: pytest.TempPathFactory) -> Iterator[Machine]:
+    """The database hosts, up."""
+    lacking = lab.lacks()
+    if lacking:
+        pytest.skip(lacking)
+    check_root()
+    folder = Path("/tmp/mireseason-closed")
+    made = Machine(folder, folder / "images", Path("/bin/true"), site_here(()), PREFIX)
+    try:
+        made.bring_up_databases()
+        yield made
+    finally:
+        made.down()
+        remove(PREFIX, folder, folder / "images")
+
+
+def on(machine: Machine, host: str, *words: str, **environment: str) -> subprocess.CompletedProcess[str]:
+    """A command on a host."""
+    named = ["env", *("%s=%s" % item for item in environment.items())]
+    command = [*machine.network.words(host), *named, *words]
+    return subprocess.run(command, capture_output=True, text=True, check=False, timeout=LONG)
+
+
+def asked(machine: Machine, host: str, url: str, *words: str) -> str:
+    """The status of an answer by HTTP, 000 where there is none."""
+    done = on(machine, host, "curl", "-s", "-o", "/dev/null", "-m", "10", "-w", "%{http_code}", *words, url)
+    return done.stdout
+
+
+def certificate(machine: Machine, host: str) -> list[str]:
+    """A host's own, in words of curl."""
+    folder = machine.folder / host / "tls"
+    return ["--cacert", str(folder / "authority.pem"), "--cert", str(folder / "host.pem"), "--key", str(folder / "host.key")]
+
+
+def test_etcd(machine: Machine) -> None:
+    """Who can write there can say who is the primary, and what its settings are."""
+    address = machine.cluster.databases[0].host.address
+    for port in (2379, 2380):
+        assert asked(machine, ATTACKER, "http://%s:%d/v2/keys" % (address, port)) in ("000", "400")
+        assert asked(machine, ATTACKER, "https://%s:%d/v2/keys" % (address, port), "-k") == "000"
+    write = ["-k", "-X", "PUT", "-d", "value={}"]
+    assert asked(machine, ATTACKER, "https://%s:2379%s" % (address, CONFIG_KEY), *write) == "000"
+    own = certificate(machine, "db1")
+    assert asked(machine, "db1", "https://%s:2379%s" % (address, CONFIG_KEY), *own) == "200"
+
+
+def test_patroni(machine: Machine) -> None:
+    """By this interface a host can be told to run a command: it wants a certificate, and to change anything a password too."""
+    address = machine.cluster.databases[0].host.address
+    url, change = "https://%s:8008/config" % address, ["-X", "PATCH", "-d", '{"ttl": 16}']
+    assert asked(machine, ATTACKER, "http://%s:8008/config" % address) == "000"
+    assert asked(machine, ATTACKER, url, "-k") == "000"
+    assert asked(machine, ATTACKER, url, "-k", *change) == "000"
+    own = certificate(machine, "db1")
+    assert asked(machine, "db1", url, *own) == "200"
+    assert asked(machine, "db1", url, *own, *change) == "401"
+    assert asked(machine, "db1", url, *own, *change, "-u", "patroni:rest-secret") == "200"
+
+
+def connected(machine: Machine, host: str, words: str, password: str) -> str:
+    """What PostgreSQL says of a connection to the primary; `1` where it is taken."""
+    primary = machine.cluster.primary()
+    assert primary is not None
+    text = "host=%s connect_timeout=10 %s" % (primary.host.address, words)
+    command = "SELECT 1" if "replication=" not in words else "IDENTIFY_SYSTEM"
+    done = on(machine, host, PSQL, "-X", "-A", "-t", "-c", command, text, PGPASSWORD=password)
+    return done.stdout.strip() or done.stderr.strip()
+
+
+def test_postgres(machine: Machine) -> None:
+    """In the clear nobody is let in, whatever the password; nor without a certificate where one is needed."""
+    for role, database in (("gateway", "mireseason"), ("rewinder", "postgres"), ("reader", "mireseason")):
+        secret = {"gateway": "gateway-secret", "rewinder": "rewind-secret", "reader": "reader-secret"}[role]
+        words = "user=%s dbname=%s" % (role, database)
+        assert "no encryption" in connected(machine, ATTACKER, words + " sslmode=disable", secret)
+        if role != "reader":
+            told = connected(machine, ATTACKER, words + " sslmode=require", secret)
+            assert "requires a valid client certificate" in told, told
+    folder = machine.folder / "db2" / "tls"
+    own = "sslmode=verify-full sslrootcert=%s sslcert=%s sslkey=%s" % (
+        folder / "authority.pem", folder / "host.pem", folder / "host.key")
+    assert "password authentication failed" in connected(machine, "db2", "user=gateway dbname=mireseason " + own, "guessed")
+    assert connected(machine, "db2", "user=gateway dbname=mireseason " + own, "gateway-secret") == "1"
+
+
+def test_replication(machine: Machine) -> None:
+    """The log leaves by it, whole."""
+    words = "user=replicator dbname=postgres replication=true"
+    assert "no encryption" in connected(machine, ATTACKER, words + " sslmode=disable", "replication-secret")
+    told = connected(machine, ATTACKER, words + " sslmode=require", "replication-secret")
+    assert "requires a valid client certificate" in told, told
+
+
+def test_what_comes_over_the_links_is_encrypted(machine: Machine) -> None:
+    """Each standby streams over TLS."""
+    primary = machine.cluster.primary()
+    assert primary is not None
+    found = primary.asked("SELECT count(*) FROM pg_stat_replication JOIN pg_stat_ssl USING (pid) WHERE ssl AND client_dn IS NOT NULL")
+    assert found == "2"
