@@ -13,7 +13,7 @@ import sys
 from pathlib import Path
 
 from parts.certificates import make_certificates
-from parts.run import Fault
+from parts.fault import Fault
 from parts.site import read_site
 
 

@@ -109,13 +109,22 @@ def two_days(streams: Streams, live: bool, word: bytes, role: str) -> Iterator[t
 # ---------------------------------------------------------------- commands: each answers lines
 
 
-def do_alone(streams: Streams, frames: bool) -> Iterable[bytes]:
+def desk_lines(desk: Desk, frames: bool, notes: bool) -> Iterator[bytes]:
+    """The messages that a firm was sent, and where that is asked for, behind each what is noted beside it."""
+    for number, fields in enumerate(desk.sent, 1):
+        yield message_line(desk.row.name, fields, frames)
+        note = desk.note_line(number) if notes else None
+        if note is not None:
+            yield note
+
+
+def do_alone(streams: Streams, frames: bool, notes: bool) -> Iterable[bytes]:
     (part,) = parts_of_input(streams.input, 1)
     try:
         desk = desk_alone(part)
     except LineFault as fault:
         raise Fault("line %d: %s" % (fault.args[1], fault.args[0])) from None
-    return [message_line(desk.row.name, fields, frames) for fields in desk.sent]
+    return desk_lines(desk, frames, notes)
 
 
 def desk_alone(part: Part) -> Desk:
@@ -125,10 +134,10 @@ def desk_alone(part: Part) -> Desk:
     return alone(*read_due_text(part.lines, part.first))
 
 
-def do_replay(streams: Streams, frames: bool, live: bool, word: bytes | None = None) -> Iterable[bytes]:
+def do_replay(streams: Streams, frames: bool, live: bool, notes: bool, word: bytes | None = None) -> Iterable[bytes]:
     venue, firm = a_day(streams, live, word)
     desks = venue.desks if firm is None else [venue.desks[firm]]
-    return [message_line(desk.row.name, fields, frames) for desk in desks for fields in desk.sent]
+    return [line for desk in desks for line in desk_lines(desk, frames, notes)]
 
 
 def do_due(streams: Streams, live: bool, investor: bool, word: bytes) -> Iterable[bytes]:

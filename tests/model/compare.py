@@ -1,11 +1,11 @@
 #!/usr/bin/env python3
 """Holds a program against the model: status, output and standard error on inputs that are drawn.
 
-usage: compare.py PROGRAM INPUTS [FIRST_SEED [PROCESSES]]
+usage: compare.py [--notes] PROGRAM INPUTS [FIRST_SEED [PROCESSES]]
        compare.py --write SEED  writes the inputs of a seed to the working directory
 
 A seed has one or more inputs. The first that differs is written to the working directory, as SEED-N.in and its
-words, beside both answers; the status is then 1.
+words, beside both answers; the status is then 1. With --notes each command that has that flag is given it.
 """
 
 import collections
@@ -35,7 +35,7 @@ def inputs(seed):
     return draw.choice(kinds)(draw)
 
 
-def joined(*parts):
+def joined(*parts: bytes) -> bytes:
     return b"\n%%\n".join(parts)
 
 
@@ -44,7 +44,7 @@ def ended(draw, data):
     return data + draw.of(b"\n", b"\n", b"")
 
 
-def head(day):
+def head(day: Day) -> bytes:
     return "\n".join(day.head).encode()
 
 
@@ -212,7 +212,7 @@ def rarely(draw):
 # ---------------------------------------------------------------- both answers
 
 
-def model_answer(words, data):
+def model_answer(words: list[str], data: bytes) -> tuple[int, bytes, bytes]:
     out, err = io.BytesIO(), io.BytesIO()
     words = [word.decode("utf-8", "surrogateescape") if isinstance(word, bytes) else word for word in words]
     status = model.run(words, io.BytesIO(data), out, err)
@@ -239,6 +239,9 @@ def kinds_of(words, answer):
         kinds["fault " + re.sub(r"line \d+", "line K", line) if not line.startswith("firm") else "fault firm"] += 1
     if words and words[0] in ("replay", "live") or not words or words[0] == "alone":
         for line in out.splitlines():
+            if "--notes" in words and line.startswith((b"why ", b"trade ")):
+                kinds[noted_kind(line)] += 1
+                continue
             parts = line.decode(errors="replace").split(" ", 4)
             if parts[0] in ("done", "fault") and "--marks" in words:
                 kinds["mark %s, %d words" % (parts[0], len(line.split()))] += 1
@@ -248,12 +251,26 @@ def kinds_of(words, answer):
     return kinds
 
 
+def with_notes(words: list[str]) -> list[str]:
+    """The words with --notes, where their command has that flag."""
+    words = words or ["alone"]
+    has_it = words[0] in ("alone", "live") or (words[0] == "replay" and "--live" in words)
+    return [*words, "--notes"] if has_it else words
+
+
+def noted_kind(line: bytes) -> str:
+    """A reason, or a trade, by its number."""
+    word, _, _, name = line.decode().split(" ")
+    return "why %s" % name if word == "why" else "trade %s" % name.rsplit("-", 1)[1]
+
+
 def compared(work):
     """The first difference of a seed's inputs, if any; how many there are; the kinds of their answers."""
-    program, seed = work
+    program, seed, notes = work
     count, kinds = 0, collections.Counter()
     try:
         for number, (words, data) in enumerate(inputs(seed), 1):
+            words = with_notes(words) if notes else words
             mine, count = model_answer(words, data), count + 1
             kinds += kinds_of(words, mine)
             other = program_answer(program, words, data)
@@ -290,6 +307,8 @@ def write_inputs(seed):
 
 def main():
     words = sys.argv[1:]
+    notes = words[0] == "--notes"
+    words = words[notes:]
     if words[0] == "--write":
         return write_inputs(int(words[1]))
     program, wanted = words_of(words[0]), int(words[1])
@@ -297,7 +316,7 @@ def main():
     processes = int(words[3]) if len(words) > 3 else 1
     total, kinds = 0, collections.Counter()
     with multiprocessing.Pool(processes) as pool:
-        seeds = ((program, seed) for seed in range(first, 2**62))
+        seeds = ((program, seed, notes) for seed in range(first, 2**62))
         for seed, difference, count, found in pool.imap(compared, seeds, 16):
             if total // 1000 < (total + count) // 1000:
                 print("%d inputs, up to seed %d" % (total + count, seed), file=sys.stderr, flush=True)

@@ -158,7 +158,7 @@ def spoil(draw, fields):
 
 
 class Day:
-    def __init__(self, draw, lines=None, length=None):
+    def __init__(self, draw: "Draw", lines: list[str] | None = None, length: int | None = None) -> None:
         self.draw, self.head = draw, lines or draw_configuration(draw)
         self.configuration = read_configuration("\n".join(self.head).encode())
         self.venue, self.reader = Venue(self.configuration), StepReader(self.configuration)

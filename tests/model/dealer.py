@@ -5,13 +5,39 @@ A desk asks the word of an own quote by calling `ask_word(q)`, which answers 'wi
 
 from dataclasses import dataclass
 
-from .desk import Desk, first, party, price_field, price_tag, terms
+from .desk import Desk, Reason, Trade, first, party, price_field, price_tag, terms
 from .frames import moment_text
 from .prices import is_price, on_grid, thirty_seconds
 from .session import DEALER_TYPES
 
 HIT, EXPIRED, COVER, DONE_AWAY, PASS = 1, 3, 4, 5, 6  # 694 of a closing notice
 INVESTOR_ROLE = 13
+
+# The names of the lines that refuse, each with the value of 300; of those that answer a cancel 297=9 without one.
+QUOTE_REASONS = {
+    "UnknownRequest": 99,
+    "Declined": 99,
+    "Closed": 4,
+    "DeadlinePassed": 4,
+    "OtherBond": 1,
+    "InvalidPrice": 8,
+    "OtherQuantity": 99,
+    "NotTradeable": 99,
+    "DuplicateQuote": 6,
+    "ValidityPassed": 99,
+    "QuotesUsedUp": 3,
+    "ExposureExceeded": 3,
+    "Lifted": 4,
+}
+CANCEL_REASONS = {
+    "UnknownCancelType": 99,
+    "UnknownQuote": None,
+    "Withdrawn": 99,
+    "Closed": 4,
+    "Lifted": 4,
+    "NothingToCancel": None,
+}
+DECLINE_REASONS = {"UnknownRequest": 99, "Declined": 99, "Closed": 4, "LiveQuote": 99}
 
 
 @dataclass
@@ -97,7 +123,7 @@ class DealerDesk(Desk):
         refusal = first(self.quote_refusals(moment, message, request))
         answer = [(131, message[131]), (117, message[117])]
         if refusal is not None:
-            self.send(moment, b"AI", answer + refused(refusal))
+            self.refuse(moment, answer, refusal, QUOTE_REASONS)
             return []
         ticks, until = message[price_tag(request.ask.side)], message.get(62)
         quote = Quote(len(self.quotes) + 1, message[117], request, ticks, moment, message[50])
@@ -106,21 +132,21 @@ class DealerDesk(Desk):
         return [("Post", request.room, quote.q, ticks, until, moment)]
 
     def quote_refusals(self, moment, message, request):
-        yield request is None, 99
+        yield request is None, "UnknownRequest"
         ask = request.ask
-        yield request.declined, 99
-        yield request.closed is not None or self.is_known_lifted(request), 4
-        yield moment >= ask.deadline, 4
-        yield message[48] != ask.bond, 1
-        yield not is_asked_price(message, ask), 8
-        yield any(message.get(tag, ask.quantity) != ask.quantity for tag in (134, 135)), 99
-        yield message.get(537, 1) != 1, 99
-        yield self.quote(message[117]) is not None, 6
-        yield 62 in message and message[62] <= moment, 99
-        yield len(self.quotes) >= self.row.quotes, 3
-        yield ask.quantity + self.exposure_without(request) > self.row.exposure, 3
+        yield request.declined, "Declined"
+        yield request.closed is not None or self.is_known_lifted(request), "Closed"
+        yield moment >= ask.deadline, "DeadlinePassed"
+        yield message[48] != ask.bond, "OtherBond"
+        yield not is_asked_price(message, ask), "InvalidPrice"
+        yield any(message.get(tag, ask.quantity) != ask.quantity for tag in (134, 135)), "OtherQuantity"
+        yield message.get(537, 1) != 1, "NotTradeable"
+        yield self.quote(message[117]) is not None, "DuplicateQuote"
+        yield 62 in message and message[62] <= moment, "ValidityPassed"
+        yield len(self.quotes) >= self.row.quotes, "QuotesUsedUp"
+        yield ask.quantity + self.exposure_without(request) > self.row.exposure, "ExposureExceeded"
         replaced = self.live_quote(request)
-        yield replaced is not None and self.found_lifted(replaced, "replaced"), 4
+        yield replaced is not None and self.found_lifted(replaced, "replaced"), "Lifted"
 
     def take_cancel(self, moment, message):
         answer = [(117, message.get(117))]
@@ -129,38 +155,38 @@ class DealerDesk(Desk):
         if result is None:
             self.send(moment, b"AI", answer + [(297, b"17")])
             return [("Unpost", quote.request.room, quote.q, moment)]
-        self.send(moment, b"AI", answer + ([(297, b"9")] if result == "unknown" else refused(result)))
+        self.refuse(moment, answer, result, CANCEL_REASONS)
         return []
 
     def cancel_refusals(self, message, quote):
-        yield message[298] != 5, 99
-        yield quote is None, "unknown"
-        yield quote.ended is not None, 99
-        yield quote.request.closed is not None or quote.known_lifted, 4
-        yield self.found_lifted(quote, "withdrawn"), 4
+        yield message[298] != 5, "UnknownCancelType"
+        yield quote is None, "UnknownQuote"
+        yield quote.ended is not None, "Withdrawn"
+        yield quote.request.closed is not None or quote.known_lifted, "Closed"
+        yield self.found_lifted(quote, "withdrawn"), "Lifted"
 
     def take_decline(self, moment, message):
         request = self.request(message[131])
         refusal = first(self.decline_refusals(request))
         answer = [(131, message[131])]
         if refusal is not None:
-            self.send(moment, b"AI", answer + refused(refusal))
+            self.refuse(moment, answer, refusal, DECLINE_REASONS)
             return []
         request.declined = True
         self.send(moment, b"AI", answer + [(297, b"11")])
         return [("Decline", request.room, moment)]
 
     def decline_refusals(self, request):
-        yield request is None, 99
-        yield request.declined, 99
-        yield request.closed is not None, 4
-        yield self.live_quote(request) is not None, 99
+        yield request is None, "UnknownRequest"
+        yield request.declined, "Declined"
+        yield request.closed is not None, "Closed"
+        yield self.live_quote(request) is not None, "LiveQuote"
 
     # ------------------------------------------------------------ the cancel of all quotes
 
     def take_cancel_all(self, moment, message):
         if not any(quote.is_droppable() for quote in self.quotes):
-            self.send(moment, b"AI", [(117, message.get(117)), (297, b"9")])
+            self.refuse(moment, [(117, message.get(117))], "NothingToCancel", CANCEL_REASONS)
             return []
         return [("Drop", len(self.quotes), moment)]
 
@@ -171,7 +197,7 @@ class DealerDesk(Desk):
             return []
         quote, duties = quotes[0], []
         if self.found_lifted(quote, "withdrawn"):
-            self.send(moment, b"AI", [(117, quote.id)] + refused(4))
+            self.refuse(moment, [(117, quote.id)], "Lifted", CANCEL_REASONS)
         else:
             self.send(moment, b"AI", [(117, quote.id), (297, b"17")])
             duties.append(("Unpost", quote.request.room, quote.q, moment))
@@ -198,9 +224,18 @@ class DealerDesk(Desk):
         fields += [(117, quote.id if quote else None), (694, b"%d" % close)] + terms(request.ask)
         if quote:
             fields.append(price_field(request.ask.side, quote.ticks))
-        self.send(moment, b"AJ", fields)
+        self.send(moment, b"AJ", fields, Trade(request.ask.investor) if close == HIT else None)
         request.closed = close
         return True
+
+    def refuse(self, moment, answer, name, reasons):
+        """Refuses a message by the line of this name: 297=5 with its value of 300, or 297=9 where it has none."""
+        reason = reasons[name]
+        status = [(297, b"9")] if reason is None else [(297, b"5"), (300, b"%d" % reason)]
+        self.send(moment, b"AI", answer + status, Reason(name))
+
+    def sides(self, other):
+        return other, self.row.name
 
     # ------------------------------------------------------------ the blotter
 
@@ -215,10 +250,6 @@ class DealerDesk(Desk):
         """Each quote: its number, moment, trader, request, terms, price and state."""
         for quote in self.quotes:
             yield quote, thirty_seconds(quote.ticks), self.state(quote)
-
-
-def refused(reason):
-    return [(297, b"5"), (300, b"%d" % reason)]
 
 
 def is_asked_price(message, ask):

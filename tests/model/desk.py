@@ -19,11 +19,25 @@ class Ask:
     grid: int
 
 
+@dataclass(frozen=True)
+class Reason:
+    """Noted beside a message that refuses: the name of the line of the table."""
+
+    name: str
+
+
+@dataclass(frozen=True)
+class Trade:
+    """Noted beside a message that tells of a trade: the other firm."""
+
+    other: bytes
+
+
 def first(refusals):
-    """The reason of the first condition that holds, looking at no later one; None where none does."""
-    for condition, reason in refusals:
+    """The name of the first condition that holds, looking at no later one; None where none does."""
+    for condition, name in refusals:
         if condition:
-            return reason
+            return name
     return None
 
 
@@ -37,10 +51,11 @@ class Desk:
 
     def __init__(self, date, row):
         self.date, self.row = date, row
-        self.inbox, self.sent = Inbox(), []
+        self.inbox, self.sent, self.notes = Inbox(), [], []
 
-    def send(self, moment, kind, fields):
-        """Sends a message; fields without a value are left out."""
+    def send(self, moment, kind, fields, note=None):
+        """Sends a message, beside which this is noted; fields without a value are left out."""
+        self.notes.append(note)
         head = [(35, kind), (49, b"VENUE"), (56, self.row.name), (34, b"%d" % (len(self.sent) + 1))]
         head.append((52, moment_text(self.date, moment)))
         self.sent.append(head + [field for field in fields if field[1] is not None])
@@ -57,6 +72,20 @@ class Desk:
         """The duties that follow a message: none where it did not pass the session checks."""
         message = self.receive(moment, data)
         return [] if message is None else self.take_message(moment, message)
+
+    def sides(self, other):
+        """The investor and the dealer of a trade with this firm."""
+        raise NotImplementedError
+
+    def note_line(self, number):
+        """What is noted beside the message with this number (34), as a line; None where nothing is."""
+        note, about = self.notes[number - 1], b"%s %d" % (self.row.name, number)
+        if isinstance(note, Reason):
+            return b"why %s %s" % (about, note.name.encode())
+        if isinstance(note, Trade):
+            k = self.notes[:number].count(note)
+            return b"trade %s %s" % (about, b"-".join([self.date, *self.sides(note.other), b"%d" % k]))
+        return None
 
     def frames(self):
         return [write_frame(fields) for fields in self.sent]

@@ -2,13 +2,27 @@
 
 from dataclasses import dataclass
 
-from .desk import Ask, Desk, first, instrument, party, price_field
+from .desk import Ask, Desk, Reason, Trade, first, instrument, party, price_field
 from .frames import moment_text
 from .prices import thirty_seconds
 from .session import INVESTOR_TYPES
 
 DEALER_ROLE = 35
 MOST_DEALERS = 8
+
+# The names of the lines that refuse a request, each with the value of 658.
+REQUEST_REASONS = {
+    "DuplicateRequest": 99,
+    "UnknownBond": 1,
+    "QuantityExceeded": 3,
+    "NoDealer": 99,
+    "UnknownDealer": 99,
+    "DealerTwice": 99,
+    "TooManyDealers": 99,
+    "DeadlinePassed": 4,
+    "RequestsUsedUp": 3,
+    "TooManyOpen": 3,
+}
 
 
 @dataclass
@@ -71,8 +85,8 @@ class InvestorDesk(Desk):
         refusal = first(self.request_refusals(moment, message))
         answer = [(131, message[131])]
         if refusal is not None:
-            answer += [(658, b"%d" % refusal), (146, b"1")] + instrument(message[48])
-            self.send(moment, b"AG", answer)
+            answer += [(658, b"%d" % REQUEST_REASONS[refusal]), (146, b"1")] + instrument(message[48])
+            self.send(moment, b"AG", answer, Reason(refusal))
             return []
         bond = self.bond(message[48])
         ask = Ask(self.row.name, bond.id, int(message[54]), message[38], message[126], bond.grid)
@@ -84,16 +98,16 @@ class InvestorDesk(Desk):
 
     def request_refusals(self, moment, message):
         dealers = message["dealers"]
-        yield self.request(message[131]) is not None, 99
-        yield self.bond(message[48]) is None, 1
-        yield message[38] > self.row.quantity, 3
-        yield not dealers, 99
-        yield any(self.dealer(name) is None for name in dealers), 99
-        yield len(set(dealers)) < len(dealers), 99
-        yield len(dealers) > MOST_DEALERS, 99
-        yield message[126] <= moment, 4
-        yield len(self.requests) >= self.row.requests, 3
-        yield sum(request.is_open() for request in self.requests) >= self.row.open, 3
+        yield self.request(message[131]) is not None, "DuplicateRequest"
+        yield self.bond(message[48]) is None, "UnknownBond"
+        yield message[38] > self.row.quantity, "QuantityExceeded"
+        yield not dealers, "NoDealer"
+        yield any(self.dealer(name) is None for name in dealers), "UnknownDealer"
+        yield len(set(dealers)) < len(dealers), "DealerTwice"
+        yield len(dealers) > MOST_DEALERS, "TooManyDealers"
+        yield message[126] <= moment, "DeadlinePassed"
+        yield len(self.requests) >= self.row.requests, "RequestsUsedUp"
+        yield sum(request.is_open() for request in self.requests) >= self.row.open, "TooManyOpen"
 
     def take_hit(self, moment, message):
         quote = self.quote(message[117])
@@ -148,18 +162,22 @@ class InvestorDesk(Desk):
 
     def answered(self, n, response, reply, moment):
         """The room's answer to a hit or a pass."""
-        request, (name, k) = self.requests[n - 1], response
+        request, (name, k), note = self.requests[n - 1], response, None
         fields = [(693, name), (131, request.id), (117, None if k is None else b"Q%d" % k)]
         if reply == "Awarded":
             quote = self.shown[k - 1]
             self.close(request, "won %s %s" % (quote.dealer.decode(), thirty_seconds(quote.ticks).decode()))
             fields.append((297, b"0"))
+            note = Trade(quote.dealer)
         elif reply == "Passed":
             self.close(request, "passed")
             fields.append((297, b"11"))
         else:
             fields += [(297, b"5"), (300, b"4"), (58, reply.encode())]
-        self.send(moment, b"AI", fields)
+        self.send(moment, b"AI", fields, note)
+
+    def sides(self, other):
+        return self.row.name, other
 
     def closed(self, n, moment):
         """The request has expired."""

@@ -4,6 +4,7 @@ from collections.abc import Iterator
 from typing import BinaryIO
 
 from .configuration import Configuration
+from .desk import Desk
 from .inputs import DIVIDER, Fault, numbered_lines, read_head
 from .lines import LineFault, StepReader, done_mark, fault_mark, is_said, message_line
 from .replay import CLOCK, Venue
@@ -34,7 +35,14 @@ class LiveDay:
             pass
 
 
-def live(stream: BinaryIO, frames: bool, marks: bool, out: BinaryIO, err: BinaryIO) -> None:
+def sent_lines(desk: Desk, fields: list, frames: bool, notes: bool) -> list[bytes]:
+    """The line of a message, and where that is asked for, behind it what is noted beside it."""
+    note = desk.note_line(int(dict(fields)[34])) if notes else None
+    line = message_line(desk.row.name, fields, frames)
+    return [line] if note is None else [line, note]
+
+
+def live(stream: BinaryIO, frames: bool, marks: bool, notes: bool, out: BinaryIO, err: BinaryIO) -> None:
     """Answers each line as soon as it came, before more is read."""
     lines = numbered_lines(stream)
     day = LiveDay(read_head(lines))
@@ -47,7 +55,7 @@ def live(stream: BinaryIO, frames: bool, marks: bool, out: BinaryIO, err: Binary
             sent = []
             tell(err, number, fault)
             mark = fault_mark(number, fault.args[0])
-        answer = [message_line(desks[firm].row.name, fields, frames) for firm, fields in sent]
+        answer = [line for firm, fields in sent for line in sent_lines(desks[firm], fields, frames, notes)]
         if marks:
             answer.append(mark)
         if answer:

@@ -8,8 +8,8 @@ from pathlib import Path
 
 import pytest
 
-from deploy.parts.database import PSQL
-from deploy.parts.machine import Machine, check_root, remove, site_here
+from tests.lab.database import PSQL
+from tests.lab.machine import Machine, check_root, remove, site_here
 from tests.gateway.wait import LONG
 from tests.harness import lab
 
