@@ -90,6 +90,17 @@ def time_of_day(text: str) -> str:
     return text if "." in text else text + ".000"
 
 
+def seconds(text: str) -> float:
+    """How long something is waited for."""
+    try:
+        value = float(text)
+    except ValueError:
+        value = 0.0
+    if not 0.1 <= value <= 3600:
+        raise argparse.ArgumentTypeError("%r is none of 0.1 to 3600 seconds" % text)
+    return value
+
+
 def source_of(words: argparse.Namespace, venue: Venue, folder: Path) -> Source:
     """The log that the arguments name, up to where they say."""
     source = whole_source_of(words, venue, folder)

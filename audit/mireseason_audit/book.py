@@ -35,14 +35,12 @@ def packed_fault(fault: Fault) -> bytes:
 
 def packed_words(words: Words) -> tuple[object, ...]:
     price = None if words.price is None else words.price.text
-    return words.shape.value, words.text, price, words.detail, words.quote, words.refused
+    return words.shape.value, words.text, price, *words[3:]
 
 
 def words_of(row: tuple[Any, ...]) -> Words:
-    shape, text, price, detail, quote, refused = row
-    return Words(
-        Shape(shape), text, None if price is None else Price(price), detail, quote, refused
-    )
+    shape, text, price, *rest = row
+    return Words(Shape(shape), text, None if price is None else Price(price), *rest)
 
 
 def packed(act: Act) -> bytes:
@@ -105,6 +103,11 @@ class Book:
         for place, request in self._connection.execute(query, (first, end)):
             found[place] = (*found.get(place, ()), request)
         return found
+
+    def requests_since(self, place: int) -> set[int]:
+        """The requests that entries behind a place are about."""
+        query = "SELECT DISTINCT request FROM act WHERE place > ?"
+        return {request for request, in self._connection.execute(query, (place,))}
 
     def faults(self, first: int, count: int) -> list[Fault]:
         """So many from one on, the first having the number 0, by the entries."""

@@ -14,7 +14,6 @@ from .frame import barred, fields_of, text_of
 from .jobs import Files
 from .log import Source
 from .pair import Compared, compare
-from .progress import Step
 from .reading import Reader
 from .records import Day, Firm
 from .requests import Request
@@ -63,7 +62,7 @@ class CertificateJob:
     good: bool
     folder: Path
 
-    def __call__(self, step: Step) -> list[Finding]:
+    def __call__(self) -> list[Finding]:
         name = self.dealer.name
         list_path = self.folder / "certificates" / (name + ".due")
         sums = Sums()
@@ -85,7 +84,6 @@ class CertificateJob:
             with self.venue.run(arguments, self.second.day) as run:
                 after = self._seen(run.lines(), request)
         self._write(sums, digest, messages_path, compared, before, after)
-        step(1)
         if compared is None or (compared.row_equal and compared.holds):
             return []
         return [Finding(name, "a second day beside this one: " + ", ".join(compared.lines))]

@@ -1,6 +1,6 @@
 """The order of the entries and their chain, and the day as a file that the venue reads."""
 
-from collections.abc import Iterable, Iterator
+from collections.abc import Iterator
 from dataclasses import dataclass, field
 from hashlib import sha256
 from pathlib import Path
@@ -10,7 +10,7 @@ from .findings import Finding
 from .lines import firm_and_time
 from .log import Log
 from .progress import Step
-from .records import Day, Entries, Entry, EntryRow
+from .records import Day, Entry
 from .streams import FEED, Growing
 
 NO_HASH = bytes(32)
@@ -20,34 +20,20 @@ NO_NUMBER = (0, 0)
 Numbers = dict[str, tuple[int, int]]  # of each firm, a number of its session, and an entry's place
 
 
-def hashes_of(rows: Iterable[EntryRow], has_door: bool) -> list[bytes]:
-    """The hashes that entries must have, from their other columns."""
-    if not has_door:
-        return old_hashes_of(rows)
-    return [
-        sha256(
-            f"{before.hex()} {place} {term} {moment} {received} {firm or '-'} "
-            f"{'-' if number is None else number} {'-' if connection is None else connection} "
-            f"{len(line)}\n".encode() + line
-        ).digest()
-        for place, term, moment, firm, number, line, before, _, received, connection in rows
-    ]
+def hash_of(entry: Entry, has_door: bool) -> bytes:
+    """The hash that an entry must have, from its other columns."""
+    before, firm, number = entry.before.hex(), entry.firm or "-", dashed(entry.number)
+    received = f" {entry.received}" if has_door else ""
+    connection = f" {dashed(entry.connection)}" if has_door else ""
+    head = (
+        f"{before} {entry.place} {entry.term} {entry.moment}{received} {firm} {number}{connection} "
+        f"{len(entry.line)}\n"
+    )
+    return sha256(head.encode() + entry.line).digest()
 
 
-def old_hashes_of(rows: Iterable[EntryRow]) -> list[bytes]:
-    """The same of a log that says nothing of connections."""
-    return [
-        sha256(
-            f"{before.hex()} {place} {term} {moment} {firm or '-'} "
-            f"{'-' if number is None else number} {len(line)}\n".encode() + line
-        ).digest()
-        for place, term, moment, firm, number, line, before, *_ in rows
-    ]
-
-
-def hash_of(entry: EntryRow, has_door: bool) -> bytes:
-    """The hash that an entry must have."""
-    return hashes_of([entry], has_door)[0]
+def dashed(number: int | None) -> int | str:
+    return "-" if number is None else number
 
 
 @dataclass
@@ -73,72 +59,29 @@ class ChainReader:
         self._before: Entry | None = None
         self._told: set[str] = set()
 
-    def take_block(self, block: Entries) -> None:
-        """Entries in their order: together where all are plainly right, else one by one."""
-        if self._before is None:  # entry 0 is like no other
-            self.take(block.entry(0))
-            block = block.behind_first()
-        if block.places and not self._pass(block):
-            for row in block.rows():
-                self.take(Entry._make(row))
-
     def take(self, entry: Entry) -> None:
         self._check_order(entry)
         if self._has_chain:
             self._check_chain(entry)
         if entry.place > 0:
             self._check_line(entry)
-        self._note(Entries.of([entry]))
+        self._note(entry)
 
-    def _note(self, block: Entries) -> None:
-        """Keeps what is left of entries once they are through. Their places are one after the other."""
+    def _note(self, entry: Entry) -> None:
+        """Keeps what is left of an entry once it is through."""
         found = self.found
-        found.entries += len(block.places)
-        self._before = block.entry(-1)
-        found.last_place, found.last = block.places[-1], block.hashes[-1]
-        found.firms.update(firm for firm in set(block.firms) if firm is not None)
-        marked = slice(-block.places[0] % MARK, None, MARK)
-        marks = zip(block.places[marked], map(bytes.hex, block.hashes[marked]))
-        found.marks.update(marks)
+        found.entries += 1
+        self._before = entry
+        found.last_place, found.last = entry.place, entry.hash
+        if entry.firm is not None:
+            found.firms.add(entry.firm)
+        if entry.place % MARK == 0:
+            found.marks[entry.place] = entry.hash.hex()
 
     def tell(self, kind: str, entry: Entry, text: str) -> None:
         if kind not in self._told:
             self._told.add(kind)
             self.found.findings.append(Finding("entries", text, place=entry.place))
-
-    # ------------------------------------------------------------ many entries
-
-    def _pass(self, block: Entries) -> bool:
-        """Takes entries that are plainly right: all that `take` looks at is as it should be."""
-        if self._before is None or not self._has_chain:
-            return False
-        before, first = self._before, self._before.place + 1
-        moved = self._moved_numbers(block)
-        if moved is None or block.places != tuple(range(first, first + len(block.places))):
-            return False
-        if not never_falls([before.term, *block.terms]):
-            return False
-        if not never_falls([before.moment, *block.moments]):
-            return False
-        if block.befores != (before.hash, *block.hashes[:-1]) or not are_step_lines(block):
-            return False
-        if tuple(hashes_of(block.rows(), self._has_door)) != block.hashes:
-            return False
-        self.found.numbers = moved
-        self._note(block)
-        return True
-
-    def _moved_numbers(self, block: Entries) -> Numbers | None:
-        """The numbers of the sessions after some entries; None where one does not rise."""
-        moved = dict(self.found.numbers)
-        for firm, number, place in zip(block.firms, block.numbers, block.places):
-            if firm is not None and number is not None:
-                if number <= moved.get(firm, NO_NUMBER)[0]:
-                    return None
-                moved[firm] = number, place
-        return moved
-
-    # ------------------------------------------------------------ one entry
 
     def _check_order(self, entry: Entry) -> None:
         before = self._before
@@ -185,26 +128,6 @@ class ChainReader:
             self.tell("line", entry, "its line is none that a gateway writes")
 
 
-def never_falls(values: list[int] | list[str]) -> bool:
-    return sorted(values) == values
-
-
-def are_step_lines(block: Entries) -> bool:
-    """The same of the lines of many entries."""
-    if b"".join(block.lines).find(FEED) >= 0:
-        return False
-    starts = [
-        f"hex {firm} {moment} ".encode() if firm else b""
-        for firm, moment in zip(block.firms, block.moments)
-    ]
-    if not all(map(bytes.startswith, block.lines, starts)):
-        return False
-    return all(
-        firm or is_step_line(line, firm, moment)
-        for line, firm, moment in zip(block.lines, block.firms, block.moments)
-    )
-
-
 def is_step_line(line: bytes, firm: str | None, moment: str) -> bool:
     """Whether a line is one, and that of this firm at this moment; without a firm, of a clock."""
     if firm:
@@ -217,9 +140,10 @@ def read_chain(log: Log, step: Step) -> Chained:
     reader = ChainReader(log.has_chain, log.has_door)
     door = DoorReader(log.connection_events()) if log.has_door else None
     for block in log.entry_blocks():
-        reader.take_block(block)
-        if door is not None:
-            door.take_block(block)
+        for entry in map(Entry._make, block.rows()):
+            reader.take(entry)
+            if door is not None:
+                door.take(entry)
         step(len(block.places))
     found = reader.found
     if door is not None:

@@ -112,13 +112,13 @@ class Checker:
     def add_jobs(self, plan: "Plan[Any]", verdict: Verdict) -> None:
         """All jobs of a check, those on which others wait and those that take longest in front."""
         audited = Audited(self.source, self.venue, self.files, verdict.day)
-        written = plan.add(DayJob(audited))
-        due = plan.add(DueJob(audited), beside=[written])
-        live = plan.add(LiveJob(audited), beside=[written])
+        plan.add(DayJob(audited))  # what it writes is read meanwhile by the two after it
+        due = plan.add(DueJob(audited))
+        plan.add(LiveJob(audited))
         plan.add(ChainJob(self.source))
         groups = dealt([firm.name for firm in verdict.day.firms], processors())
         sent = {firms: plan.add(SentJob(audited, firms)) for firms in groups}
-        plan.add(GivenJob(audited), behind=sent.values(), beside=[live])
+        plan.add(GivenJob(audited), after=sent.values())
         for dealer in verdict.day.dealers:
             (job,) = [job for firms, job in sent.items() if dealer.name in firms]
             plan.add(AloneJob(audited, dealer.name), [due, job])
@@ -131,14 +131,12 @@ class Checker:
             return Verdict(self.source.name, day, log.has_chain, last, numbers)
 
     def count(self, verdict: Verdict) -> None:
-        """What is asked and counted beside the jobs. These go over each row twice."""
+        """What is asked and counted beside the jobs."""
         with self.source.open() as log:
             verdict.program = self.venue.version()
             verdict.messages = {firm.name: log.count_of(firm.name) for firm in verdict.day.firms}
             verdict.addressed = log.firms()
             verdict.targets = log.targets() if log.has_chain else {}
-        rows = verdict.last_place + 1 + sum(verdict.messages.values())
-        self.progress.begin("messages", 2 * rows)
 
     def write_day(self, day: Day) -> None:
         """The file that the venue reads."""

@@ -24,9 +24,10 @@ class Work:
     folder: Path
     venue: Venue
 
-    def checker(self) -> Checker:
-        files = Files(self.folder)
-        return Checker(self.source, self.venue, files, self.words.jobs, Progress())
+    def checker(self, source: Source | None = None, scratch: Path | None = None) -> Checker:
+        """A checker of the log, or of another one with a folder of its own."""
+        files = Files(scratch or self.folder)
+        return Checker(source or self.source, self.venue, files, self.words.jobs, Progress())
 
 
 def checked(work: Work) -> Verdict:

@@ -6,13 +6,12 @@ Only the two orders count for that, and no clock.
 """
 
 import re
-from bisect import bisect_right
 from collections.abc import Iterator
 from dataclasses import dataclass, field
 from hashlib import sha256
 
 from .findings import Finding
-from .records import ConnectionEvent, Entries, Entry
+from .records import ConnectionEvent, Entry
 
 NO_HASH = bytes(32)
 EXACT = re.compile(r"[0-2][0-9]:[0-5][0-9]:[0-5][0-9]\.[0-9]{6}")
@@ -61,16 +60,13 @@ class DoorReader:
         self._last_number = 0
         self._told: set[str] = set()
 
-    def take_block(self, block: Entries) -> None:
-        """Entries in their order."""
-        at = 0
-        while self._next is not None and self._next.entry < block.places[-1]:
-            behind = bisect_right(block.places, self._next.entry)
-            self._take_entries(block, at, behind)
-            at = max(at, behind)
-            self._take_event(self._next, block.moments[at])
+    def take(self, entry: Entry) -> None:
+        """The next entry, and first the events before it."""
+        while self._next is not None and self._next.entry < entry.place:
+            self._take_event(self._next, entry.moment)
             self._next = next(self._events, None)
-        self._take_entries(block, at, len(block.places))
+        self._take_entry(entry)
+        self._moment, self._place = entry.moment, entry.place
 
     def end(self) -> Door:
         """The events behind the last entry."""
@@ -95,39 +91,6 @@ class DoorReader:
         self._tell(kind, Finding("entries", text, place=entry.place))
 
     # ------------------------------------------------------------ entries
-
-    def _take_entries(self, block: Entries, first: int, end: int) -> None:
-        """Some of a block: together where all are plainly right, else one by one."""
-        if first >= end:
-            return
-        some = Entries._make(column[first:end] for column in block)
-        moved = self._moved_receipts(some)
-        if moved is None:
-            for row in some.rows():
-                self._take_entry(Entry._make(row))
-        else:
-            self._receipts = moved
-        self._moment, self._place = some.moments[-1], some.places[-1]
-
-    def _moved_receipts(self, some: Entries) -> dict[str, str] | None:
-        """The last receipts after some entries; None where anything is not as it should be."""
-        last = dict(self._receipts)
-        numbers = {firm: logon.number for firm, logon in self._open.items()}
-        for firm, number, connection, received, moment in zip(
-            some.firms, some.numbers, some.connections, some.receipts, some.moments
-        ):
-            if received is None or not EXACT.fullmatch(received):
-                return None
-            if number is None:
-                if connection is not None or received[:MILLISECOND] != moment:
-                    return None
-            elif firm is None or connection is None or numbers.get(firm) != connection:
-                return None
-            elif received[:MILLISECOND] > moment or received < last.get(firm, ""):
-                return None
-            else:
-                last[firm] = received
-        return last
 
     def _take_entry(self, entry: Entry) -> None:
         received = entry.received or ""

@@ -5,7 +5,6 @@ from itertools import islice
 from pathlib import Path
 
 from .log import Source
-from .progress import Step
 from .records import Day
 from .templates import Templates
 
@@ -20,7 +19,7 @@ class DoorJob:
     rows_a_page: int
     folder: Path
 
-    def __call__(self, step: Step) -> int:
+    def __call__(self) -> int:
         templates = Templates(self.day)
         with self.source.open() as log:
             events = log.connection_events()
@@ -28,5 +27,4 @@ class DoorJob:
                 rows = list(islice(events, self.rows_a_page))
                 text = templates.page("door.html", "", events=rows, page=page, pages=self.pages)
                 (self.folder / ("door-%d.html" % page)).write_text(text, encoding="utf-8")
-                step(0)
         return self.pages

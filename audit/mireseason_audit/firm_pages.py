@@ -7,6 +7,7 @@ from contextlib import closing
 from dataclasses import dataclass
 from pathlib import Path
 
+from .before import Before
 from .book import Book
 from .came_on import CameOn
 from .dictionary import read_dictionary
@@ -14,7 +15,6 @@ from .frame import Fields, barred, fields_of, text_of
 from .lines import came_of
 from .log import Log, Source
 from .messages import MessageWriter, Shown
-from .progress import Step
 from .records import Day, Entry, Firm, Sent
 from .templates import Templates
 
@@ -36,8 +36,9 @@ class FirmJob:
     book: Path
     dictionary: Path
     folder: Path
+    before: Before | None = None
 
-    def __call__(self, step: Step) -> int:
+    def __call__(self) -> int:
         writer = MessageWriter(read_dictionary(self.dictionary))
         templates = Templates(self.day)
         with self.source.open() as log, closing(Book(self.book)) as book:
@@ -47,14 +48,23 @@ class FirmJob:
             waiting = next(messages, None)
             for page in range(pages):
                 requests = book.requests_at(page * ENTRIES_A_PAGE, (page + 1) * ENTRIES_A_PAGE)
+                is_same = self._is_same(page, pages)
                 parts = []
                 while waiting and (waiting[0] // ENTRIES_A_PAGE <= page or page == pages - 1):
                     about = requests.get(waiting[0], ())
-                    parts.append(writer.html(shown(waiting[1], about, came_on)))
+                    parts.append("" if is_same else writer.html(shown(waiting[1], about, came_on)))
                     waiting = next(messages, None)
-                self._write(templates, page, pages, parts)
-                step(len(parts))
+                if not is_same:
+                    self._write(templates, page, pages, parts)
         return pages
+
+    def _is_same(self, page: int, pages: int) -> bool:
+        """Whether a page is what it was, in which case it is taken from there."""
+        before = self.before
+        if before is None or before.last // ENTRIES_A_PAGE + 1 != pages or page == pages - 1:
+            return False
+        path = self.folder / page_name(self.firm.name, page * ENTRIES_A_PAGE)
+        return before.give(path, self.folder)
 
     def _write(self, templates: Templates, page: int, pages: int, parts: list[str]) -> None:
         text = templates.page(

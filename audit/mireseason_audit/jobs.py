@@ -17,9 +17,8 @@ from .faults import Unreadable
 from .findings import Finding
 from .lines import decoded
 from .log import Log, Source
-from .plain_wire import PlainSession
-from .progress import Step
-from .records import SOH, Day, Firm, Messages, Sent
+from .progress import quiet
+from .records import SOH, Day, Firm, Sent
 from .streams import (
     BLOCK, Followed, Growing, cut_at, is_same, last_line_of, lines_in, lines_of,
 )
@@ -84,9 +83,9 @@ class ChainJob:
 
     source: Source
 
-    def __call__(self, step: Step) -> Chained:
+    def __call__(self) -> Chained:
         with self.source.open() as log:
-            return read_chain(log, step)
+            return read_chain(log, quiet)
 
 
 @dataclass(frozen=True)
@@ -95,20 +94,20 @@ class FindingsJob(ABC):
 
     audited: Audited
 
-    def __call__(self, step: Step) -> list[Finding]:
+    def __call__(self) -> list[Finding]:
         with self.audited.source.open() as log:
-            return list(self._findings(log, step))
+            return list(self._findings(log))
 
     @abstractmethod
-    def _findings(self, log: Log, step: Step) -> Iterator[Finding]:
+    def _findings(self, log: Log) -> Iterator[Finding]:
         """What is not as it should be."""
 
 
 class DayJob(FindingsJob):
     """The day as a file that the venue reads."""
 
-    def _findings(self, log: Log, step: Step) -> Iterator[Finding]:
-        write_day(log, self.audited.day, self.audited.files.day, step)
+    def _findings(self, log: Log) -> Iterator[Finding]:
+        write_day(log, self.audited.day, self.audited.files.day, quiet)
         return iter(())
 
 
@@ -118,20 +117,17 @@ class SentJob(FindingsJob):
 
     firms: tuple[str, ...]
 
-    def _findings(self, log: Log, step: Step) -> Iterator[Finding]:
+    def _findings(self, log: Log) -> Iterator[Finding]:
         for firm in self.firms:
-            sent = kept(log, firm, self.audited.files, step)
-            is_right = not log.has_chain or PlainSession(log, firm, sent).is_right()
-            for _ in sent:
-                pass
-            if not is_right:
+            keep(log, firm, self.audited.files)
+            if log.has_chain:
                 yield from check_wire(log, firm)
 
 
 class LiveJob(FindingsJob):
     """`live --marks` over the day, left as a file; the day may still be written meanwhile."""
 
-    def _findings(self, log: Log, step: Step) -> Iterator[Finding]:
+    def _findings(self, log: Log) -> Iterator[Finding]:
         files, arguments = self.audited.files, ["live", "--frames", "--marks"]
         run = self.audited.venue.to_file(arguments, Growing(files.day), files.given)
         self._check_answers(" ".join(arguments), Growing(files.day).lines())
@@ -161,11 +157,11 @@ class GivenJob(FindingsJob):
     It is read while the program writes it.
     """
 
-    def _findings(self, log: Log, step: Step) -> Iterator[Finding]:
+    def _findings(self, log: Log) -> Iterator[Finding]:
         files, firms = self.audited.files, [firm.name for firm in self.audited.day.firms]
         with GivenReader(files, firms, self._places(log)) as reader:
             for lines in lines_in(Growing(files.given).blocks()):
-                step(reader.take(lines))
+                reader.take(lines)
             texts, places = reader.ended()
         for firm in texts:
             lines_given = (line for _, line in self._given(log, firm))
@@ -201,8 +197,8 @@ class GivenReader(Closing):
         self._texts[firm] = Followed(self._files.sent(firm))
         self._places[firm] = Followed(self._files.places(firm))
 
-    def take(self, lines: list[bytes]) -> int:
-        """Some lines; answers how many of them are messages."""
+    def take(self, lines: list[bytes]) -> None:
+        """Some lines."""
         given: dict[bytes, tuple[list[bytes], list[int]]] = defaultdict(lambda: ([], []))
         place, waiting = self._place, self._waiting
         for line in lines:
@@ -219,7 +215,6 @@ class GivenReader(Closing):
             raise Unreadable(text % given[b""][0][0][:LINE_SHOWN])
         for word, (texts, places) in given.items():
             self._hold(decoded(word[:-1]), texts, array("q", places))
-        return sum(len(texts) for texts, _ in given.values())
 
     def _hold(self, firm: str, lines: list[bytes], places: "array[int]") -> None:
         if firm not in self._texts:
@@ -243,7 +238,7 @@ class DueJob(FindingsJob):
     still be written meanwhile.
     """
 
-    def _findings(self, log: Log, step: Step) -> Iterator[Finding]:
+    def _findings(self, log: Log) -> Iterator[Finding]:
         venue, files, day = self.audited.venue, self.audited.files, self.audited.day
         waiting = iter(day.dealers)
         with venue.run(["dues", "--live"], Growing(files.day)) as run:
@@ -269,7 +264,7 @@ class AloneJob(FindingsJob):
 
     dealer: str
 
-    def _findings(self, log: Log, step: Step) -> Iterator[Finding]:
+    def _findings(self, log: Log) -> Iterator[Finding]:
         venue, files, dealer = self.audited.venue, self.audited.files, self.dealer
         try:
             venue.to_file(["alone", "--frames"], files.due(dealer), files.alone(dealer))
@@ -279,8 +274,8 @@ class AloneJob(FindingsJob):
             yield from held(dealer, log.sent(dealer), lines_of(files.alone(dealer)), ALONE)
 
 
-def kept(log: Log, firm: str, files: Files, step: Step) -> Iterator[Messages]:
-    """What a firm was sent, block by block, which is left in files as it goes by.
+def keep(log: Log, firm: str, files: Files) -> None:
+    """Leaves what a firm was sent in files.
 
     Where a message is no line that the program prints, or its number is not the next, there is no
     file in the end, and nothing is the same as it.
@@ -298,8 +293,6 @@ def kept(log: Log, firm: str, files: Files, step: Step) -> Iterator[Messages]:
             number += count
             text_file.write(text.translate(BARS))
             places_file.write(array("q", block.others).tobytes())
-            step(count)
-            yield block
     if not is_plain:
         files.sent(firm).unlink()
 

@@ -11,13 +11,15 @@ import traceback
 from pathlib import Path
 
 from .arguments import (
-    DICTIONARY, SEAL_HELP, Commands, Parser, source_of, venue_of, with_form, with_moment, with_seal,
+    DICTIONARY, SEAL_HELP, Commands, Parser, seconds, source_of, venue_of, with_form, with_moment, with_seal,
 )
+from .before import Before
 from .check import report
 from .command import Work, checked, compared_with, seal_of, seal_path
 from .day_commands import do_export, do_stats, do_trades
 from .faults import Unreadable, Wrong
 from .frame import printable
+from .log import Source
 from .seal import check_key, sealed, write_seal
 from .work import SIGNALS
 
@@ -52,6 +54,11 @@ def add_page(commands: Commands) -> None:
     page.add_argument("--dictionary", type=Path, default=DICTIONARY, help=text)
     with_seal(page)
     page.add_argument("--sign", type=Path, help="a private Ed25519 key that signs the pages")
+    with_moment(page)
+    text = "make the pages anew while the log grows; DIR/index.html leads to them"
+    page.add_argument("--follow", action="store_true", help=text)
+    text = "seconds from one look at the log to the next, with --follow (%(default)s)"
+    page.add_argument("--every", type=seconds, default=5, metavar="SECONDS", help=text)
 
 
 def add_tables(commands: Commands) -> None:
@@ -102,6 +109,8 @@ def do_page(work: Work) -> int:
     if words.sign is not None:
         check_key(words.sign)
     key = None if words.request is None else words.request - 1
+    if words.follow:
+        return follow(work, key)
     pager = Pager(work.checker(), words.dictionary, words.folder, work.folder, key)
     verdict, summary = pager.check()
     compared_with(work, seal, verdict)
@@ -115,6 +124,24 @@ def do_page(work: Work) -> int:
     print("\n".join(report(verdict)))
     print("%d requests: %s" % (len(summary.requests), words.folder / "index.html"))
     return 0 if verdict.is_good else 1
+
+
+def follow(work: Work, request: int | None) -> int:
+    """`page --follow`: until a signal ends it."""
+    from .follow import Follower
+    from .pages import Pager
+
+    words = work.words
+    if words.key or words.sign or words.until is not None or words.at is not None:
+        text = "a day that goes on has no seal and no end: leave out --key, --sign, --until and --at"
+        raise Unreadable(text)
+
+    def pager_of(source: Source, folder: Path, scratch: Path, before: Before | None) -> Pager:
+        checker = work.checker(source, scratch)
+        return Pager(checker, words.dictionary, folder, scratch, request, before)
+
+    Follower(work.source, words.folder, words.every, work.folder, pager_of).run()
+    return 0
 
 
 def do_pair(work: Work) -> int:

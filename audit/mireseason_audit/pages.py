@@ -5,6 +5,7 @@ from contextlib import closing
 from dataclasses import dataclass
 from pathlib import Path
 
+from .before import Before
 from .book import Book, Fault
 from .certificates import CertificateJob, second_for, seconds_for
 from .check import Checker, Result, Verdict
@@ -12,23 +13,25 @@ from .dictionary import read_dictionary
 from .door_pages import DoorJob
 from .faults import Unreadable
 from .findings import Finding
-from .folders import make_folder
 from .firm_pages import ENTRIES_A_PAGE, FirmJob, page_name
+from .firm_summaries import FirmSummary
+from .folders import make_folder
 from .reading import Reader
-from .progress import Step
 from .records import Day
+from .request_lists import ROWS_A_PAGE, lists_of, write_list
 from .request_pages import RequestJob, file_name
 from .seal import SumsJob, write_sums
+from .statistics import Group
 from .statistics_page import sections
 from .summary import Summary, SummaryJob
 from .templates import HERE, Templates
 from .work import Job, Plan, plan_of, run_jobs
 
-ROWS_A_PAGE = 500
 PAGES_A_JOB, FILES_A_JOB = 50, 250
 FAULTS_ON_THE_DAY = 30
 MOST_PLACES_AN_ENTRY = 10  # a log that lacks more has places that nobody gave
-FOLDERS = ("requests", "firms", "certificates")
+FOLDERS = ("requests", "firms", "certificates", "by")
+FILES = ("style.css", "filter.js")
 
 
 @dataclass(frozen=True)
@@ -40,6 +43,7 @@ class Pager:
     folder: Path
     scratch: Path
     request: int | None  # the request of the certificates, by its key
+    before: Before | None = None  # the pages as they were earlier
 
     @property
     def _book(self) -> Path:
@@ -57,26 +61,25 @@ class Pager:
         results = checker.run(plan, verdict)
         (summary,) = [result for result in results if isinstance(result, Summary)]
         found = [result for result in results if not isinstance(result, Summary)]
-        return checker.judge(verdict, found), summary
+        checker.judge(verdict, found)
+        verdict.findings += summary.misnamed
+        return verdict, summary
 
     def write(self, verdict: Verdict, summary: Summary) -> None:
         """Writes all pages."""
         for name in FOLDERS:
             (self.folder / name).mkdir()
         checker = self.checker
-        rows = len(summary.requests) + summary.came + summary.sent
-        checker.progress.begin("pages", rows)
         jobs = plan_of(self._jobs(verdict, summary))
         for result in run_jobs(jobs, checker.at_once, checker.progress):
             if isinstance(result, list):
                 verdict.findings += result
         with closing(Book(self._book)) as book:
             self._write_day(verdict, summary, book)
-        found = sections(summary.statistics)
-        text = Templates(verdict.day).page("statistics.html", "", sections=found)
-        (self.folder / "statistics.html").write_text(text, encoding="utf-8")
+        self._write_others(verdict, summary)
         shutil.copyfile(checker.files.day, self.folder / "day.live")
-        shutil.copyfile(HERE / "style.css", self.folder / "style.css")
+        for name in FILES:
+            shutil.copyfile(HERE / name, self.folder / name)
         checker.progress.end()
         checker.check_end(verdict)
 
@@ -96,7 +99,6 @@ class Pager:
         paths = sorted(path for path in self.folder.rglob("*") if path.is_file())
         starts = range(0, len(paths), FILES_A_JOB)
         jobs = [SumsJob(self.folder, tuple(paths[at : at + FILES_A_JOB])) for at in starts]
-        checker.progress.begin("sums", len(paths))
         lines = run_jobs(plan_of(jobs), checker.at_once, checker.progress)
         write_sums(self.folder, "".join(lines).encode(), key)
         checker.progress.end()
@@ -124,12 +126,14 @@ class Pager:
             for dealer in day.dealers
         ]
         jobs += [
-            FirmJob(source, day, firm, book, self.dictionary, self.folder) for firm in day.firms
+            FirmJob(source, day, firm, book, self.dictionary, self.folder, self.before)
+            for firm in day.firms
         ]
         requests = summary.requests
         jobs += [
             RequestJob(
-                day, tuple(requests[at : at + ROWS_A_PAGE]), len(requests), book, self.folder
+                day, tuple(requests[at : at + ROWS_A_PAGE]), len(requests), book, self.folder,
+                self.before,
             )
             for at in range(0, len(requests), ROWS_A_PAGE)
         ]
@@ -144,6 +148,16 @@ class Pager:
         ]
         return jobs
 
+    def _write_others(self, verdict: Verdict, summary: Summary) -> None:
+        """The figures, the first page of each firm, and the lists of requests."""
+        templates = Templates(verdict.day)
+        text = templates.page("statistics.html", "", sections=sections(summary.statistics))
+        (self.folder / "statistics.html").write_text(text, encoding="utf-8")
+        for firm in verdict.day.firms:
+            FirmSummary(verdict, summary, firm).write(templates, self.folder)
+        for one in lists_of(verdict.day, summary.requests):
+            write_list(templates, one, len(summary.requests), self.folder / "by")
+
     def _write_day(self, verdict: Verdict, summary: Summary, book: Book) -> None:
         templates = Templates(verdict.day)
         pages = max(1, pages_of(len(summary.requests)))
@@ -153,6 +167,8 @@ class Pager:
                 "",
                 verdict=verdict,
                 summary=summary,
+                traded=traded_on(summary, verdict.day),
+                lists=lists_of(verdict.day, summary.requests),
                 requests=summary.requests[page * ROWS_A_PAGE : (page + 1) * ROWS_A_PAGE],
                 page=page + 1,
                 pages=pages,
@@ -161,7 +177,6 @@ class Pager:
                 day_page=day_page,
                 file_name=file_name,
                 fault_link=fault_link,
-                page_name=page_name,
             )
             (self.folder / day_page(page + 1)).write_text(text, encoding="utf-8")
 
@@ -176,7 +191,7 @@ class FaultsJob:
     book: Path
     folder: Path
 
-    def __call__(self, step: Step) -> int:
+    def __call__(self) -> int:
         templates, pages = Templates(self.day), pages_of(self.total)
         mine = range(self.first, min(pages, self.first + PAGES_A_JOB))
         with closing(Book(self.book)) as book:
@@ -192,8 +207,13 @@ class FaultsJob:
                     fault_link=fault_link,
                 )
                 (self.folder / ("refused-%d.html" % (page + 1))).write_text(text, encoding="utf-8")
-        step(0)
         return len(mine)
+
+
+def traded_on(summary: Summary, day: Day) -> list[tuple[str, int]]:
+    """Face value in each currency, or of each bond that has none."""
+    traded = summary.statistics.row(Group.DAY, day.date).traded
+    return sorted(traded.items())
 
 
 def pages_of(rows: int) -> int:

@@ -8,6 +8,10 @@ Step = Callable[[int], None]  # told how many rows were done
 WIDTH = 40
 
 
+def quiet(rows: int) -> None:
+    """Is told, and draws nothing: in a process that nobody looks at."""
+
+
 class Progress:
     """A bar on a terminal; nothing elsewhere."""
 

@@ -52,6 +52,7 @@ class Words(NamedTuple):
     detail: str = ""
     quote: str = ""  # the quote's name, as this firm knows it
     refused: bool = False
+    until: str = ""  # of a quote, its 62
 
     @property
     def glyph(self) -> str:
@@ -104,7 +105,7 @@ class Reader:
         until = moment_of(text_of(fields, 62))
         detail = text_of(fields, 117) + (" until %s" % until if until else "")
         quote = text_of(fields, 117)
-        return Words(Shape.QUOTE, "quotes", price_of(fields), detail, quote)
+        return Words(Shape.QUOTE, "quotes", price_of(fields), detail, quote, until=until)
 
     def _said_cancel(self, fields: Fields) -> Words:
         if text_of(fields, 298).lstrip("0") == "4":

@@ -4,9 +4,11 @@ from contextlib import closing
 from dataclasses import dataclass
 from pathlib import Path
 
+from .before import Before
+from .bonds import bonds_of
 from .book import Book
 from .firm_pages import page_name
-from .progress import Step
+from .narrow_timeline import narrow_timeline
 from .records import Day
 from .requests import Act, Note, Request
 from .story import Story, story_of
@@ -34,32 +36,52 @@ class RequestJob:
     count: int  # of all requests
     book: Path
     folder: Path
+    before: Before | None = None
 
-    def __call__(self, step: Step) -> int:
+    def __call__(self) -> int:
         templates = Templates(self.day)
         roles = {firm.name: firm.kind for firm in self.day.firms}
+        bonds = bonds_of(self.day)
         with closing(Book(self.book)) as book:
+            same = self._same(book)
             for request in self.requests:
-                story = story_of(request, book.acts(request.key))
-                text = request_page(templates, story, roles, self.count)
                 path = self.folder / "requests" / file_name(request.key)
+                if request.key in same and self.before and self.before.give(path, self.folder):
+                    continue
+                story = story_of(request, book.acts(request.key))
+                bond = bonds.get(request.bond)
+                in_32nds = bond is not None and bond.in_32nds
+                text = request_page(templates, story, roles, in_32nds, self.count)
                 path.write_text(text, encoding="utf-8")
-                step(1)
         return len(self.requests)
+
+
+    def _same(self, book: Book) -> set[int]:
+        """The requests whose pages are what they were. Behind the last one there was no other."""
+        if self.before is None:
+            return set()
+        changed = book.requests_since(self.before.last)
+        count = len(list((self.before.folder / "requests").iterdir()))
+        last = {count - 1} if count < self.count else set()
+        return {request.key for request in self.requests} - changed - last
 
 
 def file_name(key: int) -> str:
     return "%04d.html" % (key + 1)
 
 
-def request_page(templates: Templates, story: Story, roles: dict[str, str], count: int) -> str:
+def request_page(
+    templates: Templates, story: Story, roles: dict[str, str], in_32nds: bool, count: int
+) -> str:
     return templates.page(
         "request.html",
         "../",
         story=story,
         request=story.request,
         dealers=[dealer_line(story, name) for name in story.request.dealers],
-        drawing=timeline(story, roles),
+        drawing=timeline(story, roles, in_32nds),
+        narrow=narrow_timeline(story, roles, in_32nds),
+        linked=lambda name: name in roles,
         before=file_name(story.request.key - 1) if story.request.key > 0 else "",
         after=file_name(story.request.key + 1) if story.request.key + 1 < count else "",
         entry_page=entry_page,

@@ -66,6 +66,8 @@ class Request:
     price: str = ""
     quote: str = ""  # the winning one, as its dealer names it
     cover: str = ""
+    cover_lapsed: bool = False  # told so though its 62 had passed
+    trade: str = ""  # DATE-INVESTOR-DEALER-K
     end: str = "open"
     end_moment: str = ""
 

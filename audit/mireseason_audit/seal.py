@@ -23,7 +23,6 @@ from .faults import Unreadable, Wrong
 from .findings import Finding
 from .frame import number_in
 from .log import Log
-from .progress import Step
 from .records import Day, Messages
 from .streams import digest_of
 
@@ -238,9 +237,8 @@ class SumsJob:
     folder: Path
     paths: tuple[Path, ...]
 
-    def __call__(self, step: Step) -> str:
+    def __call__(self) -> str:
         lines = ["%s  %s\n" % (digest_of(one), one.relative_to(self.folder)) for one in self.paths]
-        step(len(lines))
         return "".join(lines)
 
 

@@ -34,6 +34,7 @@ class Grid:
     name: str
     heads: list[str]
     rows: list[list[str]]
+    texts: int = 0  # how many of the first columns are texts
 
 
 @dataclass(frozen=True)
@@ -72,6 +73,17 @@ def section(statistics: Statistics, group: Group) -> Section:
         amounts(statistics, group),
         refusals(statistics, group),
     )
+
+
+def figure_grids(statistics: Statistics, group: Group) -> list[Grid]:
+    """The tables of one group, without the plots."""
+    rows = [row for row in figure_rows(statistics) if row.group is group]
+    return [
+        grid("Answers", rows, ANSWERS),
+        grid("What became of answers", rows, OUTCOMES),
+        grid("Distances in points", rows, DISTANCES),
+        grid("Quotes", rows, LIVES),
+    ]
 
 
 def ends(rows: list[FigureRow]) -> Beside:
@@ -177,14 +189,14 @@ def amounts(statistics: Statistics, group: Group) -> Grid:
     return Grid("Face value", ["In", "Asked for", "Traded", "Trades"], [
         [row.key, row.unit, spaced(row.asked_for), spaced(row.traded), str(row.trades)]
         for row in amount_rows(statistics) if row.group is group
-    ])
+    ], texts=1)
 
 
 def refusals(statistics: Statistics, group: Group) -> Grid:
     return Grid("Refusals", ["What", "Code", "Name (58)", "Count"], [
         [row.key, row.what, row.code, row.name, str(row.count)]
         for row in refusal_rows(statistics) if row.group is group
-    ])
+    ], texts=3)
 
 
 def spaced(value: int) -> str:

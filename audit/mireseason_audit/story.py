@@ -34,6 +34,19 @@ class Quote:
     last: int | None = None  # the act that ended it
     end_moment: str = ""
     fate: str = "standing"
+    until: str = ""  # 62
+
+    @property
+    def has_lapsed(self) -> bool:
+        """Whether its validity passed before it ended, so that it could not be hit to the end."""
+        if not self.until:
+            return False
+        return not self.end_moment or seconds(self.until) <= seconds(self.end_moment)
+
+    @property
+    def hit_until(self) -> str:
+        """The moment from which it could not be hit; empty while it can."""
+        return self.until if self.has_lapsed else self.end_moment
 
     @property
     def shape(self) -> Shape:
@@ -56,6 +69,11 @@ class Story:
     def lanes(self) -> list[str]:
         """The investor and the dealers that it asked, in its order."""
         return [self.request.investor, *self.request.dealers]
+
+    @property
+    def cover(self) -> Quote | None:
+        """The quote that was told to be the cover."""
+        return next((quote for quote in self.quotes if quote.fate == "cover"), None)
 
     @property
     def has_door(self) -> bool:
@@ -122,7 +140,9 @@ def quote_of(request: Request, act: Act, index: int) -> Quote:
     shown = [note for note in act.told if note.firm == request.investor and note.kind == "S"]
     name = shown[0].words.quote if shown else ""
     price = act.said.price or Price("")
-    return Quote(act.actor or "", act.said.quote, name, price, index, act.moment)
+    quote = Quote(act.actor or "", act.said.quote, name, price, index, act.moment)
+    quote.until = act.said.until
+    return quote
 
 
 def end(quote: Quote, fate: str, index: int, act: Act) -> None:

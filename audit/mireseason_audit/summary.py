@@ -9,15 +9,17 @@ from pathlib import Path
 
 from .book import Book, Fault
 from .came_on import CameOn, connections_of
+from .confirmations import misnamed
 from .day_pass import DayPass
+from .day_tables import SessionRow
 from .dictionary import Dictionary
 from .exchanges import Exchange, exchanges
-from .facts import TradeFact
+from .facts import AskedFact
+from .findings import Finding
 from .log import Source
-from .prices import quantity_of
-from .progress import Step
 from .reading import Reader
 from .records import Day
+from .refusals import Refusal
 from .requests import Request, Requests
 from .statistics import Statistics, statistics_of
 
@@ -41,7 +43,9 @@ class Summary:
     firms: dict[str, FirmCounts] = field(default_factory=dict)
     faults: Counter[str] = field(default_factory=Counter)  # by why
     statistics: Statistics = field(default_factory=Statistics)
-    trades: dict[int, TradeFact] = field(default_factory=dict)  # by the key of the request
+    asked: dict[str, list[AskedFact]] = field(default_factory=dict)  # by the dealer
+    sessions: dict[str, SessionRow] = field(default_factory=dict)
+    misnamed: list[Finding] = field(default_factory=list)  # trades told under other names
     entries: int = 0
     sweeps: int = 0
     first: str = ""
@@ -63,12 +67,6 @@ class Summary:
     def quotes(self) -> int:
         return sum(request.quotes for request in self.requests)
 
-    @property
-    def quantity(self) -> int:
-        """What was awarded in all."""
-        awarded = (one.quantity for one in self.requests if one.end == "awarded")
-        return sum(quantity_of(quantity) or 0 for quantity in awarded)
-
 
 class Summarizer:
     """Takes the exchanges of a day."""
@@ -77,11 +75,13 @@ class Summarizer:
         self, day: Day, reader: Reader, book: Book, came_on: dict[str, CameOn] | None = None
     ) -> None:
         self.summary = Summary(firms={firm.name: FirmCounts() for firm in day.firms})
+        self.summary.asked = {firm.name: [] for firm in day.dealers}
         self._reader, self._book = reader, book
         self._requests = Requests(reader, came_on)
         self.summary.requests = self._requests.all
 
-    def take(self, exchange: Exchange) -> None:
+    def take(self, exchange: Exchange, refusal: Refusal | None = None) -> None:
+        """The next exchange; refusal says why its message was refused, where it was."""
         summary, about = self.summary, None
         summary.entries += 1
         summary.first = summary.first or exchange.moment
@@ -94,9 +94,11 @@ class Summarizer:
         if exchange.came is None:
             summary.sweeps += exchange.entry.line.startswith((b"clock ", b"expire "))
         elif exchange.came.firm in summary.firms:
-            self._take_message(exchange, about)
+            self._take_message(exchange, about, refusal)
 
-    def _take_message(self, exchange: Exchange, about: int | None) -> None:
+    def _take_message(
+        self, exchange: Exchange, about: int | None, refusal: Refusal | None
+    ) -> None:
         came = exchange.came
         assert came is not None
         counts = self.summary.firms[came.firm]
@@ -109,6 +111,8 @@ class Summarizer:
         counts.refused += 1
         why = refused.text if refused else NO_ANSWER
         detail = refused.detail if refused else "it was no message of the venue, and was dropped"
+        if refusal is not None and refusal.name and refusal.name not in why:
+            detail = "%s %s" % (refusal.name, detail)
         self.summary.faults[why] += 1
         said = self._reader.said(came.fields)
         text = " ".join([said.text, str(said.price or "")]).strip()
@@ -125,15 +129,15 @@ class SummaryJob:
     dictionary: Dictionary
     book: Path
 
-    def __call__(self, step: Step) -> Summary:
+    def __call__(self) -> Summary:
         with closing(Book(self.book, write=True)) as book, self.source.open() as log:
             came_on = connections_of(log, self.day)
             summarizer = Summarizer(self.day, Reader(self.dictionary), book, came_on)
             day_pass = DayPass(log, self.day)
             for exchange in exchanges(log, self.day):
-                summarizer.take(exchange)
-                day_pass.take(exchange)
+                summarizer.take(exchange, day_pass.take(exchange).refusal)
             book.finish()
+            day_pass.end()
         return with_facts(summarizer.summary, day_pass)
 
 
@@ -141,5 +145,11 @@ def with_facts(summary: Summary, day_pass: DayPass) -> Summary:
     """A summary with the figures and the trades of its day."""
     facts = day_pass.facts
     summary.statistics = statistics_of(day_pass.day, facts, day_pass.refused)
-    summary.trades = {trade.request.number - 1: trade for trade in facts.trades}
+    for trade in facts.trades:
+        request = summary.requests[trade.request.number - 1]
+        request.trade, request.cover_lapsed = trade.name, trade.cover_lapsed
+    for asked in facts.asked:
+        summary.asked[asked.dealer].append(asked)
+    summary.sessions = day_pass.sessions
+    summary.misnamed = list(misnamed(facts))
     return summary

@@ -6,6 +6,7 @@ from pathlib import Path
 import jinja2
 from markupsafe import Markup
 
+from .bonds import Bond, bonds_of
 from .prices import Price, quantity_of
 from .records import Day
 
@@ -28,18 +29,23 @@ def date_text(text: str) -> str:
     return text
 
 
-def price_html(price: Price | str | None) -> Markup:
-    """A price in 32nds and as a decimal."""
-    text = price.text if isinstance(price, Price) else price
-    return price_of_text(text) if text else Markup("")
+class Prices:
+    """Writes prices: those of bonds that are quoted in 32nds so, with the decimal beside them."""
+
+    def __init__(self, bonds: dict[str, Bond]) -> None:
+        self._in_32nds = {bond.id for bond in bonds.values() if bond.in_32nds}
+
+    def html(self, price: Price | str | None, bond: str) -> Markup:
+        text = price.text if isinstance(price, Price) else price
+        return price_of_text(text, bond in self._in_32nds) if text else Markup("")
 
 
 @lru_cache(maxsize=4096)
-def price_of_text(text: str) -> Markup:
-    price = Price(text)
-    if not price.thirty_seconds:
+def price_of_text(text: str, in_32nds: bool) -> Markup:
+    words = Price(text).thirty_seconds if in_32nds else ""
+    if not words:
         return Markup('<span class="price">%s</span>') % text
-    return Markup('<span class="price">%s <small>%s</small></span>') % (price.thirty_seconds, text)
+    return Markup('<span class="price">%s <small>%s</small></span>') % (words, text)
 
 
 def capitalize_first(text: str) -> str:
@@ -59,7 +65,7 @@ class Templates:
             undefined=jinja2.StrictUndefined,
         )
         self._environment.filters["quantity"] = quantity_text
-        self._environment.filters["price"] = price_html
+        self._environment.filters["price"] = Prices(bonds_of(day)).html
         self._environment.filters["capitalize_first"] = capitalize_first
         self._environment.filters["date"] = date_text
 

@@ -13,13 +13,16 @@ from html import escape
 from .prices import Price
 from .reading import Shape, Words
 from .requests import Act
-from .story import Quote, Story
+from .story import Quote, Story, seconds
 
 TIME_WIDTH, EDGE = 122, 12
 NARROWEST, WIDEST, ALL_LANES = 172, 250, 1050  # widths: of a lane, and of all where they have room
 HEAD_HEIGHT, LINE_HEIGHT, ROW_PAD = 58, 16, 20
 MOST_GAP = 30
 LETTER = 8.2  # the width that a letter is given
+
+
+Line = tuple[str, str]  # its class, and its text
 
 
 @dataclass(frozen=True)
@@ -29,54 +32,78 @@ class Row:
     act: Act
     y: float
     height: float
-    cells: dict[str, list[tuple[str, str]]]  # firm to lines of class and text
+    cells: dict[str, list[Line]]  # by firm
 
 
 class Drawing:
-    """Draws one story."""
+    """Draws one story, with the words of each firm on its lane."""
 
-    def __init__(self, story: Story, roles: dict[str, str]) -> None:
-        self._story, self._roles, self._gaps = story, roles, [0.0, *story.gaps]
-        self._lane_width = min(WIDEST, max(NARROWEST, ALL_LANES // len(story.lanes)))
-        self._lanes = {
-            name: EDGE + TIME_WIDTH + self._lane_width * at + 10
-            for at, name in enumerate(story.lanes)
-        }
+    def __init__(self, story: Story, roles: dict[str, str], in_32nds: bool) -> None:
+        self._story, self._roles, self._in_32nds = story, roles, in_32nds
+        self._gaps = [0.0, *story.gaps]
+        self._lanes = self._lanes_of(story.lanes)
         self._rows = self._laid()
         last = self._rows[-1] if self._rows else None
-        self._height = (last.y + last.height if last else HEAD_HEIGHT) + 8
-        self._width = EDGE + TIME_WIDTH + self._lane_width * len(self._lanes) + EDGE
+        self._height = (last.y + last.height if last else self.head_height) + 8
+
+    # ------------------------------------------------------------ where things stand
+
+    style = "timeline"
+    head_height = float(HEAD_HEIGHT)
+
+    def _lanes_of(self, names: list[str]) -> dict[str, float]:
+        """Where the lane of each firm is."""
+        self._lane_width = min(WIDEST, max(NARROWEST, ALL_LANES // len(names)))
+        self._width = EDGE + TIME_WIDTH + self._lane_width * len(names) + EDGE
+        return {
+            name: EDGE + TIME_WIDTH + self._lane_width * at + 10.0
+            for at, name in enumerate(names)
+        }
+
+    def _cells(self, act: Act) -> dict[str, list[Line]]:
+        """The lines of text at each lane."""
+        return cells_of(act, int(self._lane_width / LETTER), self._in_32nds)
+
+    def _laid(self) -> list[Row]:
+        """The rows, one under the other, with more room where more time went by."""
+        rows: list[Row] = []
+        y = self.head_height
+        for act, gap in zip(self._story.acts, self._gaps):
+            y += min(MOST_GAP, 5 * math.log2(1 + max(0.0, gap)))
+            cells = self._cells(act)
+            most = max((len(lines) for lines in cells.values()), default=1)
+            height = ROW_PAD + LINE_HEIGHT * most
+            rows.append(Row(act, round(y, 1), height, cells))
+            y += height
+        return rows
+
+    def _y_at(self, moment: str, first: int) -> float:
+        """Where a moment is, which is not before that of a row: between two rows as it is between
+        their moments.
+        """
+        rows, at = self._rows, seconds(moment)
+        for above, below in zip(rows[first:], rows[first + 1 :]):
+            begin, end = seconds(above.act.moment), seconds(below.act.moment)
+            if begin <= at < end:
+                return above.y + 6 + (below.y - above.y) * (at - begin) / (end - begin)
+        return rows[-1].y + 6 + min(rows[-1].height / 2, 12)
 
     def svg(self) -> str:
         request = self._story.request
         parts = [
-            '<svg class="timeline" role="img" aria-labelledby="timeline-title timeline-text"'
-            ' xmlns="http://www.w3.org/2000/svg" width="%d" height="%d" viewBox="0 0 %d %d">'
-            % (self._width, self._height, self._width, self._height),
-            '<title id="timeline-title">%s</title>' % escape("Request %s" % request.name),
-            '<desc id="timeline-text">Time goes down. One lane for each of %s. All that is drawn'
-            " here stands in the table below it.</desc>" % escape(", ".join(self._lanes)),
+            '<svg class="%s" role="img" xmlns="http://www.w3.org/2000/svg" width="%d" height="%d"'
+            ' viewBox="0 0 %d %d">'
+            % (self.style, self._width, self._height, self._width, self._height),
+            "<title>%s</title>" % escape("Request %s" % request.name),
+            "<desc>Time goes down. One lane for each of %s. All that is drawn here stands in the"
+            " table below it.</desc>" % escape(", ".join(self._lanes)),
+            self._zone(),
         ]
         parts += [self._lane(name, x) for name, x in self._lanes.items()]
         parts += [self._bar(quote) for quote in self._story.quotes]
         for at, row in enumerate(self._rows):
             parts.append(self._row(row, at))
         return "\n".join(part for part in parts if part) + "\n</svg>"
-
-    # ------------------------------------------------------------ where things stand
-
-    def _laid(self) -> list[Row]:
-        """The rows, one under the other, with more room where more time went by."""
-        rows: list[Row] = []
-        y = float(HEAD_HEIGHT)
-        for act, gap in zip(self._story.acts, self._gaps):
-            y += min(MOST_GAP, 5 * math.log2(1 + max(0.0, gap)))
-            cells = cells_of(act, int(self._lane_width / LETTER))
-            most = max((len(lines) for lines in cells.values()), default=1)
-            height = ROW_PAD + LINE_HEIGHT * most
-            rows.append(Row(act, round(y, 1), height, cells))
-            y += height
-        return rows
 
     # ------------------------------------------------------------ what is drawn
 
@@ -95,17 +122,22 @@ class Drawing:
         x = self._lanes.get(quote.dealer)
         if x is None:
             return ""
-        top = self._rows[quote.first].y + 6
-        foot = self._height - 10 if quote.last is None else self._rows[quote.last].y + 6
-        kind = quote.fate.replace(" ", "-")
-        words = "%s %s, %s" % (quote.dealer, price_text(quote.price), quote.fate)
-        text = '<rect class="bar %s" x="%g" y="%g" width="6" height="%g"><title>%s</title></rect>'
-        return text % (kind, x - 3, top, max(2.0, foot - top), escape(words))
+        top, kind = self._rows[quote.first].y + 6, quote.fate.replace(" ", "-")
+        price = price_text(quote.price, self._in_32nds)
+        words = "%s %s, %s" % (quote.dealer, price, quote.fate)
+        if quote.has_lapsed:
+            foot = self._y_at(quote.until, quote.first)
+            words += ", could be hit until %s (62)" % quote.until
+        else:
+            foot = self._height - 10 if quote.last is None else self._rows[quote.last].y + 6
+        text = '<rect class="bar %s" x="%g" y="%.1f" width="6" height="%.1f"><title>%s</title></rect>'
+        found = text % (kind, x - 3, top, max(2.0, foot - top), escape(words))
+        return found + (lapse(x, max(foot, top + 2), words) if quote.has_lapsed else "")
 
     def _row(self, row: Row, at: int) -> str:
         act, y = row.act, row.y + 6
         parts = ['<g class="row">', self._time(row, at)]
-        start = self._lanes.get(act.actor or "", EDGE + TIME_WIDTH - 12)
+        start = self._lanes.get(act.actor or "", self._clock_x())
         targets = [self._lanes[note.firm] for note in act.told if note.firm in self._lanes]
         others = sorted({x for x in targets if x != start})
         if others:
@@ -119,10 +151,22 @@ class Drawing:
             if note.words.shape in (Shape.WON, Shape.COVER) and note.firm in self._lanes:
                 if self._lanes[note.firm] != start:
                     parts.append(mark(note.words.shape, self._lanes[note.firm], y))
-        for firm, lines in row.cells.items():
-            if firm in self._lanes:
-                parts.append(text_lines(self._lanes[firm] + 12, y + 16, lines))
-        return "".join(parts) + "</g>"
+        return "".join(parts) + self._words(row) + "</g>"
+
+    def _zone(self) -> str:
+        """What the times are in."""
+        return '<text class="role" x="%d" y="22">UTC</text>' % EDGE
+
+    def _clock_x(self) -> float:
+        """Where the marks of the clock are."""
+        return EDGE + TIME_WIDTH - 12.0
+
+    def _words(self, row: Row) -> str:
+        """The text of a row, at each lane."""
+        return "".join(
+            text_lines(self._lanes[firm] + 12, row.y + 22, lines)
+            for firm, lines in row.cells.items() if firm in self._lanes
+        )
 
     def _time(self, row: Row, at: int) -> str:
         moment = escape(row.act.moment)
@@ -137,37 +181,37 @@ def gap_text(gap: float) -> str:
     return "+%d min %02d s" % divmod(round(gap), 60) if gap >= 60 else "+%.3f s" % gap
 
 
-def price_text(price: Price | None) -> str:
-    """A price in 32nds, where it has any."""
+def price_text(price: Price | None, in_32nds: bool) -> str:
+    """A price, of a bond that is quoted so in 32nds where it has any."""
     if price is None:
         return ""
-    return price.thirty_seconds or price.text
+    return (price.thirty_seconds if in_32nds else "") or price.text
 
 
-def cells_of(act: Act, letters: int) -> dict[str, list[tuple[str, str]]]:
+def cells_of(act: Act, letters: int, in_32nds: bool) -> dict[str, list[Line]]:
     """The lines at each lane: what was said there, and what was told."""
-    cells: dict[str, list[tuple[str, str]]] = {}
+    cells: dict[str, list[Line]] = {}
     if act.actor is not None:
-        cells[act.actor] = words_lines(act.said, "said", letters)
+        cells[act.actor] = words_lines(act.said, "said", letters, in_32nds)
     for note in act.told:
         lines = cells.setdefault(note.firm, [])
         answer = note.firm == act.actor
         if answer and not note.words.refused and note.words.text in ("accepted", "withdrawn"):
             lines.append(("told", note.words.text))
         elif answer:
-            told = words_lines(note.words, "told", letters)
+            told = words_lines(note.words, "told", letters, in_32nds)
             lines += [(style, text) for style, text in told if style != "decimal"]
         else:
-            lines += words_lines(note.words, "told", letters)
+            lines += words_lines(note.words, "told", letters, in_32nds)
     return cells
 
 
-def words_lines(words: Words, style: str, letters: int) -> list[tuple[str, str]]:
-    """Words as lines: what, with the price in 32nds; the price as a decimal; whose or which."""
+def words_lines(words: Words, style: str, letters: int, in_32nds: bool) -> list[Line]:
+    """Words as lines: what, with the price; of one in 32nds the decimal; whose or which."""
     strong = words.shape in (Shape.WON, Shape.COVER, Shape.AWAY)
-    first = words.text + (" " + price_text(words.price) if words.price else "")
+    first = words.text + (" " + price_text(words.price, in_32nds) if words.price else "")
     lines = [(style + (" strong" if strong else "") + (" refused" if words.refused else ""), first)]
-    if words.price and words.price.thirty_seconds:
+    if in_32nds and words.price and words.price.thirty_seconds:
         lines.append(("decimal", " · ".join(filter(None, (str(words.price), words.detail)))))
     elif words.detail:
         lines.append(("decimal", words.detail))
@@ -185,7 +229,7 @@ def broken(line: str, letters: int) -> list[str]:
     return pieces
 
 
-def text_lines(x: float, y: float, lines: list[tuple[str, str]]) -> str:
+def text_lines(x: float, y: float, lines: list[Line]) -> str:
     return "".join(
         '<text class="%s" x="%g" y="%g">%s</text>' % (style, x, y + LINE_HEIGHT * at, escape(text))
         for at, (style, text) in enumerate(lines)
@@ -197,6 +241,12 @@ def arrow(x: float, y: float, start: float) -> str:
     back = -7 if x > start else 7
     points = "%g,%g %g,%g %g,%g" % (x, y, x + back, y - 4, x + back, y + 4)
     return '<polygon class="head" points="%s"/>' % points
+
+
+def lapse(x: float, y: float, words: str) -> str:
+    """The mark at the end of a quote's validity."""
+    path = '<path class="lapse" d="M%g %.1f h14 M%g %.1f l8 8 M%g %.1f l-8 8"><title>%s</title></path>'
+    return path % (x - 7, y, x - 4, y - 4, x + 4, y - 4, escape(words))
 
 
 PATHS = {
@@ -223,6 +273,6 @@ def mark(shape: Shape, x: float, y: float) -> str:
     return "<g %s>%s</g>" % (where, inner)
 
 
-def timeline(story: Story, roles: dict[str, str]) -> str:
+def timeline(story: Story, roles: dict[str, str], in_32nds: bool) -> str:
     """The line of time of a request."""
-    return Drawing(story, roles).svg()
+    return Drawing(story, roles, in_32nds).svg()

@@ -22,8 +22,8 @@ REFERS = b"\x0145="
 CARRIED = b"\x011181="
 # The header of a message that carries one of the venue's: 35, 34, 49, 52, 56, and no other field.
 HEADER = re.compile(
-    rb"8=FIXT\.1\.1\x019=\d+\x0135=([^\x01]*)\x0134=\d+\x0149=[^\x01]*\x0152=[^\x01]*"
-    rb"\x0156=[^\x01]*"
+    rb"8=FIXT\.1\.1\x019=\d+\x0135=([^\x01]*)\x0134=(\d+)\x0149=([^\x01]*)\x0152=[^\x01]*"
+    rb"\x0156=([^\x01]*)"
 )
 
 
@@ -74,10 +74,15 @@ def header_fault(data: bytes, number: int, firm: str, carries: bool) -> str | No
     fault = fault_of(data)
     if fault is not None:
         return fault
-    firsts = fields_of(data).firsts
-    if firsts.get(34) != b"%d" % number:
+    header = HEADER.match(data)
+    if header is not None:
+        found = header.group(2, 3, 4)
+    else:  # a message of the session itself may have other fields between them
+        firsts = fields_of(data).firsts
+        found = firsts.get(34), firsts.get(49), firsts.get(56)
+    if found[0] != b"%d" % number:
         return "its 34 is another"
-    if (firsts.get(49), firsts.get(56)) != (b"VENUE", firm.encode()):
+    if found[1:] != (b"VENUE", firm.encode()):
         return "it is not of the venue for this firm"
     if not carries and CARRIED in data:
         return "it carries what the log does not say"

@@ -12,13 +12,12 @@ from unittest.mock import patch
 from mireseason_audit import sqlite_log
 from mireseason_audit.faults import Unreadable
 from mireseason_audit.frame import fields_of, framed
-from mireseason_audit.jobs import Files, GivenReader, kept
+from mireseason_audit.jobs import Files, GivenReader, keep
 from mireseason_audit.log import Log
-from mireseason_audit.plain_wire import PlainSession
-from mireseason_audit.records import Messages
+from mireseason_audit.records import Messages, Outgoing, Sent
 from mireseason_audit.sqlite_log import SqliteSource
 from mireseason_audit.streams import lines_in
-from mireseason_audit.wire import carried, parts_of
+from mireseason_audit.wire import carried, check_wire, parts_of
 
 from tests.audit.common import DAY, LogCase, folder
 from tests.audit.samples import ACCEPTED, SHOWN, soh
@@ -119,29 +118,29 @@ class Given(unittest.TestCase):
 
 @dataclass(frozen=True)
 class Session:
-    """The messages of one firm and of its session, given in blocks."""
+    """The messages of one firm and of its session, as a log gives them."""
 
-    sent: list[tuple[int, int, bytes]]
-    outgoing: list[tuple[int, int | None, bytes]]
-    size: int  # of a block of `sent`
-    other: int  # of a block of `outgoing`
+    given: list[tuple[int, int, bytes]]
+    left: list[tuple[int, int | None, bytes]]
+    size: int = 1  # of a block
 
     def sent_blocks(self, firm: str) -> Iterator[Messages]:
-        return blocks(self.sent, self.size)
+        return blocks(self.given, self.size)
 
-    def outgoing_blocks(self, firm: str) -> Iterator[Messages]:
-        return blocks(self.outgoing, self.other)
+    def sent(self, firm: str) -> Iterator[Sent]:
+        return (Sent(firm, *row) for row in self.given)
+
+    def outgoing(self, firm: str) -> Iterator[Outgoing]:
+        return (Outgoing(firm, *row) for row in self.left)
 
 
-def blocks(
-    rows: list[tuple[int, int, bytes]] | list[tuple[int, int | None, bytes]], size: int
-) -> Iterator[Messages]:
+def blocks(rows: list[tuple[int, int, bytes]], size: int) -> Iterator[Messages]:
     """Rows, so many at a time, as columns."""
     for at in range(0, len(rows), size):
         yield Messages(*zip(*rows[at : at + size]))
 
 
-def session(size: int, other: int) -> Session:
+def session() -> Session:
     """Seven messages, in front of them one and behind them another of the session itself."""
     sent: list[tuple[int, int, bytes]] = []
     outgoing: list[tuple[int, int | None, bytes]] = []
@@ -161,51 +160,45 @@ def session(size: int, other: int) -> Session:
         sent.append((number, number * 10, frame))
         put(parts.kind.decode(), number, carried(parts, None))
     put("5", None, b"")
-    return Session(sent, outgoing, size, other)
+    return Session(sent, outgoing)
 
 
 class Sessions(unittest.TestCase):
-    """A session and what it carries, in blocks that end elsewhere."""
+    """A session and what it carries."""
 
     def is_right(self, log: Session) -> bool:
-        found = PlainSession(cast(Log, log), "DLR1", log.sent_blocks("DLR1"))
-        return found.is_right()
+        return not list(check_wire(cast(Log, log), "DLR1"))
 
     def test_all_is_right(self) -> None:
-        for size, other in itertools.product(range(1, 10), repeat=2):
-            self.assertTrue(self.is_right(session(size, other)), (size, other))
+        self.assertTrue(self.is_right(session()))
 
     def test_rows_left_out_doubled_and_turned(self) -> None:
         """Whether the last message of the session itself left, only a seal can tell."""
-        for size, other in itertools.product((1, 2, 3, 7, 9), repeat=2):
-            for name in "sent", "outgoing":
-                rows = getattr(session(size, other), name)
-                alike = rows, rows[:-1] if name == "outgoing" else rows
-                for at in range(len(rows)):
-                    turned = rows[:at] + rows[at : at + 2][::-1] + rows[at + 2 :]
-                    for changed in (rows[:at] + rows[at + 1 :], rows[: at + 1] + rows[at:], turned):
-                        log = session(size, other)
-                        getattr(log, name)[:] = changed
-                        self.assertEqual(self.is_right(log), changed in alike, (name, at, size))
+        for name in "given", "left":
+            rows = getattr(session(), name)
+            alike = rows, rows[:-1] if name == "left" else rows
+            for at in range(len(rows)):
+                turned = rows[:at] + rows[at : at + 2][::-1] + rows[at + 2 :]
+                for changed in (rows[:at] + rows[at + 1 :], rows[: at + 1] + rows[at:], turned):
+                    log = session()
+                    getattr(log, name)[:] = changed
+                    self.assertEqual(self.is_right(log), changed in alike, (name, at))
 
     def test_two_bodies_that_are_turned(self) -> None:
         """The numbers stay where they were."""
-        for size in (1, 2, 3, 9):
-            for at in range(1, 7):
-                log = session(size, size)
-                (one, first, data), (two, second, text) = log.outgoing[at : at + 2]
-                log.outgoing[at : at + 2] = [(one, first, text), (two, second, data)]
-                self.assertFalse(self.is_right(log), at)
+        for at in range(1, 7):
+            log = session()
+            (one, first, data), (two, second, text) = log.left[at : at + 2]
+            log.left[at : at + 2] = [(one, first, text), (two, second, data)]
+            self.assertFalse(self.is_right(log), at)
 
     def test_a_byte_of_each_message(self) -> None:
-        for size in (1, 3, 9):
-            for row in range(9):
-                number, other, data = session(size, size).outgoing[row]
-                for at in (0, 20, len(data) // 2, len(data) - 2, len(data) - 1):
-                    log = session(size, size)
-                    changed = data[:at] + bytes([data[at] ^ 1]) + data[at + 1 :]
-                    log.outgoing[row] = number, other, changed
-                    self.assertFalse(self.is_right(log), (row, at))
+        for row in range(9):
+            number, other, data = session().left[row]
+            for at in (0, 20, len(data) // 2, len(data) - 2, len(data) - 1):
+                log = session()
+                log.left[row] = number, other, data[:at] + bytes([data[at] ^ 1]) + data[at + 1 :]
+                self.assertFalse(self.is_right(log), (row, at))
 
 
 class Kept(unittest.TestCase):
@@ -213,17 +206,14 @@ class Kept(unittest.TestCase):
 
     def kept(self, rows: list[tuple[int, int, bytes]], size: int) -> tuple[bytes | None, bytes]:
         with folder() as name:
-            files, steps = Files(Path(name)), list[int]()
-            log = cast(Log, Session(rows, [], size, 1))
-            found = list(kept(log, "DLR1", files, steps.append))
-            self.assertEqual([row for block in found for row in zip(*block)], rows)
-            self.assertEqual(sum(steps), len(rows))
+            files = Files(Path(name))
+            keep(cast(Log, Session(rows, [], size)), "DLR1", files)
             sent = files.sent("DLR1")
             data = sent.read_bytes() if sent.exists() else None
             return data, files.places("DLR1").read_bytes()
 
     def test_blocks_of_any_size(self) -> None:
-        rows = session(1, 1).sent
+        rows = session().given
         text = "".join("DLR1 %s\n" % data.decode().replace("\x01", "|") for _, _, data in rows)
         places = array("q", range(10, 80, 10)).tobytes()
         for size in range(1, 9):
@@ -233,7 +223,7 @@ class Kept(unittest.TestCase):
         """Nor is a number that is not the next: there is no file, and nothing is like it."""
         for size in (1, 2, 3, 7):
             for at in range(7):
-                rows = session(1, 1).sent
+                rows = session().given
                 number, place, data = rows[at]
                 for row in (
                     (number, place, data + b"\n"), (number, place, b"|" + data),

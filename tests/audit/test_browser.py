@@ -26,10 +26,14 @@ function look(frame, name) {
     && one.getBoundingClientRect().right > width + 0.5)
     .map(one => one.tagName + " " + one.className);
   const headings = [...page.querySelectorAll("h1, h2")].map(one => one.tagName);
+  const sideways = [...page.body.querySelectorAll("*")].filter(one =>
+    one.scrollWidth > one.clientWidth + 1 && getComputedStyle(one).overflowX !== "visible"
+    && getComputedStyle(one).display !== "none" && !one.closest("thead, svg"))
+    .map(one => one.tagName + " " + one.className);
   const bare = [...page.querySelectorAll(".scroll")].filter(one => one.scrollWidth > one.clientWidth
     && getComputedStyle(one).overflowX !== "auto").length;
   found.push({name, inner: frame.contentWindow.innerWidth, scroll: root.scrollWidth, wide,
-    headings, bare, style: getComputedStyle(page.body).fontSize});
+    headings, bare, sideways, style: getComputedStyle(page.body).fontSize});
 }
 async function all() {
   for (const name of pages) {
@@ -106,6 +110,8 @@ class Browser(unittest.TestCase):
                 self.assertEqual(one["inner"], width)
                 self.assertLessEqual(one["scroll"], width, one)
                 self.assertEqual((one["wide"], one["bare"]), ([], 0), one)
+                if width == min(WIDTHS):
+                    self.assertEqual(one["sideways"], [], one)
                 self.assertEqual(one["headings"][:1], ["H1"], one)
                 self.assertEqual(one["style"], "15px", "%s has no style sheet" % one["name"])
 

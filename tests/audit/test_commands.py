@@ -149,14 +149,16 @@ class Commands(LogCase):
         self.assertEqual(ran.status, 0, ran.text)
         for path in pages.rglob("*.html"):
             for element in walk(read_page(path)):
-                self.assertNotIn(element.name, ("script", "img"), path)
+                if element.name == "script":  # the one that hides rows
+                    self.assertEqual((element.attributes, element.raw), ({"src": "filter.js"}, ""))
+                self.assertNotEqual(element.name, "img", path)
                 self.assertFalse([key for key in element.attributes if key.startswith("on")], path)
         index = read_page(pages / "index.html")
         ((row,),) = (rows_of(table_behind(index, "Requests")),)
         texts = [cell.text for cell in row]
         self.assertEqual(texts[3], script)
         self.assertEqual(texts[5], "2 000 000")
-        self.assertIn("Awarded, face value2 000 000", index.all("dl", "figures")[0].text)
+        self.assertIn("Traded, BONDA00000012 000 000", index.all("dl", "amounts")[0].text)
         request = read_page(pages / "requests" / "0001.html")
         self.assertIn(image, request.text)
         self.assertIn("1e9999", request.text)

@@ -16,7 +16,7 @@ from typing import Any
 
 from mireseason_audit.came_on import CameOn
 from mireseason_audit.door import Door, DoorReader, event_hash
-from mireseason_audit.records import ConnectionEvent, Entries, Entry
+from mireseason_audit.records import ConnectionEvent, Entry
 
 from tests.audit.common import DAY, Folder, Ran, audit, folder, keys, venue_words
 from tests.audit.pages import Element, read_page, rows_of, table_behind
@@ -52,14 +52,14 @@ class Log:
         self.events.append(made._replace(hash=event_hash(made)))
         return self
 
-    def found(self, size: int = 64) -> Door:
+    def found(self) -> Door:
         reader = DoorReader(iter(self.events))
-        for at in range(0, len(self.entries), size):
-            reader.take_block(Entries.of(self.entries[at : at + size]))
+        for entry in self.entries:
+            reader.take(entry)
         return reader.end()
 
-    def texts(self, size: int = 64) -> list[str]:
-        return [" ".join(one.lines()) for one in self.found(size).findings]
+    def texts(self) -> list[str]:
+        return [" ".join(one.lines()) for one in self.found().findings]
 
 
 def whole() -> Log:
@@ -95,11 +95,10 @@ class Doors(unittest.TestCase):
         self.assertEqual(event_hash(row), hashlib.sha256(text.encode()).digest())
 
     def test_a_whole_day(self) -> None:
-        for size in (1, 2, 3, 64):
-            found = whole().found(size)
-            self.assertEqual([one.text for one in found.findings], [], size)
-            self.assertEqual((found.events, found.connections), (8, 3))
-            self.assertEqual(found.last, whole().events[-1].hash)
+        found = whole().found()
+        self.assertEqual([one.text for one in found.findings], [])
+        self.assertEqual((found.events, found.connections), (8, 3))
+        self.assertEqual(found.last, whole().events[-1].hash)
 
     def test_entries_that_are_not_as_they_should_be(self) -> None:
         changes: Changes = [
@@ -131,8 +130,7 @@ class Doors(unittest.TestCase):
         for at, columns, text in changes:
             log = whole()
             log.entries[at] = log.entries[at]._replace(**columns)
-            for size in (1, 2, 64):
-                self.assertIn("entries: " + text, log.texts(size), (at, columns))
+            self.assertIn("entries: " + text, log.texts(), (at, columns))
 
     def test_rows_that_are_not_as_they_should_be(self) -> None:
         changes: Changes = [
@@ -169,8 +167,7 @@ class Doors(unittest.TestCase):
             if "hash" not in columns:
                 changed = changed._replace(hash=event_hash(changed))
             log.events[place - 1] = changed
-            for size in (1, 2, 64):
-                self.assertIn("door: " + text, log.texts(size), (place, columns))
+            self.assertIn("door: " + text, log.texts(), (place, columns))
             if place < 8 and "place" not in columns:
                 follows = "door: row %d: it does not follow on the row before it, as that is now"
                 self.assertIn(follows % (place + 1), log.texts())

@@ -14,7 +14,7 @@ from tests.audit.common import AUDIT, IS_SHORT, folder, venue_words
 from tests.audit.test_commands import day_text
 
 FRAMES = 3000 if IS_SHORT else 300_000
-TIMES, PAGE_SECONDS, MEGABYTES = 3, 120, 200
+TIMES, PAGE_SECONDS, MEGABYTES = 8, 120, 200
 LOOK = 0.02  # seconds from one look at the processes to the next
 
 

@@ -11,15 +11,11 @@ from pathlib import Path
 
 from tests.audit.common import DAY, STORED, Folder, Ran, audit, folder
 from tests.audit.pages import Element, read_page, rows_of, table_behind, walk
-from tests.audit.witness import Asked, Came, Witness, thirty_seconds
+from tests.audit.witness import Asked, Came, Witness
 
 PAGES = STORED / "pages.tar.xz"
+LAPSED_COVERS = {1: "08:04:17.936", 13: "10:36:22.921"}  # of two requests, the 62 of the cover
 ACTS = "Who said what, and who was told what"
-
-
-def price_pair(text: str) -> str:
-    """A price as a page shows it."""
-    return " ".join([thirty_seconds(text), text]).strip()
 
 
 class Pages(unittest.TestCase):
@@ -68,16 +64,22 @@ class Pages(unittest.TestCase):
         done = subprocess.run(words, cwd=self.place, capture_output=True, check=False)
         self.assertEqual(done.returncode, 0, done.stderr)
 
-    def test_no_script_and_no_host(self) -> None:
+    def test_one_script_and_no_host(self) -> None:
+        """The one script is that of the day's page, a file that only hides rows."""
         for path in self.place.rglob("*.html"):
             for element in walk(read_page(path)):
-                self.assertNotEqual(element.name, "script", path)
+                if element.name == "script":
+                    self.assertEqual((element.attributes, element.raw), ({"src": "filter.js"}, ""))
+                    self.assertEqual(path.name, "index.html")
                 acting = [name for name in element.attributes if name.startswith("on")]
                 self.assertFalse(acting, path)
                 for name in ("href", "src"):
                     value = element.attributes.get(name, "")
                     self.assertNotRegex(value, r"^[a-z]+:|^//", path)
         self.assertNotRegex((self.place / "style.css").read_text(), r"url\(|@import")
+        script = (self.place / "filter.js").read_text()
+        self.assertNotRegex(script, r"innerHTML|fetch|eval|import|http|write|cookie|storage")
+        self.assertLess(len(script.splitlines()), 20)
 
     def test_each_link_leads_somewhere(self) -> None:
         anchors: dict[Path, set[str]] = {}
@@ -101,19 +103,28 @@ class Pages(unittest.TestCase):
     def test_the_figures_of_the_day(self) -> None:
         witness, requests = self.witness, self.witness.requests
         ends = Counter(asked.end for asked in requests)
-        quantity = sum(int(asked.message["38"]) for asked in requests if asked.end == "awarded")
         self.assertEqual(len(requests), 40)
         self.assertEqual(self.figures(), {
             "Requests": "40",
             "Awarded": str(ends["awarded"]),
             "Passed": str(ends["passed"]),
             "Expired": str(ends["expired"]),
-            "Awarded, face value": format(quantity, ",").replace(",", " "),
             "Quotes accepted": str(sum(len(asked.quotes) for asked in requests)),
             "Messages that came": str(len(witness.came)),
             "Messages sent": str(len(witness.sent)),
             "Refused": str(sum(witness.refused().values())),
         })
+
+    def test_face_value_is_not_added_across_bonds(self) -> None:
+        """The bonds of the day have no currency."""
+        traded: Counter[str] = Counter()
+        for asked in self.witness.requests:
+            if asked.end == "awarded":
+                traded["Traded, " + asked.message["48"]] += int(asked.message["38"])
+        pairs = self.index.all("dl", "amounts")[0].own("div")
+        listed = {pair.all("dt")[0].text: pair.all("dd")[0].text for pair in pairs}
+        expected = {name: format(one, ",").replace(",", " ") for name, one in traded.items()}
+        self.assertEqual(listed, expected)
 
     def test_the_requests_of_the_day(self) -> None:
         rows = rows_of(table_behind(self.index, "Requests"))
@@ -128,8 +139,11 @@ class Pages(unittest.TestCase):
                 asked.message["48"], str(len(asked.dealers)), str(len(asked.quotes)),
             ])
             self.assertTrue(row[9].text.endswith(asked.end))
+            cover = asked.dealer_told("4")
+            if number in LAPSED_COVERS:
+                cover += " ◔ past its 62"
             self.assertEqual([cell.text for cell in row[10:]], [
-                asked.dealer_told("1"), price_pair(price) if price else "", asked.dealer_told("4"),
+                asked.dealer_told("1"), price, cover,
             ])
 
     def test_the_firms_of_the_day(self) -> None:
@@ -196,7 +210,7 @@ class Pages(unittest.TestCase):
         """The price in a cell is that of the message, in 32nds and as a decimal."""
         prices = cell.all("span", "price")
         price = message.get("133") or message.get("132")
-        self.assertEqual([one.text for one in prices], [price_pair(price)] if price else [])
+        self.assertEqual([one.text for one in prices], [price] if price else [])
 
     def test_the_lives_of_quotes(self) -> None:
         for asked, page in self.request_pages():
@@ -223,7 +237,7 @@ class Pages(unittest.TestCase):
         given = [row.message for row in self.witness.at[came.place]]
         shown = [message["117"] for message in given if message["35"] == "S"]
         price = came.message.get("133") or came.message["132"]
-        self.assertEqual(line[:4], [name, shown[0], price_pair(price), came.moment])
+        self.assertEqual(line[:4], [name, shown[0], price, came.moment])
         withdrawn = [
             row for row in self.witness.sent
             if (row.firm, row.message.get("117")) == (came.firm, name)
@@ -238,15 +252,25 @@ class Pages(unittest.TestCase):
         else:
             notice = asked.notices[came.firm]
             end, fate = notice["52"].partition("-")[2], kinds[notice["694"]]
-        self.assertEqual((line[4], line[5].partition(" ")[2]), (end, fate))
+        until = came.message.get("62", "").partition("-")[2]
+        if until and until <= end:
+            expected = ["◔", "past", "its", "62,", "then", *fate.split(), end]
+            self.assertEqual(line[4], until)
+            self.assertEqual([word for word in line[5].split() if word.isascii() or word == "◔"],
+                             expected)
+        else:
+            self.assertEqual((line[4], line[5].partition(" ")[2]), (end, fate))
 
     def test_the_lines_of_time(self) -> None:
         """The drawing has each quote as a bar, and no time and no price that is not in a message
         of the request.
         """
         for asked, page in self.request_pages():
-            drawing = page.all("svg")[0]
-            self.assertEqual(len(drawing.all("rect", "bar")), len(asked.quotes))
+            drawing, narrow = page.all("svg", "timeline")
+            lapsed = [row for row in rows_of(table_behind(page, "Quotes")) if "past" in row[-2].text]
+            for one in (drawing, narrow):
+                self.assertEqual(len(one.all("rect", "bar")), len(asked.quotes))
+                self.assertEqual(len(one.all("path", "lapse")), len(lapsed))
             acts = rows_of(table_behind(page, ACTS))
             times = [one.text for one in drawing.all("text", "time")]
             self.assertEqual(times, [row[0].text for row in acts])

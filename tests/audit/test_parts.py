@@ -8,6 +8,7 @@ from pathlib import Path
 
 from mireseason_audit import pair_command
 from mireseason_audit.dictionary import read_dictionary
+from mireseason_audit.facts import quantity_in
 from mireseason_audit.faults import Unreadable
 from mireseason_audit.frame import barred, fault_of, fields_of, framed, number_in, sum_of
 from mireseason_audit.jobs import due_texts, held, is_head
@@ -18,10 +19,8 @@ from mireseason_audit.pair import Compared, Differences, compared_by, difference
 from mireseason_audit.prices import Price
 from mireseason_audit.reading import Reader
 from mireseason_audit.records import Sent, configured
-from mireseason_audit.requests import Request
 from mireseason_audit.second_day import moved_fields
 from mireseason_audit.story import seconds
-from mireseason_audit.summary import Summary
 from mireseason_audit.templates import date_text, quantity_text
 from mireseason_audit.timeline import broken, gap_text
 from mireseason_audit.venue import Venue
@@ -112,16 +111,9 @@ class Quantities(unittest.TestCase):
         for text in ("2025110", "20251309", "\u00b2" * 8, "2025\u0661\u066109", ""):
             self.assertEqual(date_text(text), text)
 
-    def test_what_was_awarded_in_all(self) -> None:
-        summary = Summary()
-        ends = ("2000000.0", "awarded"), ("7", "passed"), ("5.", "awarded")
-        for key, (quantity, end) in enumerate(ends):
-            asked = Request(
-                key, key + 1, "09:00:00.000", "INV1", "T1", "A", "X", "1", quantity,
-                "09:05:00.000", ["DLR1"], end=end,
-            )
-            summary.requests.append(asked)
-        self.assertEqual(summary.quantity, 2_000_005)
+    def test_what_counts_as_face_value(self) -> None:
+        texts = {"2000000.0": 2_000_000, "7": 7, "5.": 5, "": 0, ".5": 0, "x": 0}
+        self.assertEqual({text: quantity_in(text) for text in texts}, texts)
 
 
 class Lines(unittest.TestCase):

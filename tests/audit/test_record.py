@@ -13,8 +13,7 @@ from mireseason_audit.check import Verdict, report
 from mireseason_audit.faults import Wrong
 from mireseason_audit.findings import Finding
 from mireseason_audit.frame import fault_of, fields_of, framed
-from mireseason_audit.plain_wire import carry
-from mireseason_audit.records import Entries, Entry, Messages, Outgoing, Sent, configured, day_of
+from mireseason_audit.records import Entry, Messages, Outgoing, Sent, configured, day_of
 from mireseason_audit.seal import Sealed, compared, first_of, read_seal, write_seal
 from mireseason_audit.wire import WireReader, carried, header_fault, parts_of
 
@@ -23,7 +22,15 @@ from tests.audit.samples import ACCEPTED, CONFIGURATION, OFFERED, REJECT, SHOWN,
 
 
 def carries(data: bytes, number: int, frame: bytes, firm: str) -> bool:
-    return carry(Messages((number,), (1,), (data,)), [frame], firm)
+    """Whether a session's message of this number carries a frame; those before it are its own."""
+    parts = parts_of(frame)
+    assert parts is not None
+    given = int(parts.number)
+    reader = WireReader(iter([Sent(firm, given, 1, frame)]), lambda place: None)
+    for own in range(1, number):
+        head = soh("35=0|34=%d|49=VENUE|52=20250314-09:00:10.001|56=%s" % (own, firm))
+        assert reader.take(Outgoing(firm, own, None, framed(fields_of(head + b"\x01")))) is None
+    return reader.take(Outgoing(firm, number, given, data)) is None
 
 
 def entry(place: int, moment: str, line: bytes, before: bytes, **other: Any) -> Entry:
@@ -104,10 +111,9 @@ class Chains(unittest.TestCase):
             found = self.found(first, second)
             expected = [] if is_right else ["its line is none that a gateway writes"]
             self.assertEqual(found, expected, line)
-            self.assertEqual(self.in_blocks([first, second], 2), expected, line)
 
-    def test_blocks_say_what_entries_one_by_one_say(self) -> None:
-        """Forty entries, one of them spoilt in each way: taken in blocks of any size."""
+    def test_each_entry_that_is_spoilt_is_told(self) -> None:
+        """Forty entries, one of them spoilt in each way."""
         rows: list[Entry] = []
         for place in range(40):
             firm = None if place % 5 == 0 else "DLR%d" % (place % 3)
@@ -116,7 +122,7 @@ class Chains(unittest.TestCase):
             line, before = text.encode(), rows[-1].hash if rows else bytes(32)
             number = None if firm is None else place
             rows.append(entry(place, moment, line, before, firm=firm, number=number))
-        self.assertEqual(self.in_blocks(rows, 7), [])
+        self.assertEqual(self.found(*rows), [])
         for at in range(2, 40):
             for name, value in SPOILT:
                 spoilt = rows[at]._replace(**{name: value})
@@ -124,14 +130,6 @@ class Chains(unittest.TestCase):
                     changed = [*rows[:at], made, *rows[at + 1 :]]
                     found = self.found(*changed)
                     self.assertEqual(bool(found), made != rows[at], (at, name))
-                    for size in (1, 7, 64):
-                        self.assertEqual(self.in_blocks(changed, size), found, (at, name))
-
-    def in_blocks(self, rows: list[Entry], size: int) -> list[str]:
-        reader = ChainReader(has_chain=True, has_door=True)
-        for at in range(0, len(rows), size):
-            reader.take_block(Entries.of(rows[at : at + size]))
-        return [finding.text for finding in reader.found.findings]
 
     def test_the_day_of_entry_0(self) -> None:
         digest = hashlib.sha256(CONFIGURATION).hexdigest().encode()

@@ -2,8 +2,7 @@
 
 import io
 import os
-import select
-import signal
+import subprocess
 import threading
 import unittest
 from contextlib import closing
@@ -13,20 +12,21 @@ from unittest.mock import patch
 
 from mireseason_audit import streams, venue
 from mireseason_audit.faults import Unreadable
-from mireseason_audit.progress import Progress, Step
+from mireseason_audit.parents import bound_to
+from mireseason_audit.progress import Progress
 from mireseason_audit.venue import Run, Venue
-from mireseason_audit.work import Job, Plan, Workers, plan_of, run_jobs
+from mireseason_audit.work import Job, Plan, plan_of, run_jobs
 
 from tests.audit.common import folder
+from tests.gateway.wait import LONG, until
 
 
-class Dies:
-    """Is sent the signal that ends its process while it is destroyed."""
-
-    def __del__(self) -> None:
-        os.kill(os.getpid(), signal.SIGTERM)
-        for _ in range(1000):  # so that the signal is met here
-            pass
+def has_ended(number: int) -> bool:
+    """Whether a process is gone, or only waits for whoever takes notice of its end."""
+    try:
+        return not Path("/proc/%d/cmdline" % number).read_bytes()
+    except OSError:
+        return True
 
 
 class Streams(unittest.TestCase):
@@ -195,7 +195,7 @@ class Writes:
     place: Path
     number: int
 
-    def __call__(self, step: Step) -> str:
+    def __call__(self) -> str:
         before = (self.place / str(self.number - 1)).read_text() if self.number else ""
         (self.place / str(self.number)).write_text(before + str(self.number))
         return before
@@ -207,7 +207,7 @@ class Speaks:
 
     pipe: Path
 
-    def __call__(self, step: Step) -> str:
+    def __call__(self) -> str:
         self.pipe.write_text("spoken")
         return ""
 
@@ -218,12 +218,39 @@ class Hears:
 
     pipe: Path
 
-    def __call__(self, step: Step) -> str:
+    def __call__(self) -> str:
         return self.pipe.read_text()
 
 
-def squared(number: int) -> Job[int]:
-    return lambda step: number * number
+@dataclass(frozen=True)
+class Squared:
+    """A job that answers a square."""
+
+    number: int
+
+    def __call__(self) -> int:
+        return self.number * self.number
+
+
+def fails() -> int:
+    raise Unreadable("this")
+
+
+def ends() -> int:
+    os._exit(3)
+
+
+@dataclass(frozen=True)
+class Sleeps:
+    """A job that runs a program which says that it is there and then waits."""
+
+    told: Path
+
+    def __call__(self) -> int:
+        words = "echo $$ > %s.new; mv %s.new %s; exec sleep 600" % ((self.told,) * 3)
+        parent = os.getpid()
+        subprocess.run(["sh", "-c", words], check=False, preexec_fn=bound_to(parent))
+        return 0
 
 
 class Bars(unittest.TestCase):
@@ -242,41 +269,31 @@ class Bars(unittest.TestCase):
     def test_jobs_in_processes(self) -> None:
         """Results come in the order of the jobs; a fault of a process is raised here."""
         progress = Progress(io.StringIO())
-        jobs = [squared(at) for at in range(9)]
+        jobs: list[Job[int]] = [Squared(at) for at in range(9)]
         self.assertEqual(run_jobs(plan_of(jobs), 3, progress), [at * at for at in range(9)])
         self.assertEqual(run_jobs(plan_of([]), 3, progress), [])
-
-        def fails(step: object) -> int:
-            raise Unreadable("this")
-
-        def ends(step: object) -> int:
-            os._exit(3)
-
         failing: Plan[int] = plan_of([*jobs, fails])
         ending: Plan[int] = plan_of([ends])
         with self.assertRaisesRegex(Unreadable, "^this$") as caught:
             run_jobs(failing, 2, progress)
-        self.assertIn("in fails\n", "".join(caught.exception.__notes__))
-        self.assertRaisesRegex(Unreadable, "status 3", run_jobs, ending, 1, progress)
+        self.assertIn("in fails\n", str(caught.exception.__cause__))
+        self.assertRaisesRegex(Unreadable, "ended before", run_jobs, ending, 1, progress)
 
-    def test_a_job_that_is_ended_in_a_destructor(self) -> None:
-        """It ends all the same, and without a word."""
+    def test_a_fault_ends_all_that_was_begun(self) -> None:
+        """A job that would take ten minutes, and the program that it runs."""
         with folder() as name:
             told = Path(name) / "told"
+            plan: Plan[int] = Plan()
+            plan.add(Sleeps(told))
 
-            def job(step: object) -> int:
-                with told.open("wb") as stream:
-                    os.dup2(stream.fileno(), 2)
-                dies = Dies()
-                del dies
-                select.select([os.pipe()[0]], [], [], 10)
-                return 0
+            def fault() -> None:
+                until("the program runs", LONG, told.exists)
+                raise Unreadable("that")
 
-            plan = plan_of([job])
-            self.assertRaisesRegex(
-                Unreadable, "status 1", run_jobs, plan, 1, Progress(io.StringIO())
-            )
-            self.assertEqual(told.read_text(), "")
+            with self.assertRaisesRegex(Unreadable, "^that$"):
+                run_jobs(plan, 2, Progress(io.StringIO()), fault)
+            number = int(told.read_text())
+            until("it has ended", LONG, lambda: has_ended(number))
 
     def test_jobs_that_wait_for_others(self) -> None:
         """Each of a chain of jobs reads what the one before it wrote, whatever stands in front."""
@@ -291,35 +308,19 @@ class Bars(unittest.TestCase):
                     ["", "0", "01", "012", "0123"],
                 )
 
-    def test_jobs_beside_others(self) -> None:
-        """A job that reads what another writes meanwhile begins once that has begun."""
+    def test_jobs_that_read_what_others_write(self) -> None:
+        """A job that reads what another writes meanwhile stands after it, and runs beside it."""
         with folder() as name:
             pipe = Path(name) / "pipe"
             os.mkfifo(pipe)
             plan: Plan[str] = Plan()
             first = plan.add(Writes(Path(name), 0))
-            writer = plan.add(Speaks(pipe), behind=[first])
-            plan.add(Hears(pipe), beside=[writer])
+            plan.add(Speaks(pipe), after=[first])
+            plan.add(Hears(pipe), after=[first])
             self.assertEqual(plan.ready([0, 1, 2], []), [0])
-            self.assertEqual(plan.ready([1, 2], [0]), [1])
-            self.assertEqual(plan.ready([2], [0]), [2])
+            self.assertEqual(plan.ready([1, 2], [0]), [1, 2])
             found = run_jobs(plan, 2, Progress(io.StringIO()))
             self.assertEqual(found, ["", "", "spoken"])
-
-    def test_which_begin_together(self) -> None:
-        """One that waits for another to begin begins in the same round, as many as there may be."""
-        for at_once, expected in ((1, [0]), (2, [0, 1]), (3, [0, 1, 3]), (9, [0, 1, 3])):
-            plan: Plan[int] = Plan()
-            first = plan.add(squared(0))
-            plan.add(squared(1), beside=[first])
-            plan.add(squared(2), behind=[first])
-            plan.add(squared(3))
-            workers = Workers(plan)
-            workers.begin(at_once)
-            try:
-                self.assertEqual([one.index for one in workers.running], expected)
-            finally:
-                workers.end()
 
 
 if __name__ == "__main__":
