@@ -24,8 +24,9 @@ std::string host_name() {
 
 class ConfigReader {
   public:
-    ConfigReader(const fs::path &path, std::string_view day)
-        : path_(fs::absolute(path)), day_(day), table_(parse(path_, read_file(path_))) {}
+    ConfigReader(ConfigFiles &files, const fs::path &path, std::string_view day)
+        : files_(files), path_(fs::absolute(path)), day_(day),
+          table_(parse(path_, files_.text(path_))) {}
 
     // The venues' names: the parts [venue.NAME], or no name for a part [venue] with a command.
     std::vector<std::string> venues() const {
@@ -52,6 +53,7 @@ class ConfigReader {
             }
         }
         read_venue();
+        read_days();
         read_log();
         read_seal();
         read_sessions();
@@ -64,7 +66,7 @@ class ConfigReader {
     // A firm that may log on and that none of the venues has is a fault.
     void check_firms(const std::vector<Config> &configs) const {
         const fs::path file = section("fix").beside(section("fix").text("credentials"));
-        for (const auto &[key, node] : parse(file, read_file(file))) {
+        for (const auto &[key, node] : parse(file, files_.text(file))) {
             const std::string firm(key.str());
             const auto has = [&](const Config &each) { return each.credentials.contains(firm); };
             if (std::ranges::none_of(configs, has)) {
@@ -74,8 +76,8 @@ class ConfigReader {
     }
 
   private:
-    static constexpr std::array<std::string_view, 8> sections = {
-        "venue", "log", "seal", "fix", "tls", "limits", "metrics", "events"};
+    static constexpr std::array<std::string_view, 9> sections = {
+        "venue", "day", "log", "seal", "fix", "tls", "limits", "metrics", "events"};
     static constexpr std::array<std::string_view, 4> levels = {"debug", "info", "warning", "error"};
 
     Section section(std::string_view name) const {
@@ -104,9 +106,52 @@ class ConfigReader {
         }
         const fs::path file = venue.beside(venue.text_of_need("configuration"));
         venue.end();
-        VenueFile read = read_venue_file(file, read_file(file), day_);
+        VenueFile read = read_venue_file(file, files_.text(file), day_);
         config_.configuration = std::move(read.text);
-        config_.firms = {std::move(read.date), std::move(read.firms)};
+        config_.firms = {std::move(read.date), std::move(read.firms), read.has_own_date};
+    }
+
+    // All venues of one gateway have the same days.
+    void read_days() {
+        Section day = section("day");
+        DayRules &days = config_.days;
+        days.zone = day.text("zone", "UTC");
+        days.opens = time_in(day, "opens", days.opens);
+        days.ends = time_in(day, "ends", days.ends);
+        if (day.has("weekdays")) {
+            days.weekdays = weekdays_in(day);
+        }
+        if (const fs::path file = day.path("holidays"); !file.empty()) {
+            try {
+                days.holidays = holidays_of(files_.text(file));
+            } catch (const std::runtime_error &fault) {
+                fail(file, fault.what());
+            }
+        }
+        day.end();
+    }
+
+    static std::chrono::minutes time_in(Section &day, std::string_view key,
+                                        std::chrono::minutes otherwise) {
+        const std::string text = day.text(key);
+        const auto time = time_of_day(text);
+        if (!text.empty() && !time) {
+            day.fail_at(key, "is no time of day, from 00:00 to 24:00");
+        }
+        return time.value_or(otherwise);
+    }
+
+    static std::set<unsigned> weekdays_in(Section &day) {
+        std::set<unsigned> weekdays;
+        for (const std::string &word : day.words("weekdays")) {
+            const auto weekday = weekday_of(word);
+            if (!weekday) {
+                day.fail_at("weekdays",
+                            "has something else than Mon, Tue, Wed, Thu, Fri, Sat, Sun");
+            }
+            weekdays.insert(*weekday);
+        }
+        return weekdays;
     }
 
     // With the day's date and the venue's name: each venue has a log of its own.
@@ -166,7 +211,7 @@ class ConfigReader {
     }
 
     void read_credentials(const fs::path &file) {
-        const toml::table table = parse(file, read_file(file));
+        const toml::table table = parse(file, files_.text(file));
         for (const auto &[key, node] : table) {
             const std::string firm(key.str());
             if (std::ranges::find(config_.firms.names, firm) == config_.firms.names.end()) {
@@ -271,6 +316,7 @@ class ConfigReader {
         events.end();
     }
 
+    ConfigFiles &files_;
     fs::path path_;
     std::string day_;
     toml::table table_;
@@ -280,8 +326,8 @@ class ConfigReader {
 
 } // namespace
 
-std::vector<Config> read_configs(const fs::path &path, std::string_view day) {
-    ConfigReader reader(path, day);
+std::vector<Config> read_configs(ConfigFiles &files, const fs::path &path, std::string_view day) {
+    ConfigReader reader(files, path, day);
     std::vector<Config> configs;
     for (const std::string &venue : reader.venues()) {
         configs.push_back(reader.read(venue));

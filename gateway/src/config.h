@@ -3,10 +3,12 @@
 #ifndef GATEWAY_CONFIG_H
 #define GATEWAY_CONFIG_H
 
+#include "config_files.h"
 #include "engine.h"
 #include "firm_rate.h"
 #include "seals.h"
 #include "shares.h"
+#include "trading_days.h"
 
 #include <filesystem>
 #include <map>
@@ -27,6 +29,7 @@ struct Credentials {
 struct VenueFirms {
     std::string date;
     std::vector<std::string> names;
+    bool has_own_date = false; // else it was given the day's, and is of any
 };
 
 struct Config {
@@ -54,6 +57,8 @@ struct Config {
     RateLimits rates;
     ShareLimits shares;
 
+    DayRules days;
+
     unsigned short metrics_port = 0;
     std::string event_level = "info";
 };
@@ -61,7 +66,8 @@ struct Config {
 // Reads the file and those that it names: one configuration for each venue, and what is not a
 // venue's own is the same in all. A venue's configuration that has no date is given this day's
 // (eight digits). Throws std::runtime_error that names the file and the key.
-std::vector<Config> read_configs(const std::filesystem::path &path, std::string_view day);
+std::vector<Config> read_configs(ConfigFiles &files, const std::filesystem::path &path,
+                                 std::string_view day);
 
 } // namespace gateway
 

@@ -18,8 +18,6 @@ namespace gateway {
 // Throws std::runtime_error that names the file.
 [[noreturn]] void fail(const std::filesystem::path &file, std::string_view what);
 
-std::string read_file(const std::filesystem::path &path);
-
 toml::table parse(const std::filesystem::path &path, const std::string &text);
 
 // A table of a file, whose keys are all asked for: one that is not is a fault, since it is a
@@ -30,6 +28,7 @@ class Section {
         : file_(std::move(file)), name_(std::move(name)), table_(table) {}
 
     bool stands() const { return table_ != nullptr; }
+    bool has(std::string_view key) const { return table_ != nullptr && table_->contains(key); }
 
     template <typename Value> std::optional<Value> find(std::string_view key) {
         asked_.emplace(key);

@@ -8,10 +8,10 @@ namespace gateway {
 
 using namespace std::chrono_literals;
 
-Gateway::Gateway(std::vector<Config> configs, std::shared_ptr<spdlog::logger> events)
-    : configs_(std::move(configs)), events_(std::move(events)),
-      metrics_(configs_.front().metrics_port), status_(events_), engine_events_(metrics_, events_),
-      engine_(configs_.front().engine, {}, engine_events_) {
+Gateway::Gateway(std::vector<Config> configs, Metrics &metrics,
+                 std::shared_ptr<spdlog::logger> events)
+    : configs_(std::move(configs)), events_(std::move(events)), metrics_(metrics), status_(events_),
+      engine_events_(metrics_, events_), engine_(configs_.front().engine, {}, engine_events_) {
     for (const Config &config : configs_) {
         days_.push_back(
             std::make_unique<VenueDay>(config, metrics_, status_, events_, engine_events_));
@@ -84,8 +84,12 @@ void Gateway::ask_to_stop(const std::string &why) {
     status_.ask_to_stop(why);
 }
 
-std::optional<std::string> Gateway::run() {
+std::optional<std::string> Gateway::run(std::optional<SystemSeconds> ends) {
     while (!status_.wait(1s)) {
+        if (ends && std::chrono::system_clock::now() >= *ends) {
+            status_.ask_to_stop("the day has ended");
+            break;
+        }
         engine_events_.tell_rest();
         for (const auto &speaker : speakers_) {
             speaker->look();

@@ -1,4 +1,4 @@
-// The gateway: sessions in front, the log and the venue behind.
+// The gateway of one day: sessions in front, the log and the venue behind.
 #ifndef GATEWAY_GATEWAY_H
 #define GATEWAY_GATEWAY_H
 
@@ -25,7 +25,7 @@ constexpr int log_not_accepted = 3;
 class Gateway final {
   public:
     // One configuration for each venue. Throws std::runtime_error where a log can't be served.
-    Gateway(std::vector<Config> configs, std::shared_ptr<spdlog::logger> events);
+    Gateway(std::vector<Config> configs, Metrics &metrics, std::shared_ptr<spdlog::logger> events);
     // Ends everything at once.
     ~Gateway();
     Gateway(const Gateway &) = delete;
@@ -38,9 +38,10 @@ class Gateway final {
     // Asks run() to end; of any thread.
     void ask_to_stop(const std::string &why);
 
-    // Until it is asked to stop, the day is over, or something fails. Logs sessions out, lets the
-    // venue answer what came, and commits. Returns the cause of a failure, or nothing.
-    std::optional<std::string> run();
+    // Until it is asked to stop, the day is over or comes to this moment, or something fails. Logs
+    // sessions out, lets the venue answer what came, and commits. Returns the cause of a failure,
+    // or nothing.
+    std::optional<std::string> run(std::optional<SystemSeconds> ends = std::nullopt);
     // Of the process, after run().
     int exit_status() { return status_.exit_status(); }
 
@@ -51,7 +52,7 @@ class Gateway final {
 
     const std::vector<Config> configs_;
     std::shared_ptr<spdlog::logger> events_;
-    Metrics metrics_;
+    Metrics &metrics_;
     Status status_;
     OperatorEvents engine_events_;
     Engine engine_;

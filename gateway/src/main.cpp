@@ -1,10 +1,10 @@
 // mireseason-gateway CONFIG
 #include "accept_loss.h"
 #include "check_settings.h"
-#include "gateway.h"
 #include "make_keys.h"
 #include "moment.h"
 #include "password.h"
+#include "service.h"
 #include "start_check.h"
 #include "venue_rules.h"
 
@@ -81,14 +81,14 @@ class Signals {
         std::signal(SIGPIPE, SIG_IGN);
     }
 
-    // The thread is not to outlive the gateway.
-    std::jthread watch(gateway::Gateway &gateway) const {
-        return std::jthread([this, &gateway](const std::stop_token &stop) {
+    // The thread is not to outlive the service.
+    std::jthread watch(gateway::Service &service) const {
+        return std::jthread([this, &service](const std::stop_token &stop) {
             const timespec look{0, 200'000'000};
             while (!stop.stop_requested()) {
                 const int signal = sigtimedwait(&set_, nullptr, &look);
                 if (signal > 0) {
-                    gateway.ask_to_stop(signal == SIGTERM ? "SIGTERM" : "SIGINT");
+                    service.ask_to_stop(signal == SIGTERM ? "SIGTERM" : "SIGINT");
                 }
             }
         });
@@ -104,7 +104,8 @@ int check(const std::string &path, const std::string &day) {
         std::cerr << "mireseason-gateway: --date takes a day as eight digits\n";
         return 2;
     }
-    for (const gateway::Config &config : gateway::read_configs(path, day)) {
+    gateway::ConfigFiles files;
+    for (const gateway::Config &config : gateway::read_configs(files, path, day)) {
         gateway::check_start(config, day);
         std::cout << path << " is a configuration of " << config.firms.names.size() << " firms for "
                   << day << '\n';
@@ -113,17 +114,16 @@ int check(const std::string &path, const std::string &day) {
 }
 
 int serve(const std::string &path) {
-    std::vector<gateway::Config> configs = gateway::read_configs(path, gateway::today());
+    gateway::ConfigFiles files;
+    std::vector<gateway::Config> configs = gateway::read_configs(files, path, gateway::today());
     // Here, and not when the sessions begin: one that follows would find out only once it is to
     // take over.
     gateway::check_settings(configs.front().engine);
     const auto events = make_events(configs.front().event_level);
     const Signals signals;
-    gateway::Gateway gateway(std::move(configs), events);
-    const std::jthread watching = signals.watch(gateway);
-    gateway.start();
-    gateway.run();
-    return gateway.exit_status();
+    gateway::Service service(path, std::move(files), std::move(configs), events);
+    const std::jthread watching = signals.watch(service);
+    return service.run();
 }
 
 void make_keys(const std::vector<std::string> &words) {
@@ -133,7 +133,9 @@ void make_keys(const std::vector<std::string> &words) {
 }
 
 void accept_loss(const std::string &path) {
-    const std::vector<gateway::Config> configs = gateway::read_configs(path, gateway::today());
+    gateway::ConfigFiles files;
+    const std::vector<gateway::Config> configs =
+        gateway::read_configs(files, path, gateway::today());
     const auto events = make_events(configs.front().event_level);
     for (const gateway::Config &config : configs) {
         std::cout << gateway::accept_loss(config, events) << '\n';

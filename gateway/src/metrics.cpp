@@ -63,6 +63,8 @@ struct Metrics::Parts {
     Gauge &open = gauge(*registry, "mireseason_connections", "connections that are open");
     Gauge &sessions = gauge(*registry, "mireseason_sessions", "sessions that are logged on");
     Gauge &speaking = gauge(*registry, "mireseason_speaks", "logs that this gateway writes");
+    Gauge &faulty = gauge(*registry, "mireseason_next_configuration_faulty",
+                          "1 where the next day can't open with the files as they are");
     Histogram &commit = seconds(*registry, "mireseason_commit_seconds", "a transaction of the log");
     Histogram &logged =
         seconds(*registry, "mireseason_logged_seconds", "a message's receipt to its commit");
@@ -125,6 +127,14 @@ void Metrics::logged_off() {
 
 void Metrics::speaks() {
     parts_->speaking.Increment();
+}
+
+void Metrics::speaks_no_more() {
+    parts_->speaking.Decrement();
+}
+
+void Metrics::next_configuration_is_right(bool is_right) {
+    parts_->faulty.Set(is_right ? 0 : 1);
 }
 
 void Metrics::refused(const std::string &reason) {

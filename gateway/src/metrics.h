@@ -36,8 +36,11 @@ class Metrics {
     void refused(const std::string &reason);
     void dropped(const std::string &reason);
     void venue_started();
-    // This gateway writes a log from now on.
+    // This gateway writes a log from now on, and does no more.
     void speaks();
+    void speaks_no_more();
+    // Whether the files, as they are, are a configuration that the next day can open with.
+    void next_configuration_is_right(bool is_right);
 
   private:
     struct Parts;

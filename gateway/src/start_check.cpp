@@ -37,13 +37,17 @@ void check_port(const std::string &address, std::uint16_t port, std::string_view
 
 } // namespace
 
-void check_start(const Config &config, std::string_view day) {
+void check_day(const Config &config, std::string_view day) {
     if (config.firms.date != day) {
         throw std::runtime_error(fmt::format(
             "the venue's configuration is of {}, and the day is {}", config.firms.date, day));
     }
     check_settings(config.engine);
     try_configuration(config.command, config.configuration);
+}
+
+void check_start(const Config &config, std::string_view day) {
+    check_day(config, day);
     check_port(config.engine.address, config.engine.port, "[fix] port");
     check_port("127.0.0.1", config.metrics_port, "[metrics] port");
 }

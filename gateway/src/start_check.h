@@ -8,8 +8,10 @@
 
 namespace gateway {
 
-// Holds a configuration against what a start on this day (eight digits) needs: its date, the
-// venue's program, and ports that nobody has. Throws std::runtime_error with the first fault.
+// Holds a configuration against what this day (eight digits) needs: its date, the certificates, and
+// a program of the venue that takes it. Throws std::runtime_error with the first fault.
+void check_day(const Config &config, std::string_view day);
+// The same, and what a start needs beside it: ports that nobody has.
 void check_start(const Config &config, std::string_view day);
 
 } // namespace gateway

@@ -28,6 +28,12 @@ VenueDay::VenueDay(const Config &given, Metrics &counted, Status &state,
       clock(config.firms.date), guard(sealer_of(config), config.checkpoints, events),
       database(open_database(config, clock)) {}
 
+VenueDay::~VenueDay() {
+    if (has_term) {
+        metrics.speaks_no_more();
+    }
+}
+
 void VenueDay::look_at_clock() {
     switch (clock.day()) {
     case DayClock::Day::goes_on:

@@ -25,6 +25,10 @@ struct VenueDay {
     VenueDay(const Config &config, Metrics &metrics, Status &status,
              std::shared_ptr<spdlog::logger> events, OperatorEvents &told);
 
+    ~VenueDay();
+    VenueDay(const VenueDay &) = delete;
+    VenueDay &operator=(const VenueDay &) = delete;
+
     // Ends the gateway where the day does not go on; to be called each second.
     void look_at_clock();
     // For events: which venue it is, where there are several.

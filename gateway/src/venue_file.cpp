@@ -285,11 +285,12 @@ VenueFile read_venue_file(const std::filesystem::path &file, std::string text,
         throw VenueFileFaults(file, std::move(faults));
     }
     VenueFile venue;
+    venue.has_own_date = table.contains("date");
     venue.date = table["date"].value_or(std::string(day));
     venue.firms = check.firms();
     // Above all tables, so it stands in none of them.
-    venue.text = table.contains("date") ? std::move(text)
-                                        : fmt::format("date = \"{}\"\n{}", venue.date, text);
+    venue.text =
+        venue.has_own_date ? std::move(text) : fmt::format("date = \"{}\"\n{}", venue.date, text);
     if (!venue.text.ends_with('\n')) {
         venue.text += '\n';
     }

@@ -35,6 +35,7 @@ class VenueFileFaults : public std::runtime_error {
 struct VenueFile {
     std::string text; // byte for byte the operator's, with a line feed at its end and with its date
     std::string date; // eight digits
+    bool has_own_date = false;
     std::vector<std::string> firms; // the dealers, and the investors after them
 };
 

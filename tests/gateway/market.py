@@ -63,9 +63,9 @@ class InvestorView:
         return status == b"7" or (answers and status in (b"0", b"11"))
 
 
-def moment_in(seconds: float) -> bytes:
-    """A UTC moment of today, some seconds from now and before midnight."""
-    now = datetime.now(timezone.utc)
+def moment_in(seconds: float, ahead: float = 0) -> bytes:
+    """A UTC moment of the day, some seconds from now and before midnight, by a clock that is so far ahead of the machine's."""
+    now = datetime.now(timezone.utc) + timedelta(seconds=ahead)
     then = now + timedelta(seconds=seconds)
     last = now.replace(hour=23, minute=59, second=59, microsecond=0)
     return min(then, last).strftime("%Y%m%d-%H:%M:%S.%f")[:-3].encode()

@@ -51,6 +51,7 @@ class Stage:
     investor: Firm = field(init=False)
     asked: bytes = b""  # the investor's name of the last request
     deadline: str = ""  # of the last request, HH:MM:SS.sss
+    ahead: int = 0  # seconds that the gateway's clock is ahead of the machine's
     _named: int = 0
 
     def __post_init__(self) -> None:
@@ -162,7 +163,7 @@ class Stage:
 
     def ask_of(self, dealers: list[Firm], seconds: float = 600) -> None:
         """A request of the investor to these dealers."""
-        self.asked, deadline = self.name("A"), moment_in(seconds)
+        self.asked, deadline = self.name("A"), moment_in(seconds, self.ahead)
         self.deadline = deadline[9:].decode()
         fields = [(131, self.asked), (146, b"1"), (55, b"[N/A]"), (48, BOND), (22, b"4"), (54, b"1"), (38, b"2000000")]
         fields += [(126, deadline), (453, b"%d" % len(dealers))]

@@ -1,0 +1,42 @@
+#include "config_files.h"
+
+#include <algorithm>
+#include <fstream>
+#include <optional>
+#include <sstream>
+#include <stdexcept>
+
+#include <fmt/format.h>
+
+namespace gateway {
+
+namespace {
+
+std::optional<std::string> read(const std::filesystem::path &file) {
+    std::ifstream in(file, std::ios::binary);
+    std::ostringstream text;
+    if (!in || !(text << in.rdbuf())) {
+        return std::nullopt;
+    }
+    return text.str();
+}
+
+} // namespace
+
+const std::string &ConfigFiles::text(const std::filesystem::path &file) {
+    const auto [found, is_new] = texts_.try_emplace(file);
+    if (is_new) {
+        found->second = read(file);
+    }
+    if (!found->second) {
+        throw std::runtime_error(fmt::format("{}: can't be read", file.string()));
+    }
+    return *found->second;
+}
+
+bool ConfigFiles::differ_now() const {
+    return std::ranges::any_of(texts_,
+                               [](const auto &each) { return read(each.first) != each.second; });
+}
+
+} // namespace gateway

@@ -1,0 +1,50 @@
+// The configuration that the next trading day opens with.
+#ifndef GATEWAY_NEXT_CONFIGURATION_H
+#define GATEWAY_NEXT_CONFIGURATION_H
+
+#include "config.h"
+#include "config_files.h"
+#include "metrics.h"
+#include "trading_days.h"
+
+#include <filesystem>
+#include <memory>
+#include <mutex>
+#include <vector>
+
+#include <spdlog/logger.h>
+
+namespace gateway {
+
+// Tries the files as soon as one of them changes, and says at once whether they are right, while
+// there is time to mend them. The configuration in force is the last one that was found right: a
+// day opens with it, and a fault of the files changes nothing. Any thread may ask.
+class NextConfiguration {
+  public:
+    // `files` were found right.
+    NextConfiguration(std::filesystem::path path, ConfigFiles files, Metrics &metrics,
+                      std::shared_ptr<spdlog::logger> events);
+
+    // Tries the files for this day where they are others than those that were tried last.
+    void look(const TradingDay &day);
+    // Tries them, whether they have changed or not.
+    void try_for(const TradingDay &day);
+
+    // What is in force, for this day (eight digits).
+    std::vector<Config> in_force(std::string_view day);
+
+  private:
+    void try_files(const TradingDay &day);
+
+    const std::filesystem::path path_;
+    Metrics &metrics_;
+    std::shared_ptr<spdlog::logger> events_;
+    std::mutex mutex_;
+    ConfigFiles in_force_;
+    ConfigFiles tried_;
+    bool is_faulty_ = false; // as they were tried last
+};
+
+} // namespace gateway
+
+#endif
