@@ -46,6 +46,7 @@ class Bench:
         text += seal_text(self.programs.gateway, self.folder)
         text += '[log]\nsqlite = "{venue}.db"\n[fix]\nport = %d\ncredentials = "credentials.toml"\n' % port
         (self.folder / "credentials.toml").write_text(credentials)
+        (self.folder / "credentials.toml").chmod(0o600)
         (self.folder / "gateway.toml").write_text(text)
         return self.folder / "gateway.toml"
 

@@ -56,6 +56,7 @@ told() {
 }
 
 cp "$here"/*.toml "$here"/*.cfg "$day"
+chmod o-rwx "$day/credentials.toml"
 mkdir -p "$day/store" "$day/fix"
 cp "$root"/fix/*.xml "$day/fix"
 sed -i "s/^date = .*/date = \"$(date -u +%Y%m%d)\"/" "$day/venue.toml"

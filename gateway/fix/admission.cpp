@@ -6,6 +6,8 @@
 #include "session.h"
 #include "sessions.h"
 
+#include <thread>
+
 namespace gateway {
 
 namespace {
@@ -14,6 +16,9 @@ namespace Tag = FIX::FIELD;
 
 // How long a new connection waits for the old one of its firm to be gone.
 constexpr auto old_connection = std::chrono::seconds(2);
+
+// How often one that waits to be judged looks whether it has ended.
+constexpr auto between_looks = std::chrono::milliseconds(10);
 
 const char *word_of(Refusal refusal) {
     switch (refusal) {
@@ -29,6 +34,10 @@ const char *word_of(Refusal refusal) {
         return refusal_words::wrong_password;
     case Refusal::wrong_certificate:
         return refusal_words::wrong_certificate;
+    case Refusal::wrong_address:
+        return refusal_words::wrong_address;
+    case Refusal::no_longer:
+        return refusal_words::no_longer;
     }
     return stranger_words::unknown_name;
 }
@@ -83,6 +92,14 @@ FirmSession *Admission::named_in(const WireMessage &logon) const {
                : nullptr;
 }
 
+// Until the host judges a Logon of this address. False where the connection has ended meanwhile.
+bool Admission::wait_until(SessionHost::Time moment) const {
+    while (std::chrono::steady_clock::now() < moment && !line_.is_ending()) {
+        std::this_thread::sleep_for(between_looks);
+    }
+    return !line_.is_ending();
+}
+
 // Of a name that nobody has too: so that it takes as long. False where the connection has ended
 // before its turn came.
 bool Admission::judge_sender(const WireMessage &logon, Refusal &refusal) const {
@@ -95,9 +112,16 @@ bool Admission::judge_sender(const WireMessage &logon, Refusal &refusal) const {
     facts.certificate = connection.certificate;
     const FirmSession *const asked = session_ != nullptr ? session_ : sessions_.any();
     const std::string host = connection.address.substr(0, connection.address.rfind(':'));
-    return asked != nullptr && sessions_.turns().take(
-                                   host, [this] { return line_.is_ending(); },
-                                   [&] { refusal = asked->host().judge(facts); });
+    facts.address = host;
+    const auto from = asked == nullptr ? SessionHost::Time() : asked->host().judges_from(host);
+    if (from == SessionHost::Time::max()) {
+        refusal = Refusal::wrong_address;
+        return true;
+    }
+    return asked != nullptr && wait_until(from) &&
+           sessions_.turns().take(
+               host, [this] { return line_.is_ending(); },
+               [&] { refusal = asked->host().judge(facts); });
 }
 
 // The connection ends before anybody is told: what that takes is nothing to go by.

@@ -47,6 +47,7 @@ class Admission {
 
   private:
     FirmSession *named_in(const WireMessage &logon) const;
+    bool wait_until(SessionHost::Time moment) const;
     bool judge_sender(const WireMessage &logon, Refusal &refusal) const;
     Outcome refuse(const char *word);
 

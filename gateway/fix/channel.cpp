@@ -31,6 +31,9 @@ void require(bool holds, const std::string &what) {
 struct FreeCertificate {
     void operator()(X509 *certificate) const { X509_free(certificate); }
 };
+struct FreeCheck {
+    void operator()(X509_STORE_CTX *check) const { X509_STORE_CTX_free(check); }
+};
 
 } // namespace
 
@@ -42,11 +45,15 @@ void Channel::Free::operator()(ssl_st *connection) const {
     SSL_free(connection);
 }
 
-TlsServer::TlsServer(const std::string &certificate, const std::string &key,
-                     const std::string &authorities, bool client_certificates)
-    : context_(SSL_CTX_new(TLS_server_method())) {
+TlsServer::TlsServer(const EngineSettings &settings)
+    : context_(SSL_CTX_new(TLS_server_method())), asks_(settings.client_certificates) {
+    const std::string &certificate = settings.certificate;
+    const std::string &key = settings.key;
     require(context_ != nullptr, "TLS");
     SSL_CTX_set_min_proto_version(context_.get(), TLS1_2_VERSION);
+    // Those of TLS 1.2 by which nobody reads what was said before he had the key. All of TLS 1.3
+    // are such.
+    require(SSL_CTX_set_cipher_list(context_.get(), "ECDHE+AESGCM:ECDHE+CHACHA20") == 1, "TLS");
     // No session of TLS is resumed: each connection shows its certificate. (OpenSSL refuses a
     // handshake that would resume one, where certificates are asked for and it has no context.)
     SSL_CTX_set_options(context_.get(), SSL_OP_NO_RENEGOTIATION | SSL_OP_NO_TICKET);
@@ -61,13 +68,26 @@ TlsServer::TlsServer(const std::string &certificate, const std::string &key,
             certificate);
     require(SSL_CTX_use_PrivateKey_file(context_.get(), key.c_str(), SSL_FILETYPE_PEM) == 1, key);
     require(SSL_CTX_check_private_key(context_.get()) == 1, key);
-    if (client_certificates) {
-        require(SSL_CTX_load_verify_locations(context_.get(), authorities.c_str(), nullptr) == 1,
-                authorities);
-        SSL_CTX_set_client_CA_list(context_.get(), SSL_load_client_CA_file(authorities.c_str()));
-        SSL_CTX_set_verify(context_.get(), SSL_VERIFY_PEER | SSL_VERIFY_FAIL_IF_NO_PEER_CERT,
-                           nullptr);
+    if (asks_) {
+        ask_for_certificates(settings);
     }
+}
+
+void TlsServer::ask_for_certificates(const EngineSettings &settings) {
+    const std::string &authorities = settings.authorities;
+    require(SSL_CTX_load_verify_locations(context_.get(), authorities.c_str(), nullptr) == 1,
+            authorities);
+    SSL_CTX_set_client_CA_list(context_.get(), SSL_load_client_CA_file(authorities.c_str()));
+    SSL_CTX_set_verify(context_.get(), SSL_VERIFY_PEER | SSL_VERIFY_FAIL_IF_NO_PEER_CERT, nullptr);
+    if (settings.revoked.empty()) {
+        return;
+    }
+    X509_STORE *const store = SSL_CTX_get_cert_store(context_.get());
+    X509_LOOKUP *const files = X509_STORE_add_lookup(store, X509_LOOKUP_file());
+    require(files != nullptr &&
+                X509_load_crl_file(files, settings.revoked.c_str(), X509_FILETYPE_PEM) > 0,
+            settings.revoked);
+    X509_STORE_set_flags(store, X509_V_FLAG_CRL_CHECK);
 }
 
 TlsServer::~TlsServer() = default;
@@ -188,6 +208,22 @@ std::string Channel::common_name() const {
     const ASN1_STRING *text = X509_NAME_ENTRY_get_data(X509_NAME_get_entry(name, at));
     return std::string(reinterpret_cast<const char *>(ASN1_STRING_get0_data(text)),
                        static_cast<std::size_t>(ASN1_STRING_length(text)));
+}
+
+bool Channel::is_taken_by(const TlsServer &server) const {
+    if (!tls_ || !server.asks_for_certificates()) {
+        return true;
+    }
+    const std::unique_ptr<X509, FreeCertificate> certificate(SSL_get1_peer_certificate(tls_.get()));
+    const std::unique_ptr<X509_STORE_CTX, FreeCheck> check(X509_STORE_CTX_new());
+    const bool is_taken =
+        certificate && check &&
+        X509_STORE_CTX_init(check.get(), SSL_CTX_get_cert_store(server.context()),
+                            certificate.get(), SSL_get_peer_cert_chain(tls_.get())) == 1 &&
+        X509_STORE_CTX_set_default(check.get(), "ssl_client") == 1 &&
+        X509_verify_cert(check.get()) == 1;
+    ERR_clear_error();
+    return is_taken;
 }
 
 } // namespace gateway

@@ -3,6 +3,7 @@
 #define GATEWAY_FIX_CHANNEL_H
 
 #include "descriptor.h"
+#include "engine.h"
 
 #include <cstddef>
 #include <memory>
@@ -16,19 +17,22 @@ namespace gateway {
 // What a server shows and asks for. Throws std::runtime_error where a file can't be used.
 class TlsServer {
   public:
-    TlsServer(const std::string &certificate, const std::string &key,
-              const std::string &authorities, bool client_certificates);
+    explicit TlsServer(const EngineSettings &settings);
     ~TlsServer();
     TlsServer(const TlsServer &) = delete;
     TlsServer &operator=(const TlsServer &) = delete;
 
     ssl_ctx_st *context() const { return context_.get(); }
+    bool asks_for_certificates() const { return asks_; }
 
   private:
     struct Free {
         void operator()(ssl_ctx_st *context) const;
     };
+    void ask_for_certificates(const EngineSettings &settings);
+
     std::unique_ptr<ssl_ctx_st, Free> context_;
+    const bool asks_;
 };
 
 class Channel {
@@ -62,6 +66,8 @@ class Channel {
     // The common name of the client's certificate, empty without one and until it has proved that
     // it has the key.
     std::string common_name() const;
+    // Whether the client's certificate would be taken by this server, now.
+    bool is_taken_by(const TlsServer &server) const;
 
   private:
     Progress progress_of(int result);

@@ -113,6 +113,25 @@ void Connection::shut(const std::string &why) {
     wake();
 }
 
+void Connection::renew(std::shared_ptr<const TlsServer> server) {
+    {
+        const std::lock_guard<std::mutex> lock(mutex_);
+        renewed_ = std::move(server);
+    }
+    wake();
+}
+
+void Connection::look_at_certificate() {
+    std::shared_ptr<const TlsServer> server;
+    {
+        const std::lock_guard<std::mutex> lock(mutex_);
+        server.swap(renewed_);
+    }
+    if (server && !channel_.is_taken_by(*server)) {
+        conversation_.log_out("the certificate is not valid any more");
+    }
+}
+
 void Connection::shut_stranger(const std::string &why) {
     if (!admitted_) {
         shut(why);
@@ -199,6 +218,7 @@ void Connection::turn() {
         admitted_ = true;
         slot_.give_back();
     }
+    look_at_certificate();
     write();
     if (admitted_ && Clock::now() - ticked_ >= tick) {
         // What the firm said while this thread had to wait for the log is no silence of it.

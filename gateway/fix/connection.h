@@ -43,6 +43,9 @@ class Connection final : public Line {
     ConnectionFacts facts() const override;
     void is_judged() override { slot_.judges(); }
 
+    // Logs its firm out where that came with a certificate that this server does not take. Any
+    // thread may call it.
+    void renew(std::shared_ptr<const TlsServer> server);
     // Ends it now, unless a firm has logged on. Any thread may call it.
     void shut_stranger(const std::string &why);
     // The slot that it was given.
@@ -62,6 +65,7 @@ class Connection final : public Line {
     void write();
     void keep_time();
     void linger();
+    void look_at_certificate();
     std::string why() const;
     bool is_own_thread() const { return std::this_thread::get_id() == owner_.load(); }
 
@@ -86,6 +90,7 @@ class Connection final : public Line {
     Clock::time_point held_since_; // its messages wait since then; none where they do not
 
     mutable std::mutex mutex_;
+    std::shared_ptr<const TlsServer> renewed_; // that its certificate is to be shown to
     std::string waiting_;
     std::size_t unwritten_ = 0; // of waiting_ and writing_
     bool finishing_ = false;

@@ -38,8 +38,12 @@ std::chrono::steady_clock::time_point Conversation::may_hear_from(std::size_t by
 }
 
 void Conversation::is_held_too_long() {
+    log_out(held_too_long);
+}
+
+void Conversation::log_out(const char *reason) {
     if (is_admitted()) {
-        admission_.session()->log_out(held_too_long);
+        admission_.session()->log_out_connection(reason);
     }
 }
 

@@ -32,6 +32,8 @@ class Conversation {
     std::chrono::steady_clock::time_point may_hear_from(std::size_t bytes);
     // The firm has sent more than it may for too long.
     void is_held_too_long();
+    // Ends it for this reason, where a firm has logged on.
+    void log_out(const char *reason);
     // What time brings about in the session; to be called every half second.
     void tick();
     // Ends a connection whose Logon was not accepted; `word` is one of stranger_words.

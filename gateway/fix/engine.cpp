@@ -82,11 +82,8 @@ sockaddr_in address_of(const EngineSettings &settings) {
 }
 
 // Null for plain TCP.
-std::unique_ptr<TlsServer> tls_of(const EngineSettings &settings) {
-    return settings.certificate.empty()
-               ? nullptr
-               : std::make_unique<TlsServer>(settings.certificate, settings.key,
-                                             settings.authorities, settings.client_certificates);
+std::shared_ptr<const TlsServer> tls_of(const EngineSettings &settings) {
+    return settings.certificate.empty() ? nullptr : std::make_shared<const TlsServer>(settings);
 }
 
 // Has the process open as many files as it may, and looks whether that is enough: each connection
@@ -152,11 +149,21 @@ class Engine::Parts {
     void add(const std::vector<SessionStart> &starts) { sessions_.add(starts); }
     const Sessions &sessions() const { return sessions_; }
 
+    void renew(const EngineSettings &settings) {
+        std::shared_ptr<const TlsServer> renewed = tls_of(settings);
+        if ((renewed == nullptr) != (tls_ == nullptr)) {
+            throw std::runtime_error("[tls] can't begin or end while the gateway runs");
+        }
+        {
+            const std::lock_guard<std::mutex> lock(mutex_);
+            renewed_ = std::move(renewed);
+        }
+        ring();
+    }
+
     void stop(const std::string &reason) {
         stopping_ = true;
-        const std::uint64_t one = 1;
-        const ssize_t written = ::write(bell_.number(), &one, sizeof one);
-        static_cast<void>(written);
+        ring();
         if (thread_.joinable()) {
             thread_.join();
         }
@@ -168,6 +175,29 @@ class Engine::Parts {
     }
 
   private:
+    void ring() {
+        const std::uint64_t one = 1;
+        const ssize_t written = ::write(bell_.number(), &one, sizeof one);
+        static_cast<void>(written);
+    }
+
+    void take_renewed() {
+        std::uint64_t rung = 0;
+        const ssize_t count = ::read(bell_.number(), &rung, sizeof rung);
+        static_cast<void>(count);
+        std::shared_ptr<const TlsServer> renewed;
+        {
+            const std::lock_guard<std::mutex> lock(mutex_);
+            renewed.swap(renewed_);
+        }
+        if (renewed) {
+            tls_ = renewed;
+            for (const auto &connection : connections_) {
+                connection->renew(renewed);
+            }
+        }
+    }
+
     void say_farewell(const std::string &reason) {
         for (const auto &connection : connections_) {
             connection->shut_stranger("the gateway stops");
@@ -190,6 +220,9 @@ class Engine::Parts {
             ::poll(set, 2, 1000);
             connections_.remove_if(
                 [](const std::unique_ptr<Connection> &each) { return each->has_ended(); });
+            if ((set[1].revents & POLLIN) != 0) {
+                take_renewed();
+            }
             if ((set[0].revents & POLLIN) != 0 && !stopping_) {
                 accept();
             }
@@ -254,7 +287,9 @@ class Engine::Parts {
     const EngineSettings settings_;
     EngineEvents &events_;
     Descriptor bell_;
-    std::unique_ptr<TlsServer> tls_;
+    std::shared_ptr<const TlsServer> tls_; // of the accepting thread, once it runs
+    std::mutex mutex_;
+    std::shared_ptr<const TlsServer> renewed_;
     Strangers strangers_;
     Sessions sessions_;
     Descriptor socket_;
@@ -295,6 +330,14 @@ std::chrono::steady_clock::time_point Engine::settles_until(const std::string &s
 
 void Engine::disconnect(const std::string &session) {
     parts_->sessions().of(session).shut();
+}
+
+void Engine::log_out(const std::string &session, const std::string &reason) {
+    parts_->sessions().of(session).log_out_connection(reason);
+}
+
+void Engine::renew(const EngineSettings &settings) {
+    parts_->renew(settings);
 }
 
 void Engine::stop(const std::string &reason) {

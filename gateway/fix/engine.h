@@ -39,6 +39,7 @@ struct LogonFacts {
     std::string password; // 554
     bool over_tls = false;
     std::string certificate; // the common name of the client's certificate, empty without one
+    std::string address;     // of the peer, without its port
 };
 
 // Why the sender of a Logon is refused: told to the operator and the log, and never to the sender.
@@ -49,6 +50,8 @@ enum class Refusal {
     wrong_name,        // 553
     wrong_password,    // 554
     wrong_certificate, // it is another's, or none was shown
+    wrong_address,     // the firm does not come from there
+    no_longer,         // the credentials have ended
 };
 
 // Where and when a firm's message came.
@@ -73,6 +76,10 @@ class SessionHost {
     // Whether the sender of a Logon is who it says. Takes as long for every name, known or not, and
     // whatever is wrong.
     virtual Refusal judge(const LogonFacts &facts) = 0;
+    // From when on a Logon of this address is judged; the greatest moment where none is, and it is
+    // refused at once. Asked before judge(), which takes a processor for long.
+    using Time = std::chrono::steady_clock::time_point;
+    virtual Time judges_from(const std::string & /*address*/) { return {}; }
     // A Logon of the firm was accepted on this connection: returns the connection's number in the
     // log. Called before the answer leaves.
     virtual std::uint32_t logon_accepted(const std::string &firm, const ConnectionFacts &facts) = 0;
@@ -91,6 +98,10 @@ class SessionHost {
     // is no frame of the venue's, or 0: then it is the log's.
     virtual int received(const std::string &firm, const WireMessage &message,
                          const Receipt &receipt) = 0;
+    // What received() returns for one that is counted and not taken: the firm is logged out, for
+    // this reason.
+    static constexpr int not_taken = -1;
+    virtual std::string why_not_taken(const std::string & /*firm*/) { return {}; }
     // No more of them is there now: they are to be committed.
     virtual void all_received() = 0;
 
@@ -105,7 +116,6 @@ class SessionHost {
 
     // So much of the firm was read from its socket, and so many messages were sent to it again:
     // from when on more may be.
-    using Time = std::chrono::steady_clock::time_point;
     virtual Time was_read(const std::string &, std::size_t /*messages*/, std::size_t /*bytes*/) {
         return {};
     }
@@ -152,6 +162,7 @@ struct EngineSettings {
     std::string key;
     std::string authorities;
     bool client_certificates = false;
+    std::string revoked; // a list of the authorities' certificates that they have taken back
 
     // Connections without an accepted Logon at one time, TLS's handshakes too: of all, and of one
     // address. A firm that has logged on takes no room from them, nor they from it.
@@ -194,6 +205,12 @@ class Engine {
     std::chrono::steady_clock::time_point settles_until(const std::string &session) const;
     // Ends the firm's connection, if there is one. Does not wait for anything.
     void disconnect(const std::string &session);
+    // Logs the firm out, if it is there, for this reason. Does not wait for it.
+    void log_out(const std::string &session, const std::string &reason);
+    // Shows this certificate from now on, and asks for these; who is there with one that is not
+    // taken any more is logged out. Throws std::runtime_error where a file can't be used: then
+    // nothing was done.
+    void renew(const EngineSettings &settings);
 
     // No new connections, and all sessions are logged out, for this reason; where it is empty the
     // connections end at once. Returns when all connections have ended.

@@ -70,6 +70,14 @@ void FirmSession::log_out(const std::string &reason) {
     }
 }
 
+void FirmSession::log_out_connection(const std::string &reason) {
+    const std::lock_guard<std::mutex> lock(mutex_);
+    if (line_ != nullptr) {
+        farewell_ = reason;
+        line_->wake();
+    }
+}
+
 std::uint32_t FirmSession::expected() const {
     return static_cast<std::uint32_t>(session_->getExpectedTargetNum());
 }

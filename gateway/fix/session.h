@@ -64,8 +64,10 @@ class FirmSession final : private FIX::Application, private FIX::Log, private FI
     std::chrono::steady_clock::time_point settles_until() const { return settled_at_; }
     // Ends the connection, if there is one.
     void shut();
-    // Logs out, at the next tick.
+    // Logs out, at the next tick; whoever comes before that, too.
     void log_out(const std::string &reason);
+    // The same of the connection that it has, if there is one.
+    void log_out_connection(const std::string &reason);
 
     // What was told last: where the session has ended its connection, why. Any thread may ask.
     std::string last_event() const;

@@ -202,7 +202,10 @@ void FirmSession::take_reject(const WireMessage &message) {
 void FirmSession::take_application(const WireMessage &message) {
     has_received_ = true;
     const int tag = host_.received(firm_, message, Receipt{connection_, at_});
-    if (tag != 0) {
+    if (tag == SessionHost::not_taken) {
+        count_if_expected(message.number);
+        leave(host_.why_not_taken(firm_));
+    } else if (tag != 0) {
         reject(message, {tag, wrong_value, wrong_text, false});
     } else {
         hand_in(engine_message(message, firm_));

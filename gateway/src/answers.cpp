@@ -22,9 +22,9 @@ void Answers::put(std::uint32_t place, std::optional<Moment> deadline) {
     }
 }
 
-std::uint32_t Answers::last_place() {
+std::optional<std::uint32_t> Answers::last_place() {
     const std::lock_guard lock(mutex_);
-    return answered_.value_or(0);
+    return answered_;
 }
 
 bool Answers::wait(std::uint32_t place, const std::stop_token &stop) {

@@ -26,8 +26,8 @@ class Answers {
     void begin(std::uint32_t last_place);
     void put(std::uint32_t place, std::optional<Moment> deadline);
 
-    // The last one that it has answered, 0 for none.
-    std::uint32_t last_place();
+    // The last one that it has answered, 0 where it has read its configuration and nothing before.
+    std::optional<std::uint32_t> last_place();
     // Whether the place is answered; waits for it until the stop is asked for, or so long.
     bool wait(std::uint32_t place, const std::stop_token &stop);
     bool wait(std::uint32_t place, std::chrono::milliseconds longest, const std::stop_token &stop);

@@ -2,7 +2,9 @@
 
 #include "config_section.h"
 #include "password.h"
+#include "private_file.h"
 #include "venue_file.h"
+#include "venue_rules.h"
 
 #include <algorithm>
 #include <array>
@@ -14,6 +16,9 @@
 namespace gateway {
 
 namespace {
+
+// More than a day can have.
+constexpr std::size_t most_day_bytes = std::size_t{1} << 40;
 
 namespace fs = std::filesystem;
 
@@ -60,6 +65,14 @@ class ConfigReader {
         read_tls();
         read_limits();
         read_rest();
+        return config_;
+    }
+
+    Config read_access(const Config &in_force) {
+        config_ = in_force;
+        config_.credentials.clear();
+        read_sessions();
+        read_tls();
         return config_;
     }
 
@@ -211,6 +224,7 @@ class ConfigReader {
     }
 
     void read_credentials(const fs::path &file) {
+        check_private(file);
         const toml::table table = parse(file, files_.text(file));
         for (const auto &[key, node] : table) {
             const std::string firm(key.str());
@@ -225,11 +239,32 @@ class ConfigReader {
                 row.fail_at("password", "is no hash: --hash makes one");
             }
             own.cancel_on_disconnect = row.text("cancel_on_disconnect");
+            own.day_bytes = row.number("day_bytes", 0, 0, most_day_bytes);
+            own.ends = row.text("ends");
+            if (!own.ends.empty() && !is_date(own.ends)) {
+                row.fail_at("ends", "is no date YYYYMMDD");
+            }
+            own.addresses = addresses_in(row);
             row.end();
             if (!own.cancel_on_disconnect.empty()) {
                 check_trader(file, firm, own.cancel_on_disconnect);
             }
         }
+    }
+
+    static std::vector<AddressRange> addresses_in(Section &row) {
+        std::vector<AddressRange> addresses;
+        for (const std::string &word :
+             row.has("addresses") ? row.words("addresses") : std::vector<std::string>{}) {
+            const auto range = address_range_of(word);
+            if (!range) {
+                row.fail_at("addresses", fmt::format("has {}, which is no address of IPv4, and no "
+                                                     "A.B.C.D/BITS",
+                                                     word));
+            }
+            addresses.push_back(*range);
+        }
+        return addresses;
     }
 
     // The trader who cancels is one of the dealer's own, so that the venue takes his cancel.
@@ -259,12 +294,17 @@ class ConfigReader {
         engine.key = tls.path("key").string();
         engine.authorities = tls.path("authorities").string();
         engine.client_certificates = tls.flag("client_certificates");
+        engine.revoked = tls.path("revoked").string();
         tls.end();
         if (tls.stands() && (engine.certificate.empty() || engine.key.empty())) {
             fail(path_, "[tls] has to have certificate and key");
         }
+        check_private(engine.key);
         if (engine.client_certificates && engine.authorities.empty()) {
             fail(path_, "[tls] client_certificates needs authorities");
+        }
+        if (!engine.revoked.empty() && !engine.client_certificates) {
+            fail(path_, "[tls] revoked needs client_certificates");
         }
         if (!tls.stands() && !beyond_loopback_ && !engine.address.starts_with("127.")) {
             fail(path_, fmt::format("[fix] listen = \"{}\" is not on the loopback, and there is no "
@@ -284,7 +324,9 @@ class ConfigReader {
         config_.waiting_entries = limits.number("waiting_entries", 4096, 1, 1048576);
         config_.waiting_messages = limits.number("waiting_messages", 16384, 16, 1048576);
         config_.venue_starts = static_cast<unsigned>(limits.number("venue_starts", 3, 1, 60));
+        config_.venue_seconds = static_cast<unsigned>(limits.number("venue_seconds", 30, 5, 3600));
         read_rates(limits);
+        config_.day_bytes = limits.number("day_bytes", 1073741824, 65536, most_day_bytes);
         config_.shares.batch = limits.number("entries_per_batch", 64, 1, 65536);
         config_.shares.unanswered = limits.number("unanswered_per_firm", 256, 1, 1048576);
         config_.shares.all_unanswered = limits.number("unanswered", 4096, 1, 1048576);
@@ -334,6 +376,11 @@ std::vector<Config> read_configs(ConfigFiles &files, const fs::path &path, std::
     }
     reader.check_firms(configs);
     return configs;
+}
+
+Config read_access(const fs::path &path, const Config &in_force) {
+    ConfigFiles files;
+    return ConfigReader(files, path, in_force.firms.date).read_access(in_force);
 }
 
 } // namespace gateway

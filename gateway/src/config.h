@@ -3,6 +3,7 @@
 #ifndef GATEWAY_CONFIG_H
 #define GATEWAY_CONFIG_H
 
+#include "address_range.h"
 #include "config_files.h"
 #include "engine.h"
 #include "firm_rate.h"
@@ -23,6 +24,9 @@ struct Credentials {
     std::string username;
     std::string password_hash;        // as crypt(5) has it
     std::string cancel_on_disconnect; // a trader, or empty
+    std::string ends{};               // YYYYMMDD, the last day on which they hold; empty for none
+    std::vector<AddressRange> addresses{}; // that the firm may come from; none where from any
+    std::uint64_t day_bytes = 0; // of its lines in the log; 0 where it has the usual limit
 };
 
 // What of the venue's configuration concerns the gateway.
@@ -54,8 +58,10 @@ struct Config {
     std::size_t waiting_entries = 4096;
     std::size_t waiting_messages = 16384;
     unsigned venue_starts = 3;
+    unsigned venue_seconds = 30; // that a venue may be silent while it has something to answer
     RateLimits rates;
     ShareLimits shares;
+    std::uint64_t day_bytes = 1073741824;
 
     DayRules days;
 
@@ -68,6 +74,10 @@ struct Config {
 // (eight digits). Throws std::runtime_error that names the file and the key.
 std::vector<Config> read_configs(ConfigFiles &files, const std::filesystem::path &path,
                                  std::string_view day);
+
+// Reads the credentials and the part [tls] again, for a configuration that is in force: all the
+// rest is as it was. Throws as read_configs().
+Config read_access(const std::filesystem::path &path, const Config &in_force);
 
 } // namespace gateway
 

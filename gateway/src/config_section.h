@@ -65,6 +65,7 @@ class Section {
         }
         return static_cast<std::size_t>(*value);
     }
+    bool has(std::string_view key) const { return table_ != nullptr && table_->contains(key); }
     std::vector<std::string> words(std::string_view key) {
         asked_.emplace(key);
         const toml::array *array = table_ == nullptr ? nullptr : (*table_)[key].as_array();

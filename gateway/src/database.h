@@ -35,6 +35,7 @@ struct FirmState {
     SessionRow session;
     std::uint32_t entries = 0;     // messages of the firm that are in the log
     std::uint32_t last_number = 0; // the greatest session number among them
+    std::uint32_t kibibytes = 0;   // of their lines
     std::uint32_t sent = 0;        // messages of the venue
     std::uint32_t outgoing = 0;    // messages of its session
     std::uint32_t carried = 0;     // the last message of the venue that one of these carries

@@ -4,8 +4,10 @@
 #include "venue_trial.h"
 
 #include <chrono>
+#include <condition_variable>
 #include <cstdlib>
 #include <fstream>
+#include <mutex>
 #include <sstream>
 #include <stdexcept>
 #include <thread>
@@ -15,6 +17,9 @@
 namespace gateway {
 
 namespace {
+
+// After so long it is told that the program has not answered.
+constexpr auto longest_silence = std::chrono::seconds(4);
 
 // How long a program may take to say what it is, and how much of that is kept.
 constexpr auto longest_answer = std::chrono::seconds(10);
@@ -95,11 +100,25 @@ Entry begin_log(const Day &day, Database &database, LogGuard &guard,
     return first;
 }
 
+// Tells that the venue's program takes long, where it does.
+std::jthread watch_start(const std::shared_ptr<spdlog::logger> &events) {
+    return std::jthread([events](const std::stop_token &stop) {
+        std::mutex mutex;
+        std::condition_variable_any changed;
+        std::unique_lock lock(mutex);
+        changed.wait_for(lock, stop, longest_silence, [] { return false; });
+        if (!stop.stop_requested()) {
+            events->warn("venue does not answer at its start");
+        }
+    });
+}
+
 } // namespace
 
 OpenedDay open_day(const Config &config, Database &database, LogGuard &guard,
                    std::optional<std::uint32_t> term, DayClock &clock,
                    const std::shared_ptr<spdlog::logger> &events) {
+    const std::jthread watch = watch_start(events);
     const Day now = day_now(config);
     const auto reader = database.reader();
     const std::vector<Entry> found = reader->entries(0, 1);

@@ -2,56 +2,128 @@
 
 #include "password.h"
 
+#include <algorithm>
+
 namespace gateway {
 
+namespace {
+
+// YYYYMMDD, and nothing where they never end.
+bool have_ended(const Credentials &own, const std::string &date) {
+    return !own.ends.empty() && own.ends < date;
+}
+
+} // namespace
+
 Doorkeeper::Doorkeeper(const Config &config)
-    : client_certificates_(config.engine.client_certificates) {
-    for (const std::string &name : config.firms.names) {
-        const auto found = config.credentials.find(name);
-        firms_[name] = found == config.credentials.end() ? Firm{} : Firm{found->second, true};
+    : firms_(config.firms), client_certificates_(config.engine.client_certificates),
+      book_(std::make_shared<Book>(book_of(config.credentials))) {}
+
+Doorkeeper::Book Doorkeeper::book_of(const std::map<std::string, Credentials> &credentials) const {
+    Book book;
+    for (const auto &[name, own] : credentials) {
+        if (std::ranges::count(firms_.names, name) == 0) {
+            continue;
+        }
+        book.credentials.emplace(name, own);
+        book.hashes.emplace(setting_of(own.password_hash), own.password_hash);
+        book.is_open = book.is_open || own.addresses.empty();
     }
-    for (const auto &[name, credentials] : config.credentials) {
-        hashes_.emplace(setting_of(credentials.password_hash), credentials.password_hash);
-    }
-    if (hashes_.empty()) {
+    if (book.hashes.empty()) {
         const std::string hash = new_hash("");
-        hashes_.emplace(setting_of(hash), hash);
+        book.hashes.emplace(setting_of(hash), hash);
     }
+    return book;
+}
+
+std::shared_ptr<const Doorkeeper::Book> Doorkeeper::book() const {
+    const std::lock_guard lock(mutex_);
+    return book_;
+}
+
+std::vector<std::string> Doorkeeper::renew(const std::map<std::string, Credentials> &credentials) {
+    const auto renewed = std::make_shared<const Book>(book_of(credentials));
+    std::shared_ptr<const Book> old = renewed;
+    {
+        const std::lock_guard lock(mutex_);
+        old.swap(book_);
+    }
+    std::vector<std::string> gone;
+    for (const auto &[name, before] : old->credentials) {
+        const auto now = renewed->credentials.find(name);
+        const bool stands = now != renewed->credentials.end() &&
+                            now->second.username == before.username &&
+                            now->second.password_hash == before.password_hash &&
+                            !have_ended(now->second, firms_.date);
+        if (!stands) {
+            gone.push_back(name);
+        }
+    }
+    return gone;
 }
 
 // One hash of each method and cost that any firm has: so it takes as long for every name, also one
-// that nobody has. firm is null, or one that may not log on, where there is none to be right.
-bool Doorkeeper::has_password(const Firm *firm, const std::string &password) const {
+// that nobody has. own is null where there is none to be right.
+bool Doorkeeper::has_password(const Credentials *own, const std::string &password,
+                              const Book &book) {
     const std::string none;
-    const std::string &own =
-        firm != nullptr && firm->may_log_on ? firm->credentials.password_hash : none;
+    const std::string &right = own != nullptr ? own->password_hash : none;
     bool is_right = false;
-    for (const auto &[setting, other] : hashes_) {
-        const bool is_own = !own.empty() && setting_of(own) == setting;
-        const bool has = has_hash(password, is_own ? own : other);
+    for (const auto &[setting, other] : book.hashes) {
+        const bool is_own = !right.empty() && setting_of(right) == setting;
+        const bool has = has_hash(password, is_own ? right : other);
         is_right = is_own ? has : is_right;
     }
     return is_right;
 }
 
-Refusal Doorkeeper::judge(const LogonFacts &facts) const {
-    const auto found = firms_.find(facts.firm);
-    const Firm *firm = found == firms_.end() ? nullptr : &found->second;
-    const bool is_right = has_password(firm, facts.password);
-    if (firm == nullptr) {
+bool Doorkeeper::may_come_from(const Credentials &own, const std::string &address) {
+    return own.addresses.empty() ||
+           std::ranges::any_of(own.addresses,
+                               [&](const AddressRange &range) { return range.has(address); });
+}
+
+Refusal Doorkeeper::judge(const LogonFacts &facts) {
+    const Refusal refusal = judge(facts, *book());
+    if (refusal == Refusal::wrong_password || refusal == Refusal::wrong_name ||
+        refusal == Refusal::unknown_name || refusal == Refusal::no_access) {
+        guesses_.wrong(facts.address);
+    }
+    return refusal;
+}
+
+Refusal Doorkeeper::judge(const LogonFacts &facts, const Book &book) const {
+    const auto found = book.credentials.find(facts.firm);
+    const Credentials *const own = found == book.credentials.end() ? nullptr : &found->second;
+    const bool is_right = has_password(own, facts.password, book);
+    if (std::ranges::count(firms_.names, facts.firm) == 0) {
         return Refusal::unknown_name;
     }
-    if (!firm->may_log_on) {
+    if (own == nullptr) {
         return Refusal::no_access;
     }
-    if (facts.username != firm->credentials.username) {
+    if (!may_come_from(*own, facts.address)) {
+        return Refusal::wrong_address;
+    }
+    if (facts.username != own->username) {
         return Refusal::wrong_name;
     }
     if (!is_right) {
         return Refusal::wrong_password;
     }
+    if (have_ended(*own, firms_.date)) {
+        return Refusal::no_longer;
+    }
     const bool shows_another = client_certificates_ && facts.certificate != facts.firm;
     return shows_another ? Refusal::wrong_certificate : Refusal::none;
+}
+
+std::chrono::steady_clock::time_point Doorkeeper::judges_from(const std::string &address) {
+    const auto now = book();
+    const bool may = now->is_open || std::ranges::any_of(now->credentials, [&](const auto &each) {
+                         return may_come_from(each.second, address);
+                     });
+    return may ? guesses_.judged_from(address) : std::chrono::steady_clock::time_point::max();
 }
 
 } // namespace gateway

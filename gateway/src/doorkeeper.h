@@ -4,33 +4,56 @@
 
 #include "config.h"
 #include "engine.h"
+#include "guesses.h"
 
+#include <chrono>
 #include <map>
+#include <memory>
+#include <mutex>
 #include <string>
+#include <vector>
 
 namespace gateway {
 
-// Any thread may ask.
+// Any thread may ask. The credentials may be changed meanwhile.
 class Doorkeeper {
   public:
     explicit Doorkeeper(const Config &config);
 
     // Takes as long for every name, known or not, and whatever is wrong: the password is hashed in
     // any case.
-    Refusal judge(const LogonFacts &facts) const;
+    Refusal judge(const LogonFacts &facts);
+    // From when on a Logon of this address is judged: later after wrong passwords, and never where
+    // no firm may come from it. So whoever comes from elsewhere takes no turn from a firm.
+    std::chrono::steady_clock::time_point judges_from(const std::string &address);
+
+    // How many wrong passwords came from this address, one after the other.
+    std::size_t wrong_of(const std::string &address) { return guesses_.wrong_of(address); }
+
+    // Other credentials from now on. Returns the firms that have none any more, or others, or whose
+    // time is over: what was let in by the old ones is to go.
+    std::vector<std::string> renew(const std::map<std::string, Credentials> &credentials);
 
   private:
-    // A firm of the venue.
-    struct Firm {
-        Credentials credentials;
-        bool may_log_on = false; // it has credentials
+    // What is asked of credentials, of one reading of them.
+    struct Book {
+        std::map<std::string, Credentials> credentials; // of firms of the venue
+        std::map<std::string, std::string> hashes;      // of each setting, one that has it
+        bool is_open = false;                           // some firm may come from any address
     };
 
-    bool has_password(const Firm *firm, const std::string &password) const;
+    Book book_of(const std::map<std::string, Credentials> &credentials) const;
+    std::shared_ptr<const Book> book() const;
+    Refusal judge(const LogonFacts &facts, const Book &book) const;
+    static bool has_password(const Credentials *own, const std::string &password, const Book &book);
+    static bool may_come_from(const Credentials &own, const std::string &address);
 
-    std::map<std::string, Firm> firms_;
-    std::map<std::string, std::string> hashes_; // of each setting, one that has it
+    const VenueFirms firms_;
     const bool client_certificates_;
+    Guesses guesses_;
+
+    mutable std::mutex mutex_;
+    std::shared_ptr<const Book> book_;
 };
 
 } // namespace gateway

@@ -10,6 +10,31 @@
 
 namespace gateway {
 
+namespace {
+
+// Text (58) of the Logout of a firm whose request or quote is not taken.
+constexpr const char *bytes_are_used_up =
+    "this firm has sent all the bytes that it may send in a day: until the operator raises that, "
+    "no "
+    "request and no quote is taken; cancels, declines, hits and passes are";
+constexpr const char *clock_was_set =
+    "the clock of the venue was set: until the operator says that it is right, no request and no "
+    "quote is taken; cancels, declines, hits and passes are";
+
+// A message that begins something, and takes nothing back: a request (R), or a quote (S).
+bool begins_business(const WireMessage &message) {
+    const std::string type = message.value(35);
+    return type == "R" || type == "S";
+}
+
+// `hex FIRM HH:MM:SS.sss DIGITS`
+std::uint64_t bytes_of_line(const std::string &firm, const std::string &frame) {
+    constexpr std::size_t rest = 18;
+    return rest + firm.size() + 2 * frame.size();
+}
+
+} // namespace
+
 FirmSessions::FirmSessions(VenueDay &day, Log &log, Deliveries &deliveries, const States &states)
     : day_(day), log_(log), deliveries_(deliveries), doorkeeper_(day.config), rows_(day, log) {
     open_firms(states);
@@ -22,17 +47,20 @@ FirmSessions::FirmSessions(VenueDay &day, Log &log, Deliveries &deliveries, cons
 
 void FirmSessions::open_firms(const States &states) {
     for (const std::string &name : day_.config.firms.names) {
-        Firm &firm = firms_.try_emplace(name, day_.config.rates).first->second;
-        const auto credentials = day_.config.credentials.find(name);
-        if (credentials != day_.config.credentials.end()) {
-            firm.cancel_on_disconnect = credentials->second.cancel_on_disconnect;
-        }
         const auto state = states.find(name);
-        if (state != states.end()) {
-            firm.found = state->second;
-            firm.entries = state->second.entries;
-            firm.last_number = state->second.last_number;
-        }
+        const FirmState found = state == states.end() ? FirmState{} : state->second;
+        const auto credentials = day_.config.credentials.find(name);
+        const Credentials own =
+            credentials == day_.config.credentials.end() ? Credentials{} : credentials->second;
+        Firm &firm =
+            firms_
+                .try_emplace(name, day_.config.rates, std::uint64_t{1024} * found.kibibytes,
+                             own.day_bytes > 0 ? own.day_bytes : day_.config.day_bytes)
+                .first->second;
+        firm.cancel_on_disconnect = own.cancel_on_disconnect;
+        firm.found = found;
+        firm.entries = found.entries;
+        firm.last_number = found.last_number;
     }
 }
 
@@ -78,11 +106,29 @@ void FirmSessions::end_lost(const std::vector<ConnectionEvent> &connections) {
     }
 }
 
+std::vector<std::string>
+FirmSessions::renew(const std::map<std::string, Credentials> &credentials) {
+    const std::vector<std::string> gone = doorkeeper_.renew(credentials);
+    for (auto &[name, firm] : firms_) {
+        const auto own = credentials.find(name);
+        if (own == credentials.end()) {
+            // Whoever cancels for it stays: its session ends.
+            continue;
+        }
+        const std::uint64_t most = own->second.day_bytes;
+        firm.bytes.set_limit(most > 0 ? most : day_.config.day_bytes);
+        firm.told_of_bytes = false;
+        const std::lock_guard lock(firm.mutex);
+        firm.cancel_on_disconnect = own->second.cancel_on_disconnect;
+    }
+    return gone;
+}
+
 void FirmSessions::cancel_all_of(const std::string &name, Firm &firm) {
+    const std::lock_guard lock(firm.mutex);
     if (firm.cancel_on_disconnect.empty()) {
         return;
     }
-    const std::lock_guard lock(firm.mutex);
     const std::string moment = fmt::format("{}-{}", day_.clock.date(), text_of(day_.clock.now()));
     log_.append_message(name, std::nullopt,
                         cancel_of_all(name, firm.cancel_on_disconnect, firm.entries + 1, moment));
@@ -94,7 +140,29 @@ void FirmSessions::cancel_all_of(const std::string &name, Firm &firm) {
 // Of connections.
 
 Refusal FirmSessions::judge(const LogonFacts &facts) {
-    return doorkeeper_.judge(facts);
+    const Refusal refusal = doorkeeper_.judge(facts);
+    if (refusal == Refusal::wrong_password) {
+        day_.metrics.wrong_password(facts.firm);
+        tell_of_guesses(facts);
+    }
+    return refusal;
+}
+
+// Each time that there are ten times as many.
+void FirmSessions::tell_of_guesses(const LogonFacts &facts) {
+    const std::size_t count = doorkeeper_.wrong_of(facts.address);
+    std::size_t told = 10;
+    while (told < count) {
+        told *= 10;
+    }
+    if (told == count) {
+        day_.events->warn("wrong passwords{} address={} count={} firm={}", day_.of_venue(),
+                          facts.address, count, facts.firm);
+    }
+}
+
+FirmSessions::Time FirmSessions::judges_from(const std::string &address) {
+    return doorkeeper_.judges_from(address);
 }
 
 std::uint32_t FirmSessions::logon_accepted(const std::string &name, const ConnectionFacts &facts) {
@@ -163,6 +231,9 @@ int FirmSessions::received(const std::string &name, const WireMessage &message,
         // It came before, and is in the log.
         return 0;
     }
+    if (begins_business(message) && !may_begin_business(name, firm)) {
+        return not_taken;
+    }
     const auto frame = for_venue(message, firm.entries + 1);
     if (const auto *none = std::get_if<NoFrame>(&frame)) {
         return none->tag;
@@ -170,10 +241,25 @@ int FirmSessions::received(const std::string &name, const WireMessage &message,
     // On one connection nothing comes before what came before it, also where the clock is set back.
     firm.last_receipt = std::max(firm.last_receipt, receipt.at);
     const Log::Came came{message.number, receipt.connection, firm.last_receipt};
-    log_.append_message(name, came, std::get<std::string>(frame), Log::Committer::caller);
+    const std::string &bytes = std::get<std::string>(frame);
+    log_.append_message(name, came, bytes, Log::Committer::caller);
+    firm.bytes.add(bytes_of_line(name, bytes));
     ++firm.entries;
     firm.last_number = message.number;
     return 0;
+}
+
+bool FirmSessions::may_begin_business(const std::string &name, Firm &firm) {
+    const bool are_used_up = firm.bytes.are_used_up();
+    if (are_used_up && !firm.told_of_bytes.exchange(true)) {
+        day_.events->warn("day's bytes used up firm={}{} bytes={} limit={}", name, day_.of_venue(),
+                          firm.bytes.used(), firm.bytes.limit());
+    }
+    return !are_used_up && day_.clock_is_right;
+}
+
+std::string FirmSessions::why_not_taken(const std::string &name) {
+    return firm_of(name).bytes.are_used_up() ? bytes_are_used_up : clock_was_set;
 }
 
 void FirmSessions::all_received() {

@@ -4,6 +4,7 @@
 
 #include "connection_rows.h"
 #include "database.h"
+#include "day_bytes.h"
 #include "deliveries.h"
 #include "doorkeeper.h"
 #include "engine.h"
@@ -11,6 +12,7 @@
 #include "log.h"
 #include "venue_day.h"
 
+#include <atomic>
 #include <chrono>
 #include <map>
 #include <mutex>
@@ -40,30 +42,40 @@ class FirmSessions final : private SessionHost {
 
     ConnectionRows &rows() { return rows_; }
 
+    // Other credentials from now on, with the limits in them. Returns the firms whose sessions are
+    // to end.
+    std::vector<std::string> renew(const std::map<std::string, Credentials> &credentials);
+
   private:
     // One firm, as its venue's day sees it.
     struct Firm {
-        explicit Firm(const RateLimits &limits) : rate(limits) {}
+        Firm(const RateLimits &limits, std::uint64_t used, std::uint64_t most)
+            : rate(limits), bytes(used, most) {}
 
         FirmRate rate;
-        std::string cancel_on_disconnect; // a trader, or empty
-        FirmState found;                  // as the log had it at the start
+        DayBytes bytes; // of its lines in the log
+        std::atomic<bool> told_of_bytes{false};
+        FirmState found; // as the log had it at the start
 
-        std::mutex mutex;              // of what follows
-        std::uint32_t entries = 0;     // messages of the firm in the log, each with a number
-        std::uint32_t last_number = 0; // the session's, of the last message in the log
+        std::mutex mutex;                 // of what follows
+        std::string cancel_on_disconnect; // a trader, or empty
+        std::uint32_t entries = 0;        // messages of the firm in the log, each with a number
+        std::uint32_t last_number = 0;    // the session's, of the last message in the log
         // The row of the Logon of the connection that it has.
         std::optional<ConnectionEvent> connection;
         std::chrono::system_clock::time_point last_receipt; // on that one
     };
 
+    void tell_of_guesses(const LogonFacts &facts);
     void open_firms(const States &states);
     Firm &firm_of(const std::string &name);
     SessionStart start_of(const std::string &name, const Firm &firm);
+    bool may_begin_business(const std::string &name, Firm &firm);
     void cancel_all_of(const std::string &name, Firm &firm);
 
     // SessionHost
     Refusal judge(const LogonFacts &facts) override;
+    Time judges_from(const std::string &address) override;
     std::uint32_t logon_accepted(const std::string &firm, const ConnectionFacts &facts) override;
     void logon_refused(const std::string &firm, const ConnectionFacts &facts,
                        const std::string &why) override;
@@ -74,6 +86,7 @@ class FirmSessions final : private SessionHost {
     void settled(const std::string &firm) override;
     int received(const std::string &firm, const WireMessage &message,
                  const Receipt &receipt) override;
+    std::string why_not_taken(const std::string &firm) override;
     void all_received() override;
     std::uint64_t store_outgoing(const std::string &firm, std::uint32_t number,
                                  const std::string &bytes, const Delivery *delivery) override;
@@ -87,7 +100,7 @@ class FirmSessions final : private SessionHost {
     VenueDay &day_;
     Log &log_;
     Deliveries &deliveries_;
-    const Doorkeeper doorkeeper_;
+    Doorkeeper doorkeeper_;
     ConnectionRows rows_;
     std::map<std::string, Firm> firms_;
 };

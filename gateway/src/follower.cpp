@@ -20,6 +20,9 @@ constexpr std::uint32_t chunk = 1024;
 // How often a gateway that speaks and does not write yet says that it is there.
 constexpr auto sign_of_life = 500ms;
 
+// How long a venue may be silent until a gateway that is to write for it no longer says so.
+constexpr auto longest_silence = 3s;
+
 } // namespace
 
 Follower::Follower(VenueDay &day, std::optional<std::uint32_t> term)
@@ -58,6 +61,10 @@ std::optional<std::uint32_t> Follower::follow(const std::function<bool()> &may) 
         day_.look_at_clock();
         read_on(log);
         ahead_.settle(log);
+        if (!ahead_.is_full()) {
+            // Else it waits for the log.
+            look_at_venue(last_.place);
+        }
         tell_if_ready();
         return false;
     });
@@ -105,7 +112,13 @@ std::optional<Follower::End> Follower::catch_up() {
     day_.guard.check_end(*reader, last_);
     ahead_.lift_limit();
     const auto writer = day_.database->writer();
-    const auto lock = all_answered([&writer] { writer->be_seen(); });
+    // With a venue that is silent it says nothing: a gateway that follows takes over then.
+    const auto lock = all_answered([&] {
+        day_.look_at_clock();
+        if (look_at_venue(last_.place) < longest_silence) {
+            writer->be_seen();
+        }
+    });
     if (!lock) {
         return std::nullopt;
     }
@@ -134,7 +147,7 @@ std::unique_lock<std::mutex> Follower::all_answered(const std::function<void()> 
 
 // The venue's process may have ended since the log was caught up with.
 bool Follower::give_to(Outlet &outlet) {
-    const auto lock = all_answered([] {});
+    const auto lock = all_answered([this] { look_at_venue(last_.place); });
     if (!lock) {
         return false;
     }
@@ -143,8 +156,15 @@ bool Follower::give_to(Outlet &outlet) {
     return true;
 }
 
-void Follower::look_at_venue(std::uint32_t last_place) {
-    silence_.look(answers_.last_place(), last_place);
+std::chrono::steady_clock::duration Follower::look_at_venue(std::uint32_t last_place) {
+    const auto silent = silence_.look(answers_.last_place(), last_place);
+    const std::chrono::seconds longest(day_.config.venue_seconds);
+    if (silent >= longest) {
+        venue_.abandon();
+        throw std::runtime_error(fmt::format("the venue{} has answered nothing for {} s",
+                                             day_.of_venue(), longest.count()));
+    }
+    return silent;
 }
 
 // What the venue says.

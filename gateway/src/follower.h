@@ -13,6 +13,7 @@
 #include "venue_day.h"
 
 #include <atomic>
+#include <chrono>
 #include <functional>
 #include <map>
 #include <mutex>
@@ -58,7 +59,9 @@ class Follower final : private VenueListener {
     void close();
 
     // Looks whether the venue answers; to be called each second, with the last place of the log.
-    void look_at_venue(std::uint32_t last_place);
+    // How long it has not. Throws std::runtime_error where that is longer than a venue may be
+    // silent.
+    std::chrono::steady_clock::duration look_at_venue(std::uint32_t last_place);
 
     Answers &answers() { return answers_; }
     // Whoever writes the log puts there what it committed.

@@ -8,10 +8,11 @@ namespace gateway {
 
 using namespace std::chrono_literals;
 
-Gateway::Gateway(std::vector<Config> configs, Metrics &metrics,
+Gateway::Gateway(std::filesystem::path path, std::vector<Config> configs, Metrics &metrics,
                  std::shared_ptr<spdlog::logger> events)
-    : configs_(std::move(configs)), events_(std::move(events)), metrics_(metrics), status_(events_),
-      engine_events_(metrics_, events_), engine_(configs_.front().engine, {}, engine_events_) {
+    : path_(std::move(path)), configs_(std::move(configs)), events_(std::move(events)),
+      metrics_(metrics), status_(events_), engine_events_(metrics_, events_),
+      engine_(configs_.front().engine, {}, engine_events_) {
     for (const Config &config : configs_) {
         days_.push_back(
             std::make_unique<VenueDay>(config, metrics_, status_, events_, engine_events_));
@@ -80,6 +81,23 @@ void Gateway::listen() {
                   !settings.certificate.empty(), engine_.sessions());
 }
 
+// All or nothing: where a file is at fault, what was read before stays in force.
+void Gateway::renew() {
+    try {
+        std::vector<Config> read;
+        for (const Config &config : configs_) {
+            read.push_back(read_access(path_, config));
+        }
+        engine_.renew(read.front().engine);
+        for (std::size_t at = 0; at < speakers_.size(); ++at) {
+            speakers_[at]->renew(read[at].credentials);
+        }
+        events_->info("credentials and certificates were read again");
+    } catch (const std::exception &fault) {
+        events_->error("credentials and certificates stay as they were cause=\"{}\"", fault.what());
+    }
+}
+
 void Gateway::ask_to_stop(const std::string &why) {
     status_.ask_to_stop(why);
 }
@@ -89,6 +107,9 @@ std::optional<std::string> Gateway::run(std::optional<SystemSeconds> ends) {
         if (ends && std::chrono::system_clock::now() >= *ends) {
             status_.ask_to_stop("the day has ended");
             break;
+        }
+        if (is_to_renew_.exchange(false)) {
+            renew();
         }
         engine_events_.tell_rest();
         for (const auto &speaker : speakers_) {

@@ -10,6 +10,8 @@
 #include "status.h"
 #include "venue_day.h"
 
+#include <atomic>
+#include <filesystem>
 #include <memory>
 #include <optional>
 #include <string>
@@ -24,8 +26,10 @@ constexpr int log_not_accepted = 3;
 
 class Gateway final {
   public:
-    // One configuration for each venue. Throws std::runtime_error where a log can't be served.
-    Gateway(std::vector<Config> configs, Metrics &metrics, std::shared_ptr<spdlog::logger> events);
+    // One configuration for each venue, and the file that they come from. Throws
+    // std::runtime_error where a log can't be served.
+    Gateway(std::filesystem::path path, std::vector<Config> configs, Metrics &metrics,
+            std::shared_ptr<spdlog::logger> events);
     // Ends everything at once.
     ~Gateway();
     Gateway(const Gateway &) = delete;
@@ -34,6 +38,9 @@ class Gateway final {
     // Feeds the log to the venue, while another gateway speaks too; takes connections when this
     // one does and all of it is answered.
     void start();
+
+    // Has credentials and certificates read again, from this file, by run(); of any thread.
+    void ask_to_renew() { is_to_renew_ = true; }
 
     // Asks run() to end; of any thread.
     void ask_to_stop(const std::string &why);
@@ -49,7 +56,9 @@ class Gateway final {
     void follow();
     std::unique_ptr<Speaker> follow_one(std::size_t at);
     void listen();
+    void renew();
 
+    const std::filesystem::path path_;
     const std::vector<Config> configs_;
     std::shared_ptr<spdlog::logger> events_;
     Metrics &metrics_;
@@ -58,6 +67,7 @@ class Gateway final {
     Engine engine_;
     std::vector<std::unique_ptr<VenueDay>> days_;
     std::vector<std::unique_ptr<Speaker>> speakers_; // of the days, once it has their terms
+    std::atomic<bool> is_to_renew_{false};
 };
 
 } // namespace gateway

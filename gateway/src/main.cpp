@@ -4,6 +4,7 @@
 #include "make_keys.h"
 #include "moment.h"
 #include "password.h"
+#include "private_file.h"
 #include "service.h"
 #include "start_check.h"
 #include "venue_rules.h"
@@ -70,13 +71,15 @@ std::shared_ptr<spdlog::logger> make_events(const std::string &level) {
     return events;
 }
 
-// SIGTERM and SIGINT, which all threads block, ask the gateway to stop.
+// SIGTERM and SIGINT, which all threads block, ask the gateway to stop, and SIGHUP to read
+// credentials and certificates again.
 class Signals {
   public:
     Signals() {
         sigemptyset(&set_);
         sigaddset(&set_, SIGTERM);
         sigaddset(&set_, SIGINT);
+        sigaddset(&set_, SIGHUP);
         pthread_sigmask(SIG_BLOCK, &set_, nullptr);
         std::signal(SIGPIPE, SIG_IGN);
     }
@@ -87,7 +90,9 @@ class Signals {
             const timespec look{0, 200'000'000};
             while (!stop.stop_requested()) {
                 const int signal = sigtimedwait(&set_, nullptr, &look);
-                if (signal > 0) {
+                if (signal == SIGHUP) {
+                    service.ask_to_renew();
+                } else if (signal > 0) {
                     service.ask_to_stop(signal == SIGTERM ? "SIGTERM" : "SIGINT");
                 }
             }
@@ -119,6 +124,7 @@ int serve(const std::string &path) {
     // Here, and not when the sessions begin: one that follows would find out only once it is to
     // take over.
     gateway::check_settings(configs.front().engine);
+    gateway::make_files_private();
     const auto events = make_events(configs.front().event_level);
     const Signals signals;
     gateway::Service service(path, std::move(files), std::move(configs), events);

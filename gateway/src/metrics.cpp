@@ -60,8 +60,18 @@ struct Metrics::Parts {
                                    .Name("mireseason_dropped_total")
                                    .Help("messages of firms that did not reach the log")
                                    .Register(*registry);
+    Family<Counter> &wrong_passwords = prometheus::BuildCounter()
+                                           .Name("mireseason_wrong_passwords_total")
+                                           .Help("Logons of a firm with a wrong password")
+                                           .Register(*registry);
     Gauge &open = gauge(*registry, "mireseason_connections", "connections that are open");
     Gauge &sessions = gauge(*registry, "mireseason_sessions", "sessions that are logged on");
+    Counter &clock_steps = counter(*registry, "mireseason_clock_steps_total",
+                                   "times that the machine's clock was set by more than 100 ms");
+    Gauge &clock_synchronised = gauge(*registry, "mireseason_clock_synchronised",
+                                      "1 where the kernel says that its clock is synchronised");
+    Gauge &clock_error = gauge(*registry, "mireseason_clock_greatest_error_seconds",
+                               "how wrong the kernel says that its clock may be");
     Gauge &speaking = gauge(*registry, "mireseason_speaks", "logs that this gateway writes");
     Gauge &faulty = gauge(*registry, "mireseason_next_configuration_faulty",
                           "1 where the next day can't open with the files as they are");
@@ -143,6 +153,19 @@ void Metrics::refused(const std::string &reason) {
 
 void Metrics::dropped(const std::string &reason) {
     parts_->dropped.Add({{"reason", reason}}).Increment();
+}
+
+void Metrics::clock_set() {
+    parts_->clock_steps.Increment();
+}
+
+void Metrics::clock_is(bool synchronised, std::chrono::microseconds greatest_error) {
+    parts_->clock_synchronised.Set(synchronised ? 1 : 0);
+    parts_->clock_error.Set(std::chrono::duration<double>(greatest_error).count());
+}
+
+void Metrics::wrong_password(const std::string &firm) {
+    parts_->wrong_passwords.Add({{"firm", firm}}).Increment();
 }
 
 void Metrics::venue_started() {

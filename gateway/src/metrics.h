@@ -35,7 +35,11 @@ class Metrics {
     // A Logon or a connection that was refused; a message that did not reach the log.
     void refused(const std::string &reason);
     void dropped(const std::string &reason);
+    void wrong_password(const std::string &firm);
     void venue_started();
+    // The machine's clock was set; what the kernel says of it now.
+    void clock_set();
+    void clock_is(bool synchronised, std::chrono::microseconds greatest_error);
     // This gateway writes a log from now on, and does no more.
     void speaks();
     void speaks_no_more();

@@ -138,11 +138,13 @@ class PostgresReader final : public LogReader {
                 all[firm].session = {firm, number_of(row[1]), number_of(row[2]) != 0};
             }
             for (const pqxx::row &row :
-                 work.exec("SELECT firm, count(*), coalesce(max(number), 0) FROM entry "
+                 work.exec("SELECT firm, count(*), coalesce(max(number), 0), "
+                           "sum(length(line)) / 1024 FROM entry "
                            "WHERE firm IS NOT NULL GROUP BY firm")) {
                 FirmState &state = all[row[0].as<std::string>()];
                 state.entries = number_of(row[1]);
                 state.last_number = number_of(row[2]);
+                state.kibibytes = number_of(row[3]);
             }
             for (const pqxx::row &row :
                  work.exec("SELECT firm, max(number) FROM sent GROUP BY firm")) {

@@ -25,6 +25,15 @@ constexpr mode_t forbidden = S_IWGRP | S_IRWXO;
         fmt::format("{}: {}", path.string(), std::generic_category().message(errno)));
 }
 
+void require_private(mode_t mode, const fs::path &path) {
+    if ((mode & forbidden) != 0) {
+        throw std::runtime_error(fmt::format(
+            "{}: has the mode {:04o}: its group may not write it, and others may not read it (0640 "
+            "or 0600)",
+            path.string(), mode & 07777));
+    }
+}
+
 std::string read_all(const Descriptor &file, const fs::path &path) {
     std::string text;
     std::array<char, 4096> bytes{};
@@ -70,13 +79,19 @@ std::string read_private(const fs::path &path) {
     if (file.number() < 0 || ::fstat(file.number(), &found) != 0) {
         fail(path);
     }
-    if ((found.st_mode & forbidden) != 0) {
-        throw std::runtime_error(fmt::format(
-            "{}: has the mode {:04o}: its group may not write it, and others may not read it (0640 "
-            "or 0600)",
-            path.string(), found.st_mode & 07777));
-    }
+    require_private(found.st_mode, path);
     return read_all(file, path);
+}
+
+void check_private(const fs::path &path) {
+    struct stat found {};
+    if (!path.empty() && ::stat(path.c_str(), &found) == 0) {
+        require_private(found.st_mode, path);
+    }
+}
+
+void make_files_private() {
+    ::umask(::umask(0) | forbidden);
 }
 
 std::string read_public(const fs::path &path) {

@@ -11,6 +11,12 @@ namespace gateway {
 // where its group may write it, or where others may read or write it.
 std::string read_private(const std::filesystem::path &path);
 
+// The same of a file that is not read here: nothing where there is none, or no name of one.
+void check_private(const std::filesystem::path &path);
+
+// What this process makes from now on is nothing that others may read, whatever its umask was.
+void make_files_private();
+
 // Reads any other. Throws std::runtime_error that names it where it can't be read.
 std::string read_public(const std::filesystem::path &path);
 

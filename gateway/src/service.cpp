@@ -27,8 +27,8 @@ std::string text_of(SystemSeconds moment) {
 
 Service::Service(std::filesystem::path path, ConfigFiles files, std::vector<Config> configs,
                  std::shared_ptr<spdlog::logger> events)
-    : first_(std::move(configs)), metrics_(first_.front().metrics_port), events_(std::move(events)),
-      next_(std::move(path), std::move(files), metrics_, events_) {}
+    : path_(std::move(path)), first_(std::move(configs)), metrics_(first_.front().metrics_port),
+      events_(std::move(events)), next_(path_, std::move(files), metrics_, events_) {}
 
 void Service::ask_to_stop(const std::string &why) {
     const std::lock_guard lock(mutex_);
@@ -39,6 +39,13 @@ void Service::ask_to_stop(const std::string &why) {
         gateway_->ask_to_stop(why);
     }
     changed_.notify_all();
+}
+
+void Service::ask_to_renew() {
+    const std::lock_guard lock(mutex_);
+    if (gateway_ != nullptr) {
+        gateway_->ask_to_renew();
+    }
 }
 
 int Service::run() {
@@ -62,7 +69,7 @@ int Service::run_days() {
 }
 
 int Service::run_day(std::vector<Config> configs, std::optional<SystemSeconds> ends) {
-    Gateway gateway(std::move(configs), metrics_, events_);
+    Gateway gateway(path_, std::move(configs), metrics_, events_);
     {
         const std::lock_guard lock(mutex_);
         gateway_ = &gateway;

@@ -30,6 +30,9 @@ class Service final {
     // Ends the day that goes on, and opens no other; of any thread.
     void ask_to_stop(const std::string &why);
 
+    // Has the day that goes on read its credentials and certificates again; of any thread.
+    void ask_to_renew();
+
     // Until it is asked to stop, or a day fails. Returns the status of the process.
     int run();
 
@@ -41,6 +44,7 @@ class Service final {
     void watch_files(const std::stop_token &stop);
     bool wait_a_second();
 
+    const std::filesystem::path path_;
     const std::vector<Config> first_;
     Metrics metrics_;
     std::shared_ptr<spdlog::logger> events_;

@@ -9,19 +9,22 @@ constexpr auto longest = std::chrono::seconds(5);
 
 } // namespace
 
-void Silence::look(std::uint32_t answered, std::uint32_t last) {
+Silence::Clock::duration Silence::look(std::optional<std::uint32_t> answered, std::uint32_t last) {
+    const Clock::time_point now = Clock::now();
     if (answered != answered_ || answered == last) {
-        if (told_) {
-            events_->info("venue answers again{} place={}", of_venue_, answered);
+        if (told_ && answered) {
+            events_->info("venue answers again{} place={}", of_venue_, *answered);
         }
         answered_ = answered;
-        since_ = Clock::now();
+        since_ = now;
         told_ = false;
-    } else if (!told_ && Clock::now() - since_ >= longest) {
+    } else if (!told_ && now - since_ >= longest) {
         told_ = true;
-        events_->warn("venue does not answer{} place={} entries={}", of_venue_, answered + 1,
-                      last - answered);
+        const std::uint32_t next = answered ? *answered + 1 : 0;
+        events_->warn("venue does not answer{} place={} entries={}", of_venue_, next,
+                      last + 1 - next);
     }
+    return now - since_;
 }
 
 void Stall::look(std::optional<std::chrono::steady_clock::time_point> since) {

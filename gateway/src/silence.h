@@ -20,15 +20,17 @@ class Silence {
     Silence(std::shared_ptr<spdlog::logger> events, std::string of_venue)
         : events_(std::move(events)), of_venue_(std::move(of_venue)) {}
 
-    // To be called each second, with the last entry that is answered and the last one of the log.
-    void look(std::uint32_t answered, std::uint32_t last);
+    // To be called each second, with the last entry that is answered (0 once the configuration was
+    // read, nothing before that) and the last one of the log. How long it has been silent.
+    std::chrono::steady_clock::duration look(std::optional<std::uint32_t> answered,
+                                             std::uint32_t last);
 
   private:
     using Clock = std::chrono::steady_clock;
 
     std::shared_ptr<spdlog::logger> events_;
     const std::string of_venue_;
-    std::uint32_t answered_ = 0;
+    std::optional<std::uint32_t> answered_;
     Clock::time_point since_ = Clock::now();
     bool told_ = false;
 };

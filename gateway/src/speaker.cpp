@@ -1,6 +1,7 @@
 #include "speaker.h"
 
 #include <chrono>
+#include <exception>
 #include <utility>
 
 namespace gateway {
@@ -42,7 +43,7 @@ Log::Start start_of(VenueDay &day, const Follower::End &end, std::uint32_t term)
 
 Speaker::Speaker(VenueDay &day, std::unique_ptr<Follower> follower, const Follower::End &end,
                  Log::Start start, Engine &engine)
-    : day_(day), follower_(std::move(follower)), lost_(start.connections.open),
+    : day_(day), engine_(engine), follower_(std::move(follower)), lost_(start.connections.open),
       log_(*day.database, follower_->committed(), day.clock, day.metrics, std::move(start),
            [&status = day.status](const std::string &cause) { status.fail(cause); }),
       notary_(day.guard.notary(log_)), deliveries_(day, engine, log_),
@@ -88,9 +89,22 @@ void Speaker::end() {
 
 void Speaker::look() {
     day_.look_at_clock();
-    follower_->look_at_venue(log_.last_place());
+    try {
+        // Of what is committed: a log that does not answer is no silence of the venue.
+        follower_->look_at_venue(follower_->committed().last_place());
+    } catch (const std::exception &fault) {
+        day_.status.fail(fault.what());
+    }
     stall_.look(log_.commits_since());
     sessions_.rows().put_rest();
+}
+
+void Speaker::renew(const std::map<std::string, Credentials> &credentials) {
+    for (const std::string &firm : sessions_.renew(credentials)) {
+        day_.events->info("credentials ended firm={}{}", firm, day_.of_venue());
+        engine_.log_out(session_name(day_.config.venue, firm),
+                        "the credentials of this session are not valid any more");
+    }
 }
 
 void Speaker::put_stranger(const ConnectionFacts &facts, const std::string &why) {

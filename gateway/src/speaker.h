@@ -13,6 +13,7 @@
 #include "venue_day.h"
 
 #include <cstdint>
+#include <map>
 #include <memory>
 #include <string>
 #include <vector>
@@ -46,6 +47,8 @@ class Speaker final {
     // Looks whether the day goes on, and whether the venue and the log answer; to be called each
     // second.
     void look();
+    // Other credentials from now on: sessions end whose own are gone, others, or over.
+    void renew(const std::map<std::string, Credentials> &credentials);
     // Puts a stranger into the log, as often as its rows may be.
     void put_stranger(const ConnectionFacts &facts, const std::string &why);
 
@@ -54,6 +57,7 @@ class Speaker final {
             Log::Start start, Engine &engine);
 
     VenueDay &day_;
+    Engine &engine_;
     const std::unique_ptr<Follower> follower_;
     const std::vector<ConnectionEvent> lost_; // connections that the log had open
     Log log_;

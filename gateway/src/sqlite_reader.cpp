@@ -59,7 +59,8 @@ class SqliteReader final : public LogReader {
           outgoing_(connection_.get(), "SELECT number, sent, bytes FROM outgoing "
                                        "WHERE firm = ? AND number BETWEEN ? AND ? ORDER BY number"),
           session_(connection_.get(), "SELECT firm, target, logged_on FROM session"),
-          came_(connection_.get(), "SELECT firm, count(*), coalesce(max(number), 0) FROM entry "
+          came_(connection_.get(), "SELECT firm, count(*), coalesce(max(number), 0), "
+                                   "sum(length(line)) / 1024 FROM entry "
                                    "WHERE firm IS NOT NULL GROUP BY firm"),
           gave_(connection_.get(), "SELECT firm, max(number) FROM sent GROUP BY firm"),
           went_(connection_.get(), "SELECT firm, max(number), coalesce(max(sent), 0) "
@@ -122,6 +123,7 @@ class SqliteReader final : public LogReader {
             FirmState &state = all[came_.bytes(0)];
             state.entries = came_.number(1);
             state.last_number = came_.number(2);
+            state.kibibytes = came_.number(3);
         }
         while (gave_.step()) {
             all[gave_.bytes(0)].sent = gave_.number(1);

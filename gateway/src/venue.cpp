@@ -67,6 +67,14 @@ void Venue::stop() {
     thread_.join();
 }
 
+void Venue::abandon() {
+    thread_.request_stop();
+    const std::lock_guard lock(mutex_);
+    if (running_ != nullptr) {
+        running_->kill();
+    }
+}
+
 void Venue::run(std::stop_token stop) {
     try {
         for (bool again = true; again;) {

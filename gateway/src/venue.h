@@ -62,6 +62,8 @@ class Venue {
     // Feeds no more: the venue answers what it has and ends. Returns when it ended; one that does
     // not end within ten seconds is killed.
     void stop();
+    // Kills the process, and starts no other.
+    void abandon();
 
   private:
     // The process that stop() may have to kill, for as long as it lives.

@@ -1,6 +1,7 @@
 #include "venue_day.h"
 
 #include "log_places.h"
+#include "private_file.h"
 
 #include <stdexcept>
 #include <utility>
@@ -11,12 +12,16 @@ namespace gateway {
 
 namespace {
 
+// By more than this a clock was set so far that moments of the day can't be told from it.
+constexpr auto longest_step = std::chrono::seconds(2);
+
 // Throws where it is none of today.
 std::unique_ptr<Database> open_database(const Config &config, DayClock &clock) {
     if (clock.day() != DayClock::Day::goes_on) {
         throw std::runtime_error(fmt::format(
             "the venue's configuration is of {}, and today is {} in UTC", clock.date(), today()));
     }
+    check_private(config.sqlite);
     return open_database(config);
 }
 
@@ -34,7 +39,25 @@ VenueDay::~VenueDay() {
     }
 }
 
+void VenueDay::tell_if_clock_was_set() {
+    const KernelClock kernel = read_kernel_clock();
+    metrics.clock_is(kernel.is_synchronised, kernel.greatest_error);
+    const auto step = clock_watch_.look();
+    if (!step) {
+        return;
+    }
+    metrics.clock_set();
+    const double seconds = std::chrono::duration<double>(*step).count();
+    events->error("clock was set{} by={:.3f} s", of_venue(), seconds);
+    if (std::chrono::abs(*step) > longest_step) {
+        clock_is_right = false;
+        events->error("no request and no quote is taken{} cause=\"the clock was set by {:.3f} s\"",
+                      of_venue(), seconds);
+    }
+}
+
 void VenueDay::look_at_clock() {
+    tell_if_clock_was_set();
     switch (clock.day()) {
     case DayClock::Day::goes_on:
         break;

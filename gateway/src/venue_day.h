@@ -2,6 +2,7 @@
 #ifndef GATEWAY_VENUE_DAY_H
 #define GATEWAY_VENUE_DAY_H
 
+#include "clock_watch.h"
 #include "config.h"
 #include "database.h"
 #include "log_guard.h"
@@ -29,7 +30,8 @@ struct VenueDay {
     VenueDay(const VenueDay &) = delete;
     VenueDay &operator=(const VenueDay &) = delete;
 
-    // Ends the gateway where the day does not go on; to be called each second.
+    // Ends the gateway where the day does not go on, and tells where the machine's clock was set;
+    // to be called each second, by one thread.
     void look_at_clock();
     // For events: which venue it is, where there are several.
     std::string of_venue() const;
@@ -44,6 +46,14 @@ struct VenueDay {
     const std::unique_ptr<Database> database;
     // Nobody else writes the log: this gateway speaks, or is about to.
     std::atomic<bool> has_term{false};
+    // False once the clock was set by more than two seconds: no request and no quote is taken, and
+    // an operator has to say that the clock is right.
+    std::atomic<bool> clock_is_right{true};
+
+  private:
+    void tell_if_clock_was_set();
+
+    ClockWatch clock_watch_;
 };
 
 } // namespace gateway

@@ -89,18 +89,18 @@ void judged(const std::filesystem::path &folder) {
     config.engine.client_certificates = true;
     OpenedDay opened(config);
     for (const JudgedLogon &each : {
-             JudgedLogon{{"F", "fred", "right", true, "F"}, Refusal::none},
-             JudgedLogon{{"NOBODY", "fred", "right", true, "F"}, Refusal::unknown_name},
-             JudgedLogon{{"", "", "", true, ""}, Refusal::unknown_name},
-             JudgedLogon{{"NOPASS", "fred", "right", true, "NOPASS"}, Refusal::no_access},
-             JudgedLogon{{"F", "gail", "right", true, "F"}, Refusal::wrong_name},
-             JudgedLogon{{"F", "fred", "other", true, "F"}, Refusal::wrong_password},
-             JudgedLogon{{"F", "fred", "", true, "F"}, Refusal::wrong_password},
-             JudgedLogon{{"F", "fred", std::string("right\0x", 7), true, "F"},
+             JudgedLogon{{"F", "fred", "right", true, "F", ""}, Refusal::none},
+             JudgedLogon{{"NOBODY", "fred", "right", true, "F", ""}, Refusal::unknown_name},
+             JudgedLogon{{"", "", "", true, "", ""}, Refusal::unknown_name},
+             JudgedLogon{{"NOPASS", "fred", "right", true, "NOPASS", ""}, Refusal::no_access},
+             JudgedLogon{{"F", "gail", "right", true, "F", ""}, Refusal::wrong_name},
+             JudgedLogon{{"F", "fred", "other", true, "F", ""}, Refusal::wrong_password},
+             JudgedLogon{{"F", "fred", "", true, "F", ""}, Refusal::wrong_password},
+             JudgedLogon{{"F", "fred", std::string("right\0x", 7), true, "F", ""},
                          Refusal::wrong_password},
-             JudgedLogon{{"F", "fred", "right", true, "G"}, Refusal::wrong_certificate},
-             JudgedLogon{{"F", "fred", "right", true, ""}, Refusal::wrong_certificate},
-             JudgedLogon{{"F", "fred", "other", true, "G"}, Refusal::wrong_password},
+             JudgedLogon{{"F", "fred", "right", true, "G", ""}, Refusal::wrong_certificate},
+             JudgedLogon{{"F", "fred", "right", true, "", ""}, Refusal::wrong_certificate},
+             JudgedLogon{{"F", "fred", "other", true, "G", ""}, Refusal::wrong_password},
          }) {
         const Refusal refusal = opened.host->judge(each.facts);
         check(refusal == each.refusal,
@@ -129,17 +129,17 @@ std::chrono::nanoseconds work_of(SessionHost &host, const LogonFacts &facts) {
 // wrong password, and a password as much as any other, also one that crypt(5) does not take.
 void as_long_for_every_name(const std::filesystem::path &folder) {
     OpenedDay opened(config_of(folder));
-    const auto right = work_of(*opened.host, {"F", "fred", "right", false, ""});
+    const auto right = work_of(*opened.host, {"F", "fred", "right", false, "", ""});
     std::vector<LogonFacts> all;
     for (const std::size_t length : {0, 511, 512, 513, 3000}) {
-        all.push_back({"F", "fred", std::string(length, 'x'), false, ""});
-        all.push_back({"NOBODY", "fred", std::string(length, 'x'), false, ""});
+        all.push_back({"F", "fred", std::string(length, 'x'), false, "", ""});
+        all.push_back({"NOBODY", "fred", std::string(length, 'x'), false, "", ""});
     }
-    all.push_back({"F", "fred", std::string("right\0x", 7), false, ""});
-    all.push_back({"F", "fred", std::string("\0", 1), false, ""});
-    all.push_back({"NOBODY", "fred", "right", false, ""});
-    all.push_back({"NOPASS", "fred", "right", false, ""});
-    all.push_back({"F", "x", "right", false, ""});
+    all.push_back({"F", "fred", std::string("right\0x", 7), false, "", ""});
+    all.push_back({"F", "fred", std::string("\0", 1), false, "", ""});
+    all.push_back({"NOBODY", "fred", "right", false, "", ""});
+    all.push_back({"NOPASS", "fred", "right", false, "", ""});
+    all.push_back({"F", "x", "right", false, "", ""});
     for (const LogonFacts &facts : all) {
         check(opened.host->judge(facts) != Refusal::none, "a wrong one is let in");
         const auto work = work_of(*opened.host, facts);
@@ -164,15 +164,15 @@ void as_long_with_several_methods(const std::filesystem::path &folder) {
     config.credentials["F"].password_hash = hash_by("$6$", 90'000, "right");
     config.credentials["G"].password_hash = hash_by("$2b$", 8, "other");
     OpenedDay opened(config);
-    check(opened.host->judge({"F", "fred", "right", false, ""}) == Refusal::none &&
-              opened.host->judge({"G", "gail", "other", false, ""}) == Refusal::none,
+    check(opened.host->judge({"F", "fred", "right", false, "", ""}) == Refusal::none &&
+              opened.host->judge({"G", "gail", "other", false, "", ""}) == Refusal::none,
           "a right password is refused");
-    check(opened.host->judge({"F", "fred", "other", false, ""}) == Refusal::wrong_password &&
-              opened.host->judge({"G", "gail", "right", false, ""}) == Refusal::wrong_password,
+    check(opened.host->judge({"F", "fred", "other", false, "", ""}) == Refusal::wrong_password &&
+              opened.host->judge({"G", "gail", "right", false, "", ""}) == Refusal::wrong_password,
           "another firm's password is taken");
-    const auto right = work_of(*opened.host, {"F", "fred", "right", false, ""});
+    const auto right = work_of(*opened.host, {"F", "fred", "right", false, "", ""});
     for (const char *name : {"G", "NOPASS", "NOBODY", "NOBODY2", "NOBODY8", "A", ""}) {
-        const auto work = work_of(*opened.host, {name, "fred", "right", false, ""});
+        const auto work = work_of(*opened.host, {name, "fred", "right", false, "", ""});
         check(work > right / 2 && work < right * 2,
               fmt::format("{}: {} ns, and {} ns of F", name, work.count(), right.count()));
     }

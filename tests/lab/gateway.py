@@ -52,7 +52,8 @@ class GatewayHost(Place):
         files["credentials.toml"] = credentials
         for name, text in files.items():
             (self.own / name).write_text(text)
-        (self.own / "pgpass").chmod(0o600)
+        for name in ("pgpass", "credentials.toml"):
+            (self.own / name).chmod(0o600)
 
     def start(self) -> None:
         words = self.network.words(self.name)

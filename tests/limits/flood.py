@@ -24,7 +24,9 @@ def logged_on(stage: Stage, who: Identity, heartbeat: bytes = b"30", settles: bo
 
 def cancel(wire: Wire, number: int, name: bytes = b"x") -> bytes:
     """A cancel of no quote: the smallest message of the application."""
-    body = b"35=Z\x0149=%s\x0156=VENUE\x0134=%d\x0152=%s\x0150=T1\x01298=5\x01117=%s\x01" % (wire.name, number, now(), name)
+    trader = {b"DLR1": b"T1", b"DLR2": b"T2"}[wire.name]
+    head = b"35=Z\x0149=%s\x0156=VENUE\x0134=%d\x0152=%s\x0150=%s\x01" % (wire.name, number, now(), trader)
+    body = head + b"298=5\x01117=%s\x01" % name
     return framed(body)
 
 

@@ -9,6 +9,7 @@ from tests.limits.flood import logged_on
 def test_a_firm_that_does_not_settle_keeps_nobody_waiting(stage: Stage) -> None:
     """The venue is killed while a message waits for a firm that leaves its TestRequest unanswered: another firm is answered at once,
     and that one has each message once."""
+    stage.door.limits |= {"venue_starts": 20}  # it may be measured again
     stage.open(stage.other, stage.investor)
     stage.ping(stage.other)
     number = 1

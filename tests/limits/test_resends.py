@@ -2,31 +2,48 @@
 
 import time
 
-from tests.gateway.stage import DEALER, Stage
+from tests.gateway.stage import DEALER, OTHER, Stage
 from tests.gateway.wait import LONG
+from tests.gateway.wire import Wire
 from tests.limits.flood import cancel, logged_on
 
-GIVEN = 2500
+MANY, FEW = 2500, 300
+
+
+def given(wire: Wire, count: int) -> None:
+    """So many messages of the venue, each the answer to a cancel of no quote."""
+    number = wire.number
+    assert wire.raw(b"".join(cancel(wire, number + at, b"x%d" % at) for at in range(count)))
+    wire.number += count
+    last = b"x%d" % (count - 1)
+    assert wire.read_until(lambda message: message.value(117) == last, LONG) is not None
+
+
+def ask_again(wire: Wire) -> None:
+    """A request for all of the day."""
+    assert wire.raw(wire.message(b"2", wire.name, [(7, b"1"), (16, b"0")]))
+
+
+def has_again(wire: Wire, count: int) -> bool:
+    """Waits for the last of so many messages."""
+    last = b"x%d" % (count - 1)
+    return wire.read_until(lambda message: message.value(117) == last and message.value(43) == b"Y", LONG) is not None
 
 
 def test_resends_have_a_rate_of_their_firm(stage: Stage) -> None:
-    """A firm that asks for its day again and again is sent it at the rate; another one logs on and is sent its own meanwhile."""
+    """A firm that asks for its long day is sent it at the rate; another one asks after it, and has its short day before that."""
     stage.door.limits |= {"resends_per_second": 500, "resends_burst": 500}
-    stage.open(stage.other)
-    with logged_on(stage, DEALER) as wire:
-        number = wire.number
-        assert wire.raw(b"".join(cancel(wire, number + at, b"x%d" % at) for at in range(GIVEN)))
-        wire.number += GIVEN
-        last = b"x%d" % (GIVEN - 1)
-        assert wire.read_until(lambda message: message.value(117) == last, LONG) is not None
+    stage.open()
+    with logged_on(stage, DEALER) as wire, logged_on(stage, OTHER) as other:
+        given(wire, MANY)
+        given(other, FEW)
         began = time.monotonic()
-        assert wire.raw(wire.message(b"2", wire.name, [(7, b"1"), (16, b"0")]))
-        stage.log_off(stage.other)
-        stage.log_on(stage.other)
-        stage.ping(stage.other)
+        ask_again(wire)
+        ask_again(other)
+        assert has_again(other, FEW)
         met = time.monotonic() - began
-        assert wire.read_until(lambda message: message.value(117) == last and message.value(43) == b"Y", LONG) is not None
+        assert has_again(wire, MANY)
         took = time.monotonic() - began
-    least = (GIVEN - 500 - 500) / 500  # a piece of 500 is sent before it is counted
-    assert took >= least, "%d messages are sent again within %.2f s" % (GIVEN, took)
+    least = (MANY - 500 - 500) / 500  # a piece of 500 is sent before it is counted
+    assert took >= least, "%d messages are sent again within %.2f s" % (MANY, took)
     assert met < took, "another firm waits for the resend"

@@ -60,6 +60,7 @@ class TwoVenues:
             (self.folder / file_of(name)).write_text(CAST.venue_text())
         credentials = CAST.credentials(self.words.gateway.resolve())
         (self.folder / "credentials.toml").write_text(credentials)
+        (self.folder / "credentials.toml").chmod(0o600)
         text = venues_text(NAMES, tuple(self.venue)) + REST % self._port.number
         text += seal_text(self.words.gateway, self.folder)
         (self.folder / "gateway.toml").write_text(text)

@@ -1,0 +1,43 @@
+// Whether the machine's clock goes on as the time since boot does, and what the kernel says of it.
+#ifndef GATEWAY_CLOCK_WATCH_H
+#define GATEWAY_CLOCK_WATCH_H
+
+#include <chrono>
+#include <functional>
+#include <optional>
+
+namespace gateway {
+
+// One thread looks.
+class ClockWatch {
+  public:
+    struct Reading {
+        std::chrono::microseconds time;       // the machine's clock
+        std::chrono::microseconds since_boot; // goes on while the machine sleeps, too
+    };
+    using Read = std::function<Reading()>;
+
+    explicit ClockWatch(Read read = &read_now);
+
+    // To be called each second. By how much the clock was set meanwhile, forward or back, where
+    // that is more than 100 ms: at once, or little by little beyond what a clock is slewed by.
+    std::optional<std::chrono::microseconds> look();
+
+    static Reading read_now();
+
+  private:
+    const Read read_;
+    Reading last_;
+    std::chrono::microseconds set_by_{0}; // since the last step that was told, but for slewing
+};
+
+// What the kernel says of its clock (adjtimex).
+struct KernelClock {
+    bool is_synchronised = false;
+    std::chrono::microseconds greatest_error{0};
+};
+KernelClock read_kernel_clock();
+
+} // namespace gateway
+
+#endif

@@ -1,0 +1,135 @@
+// How entries come into the log: who goes first, in which order, at which moment.
+#include "log.h"
+
+#include "frame.h"
+
+#include <algorithm>
+#include <utility>
+
+#include <fmt/format.h>
+
+namespace gateway {
+
+Log::Ticket Log::append_message(const std::string &firm, const std::optional<Came> &came,
+                                std::string_view frame, Committer committer) {
+    Arrival arrival;
+    arrival.entry.firm = firm;
+    arrival.at = came ? clock_.moment_at(came->at) : clock_.exact_now();
+    if (came) {
+        arrival.entry.number = came->number;
+        arrival.entry.connection = came->connection;
+    }
+    arrival.verb = fmt::format("hex {} ", firm);
+    arrival.rest = fmt::format(" {}", hexadecimal(frame));
+    arrival.received = std::chrono::steady_clock::now();
+    std::unique_lock lock(mutex_);
+    wait_for_turn(lock, {firm, arrival.at, came.has_value()});
+    throw_if_failed();
+    shares_.put(firm);
+    return append_here(std::move(arrival), committer);
+}
+
+void Log::wait_for_turn(std::unique_lock<std::mutex> &lock, const Waiter &waiter) {
+    const auto own = waiters_.insert(waiters_.end(), waiter);
+    if (!may_go(own)) {
+        // What this thread has not committed yet is not to wait with it.
+        work_.notify_one();
+    }
+    room_.wait(lock, [&] { return may_go(own) || !failure_.empty(); });
+    waiters_.erase(own);
+    if (!waiters_.empty()) {
+        room_.notify_all();
+    }
+}
+
+// One that has waited longer goes first, if it may.
+bool Log::may_go(Waiters::const_iterator waiter) const {
+    const auto goes_first = [this](const Waiter &other) {
+        return !is_held(other) && has_share(other);
+    };
+    return has_room() && goes_first(*waiter) && std::none_of(waiters_.begin(), waiter, goes_first);
+}
+
+bool Log::has_share(const Waiter &waiter) const {
+    return !waiter.is_firms || shares_.has_room(waiter.firm);
+}
+
+bool Log::is_held(const Waiter &waiter) const {
+    return held_from_ && waiter.at >= *held_from_;
+}
+
+void Log::answered(std::uint32_t place) {
+    const std::lock_guard lock(mutex_);
+    shares_.answered(place);
+    if (!waiters_.empty()) {
+        room_.notify_all();
+    }
+}
+
+std::optional<std::uint32_t> Log::append_clock_behind(std::uint32_t place, Moment deadline) {
+    Arrival arrival;
+    arrival.verb = "clock ";
+    arrival.received = std::chrono::steady_clock::now();
+    std::unique_lock lock(mutex_);
+    wait_for_room(lock);
+    const bool is_late =
+        std::any_of(waiters_.begin(), waiters_.end(),
+                    [deadline](const Waiter &waiter) { return waiter.at.cut() < deadline; });
+    if (next_place_ != place + 1 || is_late) {
+        return std::nullopt;
+    }
+    arrival.at = clock_.exact_now();
+    append_here(std::move(arrival), Committer::thread);
+    // What was received before it is behind it all the same.
+    arrivals_.fence();
+    return place + 1;
+}
+
+Log::Hold::Hold(Log &log, Moment deadline) : log_(log) {
+    const std::lock_guard lock(log_.mutex_);
+    log_.held_from_ = ExactMoment{std::int64_t{deadline.milliseconds} * 1000};
+}
+
+Log::Hold::~Hold() {
+    const std::lock_guard lock(log_.mutex_);
+    log_.held_from_.reset();
+    log_.room_.notify_all();
+}
+
+Log::Ticket Log::append_here(Arrival arrival, Committer committer) {
+    arrivals_.put(std::move(arrival));
+    // Only now: where there was no memory for it, a place that was counted all the same would be a
+    // gap of the log for good.
+    ++next_place_;
+    ++filling_.size;
+    // Where there is a second one, its thread may be busy with more for a while.
+    if (!writing_ && (committer == Committer::thread || arrivals_.size() > 1)) {
+        work_.notify_one();
+    }
+    return filling_ticket_;
+}
+
+void Log::place_arrivals(Filling &filling) {
+    for (Arrival &arrival : arrivals_.take()) {
+        Entry &entry = arrival.entry;
+        if (!entry.number) {
+            // A line that no message made was made at its moment.
+            arrival.at = std::max(taken_moment_, arrival.at);
+        }
+        taken_moment_ = std::max(taken_moment_, arrival.at);
+        entry.place = ++taken_place_;
+        entry.term = term_;
+        entry.moment = text_of(taken_moment_.cut());
+        entry.received = text_of(arrival.at);
+        entry.line.reserve(arrival.verb.size() + entry.moment.size() + arrival.rest.size());
+        entry.line.append(arrival.verb).append(entry.moment).append(arrival.rest);
+        if (entry.firm) {
+            shares_.committed(*entry.firm, entry.place);
+        }
+        filling.received.push_back(arrival.received);
+        filling.rows.entries.push_back(std::move(entry));
+    }
+    shares_.batch_taken();
+}
+
+} // namespace gateway

@@ -1,0 +1,89 @@
+// A clock that is set, one that is set little by little, and one that is only slewed.
+//
+// usage: clock_watch_test
+#include "check.h"
+#include "clock_watch.h"
+
+#include <chrono>
+
+namespace gateway::tests {
+
+namespace {
+
+using namespace std::chrono_literals;
+
+// A clock that goes on as it is told.
+struct Machine {
+    ClockWatch::Reading now{1000s, 10s};
+
+    // So long passes, and the clock is set by so much meanwhile.
+    void pass(std::chrono::microseconds passed, std::chrono::microseconds set_by) {
+        now.since_boot += passed;
+        now.time += passed + set_by;
+    }
+    ClockWatch watch() {
+        return ClockWatch([this] { return now; });
+    }
+};
+
+void check_step(ClockWatch &watch, std::optional<std::chrono::microseconds> wanted,
+                const std::string &what) {
+    const auto came = watch.look();
+    check(came == wanted, fmt::format("{}: {}", what, came ? came->count() : 0));
+}
+
+void set_at_once() {
+    Machine machine;
+    ClockWatch watch = machine.watch();
+    machine.pass(1s, 0us);
+    check_step(watch, std::nullopt, "a clock that goes on");
+    machine.pass(1s, 100ms);
+    check_step(watch, std::nullopt, "100 ms");
+    machine.pass(1s, 101ms - 100ms + 1ms);
+    check_step(watch, 101ms, "a little more, with what was not told");
+    machine.pass(1s, -40s);
+    check_step(watch, -40s, "set back");
+    machine.pass(1s, 0us);
+    check_step(watch, std::nullopt, "told once");
+    machine.pass(1h, 0us);
+    check_step(watch, std::nullopt, "a machine that slept");
+}
+
+// Half of what the watch lets pass: a day of it is no step.
+void slewed() {
+    Machine machine;
+    ClockWatch watch = machine.watch();
+    for (int second = 0; second < 24 * 60 * 60; ++second) {
+        machine.pass(1s, 500us);
+        check_step(watch, std::nullopt, "slewed");
+    }
+}
+
+void set_little_by_little() {
+    Machine machine;
+    ClockWatch watch = machine.watch();
+    int told = 0;
+    for (int second = 0; second < 60; ++second) {
+        machine.pass(1s, -50ms);
+        told += watch.look() ? 1 : 0;
+    }
+    check(told >= 15, fmt::format("50 ms a second, told {} times in a minute", told));
+}
+
+void what_the_kernel_says() {
+    check(read_kernel_clock().greatest_error >= 0us, "an error below nothing");
+}
+
+} // namespace
+
+} // namespace gateway::tests
+
+int main(int count, char **words) {
+    using namespace gateway::tests;
+    return run_with(count, words, 0, 0, "clock_watch_test", [](std::span<char *>) {
+        set_at_once();
+        slewed();
+        set_little_by_little();
+        what_the_kernel_says();
+    });
+}

@@ -1,0 +1,67 @@
+"""How many bytes of a day's log one firm may have, and how it goes on at the limit."""
+
+import signal
+
+from tests.gateway.market import BOND
+from tests.gateway.stage import DEALER, Stage
+from tests.gateway.wait import LONG, until
+from tests.gateway.wire import Fields, Wire
+from tests.limits.flood import cancel, logged_on
+
+TOLD = b"this firm has sent all the bytes that it may send in a day"
+MOST = 65536  # of the lines of its entries, some 260 bytes each
+
+
+def quote(name: bytes) -> Fields:
+    return [(50, b"T1"), (117, name), (131, b"R1"), (48, BOND), (22, b"4"), (133, b"99.5")]
+
+
+def cancelled(wire: Wire, name: bytes) -> bool:
+    """Whether a cancel of no quote is answered."""
+    assert wire.raw(cancel(wire, wire.number, name))
+    wire.number += 1
+    return wire.read_until(lambda message: message.value(117) == name and message.value(297) == b"9") is not None
+
+
+def refused(wire: Wire, name: bytes) -> None:
+    """A quote that is not taken: the session ends, and says why."""
+    assert wire.raw(wire.message(b"S", wire.name, quote(name)))
+    logout = wire.read_kind(b"5")
+    assert logout is not None and TOLD in (logout.value(58) or b""), "it is told %r" % logout
+    assert wire.closed_within(LONG)
+
+
+def test_at_the_limit_of_a_day(stage: Stage) -> None:
+    """A firm that has used up its bytes can cancel and not quote; the number of a quote that is not taken is used up; the operator
+    raises the limit while the gateway runs."""
+    stage.door.limits |= {"day_bytes": MOST}
+    stage.open(stage.other, stage.investor)
+    with logged_on(stage, DEALER) as wire:
+        stage.ask_of([stage.dealer, stage.other])
+        for at in range(MOST // 200):
+            assert wire.raw(cancel(wire, wire.number, b"c%d" % at))
+            wire.number += 1
+        assert wire.read_until(lambda message: message.value(117) == b"c%d" % (MOST // 200 - 1)) is not None
+        entries = stage.entries_of(stage.dealer)
+        refused(wire, b"q1")
+        number = wire.number
+    assert stage.entries_of(stage.dealer) == entries, "a quote beyond the limit is in the log"
+    until("the operator is told", LONG, lambda: "day's bytes used up firm=DLR1" in stage.door.told.read_text())
+    with logged_on(stage, DEALER, number=number) as wire:
+        assert cancelled(wire, b"x1"), "no cancel is taken"
+        refused(wire, b"q2")
+        number = wire.number
+    stage.door.stop()
+    stage.door.start()
+    stage.door.wait_open()
+    with logged_on(stage, DEALER, number=number) as wire:
+        refused(wire, b"q3")
+        number = wire.number
+    file = stage.door.folder / "credentials.toml"
+    file.write_text(file.read_text().replace("[DLR1]\n", "[DLR1]\nday_bytes = 100000000\n"))
+    stage.door.process.send_signal(signal.SIGHUP)
+    until("it is read", LONG, lambda: "were read again" in stage.door.told.read_text())
+    with logged_on(stage, DEALER, number=number) as wire:
+        assert wire.raw(wire.message(b"S", wire.name, quote(b"q4")))
+        answer = wire.read_until(lambda message: message.value(117) == b"q4")
+        assert answer is not None and answer.value(297) == b"0", "a quote below the new limit is answered %r" % answer

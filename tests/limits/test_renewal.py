@@ -1,0 +1,177 @@
+"""Credentials and certificates that are read again while the gateway runs, and who may come from where."""
+
+import re
+import signal
+import subprocess
+import time
+from pathlib import Path
+
+import pytest
+
+from tests.gateway.stage import DEALER, Stage
+from tests.gateway.strangers import with_tls
+from tests.gateway.tried_logon import context, refused_for
+from tests.gateway.wait import LONG, until
+from tests.gateway.wire import Wire
+from tests.limits.flood import logged_on
+
+GONE = b"the credentials of this session are not valid any more"
+
+
+def renew(stage: Stage, words: str = "were read again") -> None:
+    """Has the gateway read them again, and waits until it has said so."""
+    told = len(stage.door.told.read_bytes())
+    stage.door.process.send_signal(signal.SIGHUP)
+    until("they are read", LONG, lambda: words in stage.door.told.read_bytes()[told:].decode())
+
+
+def edit(stage: Stage, old: str, new: str, count: int = 1) -> None:
+    file = stage.door.folder / "credentials.toml"
+    text = file.read_text()
+    assert old in text
+    file.write_text(text.replace(old, new, count))
+
+
+def without(stage: Stage, firm: str) -> None:
+    """Takes a firm out of the credentials."""
+    file = stage.door.folder / "credentials.toml"
+    parts = re.split(r"(?=^\[)", file.read_text(), flags=re.M)
+    file.write_text("".join(part for part in parts if not part.startswith("[%s]" % firm)))
+
+
+def test_only_who_has_lost_its_credentials_is_logged_out(stage: Stage) -> None:
+    """SIGHUP: one firm's credentials are gone, and it is told so and stays out; the others' sessions go on; a file that is at fault
+    changes nothing."""
+    stage.open(stage.other, stage.investor)
+    with logged_on(stage, DEALER) as wire:
+        on = stage.other.times_on
+        edit(stage, "[DLR1]", "[DLR1]\nnothing = 1")
+        renew(stage, "stay as they were")
+        edit(stage, "nothing = 1", "")
+        without(stage, "DLR1")
+        renew(stage)
+        logout = wire.read_kind(b"5")
+        assert logout is not None and logout.value(58) == GONE, "it is told %r" % logout
+        assert wire.closed_within(LONG)
+        number = wire.number
+    with Wire(stage.door.port) as again:
+        again.number = number
+        again.logon(b"DLR1", DEALER.password.encode())
+        assert again.closed_within(LONG) and not again.waiting
+    stage.ping(stage.other)
+    assert stage.other.times_on == on, "another firm's session was ended"
+    assert stage.door.process.poll() is None
+
+
+def test_credentials_end_on_a_date(stage: Stage) -> None:
+    """The last day is one on which they hold, and the day after is none."""
+    stage.open(stage.other)
+    with logged_on(stage, DEALER) as wire:
+        edit(stage, "[DLR1]", '[DLR1]\nends = "29991231"')
+        renew(stage)
+        edit(stage, "29991231", "20200101")
+        renew(stage)
+        logout = wire.read_kind(b"5")
+        assert logout is not None and logout.value(58) == GONE
+        number = wire.number
+    with Wire(stage.door.port) as again:
+        again.number = number
+        again.logon(b"DLR1", DEALER.password.encode())
+        assert again.closed_within(LONG) and not again.waiting
+    until("it is told", LONG, lambda: 'refused what="credentials have ended" firm=DLR1' in stage.door.told.read_text())
+    stage.ping(stage.other)
+
+
+def test_addresses_that_are_no_firms(stage: Stage) -> None:
+    """Whoever comes from an address of no firm is refused before a password is judged, however many they are; a firm that comes from
+    another firm's address is refused too."""
+    stage.door.limits |= {"strangers": 256}
+    stage.door.write()
+    edit(stage, "[DLR1]", '[DLR1]\naddresses = ["127.0.0.9"]')
+    for name in ("DLR2", "INV1"):
+        edit(stage, "[%s]" % name, '[%s]\naddresses = ["127.0.0.1", "192.0.2.0/24"]' % name)
+    stage.door.start()
+    stage.door.wait_open()
+    with Wire(stage.door.port, source="127.0.0.1") as wire:
+        wire.logon(b"DLR1", DEALER.password.encode())
+        assert wire.closed_within(LONG) and not wire.waiting, "DLR1 comes from an address that is not its own"
+    with Wire(stage.door.port, source="127.0.0.9") as wire:
+        wire.logon(b"DLR1", DEALER.password.encode())
+        assert wire.read_kind(b"A") is not None, "DLR1 does not come from its own address"
+    worked = stage.worked()
+    for at in range(100):
+        with Wire(stage.door.port, source="127.0.1.%d" % (at + 1)) as wire:
+            wire.logon(b"DLR2", b"guess")
+            assert wire.closed_within(LONG) and not wire.waiting
+    spent = stage.worked() - worked
+    assert spent < 1.5 or not stage.tools.measures, "100 strangers cost %.1f s of a processor: their passwords are hashed" % spent
+    assert stage.counters()[refused_for("wrong address")] >= 101
+    stage.log_on(stage.other)
+    stage.ping(stage.other)
+
+
+def test_wrong_passwords_are_counted_and_cost_time(stage: Stage) -> None:
+    """By firm in the metrics, by address in an event at the tenth; the tenth one is judged later than the first."""
+    stage.open(stage.other)
+    took = []
+    for _ in range(10):
+        began = time.monotonic()
+        with Wire(stage.door.port) as wire:
+            wire.logon(b"DLR1", b"guess")
+            assert wire.closed_within(LONG) and not wire.waiting
+        took.append(time.monotonic() - began)
+    assert stage.counters()['mireseason_wrong_passwords_total{firm="DLR1"}'] == 10
+    until("it is told", LONG, lambda: "wrong passwords address=127.0.0.1 count=10 firm=DLR1" in stage.door.told.read_text())
+    assert took[-1] >= 0.2, "ten wrong passwords after each other: the last one took %.2f s" % took[-1]
+    stage.log_on(stage.dealer)
+    stage.ping(stage.dealer)
+
+
+def openssl(folder: Path, *words: str) -> None:
+    subprocess.run(["openssl", *words], cwd=folder, check=True, capture_output=True)
+
+
+def revoked_list(folder: Path, *names: str) -> None:
+    """A list of the authority's that takes these certificates back."""
+    (folder / "ca.cnf").write_text("[ca]\ndefault_ca = own\n[own]\ndatabase = index.txt\ndefault_md = sha256\n"
+                                   "default_crl_days = 2\ncrlnumber = crlnumber\ncertificate = authority.pem\nprivate_key = authority.key\n")
+    if not (folder / "index.txt").exists():
+        (folder / "index.txt").write_text("")
+        (folder / "crlnumber").write_text("01\n")
+    for name in names:
+        openssl(folder, "ca", "-config", "ca.cnf", "-revoke", name + ".pem")
+    openssl(folder, "ca", "-config", "ca.cnf", "-gencrl", "-out", "revoked.pem")
+
+
+def test_a_certificate_that_is_taken_back(stage: Stage) -> None:
+    """The list names one firm's certificate: its session ends, and no other begins by it. The others go on."""
+    with_tls(stage, True)
+    revoked_list(stage.folder)
+    stage.door.tls |= {"revoked": '"revoked.pem"'}
+    stage.open(*stage.firms)
+    stage.auction()
+    on = stage.other.times_on
+    revoked_list(stage.folder, DEALER.name)
+    renew(stage)
+    until("its session ends", LONG, lambda: "the certificate is not valid any more" in stage.door.told.read_text())
+    until("it can't come again", LONG, lambda: stage.counters().get(refused_for("no TLS"), 0) >= 1)
+    stage.ping(stage.other)
+    assert stage.other.times_on == on, "another firm's session was ended"
+
+
+@pytest.mark.parametrize(("words", "is_taken"), [
+    (("-tls1_3",), True),
+    (("-tls1_2", "-cipher", "ECDHE-RSA-AES256-GCM-SHA384"), True),
+    (("-tls1_2", "-cipher", "AES256-GCM-SHA384"), False),
+    (("-tls1_2", "-cipher", "ECDHE-RSA-AES256-SHA384"), False),
+    (("-tls1_2", "-cipher", "DHE-RSA-AES256-GCM-SHA384"), False),
+])
+def test_suites(stage: Stage, words: tuple[str, ...], is_taken: bool) -> None:
+    """TLS 1.3, and of TLS 1.2 what nobody can read later who is given the key."""
+    with_tls(stage, False)
+    stage.open()
+    run = subprocess.run(["openssl", "s_client", "-connect", "127.0.0.1:%d" % stage.door.port, *words, "-CAfile", "authority.pem"],
+                         cwd=stage.folder, stdin=subprocess.DEVNULL, capture_output=True, timeout=LONG, check=False)
+    assert (b"Cipher is (NONE)" not in run.stdout) == is_taken, run.stdout[-500:]
+
+

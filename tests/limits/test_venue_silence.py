@@ -1,0 +1,100 @@
+"""A venue that hangs: it is told within five seconds, the gateway ends in a stated time, and another one takes over."""
+
+import os
+import signal
+from dataclasses import replace
+from pathlib import Path
+
+from tests.gateway.door import Door, Programs
+from tests.gateway.ledger import PostgresLog
+from tests.gateway.stage import DEALER, INVESTOR, Stage
+from tests.gateway.wait import LONG, until
+from tests.harness.budget import Budget, seconds_of
+from tests.harness.fixtures import MakeGateway
+
+SECONDS = 6  # venue_seconds of these tests
+SILENT, ENDED = "venue does not answer", "has answered nothing for %d s" % SECONDS
+
+
+def hanging(programs: Programs, folder: Path) -> Programs:
+    """A venue that says and reads nothing where there is a file `hang` as it begins."""
+    script = folder / "venue.sh"
+    script.write_text('[ -e "%s/hang" ] && exec sleep 600\nexec "$@"\n' % folder)
+    return replace(programs, venue=("sh", str(script), *programs.venue))
+
+
+def tells(door: Door, words: str, since: int = 0) -> bool:
+    return words in door.told.read_bytes()[since:].decode(errors="replace")
+
+
+def begun(stage: Stage) -> None:
+    """A day with some entries, whose gateway has ended."""
+    stage.door.limits |= {"venue_seconds": SECONDS}
+    stage.door.programs = hanging(stage.door.programs, stage.folder)
+    stage.open(stage.dealer)
+    stage.ping(stage.dealer)
+    stage.log_off(stage.dealer)
+    assert stage.door.stop() == 0
+
+
+def test_a_venue_that_hangs_at_its_start(stage: Stage) -> None:
+    """It is told within five seconds, and the start ends with status 1 after `venue_seconds`."""
+    begun(stage)
+    (stage.folder / "hang").touch()
+
+    def measure() -> float:
+        told = len(stage.door.told.read_bytes())
+        stage.door.start()
+        took = seconds_of(lambda: until("the silence is told", LONG, lambda: tells(stage.door, SILENT, told)))
+        assert stage.door.wait_end() == 1
+        assert tells(stage.door, ENDED, told), "it does not say why it ends"
+        return took
+
+    Budget("that a venue hangs at its start", most=5).hold(measure)
+    Budget("the end of such a start", most=SECONDS + 1, slack=20).hold(lambda: seconds_of(lambda: started_and_ended(stage)))
+    (stage.folder / "hang").unlink()
+    stage.door.start()
+    stage.door.wait_open()
+    stage.log_on(stage.dealer)
+    stage.ping(stage.dealer)
+
+
+def started_and_ended(stage: Stage) -> None:
+    stage.door.start()
+    assert stage.door.wait_end() == 1
+
+
+def test_a_venue_that_hangs_while_it_is_fed(stage: Stage) -> None:
+    """A venue that is stopped is told within five seconds of the first message that it does not answer, and ends the gateway."""
+    begun(stage)
+    stage.door.start()
+    stage.door.wait_open()
+    stage.log_on(stage.dealer)
+    stage.ping(stage.dealer)
+    for pid in stage.door.venues():
+        os.kill(pid, signal.SIGSTOP)
+    stage.say(stage.dealer, "Z", [(298, b"5"), (117, b"unheard")])
+    told = len(stage.door.told.read_bytes())
+    took = seconds_of(lambda: until("the silence is told", LONG, lambda: tells(stage.door, SILENT, told)))
+    assert took <= 5 + 10, "it is told after %.1f s" % took
+    assert stage.door.wait_end() == 1
+    assert tells(stage.door, ENDED, told), "it does not say why it ends"
+
+
+def test_another_gateway_takes_over(make_gateway: MakeGateway, postgres_database: str) -> None:
+    """Of two gateways on one log the first one's venue hangs as it begins again: the other one speaks."""
+    log = PostgresLog(postgres_database, "day")
+    first, second = [make_gateway([DEALER], [INVESTOR], {"venue_seconds": SECONDS}, log) for _ in range(2)]
+    first.programs = hanging(first.programs, first.folder)
+    for door in (first, second):
+        door.write()
+    first.start()
+    first.wait_open()
+    second.start()
+    until("the second one stands by", LONG, lambda: tells(second, "stands by"))
+    (first.folder / "hang").touch()
+    assert first.kill_venue()
+    took = seconds_of(lambda: until("the second one speaks", LONG, lambda: tells(second, " speaks ")))
+    assert took <= SECONDS + 15, "it takes over after %.1f s" % took
+    assert first.wait_end() == 1
+    second.wait_open()
