@@ -29,6 +29,8 @@ least=300 # seconds: no form is begun with less
 in_day=1500 # seconds: so near to midnight in UTC a test waits for it at most, by gateway/midnight.py
 program=$root/crates/rfq_venue/out/rfq_venue
 gateway=${GATEWAY:-$root/gateway/out/mireseason-gateway}
+# What most parts need; a folder tests/NAME names more of its own in a file `packages`.
+usual="$(gateway/packages.sh) openssl postgresql sqlite3 python3-jinja2 python3-psycopg2 python3-cryptography"
 second="python3 tests/model/program.py"
 testers="python3-pytest python3-pytest-xdist python3-hypothesis" # Debian's packages of pytest
 work=$(mktemp -d) || exit 2
@@ -224,10 +226,11 @@ part() {
     model | isolation | hostile) folder "$1" 3600 "" -n "$jobs" ;;
     refused_memory) folder "$1" 3600 "gcc libc6-dev" -n "$jobs" ;;
     engines) folder engines 1800 "g++ libquickfix-dev" ;;
-    gateway) day_folder gateway 5400 "$(gateway/packages.sh) openssl postgresql clang libclang-rt-dev" -n 3 ;;
-    audit) day_folder audit 5400 "python3-jinja2 python3-psycopg2 python3-cryptography openssl sqlite3 postgresql" ;;
-    replicas) day_folder replicas 3600 "$(gateway/packages.sh) postgresql patroni etcd-server etcd-client iproute2" ;;
-    *) day_folder "$1" 3600 "$(cat "tests/$1/packages" 2>/dev/null)" ;;
+    gateway) day_folder gateway 5400 "$usual clang libclang-rt-dev" -n 3 ;;
+    audit) day_folder audit 5400 "$usual" ;;
+    replicas) day_folder replicas 3600 "$usual patroni etcd-server etcd-client iproute2" ;;
+    mutants) day_folder mutants 7200 "$usual ccache" ;;
+    *) day_folder "$1" 3600 "$usual $(cat "tests/$1/packages" 2>/dev/null)" ;;
     esac
 }
 
@@ -265,9 +268,8 @@ beside() {
 quick() {
     program=$second
     told=$work/all
-    # shellcheck disable=SC2046 # a word for each package
-    can_have "$(what_is_left)" $(gateway/packages.sh) $testers openssl postgresql python3-jinja2 python3-psycopg2 python3-cryptography \
-        sqlite3 ||
+    # shellcheck disable=SC2086 # a word for each package
+    can_have "$(what_is_left)" $usual $testers ||
         echo "can't be installed: $(paste -sd ' ' "$told.lacking")"
     browser
     echo "model, isolation, hostile, refused_memory, replicas: not run: there is no proved program"

@@ -38,6 +38,7 @@ class Wire:
         plain.setsockopt(socket.IPPROTO_TCP, socket.TCP_NODELAY, 1)
         self.socket = context.wrap_socket(plain, server_hostname="localhost", session=begun) if context else plain
         self.name, self.number, self.waiting, self.is_over = b"", 1, b"", False
+        self.answers = True  # TestRequests, on the way
 
     def __enter__(self) -> "Wire":
         return self
@@ -71,7 +72,7 @@ class Wire:
     def read(self, limit: float = LONG) -> Received | None:
         """The next message; None where the connection has ended or nothing came within the limit.
 
-        A TestRequest is answered on the way.
+        A TestRequest is answered on the way, unless `answers` is false.
         """
         until = time.monotonic() + limit
         while (end := self._first_end()) is None:
@@ -79,9 +80,13 @@ class Wire:
                 return None
         data, self.waiting = self.waiting[:end], self.waiting[end:]
         message = received_of(data)
-        if message.kind == b"1":  # a TestRequest wants its Heartbeat
-            self.raw(self.message(b"0", self.name, [(112, message.value(112))]))
+        if message.kind == b"1" and self.answers:
+            self.heartbeat(message)
         return message
+
+    def heartbeat(self, question: Received) -> bool:
+        """The answer to a TestRequest."""
+        return self.raw(self.message(b"0", self.name, [(112, question.value(112) or b"")]))
 
     def _first_end(self) -> int | None:
         """Where the first message that came ends, if all of it came."""

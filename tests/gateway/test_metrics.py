@@ -1,0 +1,109 @@
+"""Each metric counts what its line of help says: one that nothing moves is a fault, and so is one that no test knows."""
+
+from tests.gateway.stage import DEALER, Stage, check
+from tests.gateway.wait import LONG, until
+from tests.gateway.wire import Wire
+
+COUNTERS = ("commits", "entries", "sent", "delivered", "connections", "logons", "venue_starts")
+GAUGES = ("connections", "sessions", "speaks")
+HISTOGRAMS = ("commit", "logged", "answered")
+BY_REASON = ("refused", "dropped")
+NAMES = {
+    *("mireseason_%s_total" % name for name in (*COUNTERS, *BY_REASON)),
+    *("mireseason_" + name for name in GAUGES),
+    *("mireseason_%s_seconds_%s" % (name, part) for name in HISTOGRAMS for part in ("count", "sum", "bucket")),
+}
+
+
+def metric(stage: Stage, name: str) -> float:
+    return stage.counters().get("mireseason_" + name, 0)
+
+
+def sent_in_log(stage: Stage) -> int:
+    """How many messages of the venue the log has now: the last ones may still come."""
+    return sum(len(each) for each in stage.door.ledger().sent.values())
+
+
+def counts(stage: Stage, name: str, wanted: float) -> None:
+    """A metric comes to this value, and to no other."""
+    until("%s is %g, and not %g" % (name, wanted, metric(stage, name)), LONG, lambda: metric(stage, name) == wanted)
+
+
+def test_what_a_day_counts(stage: Stage) -> None:
+    """Against the log: entries, the venue's messages, messages that were handed over, commits, and times of each message."""
+    stage.open(*stage.firms)
+    stage.auction()
+    stage.ping(stage.dealer)
+    messages = sum(entry.number is not None for entry in stage.door.ledger().entries)
+    check(messages == 5 and sent_in_log(stage) > 5, "the day is another: %d messages" % messages)
+    counts(stage, "entries_total", messages)
+    counts(stage, "logged_seconds_count", messages)
+    counts(stage, "answered_seconds_count", messages)
+    for name in ("delivered_total", "sent_total"):
+        until("%s is %g, and %d are in the log" % (name, metric(stage, name), sent_in_log(stage)), LONG,
+              lambda: metric(stage, name) == sent_in_log(stage))
+    commits = metric(stage, "commits_total")
+    check(commits >= messages, "%g commits of %d messages that came one by one" % (commits, messages))
+    counts(stage, "commit_seconds_count", metric(stage, "commits_total"))
+    for name in HISTOGRAMS:
+        took = metric(stage, name + "_seconds_sum")
+        check(0 < took < LONG, "%s: %g s in all" % (name, took))
+
+
+def test_what_connections_count(stage: Stage) -> None:
+    """Connections and sessions that stand, and those that were."""
+    stage.open()
+    counts(stage, "speaks", 1)
+    counts(stage, "connections", 0)
+    looks = metric(stage, "connections_total")  # whether it listens
+    stage.log_on(*stage.firms)
+    counts(stage, "connections_total", looks + 3)
+    counts(stage, "connections", 3)
+    counts(stage, "logons_total", 3)
+    counts(stage, "sessions", 3)
+    stage.log_off(stage.other)
+    counts(stage, "sessions", 2)
+    counts(stage, "connections", 2)
+    stage.log_on(stage.other)
+    counts(stage, "logons_total", 4)
+    counts(stage, "connections_total", looks + 4)
+    counts(stage, "sessions", 3)
+
+
+def test_what_is_refused_and_dropped(stage: Stage) -> None:
+    """By its reason: a wrong password, an unknown name, a message ahead of a gap."""
+    stage.open(stage.other)
+    with Wire(stage.door.port) as wire:
+        wire.logon(b"NOBODY", b"secret")
+        check(wire.closed_within(LONG), "it stays")
+    with Wire(stage.door.port) as wire:
+        wire.logon(DEALER.name.encode(), b"wrong")
+        check(wire.closed_within(LONG), "it stays")
+    counts(stage, 'refused_total{reason="unknown name"}', 1)
+    counts(stage, 'refused_total{reason="wrong password"}', 1)
+    with Wire(stage.door.port) as wire:
+        wire.logon(DEALER.name.encode(), DEALER.password.encode())
+        check(wire.read_kind(b"A") is not None, "it is not let in")
+        wire.number += 1
+        wire.raw(wire.message(b"0", DEALER.name.encode(), []))
+        counts(stage, 'dropped_total{reason="gap"}', 1)
+
+
+def test_starts_of_the_venue(stage: Stage) -> None:
+    stage.open(stage.dealer)
+    counts(stage, "venue_starts_total", 1)
+    check(stage.door.kill_venue(), "there is no venue")
+    counts(stage, "venue_starts_total", 2)
+    stage.ping(stage.dealer)
+
+
+def test_no_metric_is_unknown(stage: Stage) -> None:
+    """A new metric needs a test here that moves it."""
+    stage.open(stage.dealer)
+    with Wire(stage.door.port) as wire:
+        wire.logon(b"NOBODY", b"secret")
+        check(wire.closed_within(LONG), "it stays")
+    until("a refusal is counted", LONG, lambda: any("refused_total" in name for name in stage.counters()))
+    found = {name.split("{")[0] for name in stage.counters() if name.startswith("mireseason_")}
+    assert found - NAMES == set()
+    assert NAMES - found <= {"mireseason_dropped_total"}  # none was dropped

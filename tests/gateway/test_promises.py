@@ -1,0 +1,275 @@
+"""Promises in seconds, each with its budget, and promises of what comes before what."""
+
+import math
+import os
+import signal
+import time
+from collections.abc import Callable
+
+from tests.gateway.firm import Received
+from tests.gateway.held import milliseconds
+from tests.gateway.ledger import rows
+from tests.gateway.market import moment_in
+from tests.gateway.stage import DEALER, Stage, check
+from tests.gateway.wait import LONG, until, within
+from tests.gateway.wire import Wire
+from tests.harness.budget import Budget, seconds_until
+
+SLOW_SYNC = 2000  # milliseconds
+NAME, PASSWORD = DEALER.name.encode(), DEALER.password.encode()
+
+SETTLING = Budget("what waits for a firm comes ten seconds after a Logon whose TestRequest is not answered", most=10, least=9)
+SETTLED = Budget("what waits for a firm comes once the TestRequest is answered, and not ten seconds after its Logon", most=5, slack=4)
+GAP = Budget("a gap that is not filled is asked for again after ten seconds", most=11, least=9.5)
+LEAVES = Budget("a connection is closed two seconds after a Logout at most", most=2.5)
+SECOND = Budget("a second connection of a firm waits for two seconds, and is closed", most=2.5, least=1.5)
+EXPIRES = Budget("a request ends at its deadline", most=1, slack=8)
+SILENT = Budget("the operator is told after five seconds that the venue does not answer", most=6, least=4, slack=20)
+STALLED = Budget("the operator is told after five seconds that the log does not answer", most=6, least=4, slack=20)
+GONE = Budget("the quotes of a dealer that is gone are cancelled", most=1)
+GONE_BEFORE = Budget("the quotes of a dealer that was on when the gateway was killed are cancelled at its next start", most=5)
+
+
+def on(stage: Stage, number: int = 1, answers: bool = True) -> Wire:
+    """A connection of DLR1 that has logged on with this number."""
+    wire = Wire(stage.door.port)
+    wire.answers, wire.number = answers, number
+    wire.logon(NAME, PASSWORD)
+    check(wire.read_kind(b"A") is not None, "the Logon is not answered")
+    if answers:
+        check(wire.read_kind(b"1") is not None, "there is no TestRequest after the Logon")
+    return wire
+
+
+def quoted_by_one_gone(stage: Stage, dealer_ends: Callable[[], object]) -> float:
+    """How long it takes from a dealer's end until its quote is gone for the investor."""
+    request = stage.ask(dealers=[stage.dealer])
+    stage.quote(stage.dealer, request)
+    dealer_ends()
+
+    def is_gone() -> bool:
+        stage.investor.look()
+        return any(each.value(297) == b"17" and each.value(131) == stage.asked for each in stage.investor.received)
+
+    return seconds_until(is_gone, GONE_BEFORE.limit)
+
+
+# ------------------------------------------------------------ before what
+
+
+def test_own_messages_are_on_disk_before_they_leave(stage: Stage) -> None:
+    """The session's own messages, too: when the answer to a Logon comes, its row is in the log, however long the disk takes."""
+    stage.door.write()
+    stage.door.environment = {"LD_PRELOAD": str(stage.tools.shim), "DISK_SLOW": str(SLOW_SYNC)}
+    stage.door.start()
+    stage.door.wait_open()
+    with Wire(stage.door.port) as wire:
+        wire.logon(NAME, PASSWORD)
+        check(wire.read_kind(b"A") is not None, "the Logon is not answered")
+        stored = rows(stage.door.database, "SELECT number, bytes FROM outgoing WHERE firm = 'DLR1'")
+        check(any(number == 1 and b"\x0135=A\x01" in data for number, data in stored), "it left before its row was on disk")
+
+
+def test_entries_are_on_disk_before_they_are_answered(stage: Stage) -> None:
+    """When the venue's answer comes, the message is in the log, and its connection too."""
+    stage.door.write()
+    stage.door.environment = {"LD_PRELOAD": str(stage.tools.shim), "DISK_SLOW": str(SLOW_SYNC)}
+    stage.door.start()
+    stage.door.wait_open()
+    with on(stage) as wire:
+        wire.raw(wire.message(b"Z", NAME, [(50, DEALER.trader.encode()), (298, b"5"), (117, b"x")]))
+        check(wire.read_kind(b"AI") is not None, "the cancel is not answered")
+        found = rows(stage.door.database, "SELECT count(*) FROM entry JOIN connection ON entry.connection = connection.number "
+                     "WHERE entry.firm = 'DLR1' AND event = 'logon'")
+        check(found == [(1,)], "it was answered before it was on disk")
+
+
+# ------------------------------------------------------------ a session settles
+
+
+def test_what_waits_while_a_session_settles(stage: Stage) -> None:
+    """A firm that does not answer the TestRequest after its Logon is sent nothing of the venue for ten seconds."""
+    stage.open(stage.other, stage.investor)
+    number = 1
+
+    def measure() -> float:
+        nonlocal number
+        with on(stage, number, answers=False) as wire:
+            began, number = time.monotonic(), wire.number
+            stage.ask_of([stage.dealer, stage.other])
+            came = seconds_until(lambda: next_of_venue(wire) is not None, SETTLING.limit)
+            return came if came == math.inf else time.monotonic() - began
+
+    SETTLING.hold(measure)
+
+
+def next_of_venue(wire: Wire) -> Received | None:
+    """A request that has come, if one has."""
+    return wire.read_until(lambda message: message.kind == b"R", limit=0.05)
+
+
+def test_a_session_is_settled_by_its_answer(stage: Stage) -> None:
+    """A firm that answers the TestRequest is sent what waits for it at once."""
+    stage.open(stage.other, stage.investor)
+    number = 1
+
+    def measure() -> float:
+        nonlocal number
+        began = time.monotonic()
+        with on(stage, number, answers=False) as wire:
+            question = wire.read_kind(b"1")
+            assert question is not None
+            stage.ask_of([stage.dealer, stage.other])
+            wire.heartbeat(question)
+            number = wire.number
+            came = seconds_until(lambda: next_of_venue(wire) is not None, SETTLED.limit)
+            return came if came == math.inf else time.monotonic() - began
+
+    SETTLED.hold(measure)
+
+
+def test_a_gap_is_asked_for_again(stage: Stage) -> None:
+    """A message ahead of a gap that nobody fills: the gap is asked for at once, and once more ten seconds later."""
+    stage.open(stage.other)
+
+    def measure() -> float:
+        asked = wire.read_kind(b"2", limit=GAP.limit)
+        return seconds_until(lambda: asked is not None and wire.read_kind(b"2", limit=0.05) is not None, GAP.limit)
+
+    with on(stage) as wire:
+        wire.number += 1
+        wire.raw(wire.message(b"0", NAME, []))
+        GAP.hold(measure)
+
+
+# ------------------------------------------------------------ connections that end
+
+
+def test_a_logout_ends_its_connection(stage: Stage) -> None:
+    """A firm that does not answer the Logout with which it is logged out."""
+    stage.open(stage.other)
+    number = 1
+
+    def measure() -> float:
+        nonlocal number
+        with on(stage, number) as wire:
+            wire.raw(wire.message(b"0", NAME, []))
+            stage.ping(stage.other)
+            wire.raw(wire.message(b"0", NAME, [], number=1))  # it came before
+            check(wire.read_kind(b"5") is not None, "it is not logged out")
+            number = wire.number
+            return seconds_until(lambda: wire.closed_within(0.05), LEAVES.limit)
+
+    LEAVES.hold(measure)
+
+
+def test_a_second_connection_waits(stage: Stage) -> None:
+    stage.open(stage.dealer)
+
+    def measure() -> float:
+        with Wire(stage.door.port) as wire:
+            wire.logon(NAME, PASSWORD)
+            return seconds_until(lambda: wire.closed_within(0.05), SECOND.limit)
+
+    SECOND.hold(measure)
+    check(stage.dealer.logged_on(), "the first one ended")
+
+
+# ------------------------------------------------------------ deadlines, and who is gone
+
+
+def test_a_request_ends_at_its_deadline(stage: Stage) -> None:
+    """The clock line is committed within a second of the deadline."""
+    stage.open(*stage.firms)
+    ended = 0
+
+    def measure() -> float:
+        nonlocal ended
+        stage.ask(1.5)
+        ended += 1
+        until("the deadline has passed", LONG, lambda: moment_in(0)[9:].decode() >= stage.deadline)
+        within(EXPIRES.limit, lambda: len(clock_lines(stage)) >= ended)
+        lines = clock_lines(stage)
+        late = milliseconds(lines[-1]) - milliseconds(stage.deadline) if len(lines) >= ended else 1000 * (EXPIRES.limit + 1)
+        return late / 1000
+
+    EXPIRES.hold(measure)
+
+
+def clock_lines(stage: Stage) -> list[str]:
+    return [entry.moment for entry in stage.door.ledger().entries if entry.is_clock]
+
+
+def test_quotes_of_one_gone(stage: Stage) -> None:
+    stage.door.cancelled = {DEALER.name: DEALER.trader}
+    stage.open(*stage.firms)
+
+    def measure() -> float:
+        took = quoted_by_one_gone(stage, stage.dealer.kill)
+        stage.log_on(stage.dealer)
+        return took
+
+    GONE.hold(measure)
+
+
+def test_quotes_of_one_gone_with_its_gateway(stage: Stage) -> None:
+    """Gateway and dealer are killed together: at the gateway's next start the quotes are cancelled for it."""
+    stage.door.cancelled = {DEALER.name: DEALER.trader}
+    stage.open(*stage.firms)
+
+    def both_end() -> None:
+        stage.door.kill()
+        stage.dealer.kill()
+        stage.door.start()
+        stage.investor.wait_on()
+
+    def measure() -> float:
+        took = quoted_by_one_gone(stage, both_end)
+        stage.log_on(stage.dealer)
+        return took
+
+    GONE_BEFORE.hold(measure)
+
+
+# ------------------------------------------------------------ what the operator is told
+
+
+def told_since(stage: Stage, begin: int, words: bytes) -> bool:
+    return words in stage.door.told.read_bytes()[begin:]
+
+
+def test_a_silent_venue_is_told(stage: Stage) -> None:
+    stage.open(stage.dealer)
+
+    def measure() -> float:
+        begin, venues = len(stage.door.told.read_bytes()), stage.door.venues()
+        for pid in venues:
+            os.kill(pid, signal.SIGSTOP)
+        before = stage.entries_of(stage.dealer)
+        stage.say(stage.dealer, "Z", [(298, b"5"), (117, stage.name("x"))])
+        until("the message is in the log", LONG, lambda: stage.entries_of(stage.dealer) > before)
+        took = seconds_until(lambda: told_since(stage, begin, b"venue does not answer"), SILENT.limit)
+        for pid in venues:
+            os.kill(pid, signal.SIGCONT)
+        stage.ping(stage.dealer)
+        until("it answers again", LONG, lambda: told_since(stage, begin, b"venue answers again"))
+        return took
+
+    SILENT.hold(measure)
+
+
+def test_a_slow_log_is_told(stage: Stage) -> None:
+    stage.door.write()
+    stage.door.environment = {"LD_PRELOAD": str(stage.tools.shim), "DISK_SLOW": "7000"}
+
+    def measure() -> float:
+        begin = len(stage.door.told.read_bytes()) if stage.door.told.exists() else 0
+        stage.door.start()
+        stage.door.wait_open()
+        with Wire(stage.door.port) as wire:
+            wire.logon(NAME, PASSWORD)
+            took = seconds_until(lambda: told_since(stage, begin, b"log does not answer"), STALLED.limit)
+        stage.door.kill()
+        return took
+
+    STALLED.hold(measure)

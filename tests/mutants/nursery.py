@@ -1,0 +1,106 @@
+"""A copy of the tree in which wrong bodies are planted, one at a time, built, and held against their tests."""
+
+import os
+import shutil
+import subprocess
+import sys
+from collections.abc import Iterator
+from contextlib import contextmanager
+from dataclasses import dataclass
+from pathlib import Path
+
+from tests.harness.build import alone, told
+from tests.harness.options import ROOT
+from tests.harness.reports import Count, counted
+from tests.mutants.mutant import Mutant
+
+FOLDER = ROOT / "tests" / "out" / "mutants"
+LIMIT = 1800  # seconds of one test
+GATEWAY = "mireseason-gateway"
+
+
+@dataclass(frozen=True)
+class Nursery:
+    """The copy is made once and kept: what has not changed is not built again."""
+
+    folder: Path
+    venue: tuple[str, ...]
+
+    @property
+    def out(self) -> Path:
+        return self.folder / "gateway" / "out"
+
+    def refresh(self) -> None:
+        """Copies each file of the tree that is another there, and takes away those that the tree has not."""
+        names = files_of(ROOT)
+        for name in names:
+            copy_if_other(ROOT / name, self.folder / name)
+        for name in set(files_below(self.folder)) - set(names):
+            (self.folder / name).unlink()
+
+    def build(self) -> None:
+        words = ["cmake", "-S", str(self.folder / "gateway"), "-B", str(self.out)]
+        if shutil.which("ccache"):
+            words.append("-DCMAKE_CXX_COMPILER_LAUNCHER=ccache")
+        told(words)
+        told(["cmake", "--build", str(self.out), "--target", GATEWAY, "terms_test", "-j", str(os.cpu_count() or 1)])
+
+    @contextmanager
+    def planted(self, mutant: Mutant) -> Iterator[None]:
+        file = self.folder / mutant.file
+        text = file.read_text()
+        try:
+            file.write_text(mutant.planted_in(text))
+            if mutant.is_built:
+                self.build()
+            yield
+        finally:
+            file.write_text(text)
+
+    def tried(self, mutant: Mutant) -> tuple[Count, str]:
+        """What its test says of it, and the last lines of that."""
+        report = self.folder.parent / (mutant.name + ".xml")
+        report.unlink(missing_ok=True)
+        words = [sys.executable, "-m", "pytest", mutant.test, "--junitxml", str(report), "-o", "junit_family=xunit1"]
+        for word in self.venue_words():
+            words.append(word)
+        own = {name: value for name, value in os.environ.items() if name not in ("PYTHONPATH", "VENUE", "GATEWAY", "FORM")}
+        done = subprocess.run(words, cwd=self.folder, env=own, stdout=subprocess.PIPE, stderr=subprocess.STDOUT, text=True,
+                              timeout=LIMIT, check=False)
+        return (counted([report]) if report.exists() else Count()), done.stdout[-3000:]
+
+    def venue_words(self) -> list[str]:
+        program = self.out / GATEWAY
+        return ["--venue", " ".join(self.venue), *(["--gateway", str(program)] if program.exists() else [])]
+
+
+def files_of(root: Path) -> list[str]:
+    """The files of the tree that belong to it."""
+    words = ["git", "-C", str(root), "ls-files", "-z", "--cached", "--others", "--exclude-standard", "--", "audit", "conftest.py",
+             "deploy", "docs", "examples", "fix", "gateway", "pyproject.toml", "tests", "tools"]
+    listed = subprocess.run(words, capture_output=True, check=True).stdout.decode().split("\0")
+    return [name for name in listed if name and (root / name).is_file()]
+
+
+def files_below(folder: Path) -> Iterator[str]:
+    """What stands in the copy, but for what was built or run there."""
+    for path in folder.rglob("*"):
+        inner = path.relative_to(folder)
+        if path.is_file() and not {"out", "__pycache__"} & set(inner.parts):
+            yield str(inner)
+
+
+def copy_if_other(source: Path, target: Path) -> None:
+    if target.exists() and target.read_bytes() == source.read_bytes():
+        return
+    target.parent.mkdir(parents=True, exist_ok=True)
+    shutil.copy(source, target)
+
+
+@contextmanager
+def nursery(venue: tuple[str, ...]) -> Iterator[Nursery]:
+    """The copy, for one process at a time."""
+    with alone(FOLDER):
+        made = Nursery(FOLDER / "tree", venue)
+        made.refresh()
+        yield made
