@@ -51,7 +51,8 @@ class Commands:
         parser = self._parsers.add_parser(name, help=text, description=text)
         parser.set_defaults(act=act, until=None, at=None)
         parser.add_argument("log", metavar="LOG", help=LOG_HELP)
-        parser.add_argument("--schema", default="public", help="the schema of the day in PostgreSQL")
+        text = "the schema of the day in PostgreSQL"
+        parser.add_argument("--schema", default="public", help=text)
         text = "what was sent, as `live --frames` prints it"
         parser.add_argument("--sent", type=Path, help=text)
         venue = os.environ.get("VENUE", shlex.quote(str(VENUE)))

@@ -16,7 +16,9 @@ from .export import export_day
 from .facts import Facts
 from .faults import Unreadable
 from .folders import make_folder
+from .parties import read_parties
 from .records import Day, Firm
+from .rts24 import FIELDS, MARK, SOURCES, order_events, record_table
 from .statistics import statistics_of
 from .statistics_text import statistics_json, statistics_text
 from .tables import Form, table_text, write_table
@@ -99,6 +101,31 @@ def do_stats(work: Work) -> int:
     statistics = statistics_of(verdict.day, day_pass.facts, day_pass.refused)
     print(statistics_json(statistics) if work.words.json else statistics_text(statistics))
     return 0
+
+
+def do_record(work: Work) -> int:
+    """`record --rts24`: the record of orders, and where each field comes from."""
+    words = work.words
+    if not words.rts24:
+        raise Unreadable("say which record: --rts24")
+    parties, form = read_parties(words.parties), form_of(work) or Form.CSV
+    make_folder(words.folder)
+    verdict = checked(work)
+    if not is_good(verdict):
+        return 1
+    facts = passed_over(work, verdict).facts
+    events = list(order_events(facts, verdict.day.date))
+    scratch = work.folder / "record"
+    scratch.mkdir()
+    write_table(record_table(parties), events, form, scratch)
+    write_table(SOURCES, FIELDS, form, scratch)
+    for path in sorted(scratch.iterdir()):
+        shutil.move(path, words.folder / path.name)
+    print("%s: %d events of orders, %s" % (words.folder, len(events), MARK))
+    print("clock: the log has no samples of the gateway's clock")
+    for name in parties.missing:
+        print("missing in %s: %s" % (words.parties, name))
+    return 1 if parties.missing else 0
 
 
 def do_trades(work: Work) -> int:

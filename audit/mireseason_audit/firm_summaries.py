@@ -48,7 +48,7 @@ class FirmSummary:
         return Group.DEALER if self.firm.is_dealer else Group.INVESTOR
 
     def _grids(self) -> list[Grid]:
-        """The rows of the firm in the tables of the statistics; those that have none are left out."""
+        """The rows of the firm in the tables of the statistics, and no table without one."""
         statistics = self.summary.statistics
         grids = [
             *figure_grids(statistics, self._group),

@@ -11,18 +11,20 @@ import traceback
 from pathlib import Path
 
 from .arguments import (
-    DICTIONARY, SEAL_HELP, Commands, Parser, seconds, source_of, venue_of, with_form, with_moment, with_seal,
+    DICTIONARY, SEAL_HELP, Commands, Parser, seconds, source_of, venue_of, with_form, with_moment,
+    with_seal,
 )
 from .before import Before
 from .check import report
 from .command import Work, checked, compared_with, seal_of, seal_path
-from .day_commands import do_export, do_stats, do_trades
+from .day_commands import do_export, do_record, do_stats, do_trades
 from .faults import Unreadable, Wrong
 from .frame import printable
 from .log import Source
 from .seal import check_key, sealed, write_seal
 from .work import SIGNALS
 
+PACKAGES = {"markupsafe": "python3-jinja2"}  # others are called by their module
 EPILOG = (
     "Status 0: all is as it should be; 1: it is not; 2: that is not known, since something could"
     " not be read or written, or the log went on meanwhile."
@@ -71,9 +73,15 @@ def add_tables(commands: Commands) -> None:
     trades.add_argument("--for", dest="firm", metavar="FIRM", help="those of one firm")
     stats = commands.add("stats", "prints the figures of the day", do_stats)
     stats.add_argument("--json", action="store_true", help="as JSON")
-    for parser in (export, trades):
+    record = commands.add("record", "writes a record that the law asks for", do_record)
+    record.add_argument("folder", metavar="FOLDER", type=Path, help="an empty folder, or a new one")
+    text = "the orders, as of Commission Delegated Regulation (EU) 2017/580"
+    record.add_argument("--rts24", action="store_true", help=text)
+    text = "who stands behind the names (parties.toml)"
+    record.add_argument("--parties", type=Path, default=Path("parties.toml"), help=text)
+    for parser in (export, trades, record):
         with_form(parser)
-    for parser in (export, trades, stats):
+    for parser in (export, trades, stats, record):
         with_moment(parser)
         with_seal(parser)
 
@@ -133,8 +141,8 @@ def follow(work: Work, request: int | None) -> int:
 
     words = work.words
     if words.key or words.sign or words.until is not None or words.at is not None:
-        text = "a day that goes on has no seal and no end: leave out --key, --sign, --until and --at"
-        raise Unreadable(text)
+        text = "a day that goes on has no seal and no end: leave out %s"
+        raise Unreadable(text % "--key, --sign, --until and --at")
 
     def pager_of(source: Source, folder: Path, scratch: Path, before: Before | None) -> Pager:
         checker = work.checker(source, scratch)
@@ -191,10 +199,19 @@ def main(arguments: list[str] | None = None) -> int:
         return act(words)
     except (Unreadable, OSError, sqlite3.Error) as fault:
         print("mireseason-audit: %s" % printable(str(fault)), file=sys.stderr)
+    except ModuleNotFoundError as fault:
+        print("mireseason-audit: %s" % package_words(fault), file=sys.stderr)
     except Exception:  # a fault of this program says nothing of the log either
         traceback.print_exc()
     drop_output()
     return 2
+
+
+def package_words(fault: ModuleNotFoundError) -> str:
+    """Which package is missing, and how it is had."""
+    name = (fault.name or "").partition(".")[0]
+    text = "the Python package %s is missing: apt-get install -y %s, and run it by /usr/bin/python3"
+    return text % (name, PACKAGES.get(name, "python3-" + name))
 
 
 def drop_output() -> None:

@@ -130,7 +130,8 @@ class Drawing:
             words += ", could be hit until %s (62)" % quote.until
         else:
             foot = self._height - 10 if quote.last is None else self._rows[quote.last].y + 6
-        text = '<rect class="bar %s" x="%g" y="%.1f" width="6" height="%.1f"><title>%s</title></rect>'
+        text = '<rect class="bar %s" x="%g" y="%.1f" width="6" height="%.1f">'
+        text += "<title>%s</title></rect>"
         found = text % (kind, x - 3, top, max(2.0, foot - top), escape(words))
         return found + (lapse(x, max(foot, top + 2), words) if quote.has_lapsed else "")
 
@@ -245,7 +246,8 @@ def arrow(x: float, y: float, start: float) -> str:
 
 def lapse(x: float, y: float, words: str) -> str:
     """The mark at the end of a quote's validity."""
-    path = '<path class="lapse" d="M%g %.1f h14 M%g %.1f l8 8 M%g %.1f l-8 8"><title>%s</title></path>'
+    path = '<path class="lapse" d="M%g %.1f h14 M%g %.1f l8 8 M%g %.1f l-8 8">'
+    path += "<title>%s</title></path>"
     return path % (x - 7, y, x - 4, y - 4, x + 4, y - 4, escape(words))
 
 

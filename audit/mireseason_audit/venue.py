@@ -40,6 +40,11 @@ class Venue:
     def __str__(self) -> str:
         return " ".join(self.words)
 
+    def absent(self, fault: object) -> Unreadable:
+        """It can't be run: what to do."""
+        text = "the venue's program %s can't be run (%s): build it by `rt run` in crates/rfq_venue,"
+        return Unreadable((text + " or name one by --venue or VENUE") % (self, fault))
+
     def run(
         self, arguments: list[str], input_: Path | Growing, output: Path | None = None
     ) -> "Run":
@@ -62,7 +67,7 @@ class Venue:
                 check=False,
             )
         except (OSError, subprocess.TimeoutExpired) as fault:
-            raise Unreadable("the venue's program %s: %s" % (self, fault)) from None
+            raise self.absent(fault) from None
         lines = done.stdout.decode("utf-8", "replace").splitlines()
         return lines[0] if done.returncode == 0 and lines else "unknown"
 
@@ -110,7 +115,7 @@ class Run(Closing):
                 )
         except OSError as fault:
             self._told.close()
-            raise Unreadable("the venue's program %s: %s" % (self.venue, fault)) from None
+            raise self.venue.absent(fault) from None
         self._feeder: Feeder | None = None
         return self
 
@@ -196,7 +201,7 @@ class Conversation(Closing):
                 preexec_fn=bound_to(os.getpid()),
             )
         except OSError as fault:
-            raise Unreadable("the venue's program %s: %s" % (self.venue, fault)) from None
+            raise self.venue.absent(fault) from None
         return self
 
     def begin(self, head: bytes) -> None:

@@ -1,6 +1,7 @@
 """Logs that were changed by hand: each change is found, with its place."""
 
 import hashlib
+import io
 import os
 import random
 import re
@@ -8,6 +9,7 @@ import shutil
 import subprocess
 import unittest
 from concurrent.futures import ProcessPoolExecutor
+from contextlib import redirect_stdout
 from dataclasses import dataclass
 from multiprocessing import get_context
 from pathlib import Path
@@ -30,6 +32,10 @@ CHANGES = 40 if IS_SHORT else 500
 SEED = int(os.environ.get("SEED", "1"))
 AT_ONCE = 4
 BLOCKS = ((1024, 1 << 20), (7, 300), (1, 64))  # rows and bytes that are read at one time
+MAKING = (
+    ("stats",), ("export", "--csv"), ("trades",), ("record", "--rts24"), ("stats", "--json"),
+    ("export", "--json", "--for", "FJORD"), ("trades", "--csv", "--for", "ALPHA"),
+)  # the commands that make something of a day
 PRINT = 'cat "$1"; cat "$2" >&2; exit "$(cat "$3")"'
 
 
@@ -96,6 +102,31 @@ class Sealed:
                 return 2, str(fault)
             return (0 if verdict.is_good else 1), "\n".join(report(verdict))
 
+    def made(self, log: Path, number: int) -> str:
+        """Lets a command make something of a log, one after the other; answers what was wrong
+        about that: of a log that was changed nothing is made, and the status says so.
+        """
+        with folder() as name:
+            place, venue = Path(name), KeptVenue(tuple(venue_words()), self.place / "kept")
+            command, *more = MAKING[number % len(MAKING)]
+            out = [str(place / "out")] if command in ("export", "record") else []
+            words = [command, str(log), *out, *more, "--jobs", "2", "--key"]
+            words += [str(self.place / "public.pem"), "--seal", str(self.place / "day.db.seal")]
+            words += ["--parties", str(self.place / "parties.toml")] if command == "record" else []
+            parsed = parser_of().parse_args(words)
+            told = io.StringIO()
+            try:
+                with redirect_stdout(told):
+                    status = parsed.act(Work(parsed, source_of(parsed, venue, place), place, venue))
+            except Wrong:
+                status = 1
+            except Unreadable as fault:
+                return "%s: %s" % (command, fault)
+            made = list((place / "out").glob("*"))
+            if status == 1 and not made and not re.search(r"Dealers|trades\b", told.getvalue()):
+                return ""
+            return "%s: status %d, %s: %s" % (command, status, made, told.getvalue()[:200])
+
     def tampered(self, number: int) -> str:
         """Changes a copy; answers what was not found of it."""
         path = self.place / ("tampered-%d.db" % number)
@@ -105,7 +136,10 @@ class Sealed:
         rows, size = BLOCKS[number % len(BLOCKS)]
         with patch.object(sqlite_log, "ROWS_AT_A_TIME", rows), patch.object(streams, "BLOCK", size):
             status, text = self.check(path)
+            made = self.made(path, number)
         path.unlink()
+        if made:
+            return "change %d, %s: %s" % (number, change.what, made)
         if status == 1 and re.search(change.pattern, text):
             return ""
         return "change %d, %s: status %d, without %r:\n%s" % (
@@ -124,6 +158,7 @@ class Tampered(unittest.TestCase):
         draw_day(cls.sealed.log)
         private, _ = keys(cls.sealed.place)
         (cls.sealed.place / "kept").mkdir()
+        (cls.sealed.place / "parties.toml").touch()
         assert audit("seal", cls.sealed.log, "--key", private).status == 0
 
     @classmethod

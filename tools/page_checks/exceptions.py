@@ -27,6 +27,9 @@ ON_A_PAGE = [
     ("docs/SUPERVISING.md", "day_20261124"),  # a schema of a reader's
     ("docs/SUPERVISING.md", "sent.txt"),  # a list of a reader's
     ("docs/SUPERVISING.md", "pages/index.html"),  # a page that the audit writes
+    ("docs/SUPERVISING.md", "DIR/now"),  # a link that the audit makes
+    ("docs/SUPERVISING.md", "DIR/builds"),  # a folder of its
+    ("docs/SUPERVISING.md", "parties.toml"),  # a file of a reader's
 ]
 
 
