@@ -113,6 +113,7 @@ class ConfigReader {
                 word = venue.beside(word).string();
             }
         }
+        config_.confined = venue.find<bool>("confined").value_or(true);
         config_.program = venue.path("program");
         if (config_.program.empty()) {
             config_.program = config_.command.front();

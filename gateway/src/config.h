@@ -40,6 +40,7 @@ struct Config {
     std::string venue; // its name, empty where it is the only one
     std::vector<std::string> command;
     std::filesystem::path program;
+    bool confined = false;     // the venue's process has no network, and its own files alone
     std::string configuration; // the venue's, byte for byte, with a line feed at its end
     VenueFirms firms;
 

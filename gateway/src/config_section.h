@@ -28,7 +28,6 @@ class Section {
         : file_(std::move(file)), name_(std::move(name)), table_(table) {}
 
     bool stands() const { return table_ != nullptr; }
-    bool has(std::string_view key) const { return table_ != nullptr && table_->contains(key); }
 
     template <typename Value> std::optional<Value> find(std::string_view key) {
         asked_.emplace(key);

@@ -36,8 +36,9 @@ Follower::Follower(VenueDay &day, const OpenedDay &opened)
     : day_(day), last_(opened.last), found_(last_.place), committed_(last_.place),
       comparison_(*day.database, day.status.stopping()), ahead_(day.config.waiting_messages),
       silence_(day.events, day.of_venue()),
-      venue_({day.config.command, day.config.configuration, day.config.venue_starts}, *day.database,
-             committed_, opened.first.hash, *this, day.metrics, day.events) {
+      venue_({day.config.command, day.config.configuration, day.config.venue_starts,
+              day.config.confined},
+             *day.database, committed_, opened.first.hash, *this, day.metrics, day.events) {
     venue_.start();
 }
 

@@ -1,6 +1,7 @@
 // mireseason-gateway CONFIG
 #include "accept_loss.h"
 #include "check_settings.h"
+#include "confinement.h"
 #include "make_keys.h"
 #include "moment.h"
 #include "password.h"
@@ -29,6 +30,8 @@ constexpr const char *usage = R"(usage: mireseason-gateway CONFIG
                                            makes the secret of a log, and for each gateway its keys
        mireseason-gateway --accept-loss CONFIG
                                            takes the log as it is, where its end was lost
+       mireseason-gateway --confined COMMAND ..
+                                           runs a command without network, and with its own files alone
        mireseason-gateway --version
 )";
 
@@ -159,6 +162,9 @@ int main(int count, char **words) {
         }
         if (arguments == std::vector<std::string>{"--hash"}) {
             return print_hash();
+        }
+        if (arguments.size() >= 2 && arguments[0] == "--confined") {
+            gateway::become_confined({arguments.begin() + 1, arguments.end()});
         }
         if (arguments.size() >= 2 && arguments[0] == "--make-keys") {
             make_keys(arguments);

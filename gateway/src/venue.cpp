@@ -1,5 +1,6 @@
 #include "venue.h"
 
+#include "confinement.h"
 #include "frame.h"
 
 #include <algorithm>
@@ -113,7 +114,7 @@ std::string Venue::run_once(std::stop_token stop) {
     answered_lines_ = 0;
     starts_.push_back(std::chrono::steady_clock::now());
     metrics_.venue_started();
-    Process process(settings_.command);
+    Process process(settings_.confined ? confined(settings_.command) : settings_.command);
     events_->info("venue started program=\"{}\"", settings_.command.front());
     const Running running(*this, process);
     const std::exception_ptr fault = serve(process, stop);

@@ -49,6 +49,7 @@ class Venue {
         std::vector<std::string> command;
         std::string configuration; // ends in a line feed
         unsigned starts = 3;       // within a minute
+        bool confined = false;     // without network, keys and database
     };
 
     Venue(Settings settings, Database &database, Committed &committed, const Digest &first_hash,

@@ -60,7 +60,8 @@ class Signatures(unittest.TestCase):
         row[0] += 1
         place, term, moment, firm, number, line, _, _, received, connection = row
         values = place, term, moment, received, firm, number, connection, line, before
-        digest = hash_of(tuple(row), before)
+        last: Any = tuple(row)
+        digest = hash_of(last, before)
         self.do("INSERT INTO entry VALUES (?, ?, ?, ?, ?, ?, ?, ?, ?, ?)", *values, digest)
         return int(place)
 

@@ -39,7 +39,7 @@ class Intruder:
         connection.close()
         return [["-" if value is None else str(value) for value in row] for row in found]
 
-    def bytes(self, data: bytes) -> str:
+    def literal(self, data: bytes) -> str:
         """Bytes as they stand in a statement."""
         return ("'\\x%s'" if self.door.postgres is not None else "x'%s'") % data.hex()
 
@@ -53,14 +53,14 @@ class Intruder:
         row = int(place) + 1, term, moment, moment + "000", firm, number, connection
         text = " ".join([before.lower(), *map(str, row), str(len(line))]).encode() + b"\n" + line
         values = ["%d" % row[0], term, "'%s'" % row[2], "'%s'" % row[3], "'%s'" % firm, number, connection]
-        values += [self.bytes(line), self.bytes(bytes.fromhex(before)), self.bytes(hashlib.sha256(text).digest())]
+        values += [self.literal(line), self.literal(bytes.fromhex(before)), self.literal(hashlib.sha256(text).digest())]
         self.rows("INSERT INTO entry (%s, line, before, hash) VALUES (%s)" % (COLUMNS, ", ".join(values)))
         return row[0]
 
     def put_seal(self, place: int) -> None:
         """A seal for it, whose bytes nobody without the secret can know."""
         self.rows("INSERT INTO seal (number, term, place, event, mac) SELECT max(number) + 1, max(term), %d, max(event), %s FROM seal" % (
-            place, self.bytes(hashlib.sha256(b"guessed").digest())))
+            place, self.literal(hashlib.sha256(b"guessed").digest())))
 
 
 def asked_and_quoted(stage: Stage) -> bytes:
@@ -78,7 +78,7 @@ def hit_of(stage: Stage, quote: bytes, moment: str) -> bytes:
     count = stage.entries_of(stage.investor) + 1
     fields = [(35, b"AJ"), (49, b"INV1"), (56, b"VENUE"), (34, b"%d" % count), (52, b"%s-%s" % (moment_in(0)[:8], moment.encode()))]
     fields += [(50, b"V1"), (693, b"stolen"), (694, b"1"), (117, quote)]
-    return write_frame(fields)
+    return bytes(write_frame(fields))
 
 
 def now_text() -> str:
@@ -137,7 +137,7 @@ def not_accepted(stage: Stage, *words: str) -> None:
 
 
 def accept(stage: Stage) -> str:
-    words = [stage.door.programs.gateway, "--accept-loss", stage.folder / "gateway.toml"]
+    words = [str(stage.door.programs.gateway), "--accept-loss", str(stage.folder / "gateway.toml")]
     done = subprocess.run(words, capture_output=True, text=True, check=True)
     return done.stdout
 

@@ -1,0 +1,280 @@
+// By Landlock (files, signals) and seccomp (calls of the system), which this process asks for
+// itself: no privilege is needed.
+#include "confinement.h"
+
+#include "descriptor.h"
+
+#include <array>
+#include <cerrno>
+#include <cstddef>
+#include <cstdint>
+#include <cstdlib>
+#include <filesystem>
+#include <iostream>
+#include <set>
+#include <sstream>
+#include <system_error>
+
+#include <fcntl.h>
+#include <linux/audit.h>
+#include <linux/filter.h>
+#include <linux/seccomp.h>
+#include <sys/prctl.h>
+#include <sys/resource.h>
+#include <sys/stat.h>
+#include <sys/syscall.h>
+
+namespace gateway {
+
+namespace {
+
+namespace fs = std::filesystem;
+
+[[noreturn]] void fail(const char *what) {
+    throw std::system_error(errno, std::generic_category(), what);
+}
+
+// What the headers of older systems lack of linux/landlock.h.
+namespace landlock {
+
+constexpr long create_ruleset = 444;
+constexpr long add_rule = 445;
+constexpr long restrict_self = 446;
+constexpr unsigned ask_version = 1;
+constexpr int path_beneath = 1;
+
+constexpr std::uint64_t execute = 1U << 0;
+constexpr std::uint64_t write_file = 1U << 1;
+constexpr std::uint64_t read_file = 1U << 2;
+constexpr std::uint64_t read_dir = 1U << 3;
+
+struct Ruleset {
+    std::uint64_t files = 0;
+    std::uint64_t network = 0;
+    std::uint64_t scopes = 0;
+};
+
+struct [[gnu::packed]] Beneath {
+    std::uint64_t allowed = 0;
+    std::int32_t folder = -1;
+};
+
+// All that a kernel of this version can forbid, and how long what it reads of that is.
+std::pair<Ruleset, std::size_t> all_of(long version) {
+    Ruleset rules;
+    rules.files = (1U << 13) - 1;
+    rules.files |= version >= 2 ? 1U << 13 : 0; // to move files between folders
+    rules.files |= version >= 3 ? 1U << 14 : 0; // to cut them
+    rules.files |= version >= 5 ? 1U << 15 : 0; // to control devices
+    rules.network = version >= 4 ? 3 : 0;       // to bind, to connect
+    rules.scopes = version >= 6 ? 3 : 0;        // abstract sockets, signals
+    const std::size_t words = version >= 6 ? 3 : version >= 4 ? 2 : 1;
+    return {rules, words * sizeof(std::uint64_t)};
+}
+
+} // namespace landlock
+
+// The file of a program, as it is looked up in PATH; empty where there is none.
+fs::path find_program(const std::string &word) {
+    if (word.find('/') != std::string::npos) {
+        return word;
+    }
+    const char *path = std::getenv("PATH");
+    std::istringstream places(path == nullptr ? "/usr/bin:/bin" : path);
+    for (std::string place; std::getline(places, place, ':');) {
+        if (fs::exists(fs::path(place) / word)) {
+            return fs::path(place) / word;
+        }
+    }
+    return {};
+}
+
+// Of a program PREFIX/bin/NAME all of PREFIX (or PREFIX/shims, where several versions stand there).
+fs::path installed_in(const fs::path &program) {
+    const fs::path folder = program.parent_path();
+    const bool is_part = folder.filename() == "bin" || folder.filename() == "shims";
+    return is_part ? folder.parent_path() : folder;
+}
+
+// What the command reads.
+std::set<fs::path> readable(const std::vector<std::string> &command) {
+    std::set<fs::path> all = {"/usr", "/bin", "/lib", "/lib64", "/etc/ld.so.cache"};
+    std::error_code none;
+    const fs::path program = find_program(command.front());
+    all.insert(installed_in(program));
+    all.insert(installed_in(fs::canonical(program, none)));
+    for (const std::string &word : command) {
+        if (word.find('/') != std::string::npos && fs::exists(word, none)) {
+            all.insert(fs::absolute(word).parent_path());
+        }
+    }
+    all.erase("");
+    all.erase("/");
+    return all;
+}
+
+// A path that is not there is none that could be read.
+void allow(const Descriptor &ruleset, const fs::path &path, std::uint64_t access) {
+    const Descriptor opened(::open(path.c_str(), O_PATH | O_CLOEXEC));
+    struct stat found {};
+    if (opened.number() < 0 || ::fstat(opened.number(), &found) != 0) {
+        return;
+    }
+    landlock::Beneath rule;
+    rule.allowed = S_ISDIR(found.st_mode) ? access : access & ~landlock::read_dir;
+    rule.folder = opened.number();
+    if (::syscall(landlock::add_rule, ruleset.number(), landlock::path_beneath, &rule, 0) != 0) {
+        fail("Landlock, a rule");
+    }
+}
+
+void confine_files(const std::vector<std::string> &command) {
+    const long version = ::syscall(landlock::create_ruleset, nullptr, 0, landlock::ask_version);
+    if (version < 1) {
+        std::cerr << "this kernel has no Landlock: it may read any file of its user\n";
+        return;
+    }
+    const auto [rules, size] = landlock::all_of(version);
+    const Descriptor ruleset(
+        static_cast<int>(::syscall(landlock::create_ruleset, &rules, size, 0)));
+    if (ruleset.number() < 0) {
+        fail("Landlock");
+    }
+    for (const fs::path &path : readable(command)) {
+        allow(ruleset, path, landlock::execute | landlock::read_file | landlock::read_dir);
+    }
+    allow(ruleset, "/dev/null", landlock::read_file | landlock::write_file);
+    allow(ruleset, "/dev/urandom", landlock::read_file);
+    if (::syscall(landlock::restrict_self, ruleset.number(), 0) != 0) {
+        fail("Landlock");
+    }
+}
+
+#if defined(__x86_64__)
+constexpr std::uint32_t machine = AUDIT_ARCH_X86_64;
+#elif defined(__aarch64__)
+constexpr std::uint32_t machine = AUDIT_ARCH_AARCH64;
+#else
+#error "which calls of the system the venue may make is not known on this machine"
+#endif
+
+// Sockets; other processes, their memory and their signals; the kernel's keys, programs and
+// settings; and what makes a process see other files.
+constexpr auto forbidden = std::to_array<unsigned>({SYS_socket,
+                                                    SYS_socketpair,
+                                                    SYS_io_uring_setup,
+                                                    SYS_io_uring_enter,
+                                                    SYS_ptrace,
+                                                    SYS_process_vm_readv,
+                                                    SYS_process_vm_writev,
+                                                    SYS_io_uring_register,
+                                                    SYS_pidfd_open,
+                                                    SYS_pidfd_getfd,
+                                                    SYS_pidfd_send_signal,
+                                                    SYS_tkill,
+                                                    SYS_kcmp,
+                                                    SYS_keyctl,
+                                                    SYS_add_key,
+                                                    SYS_request_key,
+                                                    SYS_bpf,
+                                                    SYS_perf_event_open,
+                                                    SYS_userfaultfd,
+                                                    SYS_mount,
+                                                    SYS_umount2,
+                                                    SYS_pivot_root,
+                                                    SYS_chroot,
+                                                    SYS_unshare,
+                                                    SYS_setns,
+                                                    SYS_name_to_handle_at,
+                                                    SYS_open_by_handle_at,
+                                                    SYS_init_module,
+                                                    SYS_finit_module,
+                                                    SYS_delete_module,
+                                                    SYS_kexec_load,
+                                                    SYS_reboot,
+                                                    SYS_swapon,
+                                                    SYS_swapoff,
+                                                    SYS_settimeofday,
+                                                    SYS_clock_settime,
+                                                    SYS_adjtimex,
+                                                    SYS_clock_adjtime,
+                                                    SYS_sethostname,
+                                                    SYS_acct,
+                                                    SYS_msgget,
+                                                    SYS_semget,
+                                                    SYS_shmget});
+
+using Filter = std::vector<sock_filter>;
+
+constexpr std::uint32_t refuse = SECCOMP_RET_ERRNO | EPERM;
+
+void load(Filter &filter, std::size_t offset) {
+    filter.push_back(BPF_STMT(BPF_LD | BPF_W | BPF_ABS, static_cast<std::uint32_t>(offset)));
+}
+void answer(Filter &filter, std::uint32_t what) {
+    filter.push_back(BPF_STMT(BPF_RET | BPF_K, what));
+}
+// What follows is passed over, so many lines, where the value is another.
+void unless_equal(Filter &filter, std::uint32_t value, std::uint8_t lines) {
+    filter.push_back(BPF_JUMP(BPF_JMP | BPF_JEQ | BPF_K, value, 0, lines));
+}
+
+Filter filter_for(std::uint32_t own) {
+    Filter filter;
+    load(filter, offsetof(seccomp_data, arch));
+    filter.push_back(BPF_JUMP(BPF_JMP | BPF_JEQ | BPF_K, machine, 1, 0));
+    answer(filter, SECCOMP_RET_KILL_PROCESS);
+    load(filter, offsetof(seccomp_data, nr));
+    // Numbers of the second set of calls that a processor of x86-64 has.
+    filter.push_back(BPF_JUMP(BPF_JMP | BPF_JGE | BPF_K, 0x40000000, 0, 1));
+    answer(filter, refuse);
+    for (const unsigned call : forbidden) {
+        unless_equal(filter, call, 1);
+        answer(filter, refuse);
+    }
+    // Signals to itself alone.
+    for (const unsigned call : {SYS_kill, SYS_tgkill}) {
+        unless_equal(filter, call, 4);
+        load(filter, offsetof(seccomp_data, args));
+        filter.push_back(BPF_JUMP(BPF_JMP | BPF_JEQ | BPF_K, own, 1, 0));
+        answer(filter, refuse);
+        answer(filter, SECCOMP_RET_ALLOW);
+    }
+    answer(filter, SECCOMP_RET_ALLOW);
+    return filter;
+}
+
+void confine_calls() {
+    Filter filter = filter_for(static_cast<std::uint32_t>(::getpid()));
+    const sock_fprog program{static_cast<unsigned short>(filter.size()), filter.data()};
+    if (::prctl(PR_SET_SECCOMP, SECCOMP_MODE_FILTER, &program) != 0) {
+        fail("seccomp");
+    }
+}
+
+} // namespace
+
+std::vector<std::string> confined(const std::vector<std::string> &command) {
+    std::vector<std::string> words = {"/proc/self/exe", "--confined"};
+    words.insert(words.end(), command.begin(), command.end());
+    return words;
+}
+
+void become_confined(const std::vector<std::string> &command) {
+    const rlimit no_core{};
+    if (::setrlimit(RLIMIT_CORE, &no_core) != 0 || ::prctl(PR_SET_NO_NEW_PRIVS, 1, 0, 0, 0) != 0) {
+        fail("the venue's process");
+    }
+    confine_files(command);
+    confine_calls();
+    std::vector<std::string> words = command;
+    std::vector<char *> arguments;
+    for (std::string &word : words) {
+        arguments.push_back(word.data());
+    }
+    arguments.push_back(nullptr);
+    ::execvp(arguments[0], arguments.data());
+    fail(arguments[0]);
+}
+
+} // namespace gateway

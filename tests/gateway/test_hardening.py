@@ -1,0 +1,131 @@
+"""How hard the gateway makes it for who finds a fault in it: the binary, its unit for systemd, and the venue's process."""
+
+import os
+import re
+import subprocess
+from pathlib import Path
+
+import pytest
+
+from tests.gateway.stage import Stage, check
+from tests.gateway.wait import LONG, until
+
+ROOT = Path(__file__).resolve().parent.parent.parent
+UNIT = ROOT / "gateway" / "mireseason-gateway.service"
+THRESHOLD = "20"  # tenths: systemd's measure, of which 100 is the worst
+
+
+def printed(*words: str | Path) -> str:
+    return subprocess.run([str(word) for word in words], capture_output=True, text=True, check=True, timeout=LONG).stdout
+
+
+# ------------------------------------------------------------ the binary
+
+
+def test_addresses_are_not_known_beforehand(gateway_program: Path) -> None:
+    """A position-independent executable."""
+    assert re.search(r"Type:\s+DYN \(Position-Independent Executable file\)", printed("readelf", "-hW", gateway_program))
+
+
+def test_tables_are_read_only(gateway_program: Path) -> None:
+    """Full RELRO: what the loader has filled in is written by nobody after the start; and no stack is run."""
+    assert re.search(r"FLAGS_1.*\bNOW\b", printed("readelf", "-dW", gateway_program))
+    segments = printed("readelf", "-lW", gateway_program)
+    assert "GNU_RELRO" in segments
+    assert re.search(r"GNU_STACK .* RW +0x", segments), segments
+
+
+def test_stacks_and_copies_are_checked(gateway_program: Path) -> None:
+    symbols = printed("readelf", "--dyn-syms", "-W", gateway_program)
+    assert "__stack_chk_fail" in symbols
+    assert re.search(r"__(mem|str|read|recv|fd|vsn|snprintf)\w*_chk", symbols), "no copy is checked"
+
+
+def test_jumps_land_where_a_function_begins(gateway_program: Path) -> None:
+    """The gateway's own C++ has the marks of -fcf-protection. (Debian's start files have no such note, so the linker leaves
+    it out of the whole binary, and no kernel enforces it.)"""
+    if os.uname().machine != "x86_64":
+        pytest.skip("this processor has no such marks")
+    text = printed("objdump", "-d", "--no-show-raw-insn", "--disassemble=main", gateway_program)
+    assert re.search(r"<main>:\n\s*[0-9a-f]+:\s+endbr64", text), text[-300:]
+
+
+# ------------------------------------------------------------ the unit
+
+
+def test_exposure_of_the_unit() -> None:
+    """By systemd's own measure at most 2.0, of 10."""
+    words = ["systemd-analyze", "security", "--offline=true", "--no-pager", "--threshold=" + THRESHOLD, str(UNIT)]
+    done = subprocess.run(words, capture_output=True, text=True, check=False, timeout=LONG)
+    assert done.returncode == 0, done.stdout[-2000:] + done.stderr
+
+
+SETTINGS = {
+    "CapabilityBoundingSet": "", "AmbientCapabilities": "", "NoNewPrivileges": "yes", "LimitCORE": "0", "RestrictNamespaces": "yes",
+    "PrivateDevices": "yes", "ProtectSystem": "strict", "MemoryDenyWriteExecute": "yes", "RestartPreventExitStatus": "2 3",
+}
+
+
+def test_settings_of_the_unit() -> None:
+    """No capability, no core, no namespaces, a limit of memory; and adjtimex, by which the clock is asked, is left."""
+    pairs = [line.split("=", 1) for line in UNIT.read_text().splitlines() if "=" in line and not line.startswith("#")]
+    found = dict(pairs)
+    assert {key: found.get(key) for key in SETTINGS} == SETTINGS
+    assert re.fullmatch(r"\d+G", found["MemoryMax"])
+    assert "ProtectClock" not in found
+    calls = [value for key, value in pairs if key == "SystemCallFilter"]
+    assert "adjtimex" in calls[0].split() and not calls[0].startswith("~")
+
+
+# ------------------------------------------------------------ the venue's process
+
+# Each tries something, and prints `done` where that went well.
+TRIES = {
+    "reads a key": "open({key!r}).read()",
+    "reads the log": "open({log!r}, 'rb').read(1)",
+    "reads a file of the system": "open('/etc/passwd').read()",
+    "writes a file": "open({new!r}, 'w')",
+    "connects by TCP": "import socket; socket.create_connection(('127.0.0.1', {port}), 2)",
+    "has a local socket": "import socket; socket.socket(socket.AF_UNIX)",
+    "signals its gateway": "import os, signal; os.kill(os.getppid(), 0)",
+    "reads its gateway's memory": "import os; open('/proc/%d/mem' % os.getppid(), 'rb').read(0)",
+    "lists a folder": "import os; os.listdir({folder!r})",
+}
+# And what it has to be able to do.
+NEEDS = {"reads its libraries": "import json, decimal", "reads its own file": "open({own!r}).read()", "raises a signal": "import os; os.kill(os.getpid(), 0)"}
+
+
+def outcome(gateway_program: Path, place: Path, text: str) -> str:
+    """What a confined program prints that does this, on a folder with keys and a log."""
+    own = place / "program"
+    own.mkdir(exist_ok=True)
+    script = own / "tried.py"
+    values = {"key": str(place / "seal.key"), "log": str(place / "day.db"), "new": str(own / "new"), "port": 1, "folder": str(place), "own": str(script)}
+    script.write_text(text.format(**values) + "\nprint('done')\n")
+    words = [gateway_program, "--confined", "/usr/bin/python3", "-B", script]
+    run = subprocess.run([str(word) for word in words], capture_output=True, text=True, check=False, timeout=LONG)
+    return run.stdout.strip() or run.stderr.strip().splitlines()[-1]
+
+
+@pytest.mark.parametrize("what", TRIES)
+def test_what_a_venue_can_not_do(gateway_program: Path, place: Path, what: str) -> None:
+    (place / "seal.key").write_text("secret")
+    (place / "day.db").write_text("log")
+    said = outcome(gateway_program, place, TRIES[what])
+    assert re.match(r"(PermissionError|OSError: \[Errno 1\])", said), said
+
+
+@pytest.mark.parametrize("what", NEEDS)
+def test_what_a_venue_needs(gateway_program: Path, place: Path, what: str) -> None:
+    assert outcome(gateway_program, place, NEEDS[what]) == "done"
+
+
+def test_the_venue_of_a_gateway_is_confined(stage: Stage) -> None:
+    """It can get no privilege, its calls are filtered, and the day goes as ever."""
+    stage.open(*stage.firms)
+    until("there is a venue", LONG, lambda: bool(stage.door.venues()))
+    status = Path("/proc/%d/status" % stage.door.venues()[0]).read_text()
+    for line in ("NoNewPrivs:\t1", "Seccomp:\t2"):
+        check(line in status, "%s is not so: %s" % (line, status))
+    stage.auction()
+    stage.whole()
