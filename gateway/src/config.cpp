@@ -196,6 +196,7 @@ class ConfigReader {
         }
         if (!file.empty()) {
             config_.sqlite = log.beside(filled(file));
+            check_private(config_.sqlite);
         } else {
             config_.schema = filled(schema);
         }

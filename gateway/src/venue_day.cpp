@@ -1,7 +1,6 @@
 #include "venue_day.h"
 
 #include "log_places.h"
-#include "private_file.h"
 
 #include <stdexcept>
 #include <utility>
@@ -21,7 +20,6 @@ std::unique_ptr<Database> open_database(const Config &config, DayClock &clock) {
         throw std::runtime_error(fmt::format(
             "the venue's configuration is of {}, and today is {} in UTC", clock.date(), today()));
     }
-    check_private(config.sqlite);
     return open_database(config);
 }
 

@@ -1,5 +1,6 @@
 """A firm that sends as much as it can, on a connection of its own."""
 
+import signal
 import threading
 from types import TracebackType
 
@@ -20,6 +21,13 @@ def logged_on(stage: Stage, who: Identity, heartbeat: bytes = b"30", settles: bo
         # Reading answers it.
         assert wire.read_kind(b"1") is not None
     return wire
+
+
+def hang_up(stage: Stage) -> None:
+    """Has the gateway read its credentials and certificates again."""
+    process = stage.door.process
+    assert process is not None
+    process.send_signal(signal.SIGHUP)
 
 
 def cancel(wire: Wire, number: int, name: bytes = b"x") -> bytes:

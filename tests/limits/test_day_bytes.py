@@ -1,12 +1,10 @@
 """How many bytes of a day's log one firm may have, and how it goes on at the limit."""
 
-import signal
-
 from tests.gateway.market import BOND
 from tests.gateway.stage import DEALER, Stage
 from tests.gateway.wait import LONG, until
 from tests.gateway.wire import Fields, Wire
-from tests.limits.flood import cancel, logged_on
+from tests.limits.flood import cancel, hang_up, logged_on
 
 TOLD = b"this firm has sent all the bytes that it may send in a day"
 MOST = 65536  # of the lines of its entries, some 260 bytes each
@@ -59,7 +57,7 @@ def test_at_the_limit_of_a_day(stage: Stage) -> None:
         number = wire.number
     file = stage.door.folder / "credentials.toml"
     file.write_text(file.read_text().replace("[DLR1]\n", "[DLR1]\nday_bytes = 100000000\n"))
-    stage.door.process.send_signal(signal.SIGHUP)
+    hang_up(stage)
     until("it is read", LONG, lambda: "were read again" in stage.door.told.read_text())
     with logged_on(stage, DEALER, number=number) as wire:
         assert wire.raw(wire.message(b"S", wire.name, quote(b"q4")))

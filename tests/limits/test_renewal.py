@@ -1,7 +1,6 @@
 """Credentials and certificates that are read again while the gateway runs, and who may come from where."""
 
 import re
-import signal
 import subprocess
 import time
 from pathlib import Path
@@ -10,10 +9,10 @@ import pytest
 
 from tests.gateway.stage import DEALER, Stage
 from tests.gateway.strangers import with_tls
-from tests.gateway.tried_logon import context, refused_for
+from tests.gateway.test_logon import refused_for
 from tests.gateway.wait import LONG, until
 from tests.gateway.wire import Wire
-from tests.limits.flood import logged_on
+from tests.limits.flood import hang_up, logged_on
 
 GONE = b"the credentials of this session are not valid any more"
 
@@ -21,7 +20,7 @@ GONE = b"the credentials of this session are not valid any more"
 def renew(stage: Stage, words: str = "were read again") -> None:
     """Has the gateway read them again, and waits until it has said so."""
     told = len(stage.door.told.read_bytes())
-    stage.door.process.send_signal(signal.SIGHUP)
+    hang_up(stage)
     until("they are read", LONG, lambda: words in stage.door.told.read_bytes()[told:].decode())
 
 
@@ -60,7 +59,7 @@ def test_only_who_has_lost_its_credentials_is_logged_out(stage: Stage) -> None:
         assert again.closed_within(LONG) and not again.waiting
     stage.ping(stage.other)
     assert stage.other.times_on == on, "another firm's session was ended"
-    assert stage.door.process.poll() is None
+    assert not stage.door.has_ended()
 
 
 def test_credentials_end_on_a_date(stage: Stage) -> None:

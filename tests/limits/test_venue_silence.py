@@ -1,6 +1,7 @@
 """A venue that hangs: it is told within five seconds, the gateway ends in a stated time, and another one takes over."""
 
 import os
+import shutil
 import signal
 from dataclasses import replace
 from pathlib import Path
@@ -86,8 +87,9 @@ def test_another_gateway_takes_over(make_gateway: MakeGateway, postgres_database
     log = PostgresLog(postgres_database, "day")
     first, second = [make_gateway([DEALER], [INVESTOR], {"venue_seconds": SECONDS}, log) for _ in range(2)]
     first.programs = hanging(first.programs, first.folder)
-    for door in (first, second):
-        door.write()
+    first.write()
+    shutil.copytree(first.keys, second.keys)
+    second.write()
     first.start()
     first.wait_open()
     second.start()

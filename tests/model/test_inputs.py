@@ -6,28 +6,31 @@ import pytest
 from hypothesis import given
 from hypothesis import strategies as st
 
-from tests.model.compare import compared, head, joined, model_answer, program_answer, report, same
+from tests.model.compare import compared, head, inputs, joined, model_answer, program_answer, report, same
 from tests.model.days import Day, Draw
 
 MOST_SEED = 2**32
 COMMANDS = (["replay", "--frames"], ["dues"], ["blotter", "DLR1"])
+WRONG_ARGUMENTS = 2  # the status of a program
 LEAVES_OUT = 16  # a line in so many, so that a day that fails shrinks line by line
 
 
+@pytest.fixture(scope="module")
+def has_notes(first_program: list[str]) -> bool:
+    """Whether the program has the flag --notes: one that has not calls it a wrong argument."""
+    return program_answer(first_program, ["alone", "--notes"], b"")[0] != WRONG_ARGUMENTS
+
+
 @pytest.mark.draws(short=350, long=20_000)
-def test_inputs_of_a_seed(first_program: list[str], drawn: int, place: Path, monkeypatch: pytest.MonkeyPatch) -> None:
-    """Status, output and standard error of all inputs of a seed."""
+def test_inputs_of_a_seed(
+    first_program: list[str], has_notes: bool, drawn: int, place: Path, monkeypatch: pytest.MonkeyPatch
+) -> None:
+    """Status, output and standard error of all inputs of a seed; those of an even seed with --notes."""
     monkeypatch.chdir(place)  # an input at fault is written there
-    seed, difference, count, _ = compared((first_program, drawn))
+    notes = has_notes and drawn % 2 == 0
+    seed, difference, count, _ = compared((first_program, drawn, notes))
     assert difference is None, report(seed, difference)
-    assert count > 0 or drawn_is_empty(drawn)
-
-
-def drawn_is_empty(seed: int) -> bool:
-    """Whether a seed draws no input: the list of a dealer or investor of a day that has none."""
-    from tests.model.compare import inputs
-
-    return not inputs(seed)
+    assert count > 0 or not inputs(drawn)  # the list of a dealer or investor of a day that has none
 
 
 @st.composite

@@ -1,0 +1,7 @@
+mod CutLemmas
+mod FieldLemmas
+mod FlawLemmas
+mod NumberLemmas
+mod ShortTexts
+mod StreamLemmas
+mod WrittenLemmas

@@ -1,0 +1,13 @@
+pub mod Texts
+pub mod Names
+pub mod Fields
+pub mod Flaws
+pub mod Cuts
+pub mod Heard
+pub mod Outcomes
+pub mod Logons
+pub mod Rows
+pub mod Sending
+pub mod Steps
+pub mod Visits
+pub mod Written

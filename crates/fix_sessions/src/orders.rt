@@ -1,0 +1,117 @@
+//! What an operator orders.
+ghost use Rattle.std.specs.Prelude.{◌≡◌, ◌≤◌, ◌<◌};
+ghost use Rattle.fix_sessions.specs.Steps as spec;
+
+use crate::holding::{free, holder, is_free, is_spent};
+use crate::outcomes::{ended, live, parts, quiet};
+use crate::state::{Clock, Day, LAST_NUMBER, Phase, Session};
+use crate::steps::new_day;
+use crate::turns::{Turn, Why, Word};
+
+/// What an operator orders.
+#[derive(Clone, Copy, Debug, PartialEq, Eq)]
+pub enum Order {
+    /// The venue is open.
+    Open,
+    /// It is closed: a firm that is logged on is logged out.
+    Close,
+    /// The firm is suspended, and logged out.
+    Suspend,
+    /// It is suspended no more, and a session that has lost its store goes on.
+    Release,
+    /// Numbers begin at 1 again. The caller gives those messages of the venue that it keeps above
+    /// [`crate::Day::had`] the numbers from 2 on, in their order, as copies.
+    Reset {
+        /// How many they are.
+        copies: u64,
+    },
+}
+
+/// An operator orders something.
+#[tactic(auto, unfolding(crate::specs::Steps::ordered))]
+pub fn ordered<'a>(session: &Session, clock: &Clock, order: Order) -> Turn<'a>
+    ensures { result ≡ spec.ordered session.now clock.now order }
+{
+    let s = *session;
+    let day = ordered_day(s.day, clock, order);
+    let after = Session { day, ..s };
+    match order {
+        Order::Open => quiet(after, 0),
+        Order::Release => quiet(after, 0),
+        Order::Close => logged_out(after, clock.moment, Why::Closed),
+        Order::Suspend => logged_out(after, clock.moment, Why::Suspended),
+        Order::Reset { .. } => resets(after),
+    }
+}
+
+/// The day once an operator has ordered something.
+fn ordered_day(d: Day, clock: &Clock, order: Order) -> Day
+    ensures { result ≡ spec.ordered_day d clock.now order }
+{
+    match order {
+        Order::Open => Day { is_open: true, ..d },
+        Order::Close => Day {
+            is_open: false,
+            ..d
+        },
+        Order::Suspend => Day {
+            is_suspended: true,
+            ..d
+        },
+        Order::Release => Day {
+            is_suspended: false,
+            is_locked: false,
+            ..d
+        },
+        Order::Reset { copies } => reset_day(d, clock, copies),
+    }
+}
+
+/// A firm that is logged on is logged out.
+fn logged_out<'a>(s: Session, now: u64, why: Why) -> Turn<'a>
+    ensures { result ≡ spec.logged_out s now why s.phase }
+{
+    if is_spent(&s) {
+        return ended(free(s), holder(&s.phase));
+    }
+    match s.phase {
+        Phase::Away => quiet(s, 0),
+        Phase::Leaving { connection, .. } => quiet(s, connection),
+        Phase::On { line } => parts(live(&s, line), now, Word::Logout { why }),
+    }
+}
+
+/// The day once numbers begin at 1 again, and so many messages have the numbers from 2 on.
+fn reset_day(d: Day, clock: &Clock, copies: u64) -> Day
+    ensures { result ≡ spec.reset_day d clock.now copies }
+{
+    let copies = copies.min(LAST_NUMBER);
+    let last = if copies == 0 { 0 } else { copies + 1 };
+    Day {
+        next: copies + 2,
+        first_given: if copies == 0 { 0 } else { 2 },
+        last_given: last,
+        last_kept: last,
+        is_reset: true,
+        reset_at: clock.midnight + clock.moment,
+        is_open: d.is_open,
+        is_suspended: d.is_suspended,
+        ..new_day()
+    }
+}
+
+/// The connection of a session ends that is reset, and its Rejects are kept no longer.
+fn resets<'a>(s: Session) -> Turn<'a>
+    ensures { result ≡ spec.resets s }
+{
+    if is_free(&s.phase) {
+        return Turn {
+            drops_rejects: true,
+            ..quiet(s, 0)
+        };
+    }
+    Turn {
+        drops_rejects: true,
+        ..ended(free(s), holder(&s.phase))
+    }
+}

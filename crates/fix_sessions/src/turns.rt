@@ -1,0 +1,236 @@
+//! What an event does.
+
+use crate::bodies::Body;
+use crate::state::Session;
+use crate::texts::Text;
+use fix_fields::Moment;
+
+/// Why a session logs a firm out, or refuses a Logon.
+#[derive(Clone, Copy, Debug, PartialEq, Eq)]
+pub enum Why {
+    /// The firm logs out.
+    Answered,
+    /// The venue is closed.
+    Closed,
+    /// An operator has suspended the firm.
+    Suspended,
+    /// EncryptMethod (98) is not 0.
+    Encrypted,
+    /// DefaultApplVerID (1137) is not 9.
+    Version,
+    /// HeartBtInt (108) is none of 1 to 300.
+    Heartbeat,
+    /// SendingTime (52) is no time of this day, or more than two minutes off.
+    Clock,
+    /// ResetSeqNumFlag (141) is Y, and numbers are not to be reset.
+    Reset,
+    /// The engine has lost its store.
+    Lost,
+    /// An operator has reset the session: numbers begin at 1.
+    Begin,
+    /// MsgSeqNum (34) is one that came before.
+    TooLow {
+        /// The number that is expected.
+        expected: u64,
+    },
+    /// NextExpectedMsgSeqNum (789) is above what was sent, or no number.
+    Ahead,
+    /// The firm is logged on already.
+    LoggedOn,
+    /// MsgSeqNum (34) can't be read.
+    Number,
+    /// SenderCompID (49) or TargetCompID (56) is another's.
+    Names,
+    /// A message has more than 65,536 bytes.
+    TooLong,
+    /// Nothing came, not even an answer to a TestRequest.
+    Silent,
+}
+
+/// What is wrong with a message, as a Reject tells it.
+#[derive(Clone, Copy, Debug, PartialEq, Eq)]
+pub struct Fault {
+    /// RefTagID (371), where a field is at fault.
+    pub tag: Option<u64>,
+    /// SessionRejectReason (373).
+    pub reason: u64,
+}
+
+/// A message to the firm, but for its header.
+#[derive(Debug, Drop)]
+pub enum Word<'a> {
+    /// Logon (35=A).
+    Logon {
+        /// HeartBtInt (108).
+        seconds: u64,
+        /// ResetSeqNumFlag (141) is Y.
+        resets: bool,
+        /// NextExpectedMsgSeqNum (789), where the firm sent one.
+        expects: Option<u64>,
+    },
+    /// Heartbeat (35=0).
+    Heartbeat,
+    /// Heartbeat (35=0) that answers a TestRequest.
+    Answer {
+        /// TestReqID (112).
+        id: Text<'a>,
+    },
+    /// TestRequest (35=1).
+    TestRequest {
+        /// TestReqID (112): its own number.
+        id: u64,
+    },
+    /// ResendRequest (35=2) of all from a number on.
+    ResendRequest {
+        /// BeginSeqNo (7).
+        first: u64,
+    },
+    /// Reject (35=3).
+    Reject {
+        /// RefSeqNum (45).
+        number: u64,
+        /// RefMsgType (372), where the message has one.
+        kind: Option<Text<'a>>,
+        /// RefTagID (371) and SessionRejectReason (373).
+        fault: Fault,
+    },
+    /// SequenceReset (35=4) that fills a gap (123=Y).
+    Fill {
+        /// NewSeqNo (36).
+        next: u64,
+    },
+    /// Logout (35=5).
+    Logout {
+        /// Text (58).
+        why: Why,
+    },
+    /// Logout (35=5) that names another BeginString (8).
+    Foreign {
+        /// That BeginString.
+        version: Text<'a>,
+    },
+    /// What is kept: a message of the venue, a Reject, or an answer to a TestRequest.
+    Kept {
+        /// Its fields behind the header.
+        body: Body<'a>,
+        /// It was kept under another number before a reset (97=Y).
+        is_copy: bool,
+    },
+    /// What is kept, once more (43=Y).
+    Again {
+        /// Its fields behind the header.
+        body: Body<'a>,
+        /// It was kept under another number before a reset (97=Y).
+        is_copy: bool,
+        /// The moment at which it was kept: OrigSendingTime (122).
+        first: Moment,
+    },
+}
+
+/// What is kept under a number, as the caller hands it back.
+#[derive(Debug, Drop)]
+pub struct Stored<'a> {
+    /// The message.
+    pub body: Body<'a>,
+    /// The moment at which it was kept.
+    pub first: Moment,
+    /// It was kept under another number before a reset.
+    pub is_copy: bool,
+}
+
+/// What becomes of a message.
+#[derive(Clone, Copy, Debug, PartialEq, Eq)]
+pub enum Way {
+    /// It leaves.
+    Leaves,
+    /// It is kept under its number, and leaves.
+    KeptAndLeaves,
+    /// It is kept under its number, and waits.
+    Kept,
+}
+
+/// A message to the firm under its number.
+#[derive(Debug, Drop)]
+pub struct Said<'a> {
+    /// MsgSeqNum (34).
+    pub number: u64,
+    /// What becomes of it.
+    pub way: Way,
+    /// What it says.
+    pub word: Word<'a>,
+}
+
+/// What becomes of a turn's connection.
+#[derive(Clone, Copy, Debug, PartialEq, Eq)]
+pub enum Ending {
+    /// It stands.
+    Stands,
+    /// It ends.
+    Ends,
+    /// It ends with the firm's Logout, or after two seconds ([`crate::is_logout`]); nothing that
+    /// comes on it goes to the session.
+    Parts,
+}
+
+/// What an operator is told.
+#[derive(Clone, Copy, Debug, PartialEq, Eq)]
+pub enum Notice {
+    /// The credentials of a Logon were wrong.
+    Credentials,
+    /// A Logon was refused.
+    Refused {
+        /// For this reason.
+        why: Why,
+    },
+    /// The firm's engine has lost its store: no Logon is accepted until an operator acts.
+    LostStore,
+    /// The firm has sent a Reject: its engine has lost the message that it names.
+    Rejected,
+    /// A connection ends on which nothing came for two seconds, for a newer one.
+    Dead,
+}
+
+/// What one event does.
+#[derive(Debug, Drop)]
+pub struct Turn<'a> {
+    /// The session from then on.
+    pub session: Session,
+    /// The connection on which messages leave, and which ends.
+    pub connection: u64,
+    /// A message to the firm.
+    pub first: Option<Said<'a>>,
+    /// Another behind it.
+    pub second: Option<Said<'a>>,
+    /// The message that came is given to the venue, under this number.
+    pub takes: Option<u64>,
+    /// The Rejects that are kept are kept no longer.
+    pub drops_rejects: bool,
+    /// What becomes of the connection.
+    pub ending: Ending,
+    /// What an operator is told.
+    pub notice: Option<Notice>,
+}
+
+/// What a session asks of its caller.
+#[derive(Clone, Copy, Debug, PartialEq, Eq)]
+pub enum Want {
+    /// Nothing.
+    Nothing,
+    /// What is kept under a number, which leaves again ([`crate::hands`]).
+    Again {
+        /// The number.
+        number: u64,
+    },
+    /// What is kept under a number, which leaves for the first time ([`crate::hands`]).
+    Fresh {
+        /// The number.
+        number: u64,
+    },
+    /// A message of its own is due ([`crate::tick`]).
+    Tick,
+    /// The Logon of a connection, which came before, once more ([`crate::came`]).
+    Logon {
+        /// The connection.
+        connection: u64,
+    },
+}
