@@ -6,7 +6,7 @@ from dataclasses import dataclass
 
 from .faults import Unreadable
 from .log import Log, Source
-from .records import ConnectionEvent, Entries, Entry, Messages
+from .records import Checkpoint, ConnectionEvent, Entries, Entry, Messages
 
 
 def up_to(block: Entries, last: int) -> Entries | None:
@@ -34,6 +34,7 @@ class UntilLog(Log):
     def __init__(self, log: Log, last: int) -> None:
         self._log, self._last = log, last
         self.has_chain, self.has_door = log.has_chain, log.has_door
+        self.has_seals = log.has_seals
 
     def entry_blocks(self) -> Iterator[Entries]:
         for block in self._log.entry_blocks():
@@ -46,6 +47,17 @@ class UntilLog(Log):
         """Those that happened before the next entry came."""
         events = self._log.connection_events()
         return itertools.takewhile(lambda event: event.entry <= self._last, events)
+
+    def last_seal(self) -> tuple[int, int]:
+        """As far as it is sealed now: what comes later is sealed later."""
+        place, event = self._log.last_seal()
+        return min(place, self._last), min(event, self.last_event())
+
+    def last_event(self) -> int:
+        return max((event.place for event in self.connection_events()), default=0)
+
+    def checkpoints(self) -> Iterator[Checkpoint]:
+        return (one for one in self._log.checkpoints() if one.place <= self._last)
 
     def logons(self, firm: str) -> dict[int, ConnectionEvent]:
         logons = self._log.logons(firm).items()

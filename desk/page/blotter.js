@@ -55,7 +55,10 @@ export class Blotter {
         : request.quotes.length > 1 ? `${request.quotes.length} quotes` : request.quotes.length || isOpen(request) ? '' : 'no quote';
     }
     if (hasTraded(request)) return request.cover ? `cover ${text(request.cover.price)}, ${request.cover.dealer}` : 'no cover';
-    const [best] = ranked(request, request.ended ?? Infinity);
+    if (isOpen(request)) {
+      return `${request.dealers.filter(one => one.answer === 'quoted').length} of ${request.dealers.length} quoted`;
+    }
+    const [best] = ranked(request, request.ended);
     return best ? `best ${text(best.price)}, ${best.dealer}` : `${request.dealers.length} asked`;
   }
   // Those that the filter lets through, in order.

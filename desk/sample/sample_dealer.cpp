@@ -20,21 +20,21 @@ void SampleDealer::take(const desk::Message &message) {
 // Of twelve requests one hears nothing, one a decline, and ten a quote; of these two have a
 // validity, three are replaced, and one is withdrawn.
 void SampleDealer::consider(const std::string &request) {
-    const int what = roll(12);
+    const int what = roll(20);
     const auto delay = 800ms + std::chrono::milliseconds(roll(1700));
     if (what == 0) {
         return;
     }
-    if (what == 1) {
+    if (what <= 2) {
         return after(delay, [this, request] {
             send("AG", {{tag::quote_req_id, request}, {tag::request_reason, "10"}});
         });
     }
-    after(delay, [this, request, what] { quote(request, what < 4 ? 20s : 0s); });
+    after(delay, [this, request, what] { quote(request, what <= 4 ? 20s : 0s); });
     const auto later = delay + 4s + std::chrono::milliseconds(roll(6000));
-    if (what >= 9) {
+    if (what >= 16) {
         after(later, [this, request] { quote(request, 0s); });
-    } else if (what == 8) {
+    } else if (what == 5) {
         after(later, [this, request] { withdraw(request); });
     }
 }

@@ -5,7 +5,7 @@
 #include "web/secrets.h"
 
 #include <algorithm>
-#include <exception>
+#include <stdexcept>
 
 #include <boost/asio/post.hpp>
 #include <nlohmann/json.hpp>
@@ -155,7 +155,12 @@ void Logins::write() const {
                         {"password", one.password},
                         {"until", milliseconds_of(one.until)}};
     }
-    write_json(path_, text);
+    try {
+        write_json(path_, text);
+    } catch (const std::runtime_error &) {
+        // Whoever is logged in goes on, and logs in again after a restart. A full disk ends the
+        // desk at its journal.
+    }
 }
 
 } // namespace desk

@@ -358,7 +358,7 @@ class OldDays(unittest.TestCase):
         with folder() as name:
             log = Path(name) / "day.db"
             for number, text in (
-                (2, "the form of its tables is neither 1 nor 3"), (3, "no such column: received"),
+                (2, "the form of its tables is none of 1, 3 and 4"), (3, "no such column: received"),
             ):
                 shutil.copyfile(DAY, log)
                 with closing(sqlite3.connect(log, isolation_level=None)) as connection:

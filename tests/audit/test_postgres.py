@@ -15,13 +15,15 @@ from typing import Any
 import psycopg2
 
 from tests.audit.common import DAY, ROOT, Folder, audit, folder, venue_words
+from tests.audit.ledger import public_key
+from tests.audit.tamper import ENTRIES, hash_of
 from tests.gateway.wait import LONG, until
 
 SERVERS = sorted(Path("/usr/lib/postgresql").glob("*/bin/initdb"))
 SCHEMA, OLD_SCHEMA = "day_20261125", "day_of_form_2"
-TABLES = ("entry", "connection", "sent", "outgoing", "session")
+TABLES = ("entry", "connection", "sent", "outgoing", "session", "seal", "checkpoint")
 # What the tables of form 2 lacked: the stored day is of form 1, which has the same columns.
-TO_FORM_2 = """DROP TABLE connection; ALTER TABLE entry DROP COLUMN received, DROP COLUMN connection;
+TO_FORM_2 = """DROP TABLE connection; DROP TABLE seal; DROP TABLE checkpoint; ALTER TABLE entry DROP COLUMN received, DROP COLUMN connection;
     UPDATE form SET number = 2"""
 # A server ends with the test that started it, however that ends.
 AS_USER = "setpriv --reuid=postgres --regid=postgres --clear-groups --pdeathsig=QUIT --".split()
@@ -108,9 +110,33 @@ class Postgres(unittest.TestCase):
     def test_tables_of_another_form(self) -> None:
         self.change("UPDATE form SET number = 1")
         status, text = self.check()
-        self.change("UPDATE form SET number = 3")
+        self.change("UPDATE form SET number = 4")
         self.assertEqual(status, 2)
-        self.assertIn("the form of its tables is neither 2 nor 3", text)
+        self.assertIn("the form of its tables is none of 2, 3 and 4", text)
+
+    def test_signatures(self) -> None:
+        """Each is right; an entry that is put in with number and hash right has none."""
+        key = self.place / "gateway.pub"
+        key.write_bytes(public_key())
+        words = ["postgres:" + self.connection, "--schema", SCHEMA, "--gateway-key", str(key)]
+        ran = audit("check", *words)
+        self.assertEqual(ran.status, 0, ran.text)
+        self.assertRegex(ran.out, r"signed +\d+ checkpoints, each by a gateway; no entry follows")
+        with closing(sqlite3.connect(self.day)) as stored:
+            last = stored.execute(ENTRIES).fetchall()[-1]
+        made: Any = (last[0] + 1, *last[1:])
+        before = last[7]
+        place, term, moment, firm, number, line, _, _, received, connection = made
+        values = place, term, moment, received, firm, number, connection, line, before
+        row = [(*values, hash_of(made, before))]
+        marks = ", ".join(["%s"] * 10)
+        into = "SET search_path TO %s; INSERT INTO entry VALUES (%s)" % (SCHEMA, marks)
+        execute(self.connection, into, row)
+        ran = audit("check", *words)
+        self.change("DELETE FROM entry WHERE place = %d" % place)
+        self.assertEqual(ran.status, 1, ran.text)
+        self.assertIn("entry %d: 1 entry follows the last checkpoint" % place, ran.out)
+        self.assertIn("entry %d: it is not sealed" % place, ran.out)
 
 
 def run(words: list[str]) -> None:

@@ -30,14 +30,23 @@ class GrowingLog:
             ((place,),) = log.execute("SELECT max(place) FROM entry")
             return int(place)
 
-    def grow_to(self, place: int) -> None:
-        """All that the log has up to an entry, in one transaction."""
+    def grow_to(self, place: int) -> int:
+        """All up to the last seal that is not behind an entry, in one transaction, as a gateway
+        writes a batch. Answers the last entry.
+        """
         with self.open_log() as log:
-            ((before,),) = log.execute("SELECT coalesce(max(place), -1) FROM entry")
+            query = "SELECT place, event FROM whole.seal WHERE place <= ? ORDER BY number"
+            place, event = log.execute(query, (place,)).fetchall()[-1]
             log.execute("BEGIN")
-            for table, of in (("entry", "place"), ("sent", "place"), ("connection", "entry")):
-                query = "INSERT INTO %s SELECT * FROM whole.%s WHERE %s > ? AND %s <= ?"
-                log.execute(query % (table, table, of, of), (before, place))
+            for table, of, last in (
+                ("entry", "place", place), ("sent", "place", place),
+                ("connection", "place", event), ("seal", "place", place),
+                ("checkpoint", "place", place),
+            ):
+                key = "firm || ' ' || number" if table == "sent" else "rowid"
+                query = "INSERT INTO %s SELECT * FROM whole.%s WHERE %s <= ? AND %s NOT IN"
+                query += " (SELECT %s FROM %s)"
+                log.execute(query % (table, table, of, key, key, table), (last,))
             log.execute(
                 "INSERT INTO outgoing SELECT * FROM whole.outgoing o WHERE o.number <= ("
                 " SELECT max(p.number) FROM whole.outgoing p JOIN sent s ON s.firm = p.firm"
@@ -45,14 +54,17 @@ class GrowingLog:
                 " outgoing q WHERE q.firm = o.firm AND q.number = o.number)"
             )
             log.execute("COMMIT")
+        return int(place)
 
     def finish(self) -> None:
-        """What the sessions sent at their ends."""
+        """What is left: the ends of the sessions, and what seals them."""
         with self.open_log() as log:
-            log.execute(
-                "INSERT INTO outgoing SELECT * FROM whole.outgoing o WHERE NOT EXISTS (SELECT 1"
-                " FROM outgoing q WHERE q.firm = o.firm AND q.number = o.number)"
-            )
+            for table, key in (
+                ("outgoing", "firm || ' ' || number"), ("connection", "place"),
+                ("seal", "number"), ("checkpoint", "number"),
+            ):
+                query = "INSERT INTO %s SELECT * FROM whole.%s WHERE %s NOT IN (SELECT %s FROM %s)"
+                log.execute(query % (table, table, key, key, table))
 
     def open_log(self) -> "closing[sqlite3.Connection]":
         log = sqlite3.connect(self.path, isolation_level=None)

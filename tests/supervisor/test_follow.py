@@ -16,7 +16,7 @@ from tests.gateway.wait import LONG, until
 from tests.supervisor.conftest import STORED, Audit
 from tests.supervisor.growing import GrowingLog
 
-STEPS = 4
+FIRST, STEPS = 90, 4
 
 
 class Following:
@@ -63,7 +63,7 @@ def growing(short_log: Path, tmp_path: Path) -> GrowingLog:
 def following(
     growing: GrowingLog, venue: tuple[str, ...], tmp_path: Path
 ) -> Iterator[Following]:
-    growing.grow_to(40)
+    growing.grow_to(FIRST)
     following = Following(growing.path, tmp_path / "live", venue)
     yield following
     if following.process.poll() is None:
@@ -97,12 +97,11 @@ def test_a_followed_day(
     """The pages at each step are one day, with the verdict so far; in the end they are those of
     the whole day made at once, byte for byte, and so is each build those of its entry.
     """
-    following.wait_for(40)
+    following.wait_for(growing.grow_to(FIRST))
     last = growing.last()
     inodes: dict[str, int] = {}
     for step in range(1, STEPS + 1):
-        growing.grow_to(40 + (last - 40) * step // STEPS)
-        following.wait_for(40 + (last - 40) * step // STEPS)
+        following.wait_for(growing.grow_to(FIRST + (last - FIRST) * step // STEPS))
         build = (following.folder / "now").resolve()
         check_sums(build)
         board = read_page(following.folder / "index.html")
@@ -124,11 +123,10 @@ def test_a_followed_day(
 def test_what_is_not_as_it_should_be_is_told_while_it_grows(
     growing: GrowingLog, following: Following
 ) -> None:
-    following.wait_for(40)
+    following.wait_for(growing.grow_to(FIRST))
     with growing.open_log() as log:
         log.execute("UPDATE sent SET bytes = x'00' WHERE firm = 'FJORD' AND number = 1")
-    growing.grow_to(60)
-    following.wait_for(60)
+    following.wait_for(growing.grow_to(2 * FIRST))
     board = read_page(following.folder / "index.html")
     assert "Not as it should be" in board.all("p", "verdict")[0].text
     following.end()

@@ -1,0 +1,157 @@
+#!/bin/sh
+# A venue to try: the gateway, the venue's program, two dealers that quote by themselves, an investor that
+# asks now and then, and a desk in the browser for INV1 and for DLR3. It runs until Ctrl-C, prints the
+# addresses and the logins, and tells how each auction ends.
+#
+#     examples/venue.sh           two minutes from a fresh clone on four processors, then seconds
+#     examples/venue.sh down      ends it, where it still runs, and has the audit check the day
+#
+# The program is the proved one, crates/rfq_venue/out/rfq_venue, where it stands; else the second
+# implementation of the venue, in Python, and the pages say so. All that it writes is in FOLDER
+# (examples/venue/out). GATEWAY and DESK name folders of programs that are built already.
+set -eu
+root=$(cd "$(dirname "$0")/.." && pwd)
+here=$root/examples/venue
+day=${FOLDER:-$here/out}
+gateway=${GATEWAY:-$root/gateway/out}/mireseason-gateway
+desks=${DESK:-$root/desk/out}
+program=$root/crates/rfq_venue/out/rfq_venue
+[ -x "$program" ] || program="python3 $root/tests/model/program.py"
+start=$(date +%s)
+pids=
+building=
+
+say() { printf '== %s (%d s from the start)\n' "$*" "$(($(date +%s) - start))"; }
+fail() {
+    echo "examples/venue.sh: $*" >&2
+    exit 1
+}
+
+# stop: ends what this script has started; the gateway last, so that the desks log out.
+stop() {
+    trap - EXIT HUP INT TERM
+    for pid in $building $pids; do
+        kill -- "$pid" 2>/dev/null || true
+    done
+    wait
+    rm -f "$day/pid"
+}
+
+# log: the log of the last day in the folder.
+log() { find "$day" -maxdepth 1 -name 'day-*.db' 2>/dev/null | sort | tail -n 1; }
+
+down() {
+    if [ -e "$day/pid" ] && grep -qa venue.sh "/proc/$(cat "$day/pid")/cmdline" 2>/dev/null; then
+        runs=$(cat "$day/pid")
+        kill "$runs"
+        while kill -0 "$runs" 2>/dev/null; do sleep 0.1; done
+        echo "The venue has ended."
+    fi
+    log=$(log)
+    [ -n "$log" ] || fail "there is no day in $day"
+    echo "The audit of $log:"
+    exec "$root/audit/mireseason-audit" check --venue "$program" --gateway-key "$day/keys/gateway.pub" "$log"
+}
+
+# build FOLDER TARGET ..: in the background, in a session of its own, so that its compilers end with it.
+build() {
+    folder=$1
+    shift
+    setsid nice sh -c 'cmake -S "$0" -B "$0/out" && cmake --build "$0/out" -j "$(nproc)" --target "$@"' \
+        "$root/$folder" "$@" >"$day/$folder.build" 2>&1 &
+    building="$building -$!"
+}
+
+# built FOLDER: waits for it, and says every ten seconds how far it is.
+built() {
+    pid=$2
+    while kill -0 "$pid" 2>/dev/null; do
+        sleep 1
+        [ $((($(date +%s) - start) % 10)) != 0 ] ||
+            say "$1: $(grep -o '^\[ *[0-9]*%\]' "$day/$1.build" | tail -n 1)"
+    done
+    wait "$pid" || {
+        tail -n 30 "$day/$1.build" >&2
+        fail "$1 can't be built: see above"
+    }
+}
+
+# ready: waits until the gateway takes connections.
+ready() {
+    for _ in $(seq 600); do
+        ! grep -q ' ready ' "$day/gateway.events" || return 0
+        kill -0 "$1" 2>/dev/null || break
+        sleep 0.1
+    done
+    tail -n 5 "$day/gateway.events" >&2
+    fail "the gateway does not start: see above, and $day/gateway.events"
+}
+
+# run NAME PROGRAM CONFIG: in the background.
+run() {
+    "$2" "$3" >"$day/$1.out" 2>>"$day/$1.events" &
+    pids="$! $pids"
+}
+
+[ "${1:-}" != down ] || down
+[ $# = 0 ] || {
+    sed -n '/^#     ex/,/^#$/s/^# \{0,1\}//p' "$0" >&2
+    exit 2
+}
+umask 077 # the folder has passwords
+mkdir -p "$day"
+[ ! -e "$day/pid" ] || ! grep -qa venue.sh "/proc/$(cat "$day/pid")/cmdline" 2>/dev/null ||
+    fail "a venue runs in $day already: examples/venue.sh down ends it"
+trap stop EXIT
+trap 'exit 0' HUP INT TERM
+
+if ! [ -x "$gateway" ] || ! [ -x "$desks/mireseason-desk" ] || ! [ -x "$desks/sample-firm" ]; then
+    say "Packages of Debian: minutes, where many are missing"
+    # shellcheck disable=SC2046 # a word for each package
+    "$root/tests/packages.sh" $("$root/gateway/packages.sh") $("$root/desk/packages.sh")
+fi
+if [ -z "${GATEWAY:-}" ] && ! [ -x "$gateway" ]; then
+    say "The gateway and the desk are built, side by side: a minute or two"
+    build gateway mireseason-gateway
+    of_gateway=$!
+fi
+if [ -z "${DESK:-}" ]; then
+    build desk mireseason-desk sample-firm
+    of_desk=$!
+fi
+[ -z "${of_desk:-}" ] || built desk "$of_desk"
+[ -z "${of_gateway:-}" ] || built gateway "$of_gateway"
+building=
+
+# shellcheck disable=SC2086 # the words of a command
+python3 "$here/prepare.py" "$day" "$gateway" $program
+echo $$ >"$day/pid"
+cd "$day"
+: >gateway.events
+"$gateway" gateway.toml 2>gateway.events &
+server=$!
+pids=$server
+ready "$server"
+for firm in DLR1 DLR2 INV2; do
+    run "$firm" "$desks/sample-firm" "$firm.toml"
+done
+for firm in INV1 DLR3; do
+    run "$firm" "$desks/mireseason-desk" "$firm.toml"
+done
+for firm in INV1 DLR3; do
+    for _ in $(seq 100); do
+        [ ! -s "$firm.out" ] || break
+        sleep 0.1
+    done
+    [ -s "$firm.out" ] || fail "the desk of $firm does not start: $(tail -n 1 "$firm.events")"
+done
+
+say "The venue runs until Ctrl-C: $program"
+cat addresses
+echo "Ask two or three dealers on INV1's page, and quote on DLR3's. How each auction ends:"
+python3 "$here/tell.py" "$(log)" &
+pids="$! $pids"
+status=0
+wait "$server" || status=$?
+[ "$status" = 0 ] || { tail -n 3 gateway.events >&2; fail "the gateway ended with status $status"; }
+say "The day is over: sessions last from midnight to midnight in UTC. The next start begins a new one"

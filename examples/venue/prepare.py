@@ -1,0 +1,148 @@
+"""Writes what the venue of examples/venue.sh needs for today into a folder: prepare.py FOLDER GATEWAY VENUE ..
+
+VENUE is the command line of the venue's program. What stands in the folder and can be kept is kept, so
+that a venue that was stopped goes on with its day.
+"""
+
+import json
+import os
+import re
+import secrets
+import socket
+import subprocess
+import sys
+import tomllib
+from collections.abc import Iterable
+from datetime import datetime, timezone
+from pathlib import Path
+from typing import Any
+
+HERE = Path(__file__).resolve().parent
+ROOT = HERE.parent.parent
+
+Row = dict[str, Any]
+
+# The firms that have a desk: firm, login, password, the page's port if it is free.
+DESKS = [("INV1", "ines", "investor-1", 8101), ("DLR3", "dora", "dealer-3", 8102)]
+SAMPLES = ["DLR1", "DLR2", "INV2"]  # those that trade by themselves
+
+
+def toml(row: Row) -> Iterable[str]:
+    """The lines of a table, whose values are texts, numbers and lists of texts."""
+    return (f"{key} = {json.dumps(value)}" for key, value in row.items())
+
+
+def write(path: Path, text: str) -> None:
+    path.write_text(text)
+    path.chmod(0o600)
+
+
+def free_port(usual: int) -> int:
+    """This port of the loopback, or another one where it is taken."""
+    for port in (usual, 0):
+        with socket.socket() as probe:
+            probe.setsockopt(socket.SOL_SOCKET, socket.SO_REUSEADDR, 1)
+            try:
+                probe.bind(("127.0.0.1", port))
+            except OSError:
+                continue
+            return int(probe.getsockname()[1])
+    raise SystemExit("there is no free port")
+
+
+def role_of(venue: Row, firm: str) -> str:
+    return "dealer" if any(row["name"] == firm for row in venue["dealer"]) else "investor"
+
+
+def row_of(venue: Row, firm: str) -> Row:
+    return next(row for row in venue["dealer"] + venue["investor"] if row["name"] == firm)
+
+
+def market_of(venue: Row, firm: str) -> str:
+    """What the operator hands a firm: the bonds, the names of the dealers, and the firm's own row."""
+    lines = [f"version = {venue['version']}"]
+    for bond in venue["bond"]:
+        lines += ["[[bond]]", *toml(bond)]
+    for dealer in venue["dealer"]:
+        lines += ["[[dealer]]", *toml(dealer if dealer["name"] == firm else {"name": dealer["name"]})]
+    if role_of(venue, firm) == "investor":
+        lines += ["[[investor]]", *toml(row_of(venue, firm))]
+    return "\n".join(lines) + "\n"
+
+
+def hash_of(gateway: str, password: str) -> str:
+    told = subprocess.run([gateway, "--hash"], input=password + "\n", capture_output=True, text=True, check=True)
+    return told.stdout.strip()
+
+
+def fix_part(folder: Path, firm: str, port: int) -> list[str]:
+    return ["[fix]", *toml({"addresses": [f"127.0.0.1:{port}"], "username": f"{firm.lower()}-user",
+                            "password_file": f"{firm}.password", "dictionaries": str(ROOT / "fix")})]
+
+
+def write_gateway(folder: Path, port: int, command: list[str]) -> None:
+    words = [str(Path(word).resolve()) if Path(word).is_file() else word for word in command]
+    lines = ["[venue]", *toml({"command": [*words, "live", "--frames", "--marks"], "configuration": "venue.toml"}),
+             "[log]", *toml({"sqlite": "day-{date}.db"}),
+             "[fix]", *toml({"listen": "127.0.0.1", "port": port, "credentials": "credentials.toml"}),
+             "[seal]", *toml({"key": "keys/seal.key", "signing_key": "keys/gateway.pem", "gateways": ["keys/gateway.pub"]}),
+             "[metrics]", *toml({"port": 0})]
+    write(folder / "gateway.toml", "\n".join(lines) + "\n")
+
+
+def write_credentials(folder: Path, gateway: str, firms: list[str]) -> None:
+    """New passwords of the sessions, but where the folder has them already."""
+    if (folder / "credentials.toml").exists():
+        return
+    lines = []
+    for firm in firms:
+        password = secrets.token_hex(16)
+        write(folder / f"{firm}.password", password + "\n")
+        lines += [f"[{firm}]", *toml({"username": f"{firm.lower()}-user", "password": hash_of(gateway, password)})]
+    write(folder / "credentials.toml", "\n".join(lines) + "\n")
+
+
+def write_desk(folder: Path, venue: Row, firm: str, fix_port: int, gateway: str, banner: str) -> str:
+    """The desk's configuration; the line that tells a person where it is."""
+    _, login, password, usual = next(desk for desk in DESKS if desk[0] == firm)
+    role, port = role_of(venue, firm), free_port(usual)
+    row = {"firm": firm, "role": role, "market": f"{firm}.market.toml", "data": f"{firm}.data"}
+    if banner:
+        row["banner"] = banner
+    may = "quote" if role == "dealer" else "ask"
+    trader = {"login": login, "password": hash_of(gateway, password), "name": row_of(venue, firm)["traders"][0], "may": [may]}
+    lines = [*toml(row), *fix_part(folder, firm, fix_port), "[page]", *toml({"port": port}), "[[trader]]", *toml(trader)]
+    write(folder / f"{firm}.toml", "\n".join(lines) + "\n")
+    return f"  {firm}, {'a dealer  ' if role == 'dealer' else 'an investor'}  http://127.0.0.1:{port}/   login {login}   password {password}"
+
+
+def write_sample(folder: Path, venue: Row, firm: str, fix_port: int) -> None:
+    row = {"firm": firm, "role": role_of(venue, firm), "market": f"{firm}.market.toml", "data": f"{firm}.data",
+           "trader": row_of(venue, firm)["traders"][0]}
+    write(folder / f"{firm}.toml", "\n".join([*toml(row), *fix_part(folder, firm, fix_port)]) + "\n")
+
+
+def main() -> None:
+    folder, gateway, command = Path(sys.argv[1]), sys.argv[2], sys.argv[3:]
+    os.umask(0o077)
+    today = datetime.now(timezone.utc).strftime("%Y%m%d")
+    text = re.sub(r"(?m)^date = .*", f'date = "{today}"', (HERE / "venue.toml").read_text())
+    venue = tomllib.loads(text)
+    write(folder / "venue.toml", text)
+    fix_port = free_port(0)
+    firms = [row["name"] for row in venue["dealer"] + venue["investor"]]
+    for firm in firms:
+        write(folder / f"{firm}.market.toml", market_of(venue, firm))
+    if not (folder / "keys").exists():
+        subprocess.run([gateway, "--make-keys", folder / "keys"], stdout=subprocess.DEVNULL, check=True)
+    write_gateway(folder, fix_port, command)
+    write_credentials(folder, gateway, firms)
+    for firm in SAMPLES:
+        write_sample(folder, venue, firm, fix_port)
+    is_second = any("tests/model" in word for word in command)
+    banner = "The venue behind this page is its second implementation, in Python: it is tested, and nothing of it is proved." if is_second else ""
+    lines = [write_desk(folder, venue, firm, fix_port, gateway, banner) for firm, *_ in DESKS]
+    write(folder / "addresses", "\n".join(lines) + "\n")
+
+
+main()

@@ -1,0 +1,85 @@
+"""Tells in a sentence how each auction of a running venue ends: tell.py LOG
+
+It reads the gateway's log, a file of SQLite, as an operator may: what the venue sent whom, and on which
+entry. Of the entries that end a request it tells one sentence each.
+"""
+
+import sqlite3
+import sys
+import time
+from collections import defaultdict
+from dataclasses import dataclass, field
+from pathlib import Path
+
+LOOK = 0.5  # seconds between two looks
+
+Message = dict[int, str]
+
+
+def fields_of(raw: bytes) -> Message:
+    """The first field of each tag."""
+    message: Message = {}
+    for part in raw.decode("latin-1").split("\x01"):
+        tag, _, value = part.partition("=")
+        if tag.isdigit():
+            message.setdefault(int(tag), value)
+    return message
+
+
+@dataclass
+class Teller:
+    """What it has to know of the day: who asked a dealer for what."""
+
+    shown: dict[tuple[str, str], Message] = field(default_factory=dict)  # by dealer and 131
+
+    def sentences(self, sent: list[tuple[str, Message]]) -> list[str]:
+        """Of all messages that one entry led to."""
+        for firm, message in sent:
+            if message.get(35) == "R":
+                self.shown[firm, message[131]] = message
+        ends: dict[tuple[str, str, str, str], dict[str, list[tuple[str, Message]]]] = defaultdict(lambda: defaultdict(list))
+        for firm, message in sent:
+            if message.get(35) == "AJ":
+                request = self.shown[firm, message[131]]
+                key = (request[448], message[48], message[54], message[38])
+                ends[key][message[694]].append((firm, message))
+        return [self.sentence(key, notices) for key, notices in ends.items()]
+
+    @staticmethod
+    def sentence(key: tuple[str, str, str, str], notices: dict[str, list[tuple[str, Message]]]) -> str:
+        investor, bond, side, quantity = key
+        what = f"{int(quantity):,} of {bond}"
+        if "1" not in notices:
+            way = "passed" if "6" in notices else "let expire its request"
+            return f"{investor} {way}: to {'buy' if side == '1' else 'sell'} {what}"
+        dealer, notice = notices["1"][0]
+        cover = f"; {notices['4'][0][0]} was the cover" if "4" in notices else "; there was no cover"
+        words = ("bought", "from", notice.get(133)) if side == "1" else ("sold", "to", notice.get(132))
+        return f"{investor} {words[0]} {what} {words[1]} {dealer} at {words[2]}{cover}"
+
+
+def follow(log: Path) -> None:
+    teller, told = Teller(), -1
+    database = sqlite3.connect(f"file:{log}?mode=ro", uri=True, timeout=30)
+    while True:
+        # What an entry leads to is committed with a later one: the last is left for the next look.
+        last = database.execute("SELECT coalesce(max(place), 0) FROM sent").fetchone()[0]
+        rows = database.execute("SELECT place, firm, bytes FROM sent WHERE place > ? AND place <= ? ORDER BY place, rowid", (told, last))
+        by_place: dict[int, list[tuple[str, Message]]] = defaultdict(list)
+        for place, firm, raw in rows:
+            by_place[place].append((firm, fields_of(bytes(raw))))
+        time.sleep(LOOK)
+        fresh = database.execute("SELECT count(*) FROM sent WHERE place > ? AND place <= ?", (told, last)).fetchone()[0]
+        if fresh != sum(map(len, by_place.values())):
+            continue  # more came for these entries meanwhile
+        for place in sorted(by_place):
+            for sentence in teller.sentences(by_place[place]):
+                print(f"  {time.strftime('%H:%M:%S', time.gmtime())} UTC  {sentence}", flush=True)
+        told = last
+
+
+if __name__ == "__main__":
+    try:
+        follow(Path(sys.argv[1]))
+    except KeyboardInterrupt:
+        pass

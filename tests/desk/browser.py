@@ -1,0 +1,165 @@
+"""Chromium, driven by Selenium, on a page of a desk."""
+
+import time
+from collections.abc import Callable
+from pathlib import Path
+from typing import Any
+
+from selenium import webdriver
+from selenium.common.exceptions import JavascriptException, NoSuchElementException, StaleElementReferenceException
+from selenium.webdriver.chrome.options import Options
+from selenium.webdriver.chrome.service import Service
+from selenium.webdriver.common.by import By
+from selenium.webdriver.common.keys import Keys
+from selenium.webdriver.remote.webelement import WebElement
+
+from tests.desk.desks import PASSWORD, Desk
+from tests.gateway.wait import LONG, TooLong
+
+WORDS = ("--headless=new", "--no-sandbox", "--disable-gpu", "--hide-scrollbars", "--disable-dev-shm-usage", "--no-first-run",
+         "--disable-background-networking", "--disable-component-update", "--disable-sync", "--mute-audio")
+CHANGING = (StaleElementReferenceException, NoSuchElementException, JavascriptException, IndexError)
+HEIGHT = 900
+
+
+class Browser:
+    def __init__(self, profile: Path, width: int = 1280) -> None:
+        options = Options()
+        for word in (*WORDS, "--user-data-dir=%s" % profile, "--window-size=%d,%d" % (width, HEIGHT)):
+            options.add_argument(word)  # type: ignore[no-untyped-call]
+        options.set_capability("goog:loggingPrefs", {"browser": "ALL"})
+        options.add_experimental_option("prefs", {"download.default_directory": str(profile / "downloads")})
+        self.profile = profile
+        self.driver = webdriver.Chrome(service=Service("/usr/bin/chromedriver"), options=options)
+
+    def quit(self) -> None:
+        self.driver.quit()
+
+    # ------------------------------------------------------------ looking
+
+    def all(self, where: str) -> list[WebElement]:
+        return list(self.driver.find_elements(By.CSS_SELECTOR, where))
+
+    def one(self, where: str) -> WebElement:
+        return self.all(where)[0]
+
+    def text(self, where: str) -> str:
+        return "\n".join(one.text for one in self.all(where))
+
+    def script(self, text: str, *words: Any) -> Any:
+        return self.driver.execute_script(text, *words)  # type: ignore[no-untyped-call]
+
+    def until(self, what: str, holds: Callable[[], object], seconds: float = LONG) -> None:
+        """Waits; while the page changes under the look, the condition does not hold."""
+        end = time.monotonic() + seconds
+        while True:
+            try:
+                if holds():
+                    return
+            except CHANGING:
+                pass
+            if time.monotonic() > end:
+                raise TooLong("%s: not within %g s:\n%s" % (what, seconds, self.text("body")))
+            time.sleep(0.05)
+
+    def until_says(self, where: str, *words: str) -> None:
+        self.until("%s says %r" % (where, words), lambda: all(word in self.text(where) for word in words))
+
+    def until_silent(self, where: str, word: str) -> None:
+        self.until("%s does not say %r" % (where, word), lambda: word not in self.text(where))
+
+    def complaints(self) -> list[str]:
+        """What the console told since the last call, but for what every lost connection tells."""
+        lost = ("WebSocket connection to", "net::ERR_CONNECTION_REFUSED")
+        lines = [line["message"] for line in self.driver.get_log("browser")]  # type: ignore[no-untyped-call]
+        return [line for line in lines if not any(word in line for word in lost)]
+
+    # ------------------------------------------------------------ acting
+
+    def open(self, desk: Desk, login: str = "tess") -> None:
+        self.driver.get(desk.origin + "/")
+        self.log_in(login)
+        self.until_says("#top", "Venue connected")
+
+    def log_in(self, login: str, password: str = PASSWORD) -> None:
+        self.until("the login is asked for", lambda: self.one("#login").is_displayed())
+        self.one("#login").clear()
+        self.one("#login").send_keys(login, Keys.TAB, password, Keys.ENTER)
+
+    def press(self, *keys: str) -> None:
+        """Keys, wherever the focus is."""
+        for key in keys:
+            self.driver.switch_to.active_element.send_keys(key)
+
+    def click(self, where: str, words: str = "") -> None:
+        """Clicks the first shown element of these that has such words."""
+        def done() -> bool:
+            for one in self.all(where):
+                if one.is_displayed() and words in one.text:
+                    one.click()
+                    return True
+            return False
+
+        self.until("%s %r can be clicked" % (where, words), done)
+
+    def focused(self) -> str:
+        element = self.driver.switch_to.active_element
+        return element.get_attribute("aria-label") or element.get_attribute("id") or element.text
+
+    # ------------------------------------------------------------ what traders do
+
+    def ask(self, bond: str, side: str, quantity: str, deadline: str = "10:00", dealers: tuple[str, ...] = ("DLR1", "DLR2")) -> None:
+        """Fills in the ticket by keys and clicks, and sends it by Enter."""
+        self.press(Keys.F2)
+        self.until("the ticket has the focus", lambda: self.focused() == "bond")
+        self.press(Keys.CONTROL + "a" + Keys.NULL, bond, Keys.ENTER)
+        self.click("#" + side)
+        self.one("#deadline").clear()
+        self.one("#deadline").send_keys(deadline)
+        for box in self.all(".picks input"):
+            if box.is_selected() != (box.get_attribute("value") in dealers):
+                box.click()
+        self.one("#quantity").clear()
+        self.one("#quantity").send_keys(quantity, Keys.ENTER)
+
+    def card(self, number: int = -1) -> WebElement:
+        return self.all("article.card")[number]
+
+    def card_says(self, *words: str, number: int = -1) -> None:
+        self.until("card %d says %r" % (number, words), lambda: all(word in self.card(number).text for word in words))
+
+    def in_card(self, where: str, number: int = -1) -> WebElement:
+        return next(one for one in self.card(number).find_elements(By.CSS_SELECTOR, where) if one.is_displayed())
+
+    def quote(self, price: str, number: int = -1) -> None:
+        entry = self.in_card("input.entry", number)
+        entry.clear()
+        entry.send_keys(price, Keys.ENTER)
+
+    def arm(self, dealer: str, number: int = -1) -> WebElement:
+        """The first press of a hit, again where a quote changed under it; the button."""
+        button: list[WebElement] = []
+
+        def done() -> bool:
+            row = next(one for one in self.card(number).find_elements(By.CSS_SELECTOR, ".quotes tbody tr") if dealer in one.text)
+            button[:] = row.find_elements(By.CSS_SELECTOR, "button.hit")
+            if "?" not in button[0].text:
+                self.script("arguments[0].focus()", button[0])
+                button[0].send_keys(Keys.ENTER)
+            return "?" in button[0].text
+
+        self.until("the quote of %s is chosen" % dealer, done)
+        return button[0]
+
+    # ------------------------------------------------------------ looks
+
+    def look(self, width: int, scheme: str, height: int = HEIGHT) -> None:
+        """As a window of this width, in a light or a dark scheme."""
+        self.driver.execute_cdp_cmd("Emulation.setDeviceMetricsOverride", {"width": width, "height": height, "deviceScaleFactor": 1, "mobile": False})
+        self.driver.execute_cdp_cmd("Emulation.setEmulatedMedia", {"features": [{"name": "prefers-color-scheme", "value": scheme}]})
+        self.until("the window is %d wide" % width, lambda: self.script("return innerWidth") == width)
+        self.script("return new Promise(done => requestAnimationFrame(() => requestAnimationFrame(done)))")
+
+    def picture(self, file: Path) -> None:
+        file.parent.mkdir(parents=True, exist_ok=True)
+        assert self.driver.save_screenshot(str(file)), "there is no picture %s" % file

@@ -1,0 +1,241 @@
+"""Who is not the trader, and what the desk answers them."""
+
+import http.client
+import http.server
+import json
+import socket
+import ssl
+import subprocess
+import threading
+from collections.abc import Iterator
+from contextlib import contextmanager
+
+import pytest
+
+from tests.desk.conftest import House
+from tests.desk.desks import MARKUP, PASSWORD, Desk
+from tests.desk.view import Ticket, View, ask, log_in, log_out, own, upgrade
+from tests.gateway.wait import LONG
+
+LOGIN = json.dumps({"login": "tess", "password": PASSWORD}).encode()
+
+
+def test_hosts_and_paths(house: House) -> None:
+    """A name that resolves to this machine is no name of the desk, and no path leaves its files."""
+    port = house.investor.port.number
+    answer = ask(port, "GET", "/", {"Host": "127.0.0.1:%d" % port})
+    assert answer.status == 200
+    policy = answer.headers["Content-Security-Policy"]
+    assert "default-src 'none'" in policy and "unsafe-inline" not in policy and "frame-ancestors 'none'" in policy
+    assert answer.headers["X-Content-Type-Options"] == "nosniff"
+    for host in ("evil.example", "evil.example:%d" % port, "127.0.0.1", "127.0.0.1:%d" % (port + 1), ""):
+        assert ask(port, "GET", "/", {"Host": host}).status == 403, host
+    for path in ("/../desk.toml", "/%2e%2e/INV1.toml", "//etc/passwd", "/main.js/../../INV1.toml", "/sessions.json", "/.js", "/?x=/../", "/login"):
+        assert ask(port, "GET", path, {"Host": "127.0.0.1:%d" % port}).status in (404, 200 if path == "/?x=/../" else 404), path
+    assert ask(port, "PUT", "/", own(house.investor)).status == 404
+
+
+def test_another_origin_posts_nothing(house: House) -> None:
+    """Neither a page of another host or port, nor a form, nor a request without an Origin."""
+    desk = house.investor
+    port = desk.port.number
+    for origin in ("http://evil.example", "http://127.0.0.1:%d" % (port + 1), "http://localhost:%d" % port, "null", "https://127.0.0.1:%d" % port, None):
+        headers = {name: value for name, value in own(desk).items() if name != "Origin"}
+        if origin is not None:
+            headers["Origin"] = origin
+        answer = ask(port, "POST", "/login", headers, LOGIN)
+        assert answer.status == 403 and "Set-Cookie" not in answer.headers, origin
+    for kind in ("text/plain", "application/x-www-form-urlencoded", "multipart/form-data"):
+        assert ask(port, "POST", "/login", {**own(desk), "Content-Type": kind}, LOGIN).status == 404, kind
+    assert ask(port, "POST", "/login", own(desk), LOGIN).status == 200
+
+
+def test_another_origins_websocket(house: House) -> None:
+    """Though the browser sends the cookie along."""
+    desk = house.investor
+    port, ticket = desk.port.number, log_in(desk)
+    here = "127.0.0.1:%d" % port
+    for origin in (None, "http://evil.example", "http://127.0.0.1:%d" % (port + 1), "http://localhost:%d" % port, "null", "https://" + here):
+        assert upgrade(port, here, origin, ticket.cookie)[1] == 403, origin
+    assert upgrade(port, "evil.example", "http://evil.example", ticket.cookie)[1] == 403
+    assert upgrade(port, here, desk.origin, ticket.cookie, "/other")[1] == 403
+    assert upgrade(port, here, desk.origin)[1] == 403
+    assert upgrade(port, here, desk.origin, ticket.cookie)[1] == 101
+
+
+def test_a_cookie_alone_is_nothing(house: House) -> None:
+    """Other servers of the machine are sent it too. Without the token no page is told anything."""
+    desk = house.investor
+    ticket = log_in(desk)
+    name, _, value = ticket.cookie.partition("=")
+    assert name == "desk-INV1-%d" % desk.port.number
+    here = "127.0.0.1:%d" % desk.port.number
+    other = house.dealer
+    assert upgrade(other.port.number, "127.0.0.1:%d" % other.port.number, other.origin, ticket.cookie)[1] == 403
+    for token in ("", "0" * 64, ticket.token[:-1], value):
+        view = object.__new__(View)
+        view.__dict__.update(desk=desk, requests={}, hello={}, session={}, said={}, is_whole=False, closed=None, on_message=None, _count=0, _parts=b"")
+        view.link, status = upgrade(desk.port.number, here, desk.origin, ticket.cookie)
+        assert status == 101
+        view.send({"token": token})
+        assert view.until_closed() == 1008
+        assert view.hello == {} and view.requests == {}
+    assert log_out(desk, Ticket(ticket.cookie, "0" * 64)).status == 403
+    assert View(desk, ticket=ticket).hello["firm"] == "INV1"
+
+
+def test_a_stolen_cookie_after_the_logout(house: House) -> None:
+    """All its pages are closed, and neither it nor its token is of any use, also after a restart."""
+    desk = house.investor
+    ticket = log_in(desk)
+    view, bystander = View(desk, ticket=ticket), View(desk)
+    assert log_out(desk, ticket).status == 200
+    assert view.until_closed() == 1008
+    here = "127.0.0.1:%d" % desk.port.number
+    assert upgrade(desk.port.number, here, desk.origin, ticket.cookie)[1] == 403
+    assert log_out(desk, ticket).status == 403
+    assert bystander.act(do="pass", request="none") == "The request has ended."
+    desk.stop()
+    desk.start()
+    assert upgrade(desk.port.number, here, desk.origin, ticket.cookie)[1] == 403
+    kept = (desk.data / "sessions.json").read_text()
+    assert ticket.token not in kept and ticket.cookie.partition("=")[2] not in kept
+
+
+def test_who_may_not_act(house: House) -> None:
+    """A trader who may look, one with a limit, and each side's acts on the other's desk."""
+    house.view(house.investor)
+    lou, tom = house.view(house.investor, "lou"), house.view(house.investor, "tom")
+    ask_two = {"do": "ask", "bond": "BONDA0000001", "side": "buy", "quantity": 2_000_000, "seconds": 60, "dealers": ["DLR1"]}
+    assert lou.act(**ask_two).startswith("You may look")
+    assert lou.act(do="save group", name="x", dealers=["DLR1"]).startswith("You may look")
+    assert tom.act(**ask_two) == "The quantity has to be from 1 to 1,000,000."
+    assert tom.act(do="cancel all") == "An investor's desk does not do this."
+    dealer = house.view(house.dealer)
+    assert dealer.act(**ask_two) == "A dealer's desk does not do this."
+    assert not lou.requests and not dealer.requests
+    asked = tom.ask_for(["DLR1"], quantity=1_000_000)
+    assert lou.act(do="pass", request=asked).startswith("You may look")
+    tom.until("lou sees it", lambda: tom.requests[asked]["trader"] == "T4")
+
+
+@pytest.mark.parametrize("text", ["[]", "{", '{"do":"hit"}', '{"do":"fly","number":1}', '{"do":"pass","request":"A","number":-1}', "x" * 20_000,
+                                  '{"do":"ask","number":1,"bond":"B","side":"buy","quantity":1e99,"seconds":1,"dealers":[]}'])
+def test_what_no_page_sends_ends_the_socket(house: House, text: str) -> None:
+    view = house.view(house.investor)
+    data = text.encode()
+    head = bytes([0x81, 0xFE]) + len(data).to_bytes(2, "big") if len(data) > 125 else bytes([0x81, 0x80 | len(data)])
+    view.link.sendall(head + bytes(4) + data)
+    assert view.until_closed() in (1008, 1006, 1009)
+    assert house.view(house.investor).session["on"]
+
+
+def test_passwords_are_not_guessed(house: House) -> None:
+    """Ten wrong ones of a login in a minute, whether anybody has it or not; whoever is logged in goes on."""
+    view = house.view(house.investor)
+    for login in ("tess", "nobody"):
+        for count in range(10):
+            body = json.dumps({"login": login, "password": "guess %d" % count}).encode()
+            answer = ask(house.investor.port.number, "POST", "/login", own(house.investor), body)
+            assert (answer.status, answer.json()["why"]) == (403, "Wrong login or password.")
+    answer = ask(house.investor.port.number, "POST", "/login", own(house.investor), LOGIN)
+    assert answer.status == 429
+    assert view.act(do="pass", request="none") == "The request has ended."
+
+
+def test_too_much(house: House) -> None:
+    """Long requests, silent connections, and commands without end."""
+    desk = house.investor
+    port = desk.port.number
+    assert ask(port, "POST", "/login", own(desk), b"x" * 5000).status == 413
+    view = house.view(desk)
+    for count in range(300):
+        view.send({"do": "pass", "request": "none", "number": count + 1})
+    view.until("all are answered", lambda: len(view.said) == 300)
+    assert list(view.said.values()).count("Too many at once: nothing was sent.") > 200
+
+
+@contextmanager
+def evil_site(desk: Desk) -> Iterator[str]:
+    """A page of another origin, which does what it can to a desk in the same browser."""
+    page = """<!doctype html><title>wait</title><script>
+    const told = [];
+    const done = () => told.length === 4 && (document.title = told.sort().join());
+    const tell = what => { told.push(what); done(); };
+    fetch('%(origin)s/login', {method: 'POST', credentials: 'include', headers: {'Content-Type': 'application/json'}, body: '{}'})
+        .then(() => tell('POSTED'), () => tell('no post'));
+    fetch('%(origin)s/', {credentials: 'include'}).then(() => tell('READ'), () => tell('no read'));
+    const socket = new WebSocket('%(origin)s/socket'.replace('http', 'ws'));
+    socket.onopen = () => tell('SOCKET');
+    socket.onerror = () => tell('no socket');
+    const frame = document.createElement('iframe');
+    frame.src = '%(origin)s/';
+    frame.onload = () => { let seen; try { seen = frame.contentDocument; } catch { seen = null; } tell(seen ? 'FRAMED' : 'no frame'); };
+    document.documentElement.append(frame);
+    </script>""" % {"origin": desk.origin}
+
+    class Handler(http.server.BaseHTTPRequestHandler):
+        def do_GET(self) -> None:
+            self.send_response(200)
+            self.send_header("Content-Type", "text/html")
+            self.end_headers()
+            self.wfile.write(page.encode())
+
+        def log_message(self, format: str, *words: object) -> None:
+            pass
+
+    server = http.server.ThreadingHTTPServer(("127.0.0.1", 0), Handler)
+    threading.Thread(target=server.serve_forever, daemon=True).start()
+    try:
+        yield "http://127.0.0.1:%d/" % server.server_port
+    finally:
+        server.shutdown()
+
+
+def test_a_page_of_another_host_in_the_same_browser(house: House) -> None:
+    """It posts nothing, reads nothing, has no socket and no frame, and the desk's page goes on."""
+    browser = house.browser(house.investor)
+    with evil_site(house.investor) as url:
+        browser.script("window.open(arguments[0])", url)
+        browser.driver.switch_to.window(browser.driver.window_handles[-1])
+        browser.until("it has tried all", lambda: browser.driver.title != "wait", LONG)
+        assert browser.driver.title == "no frame,no post,no read,no socket"
+    browser.driver.switch_to.window(browser.driver.window_handles[0])
+    browser.until_says("#top", "Venue connected")
+
+
+def test_tls(house: House) -> None:
+    """With a certificate nobody is served in clear, and the cookie is one that no other port or plain page can set."""
+    desk, folder = house.investor, house.folder
+    names = ["-subj", "/CN=desk", "-addext", "subjectAltName=IP:127.0.0.1"]
+    words = ["openssl", "req", "-x509", "-newkey", "rsa:2048", "-nodes", "-days", "1", "-keyout", "page.key", "-out", "page.pem", *names]
+    subprocess.run(words, cwd=folder, capture_output=True, check=True)
+    desk.stop()
+    desk.page = {"certificate": '"page.pem"', "key": '"page.key"'}
+    desk.trust = ssl.create_default_context(cafile=str(folder / "page.pem"))
+    desk.write()
+    desk.start()
+    link = http.client.HTTPSConnection("127.0.0.1", desk.port.number, timeout=LONG, context=desk.trust)
+    link.request("POST", "/login", LOGIN, {"Origin": desk.origin, "Content-Type": "application/json"})
+    answer = link.getresponse()
+    cookie = answer.headers["Set-Cookie"]
+    assert answer.status == 200 and cookie.startswith("__Host-desk-INV1-") and "; Secure" in cookie and "; HttpOnly" in cookie, cookie
+    assert "max-age" in answer.headers["Strict-Transport-Security"]
+    with socket.create_connection(("127.0.0.1", desk.port.number), timeout=LONG) as plain:
+        plain.sendall(b"GET / HTTP/1.1\r\nHost: 127.0.0.1\r\n\r\n")
+        assert b"200" not in plain.recv(100)
+    desk.page = {"listen": '"0.0.0.0"'}
+    desk.write()
+    told = subprocess.run([desk.program, "--check", folder / "INV1.toml"], capture_output=True, text=True, check=False)
+    assert told.returncode == 1 and "needs a certificate" in told.stderr, told
+
+
+def test_a_firms_text_is_no_markup(house: House) -> None:
+    """The name of a bond, in the ticket, on a card and in the blotter."""
+    investor, dealer = house.browser(house.investor), house.browser(house.dealer)
+    investor.ask("bondb", "buy", "1m", dealers=("DLR1",))
+    for page in (investor, dealer):
+        page.card_says(MARKUP)
+        page.until_says("#blotter", MARKUP)
+        assert page.all("main img, main script") == []
+        assert page.complaints() == []

@@ -1,0 +1,211 @@
+"""Whole auctions in a browser, from both sides: each button, each key, and what each says."""
+
+from selenium.webdriver.common.keys import Keys
+
+from tests.desk.browser import Browser
+from tests.desk.conftest import House
+from tests.desk.desks import MARKUP
+
+POINT = 256
+
+
+def test_an_auction_by_keys_is_won(house: House) -> None:
+    """Ticket, quotes of two dealers, a replacement in 32nds, and a hit by two presses; each side is told its end."""
+    investor, dealer, other = house.browser(house.investor), house.browser(house.dealer), house.browser(house.other)
+    investor.ask("alder", "buy", "2m")
+    for each in (dealer, other):
+        each.card_says("OFFER", "2,000,000", "Alder 4.125 03/29", "INV1 buys", "No live quote")
+    dealer.press(Keys.F2)
+    dealer.press("99-16+", Keys.ENTER)
+    dealer.card_says("Live 99.515625 (99-16+), to the deadline", "Replace", "Withdraw")
+    dealer.until_says("#top", "Exposure 2,000,000 of 1,000,000,000", "quotes 1 of 4,096")
+    other.quote("99.5")
+    investor.card_says("99.515625", "99.5", "2 of 2 quoted")
+    assert "DLR2" in investor.text("tr.best")  # the lowest offer is the best
+    investor.press(Keys.F4)
+    investor.card_says("99-16+", "99-16")
+    investor.press(Keys.F4)
+    dealer.quote("99-15")
+    investor.card_says("99.46875", "best", "+1")
+    button = investor.arm("DLR1")
+    investor.card_says("Once more: buy 2,000,000 at 99.46875 from DLR1", "Buy?")
+    investor.press(Keys.ESCAPE)
+    investor.until_silent("article.card", "Once more")
+    button = investor.arm("DLR1")
+    investor.until("the second press", lambda: press_again(investor, button))
+    investor.card_says("Bought 2,000,000 at 99.46875 from DLR1", "Cover 99.5, DLR2.")
+    dealer.card_says("DONE: sold 2,000,000 at 99.46875 to INV1")
+    other.card_says("Cover: another dealer won, and your quote was the next best", "Your offer was 99.5.")
+    investor.until_says("#blotter", "DONE", "cover 99.5, DLR2", "1 done: bought 2,000,000, sold 0")
+    dealer.until_says("#blotter", "DONE", "bought 0, sold 2,000,000")
+    other.until_says("#top", "Exposure 0 of")
+    for each in (investor, dealer, other):
+        assert each.complaints() == []
+
+
+def press_again(browser: Browser, button: object) -> bool:
+    """The press that confirms, once the first is long enough ago to be no double click; whether the hit was sent."""
+    browser.script("arguments[0].isConnected && arguments[0].textContent.includes('?') && arguments[0].click()", button)
+    return "Once more" not in browser.card().text
+
+
+def test_a_key_that_is_held_down_and_a_double_click_hit_nothing(house: House) -> None:
+    """Neither an Enter that repeats nor two clicks at once are a first press and a second."""
+    investor, dealer = house.browser(house.investor), house.view(house.dealer)
+    investor.ask("alder", "buy", "1m", dealers=("DLR1",))
+    dealer.quote(dealer.wait_shown(1), 99 * POINT)
+    investor.card_says("99", "Hit")
+    button = investor.arm("DLR1")
+    investor.script("""for (let count = 0; count < 40; ++count)
+        if (arguments[0].dispatchEvent(new KeyboardEvent('keydown', {key: 'Enter', repeat: true, bubbles: true, cancelable: true})))
+            arguments[0].click();""", button)
+    investor.press(Keys.ESCAPE)
+    investor.until_silent("article.card", "Once more")
+    investor.until("the time of the guard is over", lambda: "?" in investor.arm("DLR1").text)
+    investor.press(Keys.ESCAPE)
+    investor.script("document.querySelector('button.hit').click(); document.querySelector('button.hit').click()")
+    investor.card_says("Once more")
+    assert investor.text("article.card").count("Bought") == 0
+    dealer.until("nothing was hit", lambda: dealer.requests["R1"]["state"] == "open")
+
+
+def test_a_quote_that_changes_under_a_press_is_not_hit(house: House) -> None:
+    """Where the chosen quote is replaced, the choice is over, and the trader is told."""
+    investor, dealer = house.browser(house.investor), house.view(house.dealer)
+    investor.ask("alder", "buy", "1m", dealers=("DLR1",))
+    request = dealer.wait_shown(1)
+    dealer.quote(request, 99 * POINT)
+    investor.card_says("99", "Hit")
+    investor.arm("DLR1")
+    dealer.quote(request, 98 * POINT)
+    investor.card_says("The quote that you chose is gone.")
+    assert "Once more" not in investor.card().text
+
+
+def test_each_way_that_a_request_ends(house: House) -> None:
+    """Pass, decline, expiry, withdrawal, cancel of all: on both pages."""
+    investor, dealer, other = house.browser(house.investor), house.browser(house.dealer), house.view(house.other)
+    investor.ask("alder", "sell", "1.5m")
+    dealer.card_says("BID", "1,500,000", "INV1 sells")
+    dealer.quote("99.25")
+    investor.card_says("SELL", "99.25")
+    dealer.in_card("button.withdraw").click()
+    dealer.card_says("No live quote")
+    investor.card_says("took back")
+    dealer.in_card("button.decline").click()
+    dealer.card_says("Declined")
+    investor.card_says("declined")
+    other.quote(other.wait_shown(1), 98 * POINT)
+    investor.in_card("button.pass").click()
+    investor.card_says("Passed")
+    dealer.card_says("The investor passed", "You declined.")
+    investor.in_card("button.small").click()
+    investor.until_says("#cards", "No open request")
+
+    investor.ask("cedar", "buy", "500k", deadline="8")
+    dealer.card_says("Cedar", "grid 1/32")
+    dealer.quote("100")
+    dealer.card_says("Live 100")
+    dealer.press(Keys.F9)
+    dealer.card_says("No live quote")
+    dealer.until_says("#top", "Exposure 0 of")
+    dealer.press(Keys.F9)
+    dealer.until_says("#top", "there was no live quote")
+    investor.card_says("Expired")
+    dealer.card_says("Expired")
+    investor.until_says("#blotter", "Passed", "Expired")
+    assert investor.complaints() == [] and dealer.complaints() == []
+
+
+def test_the_dealers_entry(house: House) -> None:
+    """Prices in decimals and 32nds, the grid, arrow keys, and a price far from the last one."""
+    dealer, investor = house.browser(house.dealer), house.view(house.investor)
+    investor.ask_for(["DLR1"], bond="BONDB0000002")
+    dealer.card_says("grid 1/128")
+    dealer.quote("99-171")
+    dealer.card_says("Off the grid of 1/128: 99.53125 or 99.5390625.")
+    dealer.quote("99-40")
+    dealer.card_says("There are 32 thirty-seconds: 00 to 31.")
+    dealer.quote("nothing")
+    dealer.card_says("A price is 99.515625 or 99-16+.")
+    dealer.quote("99.5")
+    dealer.card_says("Live 99.5 (99-16)")
+    dealer.press(Keys.F2, Keys.ARROW_UP, Keys.ARROW_UP, Keys.ARROW_DOWN)
+    dealer.until("one step up", lambda: dealer.in_card("input.entry").get_attribute("value") == "99.5078125")
+    dealer.press(Keys.ESCAPE)
+    dealer.until("it is empty", lambda: dealer.in_card("input.entry").get_attribute("value") == "")
+    dealer.quote("97")
+    dealer.card_says("2.5 points from your last, 99.5: Enter again if it is meant.", "Live 99.5")
+    dealer.press(Keys.ENTER)
+    dealer.card_says("Live 97 (97-00)")
+    dealer.script("const list = arguments[0]; list.value = '10'; list.dispatchEvent(new Event('change'))", dealer.in_card("select.seconds"))
+    dealer.quote("97.5")
+    dealer.card_says("Live 97.5 (97-16), valid 0:")
+    dealer.card_says("validity over: it can\u2019t be hit, and still counts as exposure")
+    assert dealer.text("#top").count("Exposure 2,000,000 of") == 1
+
+
+def test_the_ticket(house: House) -> None:
+    """Completion, amounts, refusals before anything is sent, saved groups, and a request that is repeated."""
+    investor = house.browser(house.investor)
+    investor.press(Keys.F2)
+    investor.press("03/29")
+    investor.until_says("#bonds", "Alder 4.125 03/29", "BONDA0000001")
+    investor.press(Keys.ESCAPE, Keys.CONTROL + "a" + Keys.NULL, "bondb")
+    investor.until_says("#bonds", MARKUP)
+    assert investor.all("#bonds img") == []
+    investor.press(Keys.TAB)
+    for quantity, says in (("x", "A quantity is"), ("9m", "The limit is 5,000,000"), ("1m", "Choose buy or sell")):
+        investor.one("#quantity").clear()
+        if quantity != "1m":
+            investor.click("#buy")
+            investor.one("#quantity").send_keys(quantity, Keys.ENTER)
+            investor.until_says(".ticket", says)
+    investor.ask("cedar", "buy", "1.5m", deadline="never")
+    investor.until_says(".ticket", "A deadline is 90, 2:00, 5m or 1h.")
+    investor.ask("cedar", "buy", "1.5m", dealers=())
+    investor.until_says(".ticket", "Choose the dealers to ask.")
+    investor.click(".picks label", "DLR2")
+    investor.one(".group-name").send_keys("the best", Keys.ENTER)
+    investor.until_says(".chips", "the best")
+    investor.click(".chips button", "none")
+    investor.click(".chips button", "the best")
+    assert [box.get_attribute("value") for box in investor.all(".picks input") if box.is_selected()] == ["DLR2"]
+    investor.one("#quantity").send_keys(Keys.ENTER)  # the deadline is no time still
+    investor.one("#deadline").clear()
+    investor.one("#deadline").send_keys("5m", Keys.ENTER)
+    investor.card_says("BUY", "1,500,000", "Cedar", "waiting")
+    investor.driver.refresh()
+    investor.until_says(".chips", "the best")  # the desk keeps it
+    investor.click("button.again")
+    investor.until("the ticket is filled in", lambda: investor.one("#quantity").get_attribute("value") == "1,500,000")
+    assert investor.one("#bond").get_attribute("value") == "Cedar 4.75 02/34"
+    assert [box.get_attribute("value") for box in investor.all(".picks input") if box.is_selected()] == ["DLR2"]
+    investor.press(Keys.ENTER)
+    investor.until("there are two", lambda: len(investor.all("article.card")) == 2)
+    assert investor.complaints() == []
+
+
+def test_blotter_filter_and_export(house: House) -> None:
+    """What the filter lets through is what is summed and exported, and no cell is a formula."""
+    investor, view, dealer = house.browser(house.investor), house.view(house.investor), house.view(house.dealer)
+    for count, bond in enumerate(("BONDA0000001", "BONDC0000003", "BONDA0000001")):
+        request = view.ask_for(["DLR1"], bond=bond, quantity=1_000_000 * (count + 1))
+        dealer.quote(dealer.wait_shown(count + 1), 100 * POINT)
+        view.until("a quote", lambda: view.requests[request]["quotes"])
+        assert view.hit(request, "DLR1") == ""
+        view.until("done", lambda: view.requests[request]["state"] == "done")
+    investor.until_says("#blotter", "3 requests, 3 done: bought 6,000,000, sold 0")
+    investor.one("#filter").send_keys("alder")
+    investor.until_says("#blotter", "2 requests, 2 done: bought 4,000,000, sold 0")
+    investor.click("button.export")
+    folder = investor.profile / "downloads"
+    investor.until("the file is there", lambda: any(folder.glob("INV1-*.csv")))
+    lines = next(folder.glob("INV1-*.csv")).read_text().splitlines()
+    assert lines[0].startswith("request,asked_utc,ended_utc,side,quantity,bond,bond_name,price,")
+    assert sorted(line.split(",")[4] for line in lines[1:]) == ["1000000", "3000000"]
+    assert all(",100,DLR1,DONE,T8," in line for line in lines[1:])
+    investor.one("#ends").send_keys("open")
+    investor.until_says("#blotter", "0 requests, 0 done")
+    made = investor.script("""const {csv} = await import('/csv.js'); return csv([['=1+1', 'a,"b', -5]])""")
+    assert made == "'=1+1,\"a,\"\"b\",-5\r\n"

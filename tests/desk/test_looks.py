@@ -1,0 +1,135 @@
+"""What a person looks at: widths, schemes, contrasts, labels, the keyboard. Pictures go to PICTURES, if that is set."""
+
+import os
+from pathlib import Path
+
+from selenium.webdriver.common.keys import Keys
+
+from tests.desk.browser import Browser
+from tests.desk.conftest import House
+
+POINT = 256
+WIDTHS, SCHEMES = (400, 1280, 2560), ("light", "dark")
+
+# Of each shown text: its contrast to what is behind it, as WCAG 2 counts it. Disabled controls are exempt there.
+CONTRASTS = """
+const rgb = text => text.match(/[\\d.]+/g).map(Number);
+const part = value => { value /= 255; return value <= 0.03928 ? value / 12.92 : ((value + 0.055) / 1.055) ** 2.4; };
+const light = ([r, g, b]) => 0.2126 * part(r) + 0.7152 * part(g) + 0.0722 * part(b);
+const behind = node => { for (; node; node = node.parentElement) { const c = rgb(getComputedStyle(node).backgroundColor); if (c.length < 4 || c[3] > 0) return c; } return [255, 255, 255]; };
+const bad = [];
+for (const node of document.querySelectorAll('body *')) {
+  const own = [...node.childNodes].some(one => one.nodeType === 3 && one.textContent.trim());
+  if ((!own && !['INPUT', 'SELECT'].includes(node.tagName)) || node.disabled || !node.checkVisibility() || node.closest('.unseen')) continue;
+  const style = getComputedStyle(node), a = light(rgb(style.color)), b = light(behind(node));
+  const contrast = (Math.max(a, b) + 0.05) / (Math.min(a, b) + 0.05);
+  if (contrast < 4.5) bad.push(`${node.tagName} ${node.className} '${node.textContent.slice(0, 30)}' ${contrast.toFixed(2)}`);
+}
+return bad;
+"""
+
+# What can be worked has a name, is large enough to be met, and no name stands twice.
+LABELS = """
+const bad = [], ids = new Set();
+for (const node of document.querySelectorAll('[id]')) { if (ids.has(node.id)) bad.push(`twice: ${node.id}`); ids.add(node.id); }
+for (const node of document.querySelectorAll('button, input, select, summary, [role=option]')) {
+  if (!node.checkVisibility()) continue;
+  const name = node.getAttribute('aria-label') || [...(node.labels ?? [])].map(one => one.textContent).join('') || node.textContent.trim();
+  if (!name) bad.push(`no name: ${node.outerHTML.slice(0, 80)}`);
+  const {width, height} = node.getBoundingClientRect(), isBox = ['checkbox', 'radio'].includes(node.type);
+  if (!isBox && node.tagName !== 'SUMMARY' && (width < 20 || height < 18)) bad.push(`small: ${name} ${width}x${height}`);
+}
+for (const table of document.querySelectorAll('table')) if (![...table.querySelectorAll('thead th')].every(one => one.scope === 'col')) bad.push('a table without heads');
+if (!document.documentElement.lang || !document.title) bad.push('no language or title');
+for (const node of document.querySelectorAll('[tabindex]')) if (node.tabIndex > 0) bad.push('an order of its own');
+return bad;
+"""
+
+
+def pictures() -> Path | None:
+    return Path(os.environ["PICTURES"]) if "PICTURES" in os.environ else None
+
+
+def look(page: Browser, name: str) -> None:
+    """At each width and scheme: nothing is wider than the page, every text can be read, everything has a name."""
+    for width in WIDTHS:
+        for scheme in SCHEMES:
+            page.look(width, scheme)
+            where = "%s, %d, %s" % (name, width, scheme)
+            wide = page.script("return [...document.querySelectorAll('body *')].filter(one => one.checkVisibility() && !one.closest('.unseen') && "
+                               "one.getBoundingClientRect().right > innerWidth + 0.5).map(one => one.outerHTML.slice(0, 80))")
+            assert wide == [] and page.script("return document.documentElement.scrollWidth") <= width, (where, wide)
+            assert page.script(CONTRASTS) == [], where
+            assert page.script(LABELS) == [], where
+            folder = pictures()
+            if folder:
+                page.picture(folder / ("%s-%d-%s.png" % (name, width, scheme)))
+    page.look(1280, "light")
+
+
+def test_a_busy_minute(house: House) -> None:
+    """An investor's and a dealer's page with requests in every state, and the same without the venue."""
+    investor, dealer = house.browser(house.investor), house.browser(house.dealer)
+    one, first, second = house.view(house.investor), house.view(house.dealer), house.view(house.other)
+    for count, (side, quantity, bond) in enumerate((("buy", 2_000_000, "BONDA0000001"), ("sell", 1_500_000, "BONDB0000002"),
+                                                   ("buy", 500_000, "BONDC0000003"), ("sell", 5_000_000, "BONDA0000001"))):
+        one.ask_for(["DLR1", "DLR2"], side, quantity, bond=bond)
+        for view in (first, second):
+            view.wait_shown(count + 1)
+    first.quote("R1", 99 * POINT + 129, seconds=300)
+    second.quote("R1", 99 * POINT + 137)
+    first.quote("R2", 99 * POINT + 2)
+    assert second.act(do="decline", request="R2") == ""
+    second.quote("R3", 100 * POINT + 8)
+    asked = list(one.requests)[2]
+    one.until("a quote", lambda: one.requests[asked]["quotes"])
+    assert one.hit(asked, "DLR2") == ""
+    one.until("a trade", lambda: one.requests[asked]["state"] == "done")
+    dealer.card_says("Done away", number=2)
+    dealer.quote("x", 3)
+    investor.card_says("99.50390625", number=0)
+    investor.arm("DLR1", number=0)
+    look(investor, "investor")
+    look(dealer, "dealer")
+    house.door.kill()
+    dealer.until_says("#alarm", "may still stand")
+    investor.until_says("#top", "not connected")
+    look(dealer, "dealer-off")
+    look(investor, "investor-off")
+    investor.click("#logout")
+    investor.until("the login is asked for", lambda: investor.one("#login").is_displayed())
+    look(investor, "login")
+    assert investor.complaints() == [] and dealer.complaints() == []
+
+
+def test_without_colours_and_by_keys_alone(house: House) -> None:
+    """What a colour says a word says too; a request is asked, and hit, without a pointer."""
+    investor, dealer = house.browser(house.investor), house.view(house.dealer)
+    investor.press(Keys.F2, "cedar", Keys.ENTER, Keys.TAB, Keys.SPACE, Keys.TAB, "1m", Keys.TAB, Keys.TAB)
+    investor.until("the keys lead to the groups", lambda: investor.focused() == "all")
+    investor.press(Keys.ENTER)
+    investor.until_says(".ticket", "Ask 2 dealers", "Buy 1,000,000 Cedar")
+    for _ in range(8):
+        if "Ask 2 dealers" in investor.driver.switch_to.active_element.text:
+            break
+        investor.press(Keys.TAB)
+    investor.press(Keys.ENTER)
+    dealer.quote(dealer.wait_shown(1), 99 * POINT)
+    investor.card_says("BUY", "99", "best")
+
+    def confirm() -> bool:
+        if "Confirm" not in investor.focused():
+            investor.press(Keys.F3, Keys.ENTER)
+        return "Confirm: buy from DLR1 at 99" in investor.focused()
+
+    investor.until("F3 and Enter choose", confirm)
+    investor.until("Enter confirms", lambda: press_enter(investor))
+    investor.card_says("Bought 1,000,000 at 99 from DLR1", "No cover.")
+
+
+def press_enter(page: Browser) -> bool:
+    if "Confirm" in page.focused():
+        page.press(Keys.ENTER)
+    elif "Bought" not in page.card().text and "not answered" not in page.card().text:
+        page.press(Keys.F3, Keys.ENTER)
+    return "Bought" in page.card().text

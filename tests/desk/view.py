@@ -1,0 +1,221 @@
+"""A page of a desk without a browser: it logs in by HTTP, and then has the WebSocket."""
+
+import base64
+import http.client
+import json
+import os
+import socket
+import struct
+import time
+from collections.abc import Callable
+from dataclasses import dataclass, field
+from typing import Any
+
+from tests.desk.desks import PASSWORD, Desk
+from tests.gateway.wait import LONG, TooLong
+
+Json = dict[str, Any]
+
+CLOSE, PING = 8, 9
+
+
+@dataclass
+class Answer:
+    """Of HTTP."""
+
+    status: int
+    body: bytes
+    headers: dict[str, str]
+
+    def json(self) -> Json:
+        return dict(json.loads(self.body))
+
+
+def ask(port: int, method: str, path: str, headers: dict[str, str], body: bytes = b"") -> Answer:
+    """One request, with these headers and no others."""
+    link = http.client.HTTPConnection("127.0.0.1", port, timeout=LONG)
+    link.putrequest(method, path, skip_host=True, skip_accept_encoding=True)
+    for name, value in headers.items():
+        link.putheader(name, value)
+    if body:
+        link.putheader("Content-Length", str(len(body)))
+    link.endheaders(body or None)
+    answer = link.getresponse()
+    got = Answer(answer.status, answer.read(), dict(answer.getheaders()))
+    link.close()
+    return got
+
+
+def own(desk: Desk) -> dict[str, str]:
+    """The headers that the desk's own page sends."""
+    return {"Host": "127.0.0.1:%d" % desk.port.number, "Origin": desk.origin, "Content-Type": "application/json"}
+
+
+@dataclass(frozen=True)
+class Ticket:
+    cookie: str  # NAME=VALUE
+    token: str
+
+
+def log_in(desk: Desk, login: str = "tess", password: str = PASSWORD) -> Ticket:
+    body = json.dumps({"login": login, "password": password}).encode()
+    answer = ask(desk.port.number, "POST", "/login", own(desk), body)
+    assert answer.status == 200, answer
+    return Ticket(answer.headers["Set-Cookie"].split(";")[0], answer.json()["token"])
+
+
+def log_out(desk: Desk, ticket: Ticket) -> Answer:
+    headers = {**own(desk), "Cookie": ticket.cookie}
+    return ask(desk.port.number, "POST", "/logout", headers, json.dumps({"token": ticket.token}).encode())
+
+
+def upgrade(port: int, host: str, origin: str | None, cookie: str = "", path: str = "/socket") -> tuple[socket.socket, int]:
+    """Asks for a WebSocket: the connection, and the status of the answer."""
+    link = socket.create_connection(("127.0.0.1", port), timeout=LONG)
+    lines = ["GET %s HTTP/1.1" % path, "Host: %s" % host, "Upgrade: websocket", "Connection: Upgrade", "Sec-WebSocket-Version: 13",
+             "Sec-WebSocket-Key: " + base64.b64encode(os.urandom(16)).decode()]
+    lines += ["Origin: %s" % origin] if origin is not None else []
+    lines += ["Cookie: %s" % cookie] if cookie else []
+    link.sendall(("\r\n".join(lines) + "\r\n\r\n").encode())
+    head = b""
+    while b"\r\n\r\n" not in head:
+        piece = link.recv(1)
+        if not piece:
+            break
+        head += piece
+    return link, int(head.split(b" ")[1]) if head else 0
+
+
+@dataclass
+class View:
+    desk: Desk
+    login: str = "tess"
+    ticket: Ticket | None = None
+    hello: Json = field(default_factory=dict)
+    session: Json = field(default_factory=dict)
+    requests: dict[str, Json] = field(default_factory=dict)
+    said: dict[int, str] = field(default_factory=dict)
+    is_whole: bool = False  # it has all requests of the day
+    closed: int | None = None
+    on_message: Callable[[Json], None] | None = None
+    _count: int = 0
+    _parts: bytes = b""
+
+    def __post_init__(self) -> None:
+        self.ticket = self.ticket or log_in(self.desk, self.login)
+        self.link, status = upgrade(self.desk.port.number, "127.0.0.1:%d" % self.desk.port.number, self.desk.origin, self.ticket.cookie)
+        assert status == 101, status
+        self.send({"token": self.ticket.token})
+        self.until("the day", lambda: self.is_whole)
+
+    def send(self, message: Json) -> None:
+        data, mask = json.dumps(message).encode(), os.urandom(4)
+        size = bytes([0x80 | len(data)]) if len(data) < 126 else bytes([0xFE]) + struct.pack(">H", len(data))
+        self.link.sendall(b"\x81" + size + mask + bytes(one ^ mask[at % 4] for at, one in enumerate(data)))
+
+    def _take(self, count: int) -> bytes:
+        data = b""
+        while len(data) < count:
+            piece = self.link.recv(count - len(data))
+            if not piece:
+                raise ConnectionError
+            data += piece
+        return data
+
+    def hear(self, seconds: float) -> bool:
+        """Takes one frame that comes within this time; whether one came."""
+        self.link.settimeout(seconds)
+        try:
+            first = self._take(2)
+            self.link.settimeout(LONG)
+            length = first[1] & 127
+            if length > 125:
+                length = struct.unpack(">H", self._take(2))[0] if length == 126 else struct.unpack(">Q", self._take(8))[0]
+            data = self._take(length)
+        except TimeoutError:
+            return False
+        except (ConnectionError, OSError):
+            self.closed = self.closed or 1006
+            return False
+        kind = first[0] & 15
+        if kind == CLOSE:
+            self.closed = struct.unpack(">H", data[:2])[0]
+        elif kind == PING:
+            self.link.sendall(b"\x8a" + bytes([0x80 | len(data)]) + bytes(4) + data)
+        else:
+            self._parts += data
+            if first[0] & 0x80:
+                data, self._parts = self._parts, b""
+                self.take(json.loads(data))
+        return True
+
+    def take(self, message: Json) -> None:
+        kind = message["t"]
+        if kind == "hello":
+            self.hello, self.session, self.requests, self.is_whole = message, message["session"], {}, False
+        elif kind == "requests":
+            self.requests.update((one["id"], one) for one in message["requests"])
+            self.is_whole = self.is_whole or message.get("last", False)
+        elif kind == "session":
+            self.session = message
+        elif kind == "said":
+            self.said[message["number"]] = message["why"]
+        if self.on_message:
+            self.on_message(message)
+
+    def until(self, what: str, holds: Callable[[], object], seconds: float = LONG) -> None:
+        end = time.monotonic() + seconds
+        while not holds():
+            if time.monotonic() > end or self.closed:
+                raise TooLong("%s (closed: %s): not within %g s\n%s\n%s" % (what, self.closed, seconds, json.dumps(list(self.requests.values())[-2:]), self.session))
+            self.hear(0.1)
+
+    def until_closed(self) -> int:
+        end = time.monotonic() + LONG
+        while self.closed is None:
+            assert time.monotonic() < end, "the socket is open still"
+            self.hear(0.1)
+        return self.closed
+
+    def act(self, **command: Any) -> str:
+        """Has the desk do something; why it did not, or an empty text."""
+        self._count += 1
+        number = self._count
+        self.send({**command, "number": number})
+        self.until("an answer", lambda: number in self.said)
+        return self.said[number]
+
+    # ------------------------------------------------------------ what traders do
+
+    def wait_on(self) -> None:
+        self.until("the venue is connected", lambda: self.session.get("on"))
+
+    def open_requests(self) -> list[Json]:
+        return [one for one in self.requests.values() if one["state"] == "open"]
+
+    def ask_for(self, dealers: list[str], side: str = "buy", quantity: int = 2_000_000, seconds: int = 600, bond: str = "BONDA0000001") -> str:
+        """An accepted request; its name."""
+        before = set(self.requests)
+        why = self.act(do="ask", bond=bond, side=side, quantity=quantity, seconds=seconds, dealers=dealers)
+        assert why == "", why
+        self.until("the request is accepted", lambda: any(one["state"] == "open" for name, one in self.requests.items() if name not in before))
+        return next(name for name in self.requests if name not in before)
+
+    def wait_shown(self, count: int) -> str:
+        """Waits until so many requests were shown in all; the name of the last."""
+        self.until("request %d is shown" % count, lambda: len(self.requests) >= count)
+        return list(self.requests)[count - 1]
+
+    def live(self, request: str) -> Json | None:
+        return next((quote for quote in self.requests[request]["quotes"] if quote["state"] == "live"), None)
+
+    def quote(self, request: str, price: int, seconds: int = 0) -> None:
+        """A quote that is accepted."""
+        live = self.live(request)
+        why = self.act(do="quote", request=request, price=price, seconds=seconds, replaces=live["id"] if live else "")
+        assert why == "", why
+        self.until("the quote is live", lambda: (self.live(request) or {}).get("price") == price and not self.requests[request]["pending"])
+
+    def hit(self, request: str, dealer: str) -> str:
+        quote = next(one for one in self.requests[request]["quotes"] if one["dealer"] == dealer and one["state"] == "live")
+        return self.act(do="hit", request=request, quote=quote["id"], price=quote["price"])
