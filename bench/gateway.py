@@ -11,7 +11,7 @@ import argparse
 import contextlib
 import subprocess
 import tempfile
-from collections.abc import Iterator
+from collections.abc import Iterator, Sequence
 from dataclasses import dataclass
 from pathlib import Path
 
@@ -45,8 +45,8 @@ class Bench:
         return file
 
     def measured(self, folder: Path, port: int, *request: str) -> Figures:
-        words = ["dealer", self.settings(folder, DEALER, port), DEALER.name, DEALER.password, str(self.one_by_one), str(self.burst)]
-        run = subprocess.run([self.load, *words, *request], stdout=subprocess.PIPE, text=True, check=True)
+        words = ["dealer", str(self.settings(folder, DEALER, port)), DEALER.name, DEALER.password, str(self.one_by_one), str(self.burst)]
+        run = subprocess.run([str(self.load), *words, *request], stdout=subprocess.PIPE, text=True, check=True)
         return Figures(*map(float, run.stdout.split()))
 
     def echo(self) -> Figures:
@@ -66,7 +66,7 @@ class Bench:
             try:
                 door.wait_open()
                 settings = self.settings(folder, INVESTOR, door.port)
-                words = ["investor", settings, INVESTOR.name, INVESTOR.password, moment_in(3600).decode()]
+                words = ["investor", str(settings), INVESTOR.name, INVESTOR.password, moment_in(3600).decode()]
                 with started([self.load, *words], "asked"):
                     return self.measured(folder, door.port)
             finally:
@@ -83,9 +83,10 @@ def echo_settings(folder: Path, port: int) -> str:
 
 
 @contextlib.contextmanager
-def started(words: list, ready: str) -> Iterator[None]:
+def started(words: Sequence[str | Path], ready: str) -> Iterator[None]:
     """A process that has said that it is ready, and that ends with its input."""
     process = subprocess.Popen(words, stdin=subprocess.PIPE, stdout=subprocess.PIPE, text=True)
+    assert process.stdin is not None and process.stdout is not None
     try:
         if process.stdout.readline().strip() != ready:
             raise RuntimeError("%s did not begin" % words[1])

@@ -50,7 +50,7 @@ class Bench:
         (self.folder / "gateway.toml").write_text(text)
         return self.folder / "gateway.toml"
 
-    def client(self, name: str, who: Identity, port: int, *words: str) -> subprocess.Popen:
+    def client(self, name: str, who: Identity, port: int, *words: str) -> "subprocess.Popen[str]":
         own = self.folder / name
         own.mkdir(exist_ok=True)
         settings = own / (who.name + ".cfg")
@@ -70,12 +70,15 @@ class Bench:
             investors = [self.client(name, INVESTOR, port, moment_in(3600).decode()) for name in names]
             for each in investors:
                 stack.callback(each.wait, 30)
+                assert each.stdin is not None
                 stack.callback(each.stdin.close)
             for each in investors:
+                assert each.stdout is not None
                 if each.stdout.readline().strip() != "asked":
                     raise RuntimeError("an investor did not begin")
             dealers = [self.client(name, DEALER, port, WARM, str(self.burst)) for name in names]
-            return sum(float(each.communicate()[0].split()[2]) for each in dealers)
+            rate = sum(float(each.communicate()[0].split()[2]) for each in dealers)
+        return rate
 
 
 def main() -> None:

@@ -106,7 +106,7 @@ class Proof:
     """An `rt ci` of some crates, or of all, that goes on in a process group of its own."""
 
     name: str
-    process: subprocess.Popen
+    process: "subprocess.Popen[bytes]"
     output: IO[bytes]
     began: float = field(default_factory=time.monotonic)
 

@@ -221,7 +221,7 @@ build_gateway() {
 # part NAME: a folder of tests, with its limit of time and what it needs.
 part() {
     case $1 in
-    pages) folder pages 1800 "" ;;
+    pages) folder pages 1800 "mypy black" ;;
     cases) folder cases 2400 "" ;;
     model | isolation | hostile) folder "$1" 3600 "" -n "$jobs" ;;
     refused_memory) folder "$1" 3600 "gcc libc6-dev" -n "$jobs" ;;

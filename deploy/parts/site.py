@@ -124,7 +124,7 @@ def read_site(path: Path) -> Site:
         raise Fault("%s: %s is missing" % (path, fault)) from fault
 
 
-def text(value: Any) -> str:
+def text(value: object) -> str:
     if not isinstance(value, str):
         raise ValueError("%r is no text" % value)
     return value
@@ -133,7 +133,7 @@ def text(value: Any) -> str:
 def password(word: str, value: Any) -> str:
     if not PASSWORD.fullmatch(text(value)):
         raise ValueError("the password of %s is not of letters, digits and . _ ~ + - alone" % word)
-    return value
+    return text(value)
 
 
 def texts(table: Any) -> dict[str, str]:

@@ -85,7 +85,7 @@ def write_gateway(folder: Path, port: int, command: list[str]) -> None:
     lines = ["[venue]", *toml({"command": [*words, "live", "--frames", "--marks"], "configuration": "venue.toml"}),
              "[log]", *toml({"sqlite": "day-{date}.db"}),
              "[fix]", *toml({"listen": "127.0.0.1", "port": port, "credentials": "credentials.toml"}),
-             "[seal]", *toml({"key": "keys/seal.key", "signing_key": "keys/gateway.pem", "gateways": ["keys/gateway.pub"]}),
+             "[seal]", *toml({"key": "keys/seal.key", "signing_key": "keys/gateway.pem", "gateways": ["keys/gateway.pub"], "checkpoints": "checkpoints"}),
              "[metrics]", *toml({"port": 0})]
     write(folder / "gateway.toml", "\n".join(lines) + "\n")
 

@@ -14,6 +14,8 @@ using std::chrono::microseconds;
 
 constexpr auto least_step = std::chrono::milliseconds(100);
 
+constexpr auto longest_reading = std::chrono::milliseconds(5);
+
 // The kernel slews a clock by 500 millionths at most; twice that is let pass.
 constexpr auto slewing = 1000; // one of so many
 
@@ -28,8 +30,17 @@ microseconds measured(clockid_t clock) {
 
 ClockWatch::ClockWatch(Read read) : read_(std::move(read)), last_(read_()) {}
 
+// Where this thread loses its processor between the two clocks, that is no step of one: they are
+// read again.
 ClockWatch::Reading ClockWatch::read_now() {
-    return {measured(CLOCK_REALTIME), measured(CLOCK_BOOTTIME)};
+    for (;;) {
+        const microseconds before = measured(CLOCK_BOOTTIME);
+        const microseconds time = measured(CLOCK_REALTIME);
+        const microseconds passed = measured(CLOCK_BOOTTIME) - before;
+        if (passed < longest_reading) {
+            return {time, before + passed / 2};
+        }
+    }
 }
 
 std::optional<microseconds> ClockWatch::look() {

@@ -71,11 +71,12 @@ class Streams(unittest.TestCase):
         wherever a block ends.
         """
         mark = b"date "
-        for texts in (
+        days: list[list[bytes]] = [
             [], [b"x\n"], [b"date 1\n"], [b"date 1\na\n", b"date 2\n"], [b"date 1"],
             [b"a\nxdate \n", b"date 1\n\n dat\ndate\n", b"date 2\nb date \n", b"date 3\nc"],
             [b"date 1\n", b"date 2\n", b"date 3\n"], [b"\n", b"date \n", b"date \n\n"],
-        ):
+        ]
+        for texts in days:
             data = b"".join(texts)
             for size in range(1, len(data) + 2):
                 blocks = [data[at : at + size] for at in range(0, len(data), size)]

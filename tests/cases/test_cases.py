@@ -12,7 +12,14 @@ import pytest
 from tests.harness.options import ROOT
 
 CRATE = ROOT / "crates" / "all_cases"
-AT_LIMITS = ("commands-greatest", "commands-limits", "commands-long_days", "dealer-full-days", "due-limits", "investor-full-days")
+AT_LIMITS = (
+    "commands-greatest",
+    "commands-limits",
+    "commands-long_days",
+    "dealer-full-days",
+    "due-limits",
+    "investor-full-days",
+)
 SECONDS = 900  # of the program, by rt's own limit
 LIMIT = 1800  # seconds of its compiler, too
 CASE = re.compile(r"(?m)^case ")
@@ -26,11 +33,29 @@ def files() -> list[str]:
 def test_cases_without_a_proof() -> None:
     if shutil.which("rt") is None:
         pytest.skip("there is no rt on the PATH")
-    words = ["nice", "rt", "try", "--seconds", str(SECONDS), "--", *("data/" + name for name in files())]
-    done = subprocess.run(words, cwd=CRATE, stdout=subprocess.PIPE, stderr=subprocess.STDOUT, text=True, timeout=LIMIT, check=False)
+    words = [
+        "nice",
+        "rt",
+        "try",
+        "--seconds",
+        str(SECONDS),
+        "--",
+        *("data/" + name for name in files()),
+    ]
+    done = subprocess.run(
+        words,
+        cwd=CRATE,
+        stdout=subprocess.PIPE,
+        stderr=subprocess.STDOUT,
+        text=True,
+        timeout=LIMIT,
+        check=False,
+    )
     found = re.search(r"(?m)^(\d+) passed, 0 failed$", done.stdout)
     assert found, done.stdout[-3000:]
-    written = sum(len(CASE.findall((CRATE / "data" / name).read_text(errors="replace"))) for name in files())
+    written = sum(
+        len(CASE.findall((CRATE / "data" / name).read_text(errors="replace"))) for name in files()
+    )
     assert int(found[1]) == written > 0
 
 

@@ -6,7 +6,8 @@ from pathlib import Path
 from typing import Any
 
 from selenium import webdriver
-from selenium.common.exceptions import JavascriptException, NoSuchElementException, StaleElementReferenceException
+from selenium.common.exceptions import (ElementNotInteractableException, JavascriptException, NoSuchElementException,
+                                        StaleElementReferenceException, WebDriverException)
 from selenium.webdriver.chrome.options import Options
 from selenium.webdriver.chrome.service import Service
 from selenium.webdriver.common.by import By
@@ -18,8 +19,19 @@ from tests.gateway.wait import LONG, TooLong
 
 WORDS = ("--headless=new", "--no-sandbox", "--disable-gpu", "--hide-scrollbars", "--disable-dev-shm-usage", "--no-first-run",
          "--disable-background-networking", "--disable-component-update", "--disable-sync", "--mute-audio")
-CHANGING = (StaleElementReferenceException, NoSuchElementException, JavascriptException, IndexError)
+CHANGING = (StaleElementReferenceException, NoSuchElementException, ElementNotInteractableException, JavascriptException, IndexError, StopIteration)
 HEIGHT = 900
+TRIES = 3
+
+
+def started(options: Options) -> webdriver.Chrome:
+    """A browser; again where a busy machine lets one start too slowly for its driver."""
+    for _ in range(TRIES - 1):
+        try:
+            return webdriver.Chrome(service=Service("/usr/bin/chromedriver"), options=options)
+        except WebDriverException:
+            continue
+    return webdriver.Chrome(service=Service("/usr/bin/chromedriver"), options=options)
 
 
 class Browser:
@@ -30,7 +42,7 @@ class Browser:
         options.set_capability("goog:loggingPrefs", {"browser": "ALL"})
         options.add_experimental_option("prefs", {"download.default_directory": str(profile / "downloads")})
         self.profile = profile
-        self.driver = webdriver.Chrome(service=Service("/usr/bin/chromedriver"), options=options)
+        self.driver = started(options)
 
     def quit(self) -> None:
         self.driver.quit()
@@ -129,7 +141,26 @@ class Browser:
         self.until("card %d says %r" % (number, words), lambda: all(word in self.card(number).text for word in words))
 
     def in_card(self, where: str, number: int = -1) -> WebElement:
-        return next(one for one in self.card(number).find_elements(By.CSS_SELECTOR, where) if one.is_displayed())
+        """The first shown element of a card, once there is one."""
+        found: list[WebElement] = []
+
+        def is_shown() -> bool:
+            found[:] = [one for one in self.card(number).find_elements(By.CSS_SELECTOR, where) if one.is_displayed()]
+            return bool(found)
+
+        self.until("card %d shows %s" % (number, where), is_shown)
+        return found[0]
+
+    def press_in_card(self, where: str, number: int = -1) -> None:
+        """Clicks an element of a card, once it can be clicked."""
+        def done() -> bool:
+            button = self.in_card(where, number)
+            if button.is_enabled():
+                button.click()
+                return True
+            return False
+
+        self.until("%s of card %d can be clicked" % (where, number), done)
 
     def quote(self, price: str, number: int = -1) -> None:
         entry = self.in_card("input.entry", number)
@@ -150,6 +181,20 @@ class Browser:
 
         self.until("the quote of %s is chosen" % dealer, done)
         return button[0]
+
+    def hit(self, dealer: str, number: int = -1) -> None:
+        """Both presses of a hit: again where the first is forgotten by then, or a quote changed under one."""
+        def done() -> bool:
+            card = self.card(number)
+            if card.get_attribute("data-state") == "done" or "not answered" in card.text:
+                return True
+            row = next(one for one in card.find_elements(By.CSS_SELECTOR, ".quotes tbody tr") if dealer in one.text)
+            button = row.find_element(By.CSS_SELECTOR, "button.hit")
+            self.script("arguments[0].focus()", button)
+            button.send_keys(Keys.ENTER)
+            return False
+
+        self.until("the quote of %s is hit" % dealer, done)
 
     # ------------------------------------------------------------ looks
 

@@ -27,12 +27,10 @@ def test_an_auction_by_keys_is_won(house: House) -> None:
     investor.press(Keys.F4)
     dealer.quote("99-15")
     investor.card_says("99.46875", "best", "+1")
-    button = investor.arm("DLR1")
-    investor.card_says("Once more: buy 2,000,000 at 99.46875 from DLR1", "Buy?")
+    investor.until("the first press shows what the second does", lambda: armed(investor, "Once more: buy 2,000,000 at 99.46875 from DLR1"))
     investor.press(Keys.ESCAPE)
     investor.until_silent("article.card", "Once more")
-    button = investor.arm("DLR1")
-    investor.until("the second press", lambda: press_again(investor, button))
+    investor.hit("DLR1")
     investor.card_says("Bought 2,000,000 at 99.46875 from DLR1", "Cover 99.5, DLR2.")
     dealer.card_says("DONE: sold 2,000,000 at 99.46875 to INV1")
     other.card_says("Cover: another dealer won, and your quote was the next best", "Your offer was 99.5.")
@@ -43,10 +41,10 @@ def test_an_auction_by_keys_is_won(house: House) -> None:
         assert each.complaints() == []
 
 
-def press_again(browser: Browser, button: object) -> bool:
-    """The press that confirms, once the first is long enough ago to be no double click; whether the hit was sent."""
-    browser.script("arguments[0].isConnected && arguments[0].textContent.includes('?') && arguments[0].click()", button)
-    return "Once more" not in browser.card().text
+def armed(investor: Browser, words: str) -> bool:
+    """Presses once, and looks before the press is forgotten."""
+    investor.arm("DLR1")
+    return words in investor.card().text
 
 
 def test_a_key_that_is_held_down_and_a_double_click_hit_nothing(house: House) -> None:
@@ -63,8 +61,11 @@ def test_a_key_that_is_held_down_and_a_double_click_hit_nothing(house: House) ->
     investor.until_silent("article.card", "Once more")
     investor.until("the time of the guard is over", lambda: "?" in investor.arm("DLR1").text)
     investor.press(Keys.ESCAPE)
-    investor.script("document.querySelector('button.hit').click(); document.querySelector('button.hit').click()")
-    investor.card_says("Once more")
+    once = investor.script("""const button = document.querySelector('button.hit');
+        button.click();
+        button.click();
+        return document.querySelector('article.card').textContent.includes('Once more');""")
+    assert once, "two clicks at once are no first press"
     assert investor.text("article.card").count("Bought") == 0
     dealer.until("nothing was hit", lambda: dealer.requests["R1"]["state"] == "open")
 
@@ -76,9 +77,17 @@ def test_a_quote_that_changes_under_a_press_is_not_hit(house: House) -> None:
     request = dealer.wait_shown(1)
     dealer.quote(request, 99 * POINT)
     investor.card_says("99", "Hit")
-    investor.arm("DLR1")
-    dealer.quote(request, 98 * POINT)
-    investor.card_says("The quote that you chose is gone.")
+    price = 99 * POINT
+
+    def changed() -> bool:
+        nonlocal price
+        price -= POINT
+        investor.arm("DLR1")
+        dealer.quote(request, price)
+        investor.card_says(str(price // POINT))
+        return "The quote that you chose is gone." in investor.card().text  # or the press was forgotten before
+
+    investor.until("the choice is over", changed)
     assert "Once more" not in investor.card().text
 
 
@@ -89,20 +98,20 @@ def test_each_way_that_a_request_ends(house: House) -> None:
     dealer.card_says("BID", "1,500,000", "INV1 sells")
     dealer.quote("99.25")
     investor.card_says("SELL", "99.25")
-    dealer.in_card("button.withdraw").click()
+    dealer.press_in_card("button.withdraw")
     dealer.card_says("No live quote")
     investor.card_says("took back")
-    dealer.in_card("button.decline").click()
+    dealer.press_in_card("button.decline")
     dealer.card_says("Declined")
     investor.card_says("declined")
     other.quote(other.wait_shown(1), 98 * POINT)
-    investor.in_card("button.pass").click()
+    investor.press_in_card("button.pass")
     investor.card_says("Passed")
     dealer.card_says("The investor passed", "You declined.")
-    investor.in_card("button.small").click()
+    investor.press_in_card("button.small")
     investor.until_says("#cards", "No open request")
 
-    investor.ask("cedar", "buy", "500k", deadline="8")
+    investor.ask("cedar", "buy", "500k", deadline="25")
     dealer.card_says("Cedar", "grid 1/32")
     dealer.quote("100")
     dealer.card_says("Live 100")

@@ -28,13 +28,17 @@ def test_quickfix(printed: Printed, engines: Path) -> None:
 
 def lines_of(printed: Printed) -> list[bytes]:
     """Each frame that was printed, with bars."""
-    return [line.split(b" ", 1)[1] for file in printed.frames for line in file.read_bytes().splitlines()]
+    return [
+        line.split(b" ", 1)[1] for file in printed.frames for line in file.read_bytes().splitlines()
+    ]
 
 
 def test_frames_of_the_rules_of_engagement(printed: Printed) -> None:
     """Each example frame of docs/CONNECTING.md is one that was sent, or printed, in some day."""
     shown = set(SHOWN.findall((ROOT / "docs" / "CONNECTING.md").read_bytes()))
-    known = {frame for each in printed.inputs for frame in GIVEN.findall(each.text)} | set(lines_of(printed))
+    known = {frame for each in printed.inputs for frame in GIVEN.findall(each.text)} | set(
+        lines_of(printed)
+    )
     assert shown
     assert shown - known == set()
 
@@ -53,9 +57,16 @@ def well_formed(frames: list[bytes], folder: Path, name: str) -> int:
     """How many of these frames, a packet each, Wireshark finds nothing wrong with."""
     text, capture = folder / (name + ".hex"), folder / (name + ".pcap")
     text.write_text("".join(map(hex_of, frames)))
-    subprocess.run(["text2pcap", "-q", "-T", "40000,%d" % PORT, text, capture], check=True, capture_output=True, timeout=LIMIT)
+    subprocess.run(
+        ["text2pcap", "-q", "-T", "40000,%d" % PORT, text, capture],
+        check=True,
+        capture_output=True,
+        timeout=LIMIT,
+    )
     words = ["tshark", "-r", str(capture), "-d", "tcp.port==%d,fix" % PORT, "-Y", WELL]
-    return len(subprocess.run(words, check=True, capture_output=True, timeout=LIMIT).stdout.splitlines())
+    return len(
+        subprocess.run(words, check=True, capture_output=True, timeout=LIMIT).stdout.splitlines()
+    )
 
 
 @pytest.fixture
@@ -72,6 +83,9 @@ def test_wireshark_reads_each_frame(wireshark: None, printed: Printed, place: Pa
 def test_wireshark_finds_planted_faults(wireshark: None, printed: Printed, place: Path) -> None:
     """A wrong sum, and a word for a number."""
     first, second, *others = lines_of(printed)
-    planted = [first.replace(b"|131=", b"|131=x", 1), re.sub(rb"\|34=\d*\|", b"|34=x|", second, count=1)]
+    planted = [
+        first.replace(b"|131=", b"|131=x", 1),
+        re.sub(rb"\|34=\d*\|", b"|34=x|", second, count=1),
+    ]
     assert planted != [first, second]
     assert well_formed([*planted, *others], place, "planted") == len(others)

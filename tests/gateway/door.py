@@ -80,10 +80,16 @@ class Door:
     environment: dict[str, str] = field(default_factory=dict)
     cancelled: dict[str, str] = field(default_factory=dict)  # of a dealer: the trader that cancels when it is gone
     postgres: PostgresLog | None = None  # the log, in the place of a file of SQLite
-    process: subprocess.Popen | None = None
+    process: subprocess.Popen[bytes] | None = None
     _hashes: dict[str, str] = field(default_factory=dict)
     _sessions_port: Port = field(default_factory=Port)
     _metrics_port: Port = field(default_factory=Port)
+
+    @property
+    def running(self) -> subprocess.Popen[bytes]:
+        """The gateway's process, which was started."""
+        assert self.process is not None, "the gateway is not started"
+        return self.process
 
     @property
     def port(self) -> int:
@@ -170,14 +176,14 @@ class Door:
     def wait_end(self, limit: float = LONG) -> int:
         """Its status, once it has ended by itself."""
         until("the gateway ends", limit, self.has_ended)
-        return self.process.returncode
+        return self.running.returncode
 
     def last_words(self) -> str:
         return self.told.read_text(errors="replace")[-2000:]
 
     def children(self) -> list[int]:
         """The processes that the gateway has started."""
-        task = Path("/proc/%d/task/" % self.process.pid)
+        task = Path("/proc/%d/task/" % self.running.pid)
         found = []
         for file in task.glob("*/children"):
             try:
@@ -189,14 +195,14 @@ class Door:
     def venues(self) -> list[int]:
         """Those of them that are a venue: not one that is the gateway's own program still, or again. A leak checker looks
         at its process from such a one, and waits for its word for ever where that was ended."""
-        own = program_of(self.process.pid)
+        own = program_of(self.running.pid)
         return [pid for pid in self.children() if program_of(pid) not in (None, own)]
 
     def kill(self) -> None:
         """Ends the gateway by SIGKILL; its venue has to end by itself."""
         started = self.children()
-        self.process.kill()
-        self.process.wait()
+        self.running.kill()
+        self.running.wait()
         until("the venue of a gateway that is gone ends", LONG, lambda: not any(is_running(pid) for pid in started))
 
     def kill_venue(self) -> bool:
@@ -210,7 +216,7 @@ class Door:
         return bool(venues)
 
     def stop(self, limit: float = LONG) -> int:
-        self.process.terminate()
+        self.running.terminate()
         return self.wait_end(limit)
 
     def close(self) -> None:

@@ -5,6 +5,7 @@ import subprocess
 from collections import deque
 from dataclasses import dataclass, field
 from pathlib import Path
+from typing import IO
 
 from tests.gateway.wait import LONG, until
 from tests.model.frames import SOH, read_fields
@@ -34,6 +35,12 @@ class Received:
 
     def value(self, tag: int) -> bytes | None:
         return next((value for other, value in self.fields if other == tag), None)
+
+    def given(self, tag: int) -> bytes:
+        """The value of a field that it has to have."""
+        value = self.value(tag)
+        assert value is not None, "there is no %d in %r" % (tag, self.raw)
+        return value
 
     @property
     def kind(self) -> bytes:
@@ -75,6 +82,12 @@ def frame(kind: str, fields: Fields) -> bytes:
     return text + b"10=%03d\x01" % (sum(text) % 256)
 
 
+def pipe(end: IO[bytes] | None) -> IO[bytes]:
+    """An end of a pipe that a process was started with."""
+    assert end is not None
+    return end
+
+
 @dataclass
 class Places:
     """Where a test's files are."""
@@ -111,14 +124,20 @@ class Firm:
     admin: list[Received] = field(default_factory=list)  # the engine's own Rejects and Logouts
     is_on: bool = False
     times_on: int = 0
-    process: subprocess.Popen | None = None
+    process: subprocess.Popen[bytes] | None = None
     _read: int = 0
     _printed: bytes = b""
-    _fresh: deque = field(default_factory=deque)
+    _fresh: deque[Received] = field(default_factory=deque)
 
     @property
     def name(self) -> str:
         return self.who.name
+
+    @property
+    def running(self) -> subprocess.Popen[bytes]:
+        """Its initiator's process, which was started."""
+        assert self.process is not None, "%s is not started" % self.name
+        return self.process
 
     @property
     def file(self) -> Path:
@@ -131,13 +150,13 @@ class Firm:
         self.process = subprocess.Popen(words + ["tls"] * self.tls, stdin=subprocess.PIPE, stdout=subprocess.PIPE,
                                         stderr=(self.places.folder / (self.name + ".told")).open("ab"),
                                         env={**os.environ, **self.environment})
-        os.set_blocking(self.process.stdout.fileno(), False)
+        os.set_blocking(pipe(self.process.stdout).fileno(), False)
         self.is_on, self._printed = False, b""
 
     def order(self, line: str) -> None:
         try:
-            self.process.stdin.write(line.encode() + b"\n")
-            self.process.stdin.flush()
+            pipe(self.running.stdin).write(line.encode() + b"\n")
+            pipe(self.running.stdin).flush()
         except BrokenPipeError:
             pass  # it was ended; what it was told is not done
 
@@ -160,6 +179,11 @@ class Firm:
             self.received.append(message)
             self._fresh.append(message)
 
+    def looked(self) -> list[Received]:
+        """Each message that has come by now."""
+        self.look()
+        return self.received
+
     def fresh(self) -> list[Received]:
         """The messages since the last call."""
         self.look()
@@ -168,7 +192,7 @@ class Firm:
         return found
 
     def _look_at_output(self) -> None:
-        while self.process and (data := self.process.stdout.read()):
+        while self.process and (data := pipe(self.process.stdout).read()):
             self._printed += data
         *lines, self._printed = self._printed.split(b"\n")
         for line in lines:
@@ -202,20 +226,20 @@ class Firm:
 
     def kill(self) -> None:
         """Ends the initiator by SIGKILL, and takes what it had printed and put down."""
-        self.process.kill()
-        self.process.wait()
+        self.running.kill()
+        self.running.wait()
         self.look()
         self._close()
 
     def stop(self, limit: float = LONG) -> None:
         self.order("quit")
-        self.process.wait(limit)
+        self.running.wait(limit)
         self.look()
         self._close()
 
     def _close(self) -> None:
-        self.process.stdin.close()
-        self.process.stdout.close()
+        pipe(self.running.stdin).close()
+        pipe(self.running.stdout).close()
         self.process, self.is_on = None, False
 
 

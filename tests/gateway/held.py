@@ -19,7 +19,7 @@ def venue_body(frame: bytes) -> tuple[tuple[int, bytes], ...]:
 def used_numbers(ledger: Ledger, firm: str) -> list[int]:
     """The session's numbers of the messages that the venue counted, in order: one that it drops has no place here."""
     counted = [entry for entry in ledger.messages_of(firm) if is_counted(entry.message)]
-    return [entry.number for entry in counted]
+    return [entry.session_number for entry in counted]
 
 
 def is_counted(message: bytes) -> bool:
@@ -54,10 +54,11 @@ def differences(firm: Firm, answers: list[bytes], ledger: Ledger) -> Iterator[st
         if known.body != message.body:
             yield "%s: %d came with two bodies: %r, %r" % (firm.name, message.venue_number, known.raw, message.raw)
     for number, frame in enumerate(answers, 1):
-        message = by_number.pop(number, None)
-        if message is None:
+        if number not in by_number:
             yield "%s: %d is missing: %r" % (firm.name, number, frame)
-        elif (message.kind, message.body) != (fields_of(frame)[0][1], as_received(frame, numbers)):
+            continue
+        message = by_number.pop(number)
+        if (message.kind, message.body) != (fields_of(frame)[0][1], as_received(frame, numbers)):
             yield "%s: %d is another: %r came, %r is the venue's" % (firm.name, number, message.raw, frame)
         elif message.value(VENUE_MOMENT) != dict(fields_of(frame))[52]:
             yield "%s: %d has another 60 than the venue's 52" % (firm.name, number)
@@ -84,7 +85,7 @@ def unlogged(firm: Firm, ledger: Ledger) -> Iterator[str]:
 def altered(firm: Firm, ledger: Ledger) -> Iterator[str]:
     """Messages that stand in the log with other fields than the firm's engine was told to send, which may put them in another
     order; and a log that does not have them in the session's order."""
-    messages = {entry.number: entry.message for entry in ledger.messages_of(firm.name)}
+    messages = {entry.session_number: entry.message for entry in ledger.messages_of(firm.name)}
     if list(messages) != sorted(messages):
         yield "%s: the log has the session's messages in another order: %r" % (firm.name, list(messages))
     for name, number in firm.sent.items():

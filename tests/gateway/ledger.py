@@ -4,6 +4,7 @@ import sqlite3
 import subprocess
 from dataclasses import dataclass
 from pathlib import Path
+from typing import Any
 
 from tests.model.frames import SOH, read_frame
 
@@ -14,6 +15,12 @@ class Entry:
     firm: str | None
     number: int | None  # of the session
     line: bytes
+
+    @property
+    def session_number(self) -> int:
+        """The number of a message that came from a session."""
+        assert self.number is not None, "entry %d is no message" % self.place
+        return self.number
 
     @property
     def is_clock(self) -> bool:
@@ -67,7 +74,7 @@ class PostgresLog:
         return [line.split("|") for line in run.stdout.splitlines()]
 
 
-def rows(database: Path, query: str) -> list[tuple]:
+def rows(database: Path, query: str) -> list[tuple[Any, ...]]:
     connection = sqlite3.connect("file:%s?mode=ro" % database, uri=True, timeout=60)
     try:
         return connection.execute(query).fetchall()
@@ -127,7 +134,8 @@ class Mark:
 
 def marks(program: list[str], day: bytes) -> list[Mark]:
     """The marks after the entries of a day, by their places; after place 0 nothing has come about."""
-    found, given = [Mark({}, None)], {}
+    given: dict[str, int] = {}
+    found = [Mark({}, None)]
     for line in printed([*program, "live", "--frames", "--marks"], day).splitlines():
         words = line.decode(errors="replace").split(" ")
         if words[0] in ("done", "fault"):

@@ -28,9 +28,9 @@ class DealerView:
     quotes: list[bytes] = field(default_factory=list)
 
     def take(self, message: Received) -> None:
-        request, quote, status = message.value(131), message.value(117), message.value(297)
+        request, quote, status = message.value(131) or b"", message.value(117) or b"", message.value(297)
         if message.kind == b"R":
-            self.open[request] = message.value(54), message.value(38)
+            self.open[request] = message.given(54), message.given(38)
         elif message.kind == b"AJ":
             self.open.pop(request, None)
         elif message.kind == b"AI" and status == b"0":
@@ -47,7 +47,7 @@ class InvestorView:
     quotes: dict[bytes, bytes] = field(default_factory=dict)  # of Q.. its request
 
     def take(self, message: Received) -> None:
-        request, quote, status = message.value(131), message.value(117), message.value(297)
+        request, quote, status = message.value(131) or b"", message.value(117) or b"", message.value(297)
         if message.kind == b"S":
             self.quotes[quote] = request
         elif message.kind == b"AI" and message.value(693) is None and status == b"0":

@@ -62,7 +62,7 @@ class Day:
         act.firm.send(name, act.kind, act.fields)
         act.firm.wait_sent(name)
         if self.draw.random() < 0.3:
-            within(0.2, lambda: bool(act.firm.look()) or len(act.firm.received) > before)
+            within(0.2, lambda: len(act.firm.looked()) > before)
 
     def end_one(self) -> None:
         """Ends something by SIGKILL, and starts it again where nobody else does."""

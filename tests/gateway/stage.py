@@ -124,12 +124,12 @@ class Stage:
     def _bytes(self, what: str) -> int:
         if not self.tools.measures:
             return 0
-        text = Path("/proc/%d/status" % self.door.process.pid).read_text()
-        return int(re.search(r"%s:\s+(\d+) kB" % what, text).group(1)) * 1024
+        text = Path("/proc/%d/status" % self.door.running.pid).read_text()
+        return int(re.findall(r"%s:\s+(\d+) kB" % what, text)[0]) * 1024
 
     def worked(self) -> float:
         """The seconds of a processor that the gateway has had."""
-        words = Path("/proc/%d/stat" % self.door.process.pid).read_text().rsplit(")", 1)[1].split()
+        words = Path("/proc/%d/stat" % self.door.running.pid).read_text().rsplit(")", 1)[1].split()
         return sum(map(int, words[11:13])) / os.sysconf("SC_CLK_TCK")
 
     def entries_of(self, firm: Firm) -> int:
@@ -154,12 +154,8 @@ class Stage:
 
     def answer(self, firm: Firm, what: str, fits: Callable[[Received], bool], limit: float = LONG) -> Received:
         """The first message of a firm that fits, which may still have to come."""
-        def found() -> Received | None:
-            firm.look()
-            return next((message for message in firm.received if fits(message)), None)
-
-        until("%s is sent %s" % (firm.name, what), limit, lambda: found() is not None)
-        return found()
+        until("%s is sent %s" % (firm.name, what), limit, lambda: any(map(fits, firm.looked())))
+        return next(filter(fits, firm.received))
 
     def ask_of(self, dealers: list[Firm], seconds: float = 600) -> None:
         """A request of the investor to these dealers."""
@@ -174,7 +170,7 @@ class Stage:
     def ask(self, seconds: float = 600, dealers: list[Firm] | None = None) -> bytes:
         """A request to dealers, both if none are named, and the first one's name of it once all are shown it."""
         dealers = dealers or [self.dealer, self.other]
-        counts = [sum(message.kind == b"R" for message in dealer.received) for dealer in dealers if dealer.look() is None]
+        counts = [sum(message.kind == b"R" for message in dealer.looked()) for dealer in dealers]
         self.ask_of(dealers, seconds)
         for dealer, count in zip(dealers, counts):
             until("%s is shown a request" % dealer.name, LONG, lambda: self.shown(dealer) > count)
@@ -213,7 +209,7 @@ class Stage:
             self.quote(dealer, b"R%d" % self.shown(dealer))
         quote = self.answer(self.investor, "a quote", lambda message: message.kind == b"S" and message.value(131) == self.asked)
         name = self.name("h")
-        self.say(self.investor, "AJ", [(693, name), (694, b"1"), (117, quote.value(117))])
+        self.say(self.investor, "AJ", [(693, name), (694, b"1"), (117, quote.given(117))])
         answer = self.answer(self.investor, "what became of a hit", lambda message: message.value(693) == name)
         check(answer.value(297) == b"0", "a lawful hit is answered %r" % answer.raw)
         for dealer in dealers:
@@ -229,10 +225,10 @@ class Stage:
 
 def quiet(stage: Stage, firms: list[Firm], act: Callable[[], object], seconds: float = 0.5) -> None:
     """Does something, and for a time looks whether these firms are sent anything."""
-    before = {firm.name: len(firm.received) for firm in firms if firm.look() is None}
+    before = {firm.name: len(firm.looked()) for firm in firms}
     act()
 
     def something() -> bool:
-        return any(firm.look() is None and len(firm.received) > before[firm.name] for firm in firms)
+        return any(len(firm.looked()) > before[firm.name] for firm in firms)
 
     check(not within(seconds, something), "a firm is sent something")

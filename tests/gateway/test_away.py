@@ -56,7 +56,7 @@ def test_sent_while_away(stage: Stage) -> None:
     for _ in range(20):
         stage.say(stage.dealer, "Z", [(298, b"5"), (117, stage.name("x"))])
     stage.door.start()
-    until("20 answers", LONG, lambda: stage.dealer.look() is None and len(stage.dealer.received) >= 20)
+    until("20 answers", LONG, lambda: len(stage.dealer.looked()) >= 20)
     stage.whole()
 
 
@@ -92,7 +92,7 @@ def test_deadline_passes(stage: Stage) -> None:
         stage.answer(dealer, "that a request expired", lambda message: message.value(694) == b"3")
     clocks = [entry for entry in stage.door.ledger().entries if entry.is_clock]
     check(len(clocks) == 1, "%d clock lines" % len(clocks))
-    before, after = milliseconds(clocks[0].moment) - milliseconds(stage.deadline), milliseconds(end.value(60)[9:].decode())
+    before, after = milliseconds(clocks[0].moment) - milliseconds(stage.deadline), milliseconds(end.given(60)[9:].decode())
     check(0 <= before < 1000 * LONG, "the clock line is %d ms after the deadline" % before)
     check(after == milliseconds(clocks[0].moment), "60 of the end is %r" % end.value(60))
     stage.whole()

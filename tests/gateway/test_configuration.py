@@ -51,7 +51,7 @@ def test_part_without_a_command(stage: Stage) -> None:
 
 def checked(stage: Stage) -> subprocess.CompletedProcess[str]:
     """What --check says of the configuration."""
-    words = [stage.door.programs.gateway, "--check", stage.folder / "gateway.toml"]
+    words = [str(stage.door.programs.gateway), "--check", str(stage.folder / "gateway.toml")]
     return subprocess.run(words, capture_output=True, text=True, timeout=60, check=False)
 
 

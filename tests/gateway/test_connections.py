@@ -121,7 +121,7 @@ def test_no_descriptor_left(stage: Stage) -> None:
 
 def without_descriptors(stage: Stage, spare: int, is_told: Callable[[], bool]) -> None:
     """Waits, while the gateway may open so many more and twenty connections come."""
-    pid = stage.door.process.pid
+    pid = stage.door.running.pid
     limits, used = resource.prlimit(pid, resource.RLIMIT_NOFILE), len(list(Path("/proc/%d/fd" % pid).iterdir()))
     resource.prlimit(pid, resource.RLIMIT_NOFILE, (used + spare, limits[1]))
     wires = [Wire(stage.door.port) for _ in range(20)]
@@ -134,7 +134,7 @@ def without_descriptors(stage: Stage, spare: int, is_told: Callable[[], bool]) -
 
 def held(stage: Stage) -> tuple[int, int, int]:
     """How many descriptors, threads and processes the gateway has."""
-    process = Path("/proc/%d" % stage.door.process.pid)
+    process = Path("/proc/%d" % stage.door.running.pid)
     return len(list((process / "fd").iterdir())), len(list((process / "task").iterdir())), len(stage.door.children())
 
 

@@ -8,8 +8,8 @@ from dataclasses import dataclass
 from pathlib import Path
 
 import pytest
+from parts.site import Folders, Site
 
-from deploy.parts.site import Folders, Site
 from tests.gateway.door import today
 from tests.gateway.ledger import PostgresLog
 from tests.gateway.stage import DEALER, INVESTOR, OTHER

@@ -43,7 +43,7 @@ def send(act: Act, name: str, wait: float = ANSWERED) -> None:
     before = len(act.firm.received)
     act.firm.send(name, act.kind, act.fields)
     act.firm.wait_sent(name)
-    within(wait, lambda: act.firm.look() is None and len(act.firm.received) > before)
+    within(wait, lambda: len(act.firm.looked()) > before)
 
 
 # ---------------------------------------------------------------- full
@@ -60,7 +60,7 @@ def test_full_disk_at_commit(stage: Stage, at: int) -> None:
     for firm in stage.firms:
         firm.start()
     traded(stage, at, lambda: not stage.door.has_ended())
-    check(stage.door.wait_end() == 1, "the gateway ended with status %s" % stage.door.process.returncode)
+    check(stage.door.wait_end() == 1, "the gateway ended with status %s" % stage.door.running.returncode)
     check("full" in stage.door.last_words() or "disk" in stage.door.last_words(), "it does not say why: %s" % stage.door.last_words())
     stage.door.environment = {}
     stage.door.start()

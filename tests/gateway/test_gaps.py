@@ -18,7 +18,7 @@ def test_number_without_end(stage: Stage) -> None:
         with on_a_wire(stage, number) as wire:
             number = wire.number
             wire.raw(wire.message(b"4", b"DLR1", [(36, b"%d" % past)]))
-            reject = wire.read_until(lambda message: message.value(45) == b"%d" % number)
+            reject = wire.got_until(lambda message: message.value(45) == b"%d" % number)
             check(reject is not None and (reject.value(371), reject.value(373)) == (b"36", b"6"), "no Reject of 36=%d" % past)
             number = wire.number
             wire.raw(wire.message(b"Z", b"DLR1", cancel(b"far"), number=past))
@@ -33,9 +33,9 @@ def test_number_without_end(stage: Stage) -> None:
 
 def asked_from(wire: Wire) -> int:
     """The first number of those that the gateway asks for."""
-    request = wire.read_kind(b"2")
+    request = wire.got(b"2")
     check(request is not None, "nothing is asked for")
-    return int(request.value(7))
+    return int(request.given(7))
 
 
 def again(wire: Wire, kind: bytes, number: int, fields: Fields) -> None:
@@ -88,7 +88,7 @@ def test_gap_without_end(stage: Stage) -> None:
 def answered_messages(wire: Wire) -> list[Received]:
     """What the venue gives for a message without a trader, and for five cancels."""
     wire.raw(wire.message(b"Z", b"DLR1", [(50, b"T9"), (298, b"4")]))
-    found = [wire.read_kind(b"3")]
+    found = [wire.got(b"3")]
     for number in range(5):
         wire.raw(wire.message(b"Z", b"DLR1", cancel(b"c%d" % number)))
         found.append(answered(wire, b"c%d" % number))
@@ -99,7 +99,7 @@ def check_sent_again(wire: Wire, first: list[Received]) -> None:
     """A ResendRequest of all: each message of the venue comes again under its number with 43=Y, its body, and its first 52 in 122."""
     wire.raw(wire.message(b"2", b"DLR1", [(7, b"1"), (16, b"0")]))
     for was in first:
-        message = wire.read_until(lambda message: message.session_number == was.session_number and message.value(43) == b"Y")
+        message = wire.got_until(lambda message: message.session_number == was.session_number and message.value(43) == b"Y")
         check(message is not None, "%d does not come again" % was.session_number)
         check((message.kind, message.body) == (was.kind, was.body), "%r is sent again as %r" % (was.raw, message.raw))
         check(message.venue_number == was.venue_number and message.value(60) == was.value(60), "%r is sent again as %r" % (was.raw, message.raw))
@@ -138,7 +138,7 @@ def test_sent_on_another_day(stage: Stage) -> None:
         for number in (1, 2):
             old = [(43, b"Y"), (122, b"20250314-09:00:00.000"), *cancel(b"old")]
             wire.raw(wire.message(b"Z", b"DLR1", old, number=number))
-            reject = wire.read_until(lambda message: message.value(45) == b"%d" % number)
+            reject = wire.got_until(lambda message: message.value(45) == b"%d" % number)
             check(reject is not None and (reject.kind, reject.value(1181)) == (b"3", None), "no Reject of the session")
             check((reject.value(371), reject.value(373)) == (b"122", b"5"), "it is %r" % reject.raw)
         again(wire, b"4", 3, [(123, b"Y"), (36, b"%d" % wire.number)])
@@ -178,7 +178,7 @@ def test_asked_for_no_gap(stage: Stage) -> None:
         for first, last, tag in ((sent + 1, 0, b"7"), (sent, sent - 1, b"16")):
             number = wire.number
             wire.raw(wire.message(b"2", b"DLR1", [(7, b"%d" % first), (16, b"%d" % last)]))
-            reject = wire.read_until(lambda message: message.value(45) == b"%d" % number)
+            reject = wire.got_until(lambda message: message.value(45) == b"%d" % number)
             check(reject is not None and (reject.kind, reject.value(1181)) == (b"3", None), "%d to %d: no Reject of the session" % (first, last))
             check((reject.value(371), reject.value(373)) == (tag, b"5"), "it is %r" % reject.raw)
             sent = reject.session_number

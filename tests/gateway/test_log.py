@@ -277,7 +277,7 @@ def test_more_than_may_wait(stage: Stage) -> None:
     for count in range(40):
         stage.say(stage.dealer, "Z", [(298, b"5"), (117, b"x%d" % count)])
     until("all are in the log", LONG, lambda: stage.entries_of(stage.dealer) == 40)
-    stage.door.process.kill()
+    stage.door.running.kill()
     for pid in venues:
         os.kill(pid, signal.SIGCONT)
     stage.door.kill()

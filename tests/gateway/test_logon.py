@@ -7,7 +7,7 @@ from pathlib import Path
 from tests.gateway.firm import Firm, Identity
 from tests.gateway.stage import DEALER, INVESTOR, LOGON_SECONDS, OTHER, Stage, check, quiet
 from tests.gateway.wait import LONG, until, within
-from tests.gateway.wire import Wire, a_while_ago, framed, now
+from tests.gateway.wire import Fields, Wire, a_while_ago, framed, now
 
 SLACK = LONG  # that a limit of the gateway may be late on a busy machine
 
@@ -119,7 +119,7 @@ def test_unknown_firm(stage: Stage) -> None:
             wire.logon(name, b"secret")
             check(wire.closed_within(LOGON_SECONDS + SLACK), "the connection of %r stays" % name)
             check(wire.waiting == b"", "%r was told %r" % (name, wire.waiting))
-        until("a counter has grown for %r" % name, LONG, lambda: grown(before, stage.counters()))
+        until("a counter has grown for %r" % name, LONG, lambda: bool(grown(before, stage.counters())))
     stage.ping(stage.other)
 
 
@@ -170,7 +170,8 @@ def test_numbers_are_not_reset(stage: Stage) -> None:
     """141=Y within the day, and a Logon under a number that came before: a Logout with a text, and the numbers stand."""
     stage.open(*stage.firms)
     stage.log_off(stage.dealer)
-    for number, more in ((1, [(141, b"Y")]), (1, [])):
+    logons: list[tuple[int, Fields]] = [(1, [(141, b"Y")]), (1, [])]
+    for number, more in logons:
         with Wire(stage.door.port) as wire:
             wire.number = number
             wire.logon(DEALER.name.encode(), DEALER.password.encode(), more=more)
@@ -334,6 +335,7 @@ def test_tls_begun_anew(stage: Stage) -> None:
         known.maximum_version = version
         for _ in range(3):
             with Wire(stage.door.port, known, begun) as wire:
+                assert isinstance(wire.socket, ssl.SSLSocket)
                 check(not wire.socket.session_reused, "TLS was resumed")
                 wire.number = number
                 wire.logon(DEALER.name.encode(), DEALER.password.encode())

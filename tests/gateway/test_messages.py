@@ -4,11 +4,10 @@ import socket
 import threading
 
 from tests.gateway.firm import Received
-from tests.gateway.ledger import answers
+from tests.gateway.ledger import answers, fields_of
 from tests.gateway.stage import DEALER, Stage, check, quiet
 from tests.gateway.wait import LONG, until
 from tests.gateway.wire import Fields, Wire, a_while_ago, framed, now
-from tests.model.frames import read_frame
 
 TEXT = 58
 
@@ -21,7 +20,7 @@ def logged(stage: Stage, number: int) -> bytes:
 
 
 def text_of(message: bytes) -> bytes | None:
-    return dict(read_frame(message) or []).get(TEXT)
+    return dict(fields_of(message) or []).get(TEXT)
 
 
 # ---------------------------------------------------------------- odd messages of stock initiators
@@ -42,7 +41,7 @@ def test_every_byte_in_text(stage: Stage) -> None:
             check(text_of(logged(stage, number)) == text, "58 with the byte %d is %r in the log" % (byte, logged(stage, number)))
 
     quiet(stage, [stage.other, stage.investor], send_all)
-    until("255 answers", LONG, lambda: stage.dealer.look() is None and len(stage.dealer.received) >= 255)
+    until("255 answers", LONG, lambda: len(stage.dealer.looked()) >= 255)
     check({message.value(297) for message in stage.dealer.received} == {b"9"}, "one of 255 cancels is answered otherwise")
     stage.whole()
 
@@ -106,7 +105,7 @@ def test_microseconds(stage: Stage) -> None:
     stage.auction()
     for firm in (stage.dealer, stage.other):
         for entry in stage.door.ledger().messages_of(firm.name):
-            sending = dict(read_frame(entry.message))[52]
+            sending = dict(fields_of(entry.message))[52]
             check(len(sending) == len("20250314-09:00:00.000"), "52 is %r in the log" % sending)
     stage.whole()
 
@@ -119,7 +118,7 @@ def test_poss_resend(stage: Stage) -> None:
     number = stage.say(stage.dealer, "S", [(97, b"Y")] + stage.quote_fields(request, name))
     answer = stage.answer(stage.dealer, "a refusal", lambda message: message.value(300) is not None)
     check((answer.value(297), answer.value(300)) == (b"5", b"6"), "it is answered %r" % answer.raw)
-    check(97 not in dict(read_frame(logged(stage, number))), "97 is in the log's frame")
+    check(97 not in dict(fields_of(logged(stage, number))), "97 is in the log's frame")
     stage.whole()
 
 
@@ -153,7 +152,7 @@ def cancel(name: bytes) -> Fields:
 
 def answered(wire: Wire, name: bytes) -> Received:
     """The venue's answer to a cancel of this name."""
-    message = wire.read_until(lambda message: message.value(117) == name)
+    message = wire.got_until(lambda message: message.value(117) == name)
     check(message is not None, "no answer to %r" % name)
     return message
 
@@ -179,7 +178,7 @@ def test_wrong_clock(stage: Stage) -> None:
     with on_a_wire(stage) as wire:
         number = wire.number
         wire.raw(wire.message(b"Z", b"DLR1", cancel(b"late"), sending=a_while_ago()))
-        reject = wire.read_kind(b"3")
+        reject = wire.got(b"3")
         check(reject is not None and reject.value(1181) is None, "no Reject of the session")
         check((reject.value(45), reject.value(373)) == (b"%d" % number, b"10"), "it is %r" % reject.raw)
         check(wire.read_kind(b"5") is not None, "no Logout")
@@ -198,10 +197,10 @@ def test_fields_of_no_use(stage: Stage) -> None:
         number = wire.number
         wire.raw(wire.message(b"Z", b"DLR1", [(1128, b"9"), *cancel(b"one"), (60, now()), (TEXT, b"text")]))
         check(answered(wire, b"one").value(297) == b"9", "it is not answered as ever")
-        check({58, 60, 1128} <= set(dict(read_frame(logged(stage, number)))), "a field is not in the log")
+        check({58, 60, 1128} <= set(dict(fields_of(logged(stage, number)))), "a field is not in the log")
         number = wire.number
         wire.raw(wire.message(b"Z", b"DLR1", [(298, b"4")]))
-        reject = wire.read_kind(b"3")
+        reject = wire.got(b"3")
         check(reject is not None and reject.value(1181), "no Reject of the venue")
         check((reject.value(45), reject.value(371), reject.value(373)) == (b"%d" % number, b"50", b"1"), "it is %r" % reject.raw)
     stage.whole()
@@ -220,7 +219,7 @@ def test_no_frames(stage: Stage) -> None:
         for place, (tail, fault) in enumerate(odd):
             number, wire.number = wire.number, wire.number + 1
             wire.raw(framed(head % (number, now()) + tail))
-            reject = wire.read_until(lambda message: message.value(45) == b"%d" % number)
+            reject = wire.got_until(lambda message: message.value(45) == b"%d" % number)
             check(reject is not None and (reject.kind, reject.value(1181)) == (b"3", None), "no Reject of the session for %r" % tail)
             check((reject.value(371), reject.value(373)) == fault, "it is %r" % reject.raw)
             wire.raw(wire.message(b"Z", b"DLR1", cancel(b"n%d" % place)))
@@ -256,7 +255,7 @@ def test_no_number(stage: Stage) -> None:
             told = numbers % ((number,) * numbers.count(b"%d"))
             wire.raw(framed(b"35=Z\x0149=DLR1\x0156=VENUE\x01" + told + b"52=%s\x0150=T1\x01298=4\x01" % now()))
             wire.raw(wire.message(b"Z", b"DLR1", cancel(b"behind"), number=number))
-            message = wire.read_kind(b"5")
+            message = wire.got(b"5")
             check(message is not None and message.value(58), "no Logout with a text for %r" % told)
             check(wire.closed_within(LONG), "the connection stays for %r" % told)
     check(stage.entries_of(stage.dealer) == 0, "%d entries" % stage.entries_of(stage.dealer))
@@ -268,9 +267,9 @@ def test_no_header_field(stage: Stage) -> None:
     stage.open(stage.other, stage.investor)
     with on_a_wire(stage) as wire:
         for tag in (49, 56, 52):
-            number, fields = wire.number, read_frame(wire.message(b"Z", b"DLR1", cancel(b"x")))
+            number, fields = wire.number, fields_of(wire.message(b"Z", b"DLR1", cancel(b"x")))
             wire.raw(framed(b"".join(b"%d=%s\x01" % item for item in fields if item[0] != tag)))
-            reject = wire.read_until(lambda message: message.value(45) == b"%d" % number)
+            reject = wire.got_until(lambda message: message.value(45) == b"%d" % number)
             check(reject is not None and (reject.kind, reject.value(1181)) == (b"3", None), "without %d: no Reject of the session" % tag)
             check((reject.value(371), reject.value(373)) == (b"%d" % tag, b"1"), "it is %r" % reject.raw)
         wire.raw(wire.message(b"Z", b"DLR1", cancel(b"next")))
@@ -282,6 +281,7 @@ def test_no_header_field(stage: Stage) -> None:
 def test_faster_than_the_log(stage: Stage) -> None:
     """Thousands of messages at once, on a slow disk: read no faster than they are committed, and others are served."""
     stage.door.environment = {"LD_PRELOAD": str(stage.tools.shim), "DISK_SLOW": "20"}
+    stage.door.limits["bytes_burst"] = 2**26  # else it is the firm's rate that holds it, and not the log
     stage.open(stage.other, stage.investor)
     with on_a_wire(stage) as wire:
         before, count = stage.memory(), 8000  # 50 MB of lines, of which a gateway keeps some four times 4 MiB, and more of a slow venue

@@ -5,10 +5,17 @@ from tests.gateway.wait import LONG, until
 from tests.gateway.wire import Wire
 
 COUNTERS = ("commits", "entries", "sent", "delivered", "connections", "logons", "venue_starts")
-GAUGES = ("connections", "sessions", "speaks")
+GAUGES = ("connections", "sessions", "speaks", "next_configuration_faulty")
 HISTOGRAMS = ("commit", "logged", "answered")
 BY_REASON = ("refused", "dropped")
+IN_OTHER_FILES = {  # tests/limits: test_clock.py, test_renewal.py
+    "mireseason_clock_steps_total",
+    "mireseason_clock_synchronised",
+    "mireseason_clock_greatest_error_seconds",
+    "mireseason_wrong_passwords_total",
+}
 NAMES = {
+    *IN_OTHER_FILES,
     *("mireseason_%s_total" % name for name in (*COUNTERS, *BY_REASON)),
     *("mireseason_" + name for name in GAUGES),
     *("mireseason_%s_seconds_%s" % (name, part) for name in HISTOGRAMS for part in ("count", "sum", "bucket")),
@@ -97,6 +104,15 @@ def test_starts_of_the_venue(stage: Stage) -> None:
     stage.ping(stage.dealer)
 
 
+def test_a_faulty_configuration_of_the_next_day(stage: Stage) -> None:
+    """It is tried as soon as it changes."""
+    stage.open()
+    counts(stage, "next_configuration_faulty", 0)
+    file = stage.folder / "venue.toml"
+    file.write_text(file.read_text().replace("exposure", "exposre", 1))
+    counts(stage, "next_configuration_faulty", 1)
+
+
 def test_no_metric_is_unknown(stage: Stage) -> None:
     """A new metric needs a test here that moves it."""
     stage.open(stage.dealer)
@@ -106,4 +122,4 @@ def test_no_metric_is_unknown(stage: Stage) -> None:
     until("a refusal is counted", LONG, lambda: any("refused_total" in name for name in stage.counters()))
     found = {name.split("{")[0] for name in stage.counters() if name.startswith("mireseason_")}
     assert found - NAMES == set()
-    assert NAMES - found <= {"mireseason_dropped_total"}  # none was dropped
+    assert NAMES - found <= {"mireseason_dropped_total", "mireseason_wrong_passwords_total"}  # there was none

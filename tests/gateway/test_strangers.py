@@ -53,8 +53,8 @@ def told(stage: Stage, act: Callable[[], object]) -> None:
 # ---------------------------------------------------------------- in the name of a firm that is away
 
 
-@pytest.mark.parametrize("way", WAYS, ids=lambda way: way.name)
-@pytest.mark.parametrize("known", ATTACKS, ids=lambda known: known.name)
+@pytest.mark.parametrize("way", WAYS, ids=[way.name for way in WAYS])
+@pytest.mark.parametrize("known", ATTACKS, ids=[known.name for known in ATTACKS])
 def test_attack(known: Attack, way: Way, stage: Stage) -> None:
     """An attack that once went through, and each other message in the place of each of its own: then the firm comes and trades."""
     scene = firm_away(stage, way)
@@ -71,7 +71,7 @@ def test_attack(known: Attack, way: Way, stage: Stage) -> None:
     stage.whole()
 
 
-@pytest.mark.parametrize("way", WAYS, ids=lambda way: way.name)
+@pytest.mark.parametrize("way", WAYS, ids=[way.name for way in WAYS])
 def test_repeated_fields(way: Way, stage: Stage) -> None:
     """Logons in which a field stands again, with the right length and sum, and with a wrong length."""
     scene = firm_away(stage, way)

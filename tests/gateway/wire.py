@@ -102,6 +102,16 @@ class Wire:
                 return message
         return None
 
+    def got(self, kind: bytes, limit: float = LONG) -> Received:
+        """The next message of this kind, which has to come."""
+        return self.got_until(lambda message: message.kind == kind, limit)
+
+    def got_until(self, fits: Callable[[Received], bool], limit: float = LONG) -> Received:
+        """The next message that fits, which has to come."""
+        message = self.read_until(fits, limit)
+        assert message is not None, "no message comes that fits; left is %r" % self.waiting
+        return message
+
     def read_kind(self, kind: bytes, limit: float = LONG) -> Received | None:
         """The next message of this kind."""
         return self.read_until(lambda message: message.kind == kind, limit)

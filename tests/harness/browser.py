@@ -34,15 +34,32 @@ class Browser:
 
     def show(self, url: str, *words: str, width: int = 1400, height: int = 900) -> Shown:
         """Loads a page, lets its scripts run, and gives what stands there then."""
-        done = self.run(url, "--dump-dom", "--virtual-time-budget=%d" % BUDGET, "--window-size=%d,%d" % (width, height), *words)
+        done = self.run(
+            url,
+            "--dump-dom",
+            "--virtual-time-budget=%d" % BUDGET,
+            "--window-size=%d,%d" % (width, height),
+            *words,
+        )
         return Shown(done.stdout, done.stderr)
 
     def picture(self, url: str, file: Path, width: int = 1280, height: int = 900) -> None:
         """Writes a picture (PNG) of a page."""
-        self.run(url, "--screenshot=%s" % file, "--window-size=%d,%d" % (width, height), "--hide-scrollbars")
+        self.run(
+            url,
+            "--screenshot=%s" % file,
+            "--window-size=%d,%d" % (width, height),
+            "--hide-scrollbars",
+        )
         assert file.exists(), "the browser made no picture of %s" % url
 
     def run(self, url: str, *words: str) -> "subprocess.CompletedProcess[str]":
-        usual = ["--headless", "--no-sandbox", "--disable-gpu", "--enable-logging=stderr", "--allow-file-access-from-files"]
+        usual = [
+            "--headless",
+            "--no-sandbox",
+            "--disable-gpu",
+            "--enable-logging=stderr",
+            "--allow-file-access-from-files",
+        ]
         command = [PROGRAM, *usual, "--user-data-dir=%s" % self.profile, *words, url]
         return subprocess.run(command, capture_output=True, text=True, timeout=SECONDS, check=False)

@@ -29,11 +29,17 @@ class Budget:
         took: list[float] = []
         for _ in range(TRIES):
             took.append(measure())
-            assert took[-1] >= self.least, "%s: after %.2f s already, and not before %g s" % (self.promise, took[-1], self.least)
+            assert took[-1] >= self.least, "%s: after %.2f s already, and not before %g s" % (
+                self.promise,
+                took[-1],
+                self.least,
+            )
             if took[-1] <= self.limit:
                 return
         listed = ", ".join("%.1f" % each for each in took)
-        raise AssertionError("%s: after %s s, and %g s are promised" % (self.promise, listed, self.most))
+        raise AssertionError(
+            "%s: after %s s, and %g s are promised" % (self.promise, listed, self.most)
+        )
 
 
 def seconds_until(holds: Callable[[], object], limit: float) -> float:

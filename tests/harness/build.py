@@ -32,7 +32,14 @@ def alone(folder: Path) -> Iterator[None]:
 
 def told(words: list[str]) -> None:
     """Runs a command, whose last words are told where it fails."""
-    done = subprocess.run(words, stdout=subprocess.PIPE, stderr=subprocess.STDOUT, text=True, timeout=LIMIT, check=False)
+    done = subprocess.run(
+        words,
+        stdout=subprocess.PIPE,
+        stderr=subprocess.STDOUT,
+        text=True,
+        timeout=LIMIT,
+        check=False,
+    )
     if done.returncode != 0:
         raise NotBuilt("%s:\n%s" % (shlex.join(words), done.stdout[-4000:]))
 
@@ -48,7 +55,9 @@ def built_gateway() -> Path:
 
 def compiled(name: str, form: str, sources: list[Path]) -> Path:
     """A program of one command of a compiler; one that stands already of the same sources and headers is taken."""
-    headers = sorted(header for folder in {source.parent for source in sources} for header in folder.glob("*.h"))
+    headers = sorted(
+        header for folder in {source.parent for source in sources} for header in folder.glob("*.h")
+    )
     text = form.encode() + b"".join(file.read_bytes() for file in [*sources, *headers])
     folder = ROOT / "tests" / "out"
     out = folder / ("%s-%s" % (name, hashlib.sha256(text).hexdigest()[:16]))

@@ -22,18 +22,8 @@ from tests.harness.options import OPTIONS, ROOT, SECOND, Form, Options
 from tests.lab.machine import Machine
 
 DICTIONARIES = (ROOT / "fix" / "FIXT11.xml", ROOT / "fix" / "MIRESEASON.xml")
-REPORT = pytest.StashKey[pytest.TestReport]()
 OpenWire = Callable[..., Wire]
 MakeGateway = Callable[..., Door]
-
-
-@pytest.hookimpl(hookwrapper=True)
-def pytest_runtest_makereport(item: pytest.Item) -> Iterator[None]:
-    """Keeps what became of a test, for the fixtures that put its files away."""
-    outcome = yield
-    report = outcome.get_result()  # type: ignore[attr-defined]
-    if report.when == "call":
-        item.stash[REPORT] = report
 
 
 # ------------------------------------------------------------ what was chosen
@@ -85,7 +75,13 @@ def gateway_program(options: Options) -> Path:
 @pytest.fixture(scope="session")
 def tools(gateway_program: Path, venue: tuple[str, ...], options: Options) -> Tools:
     """All programs of a stage."""
-    return Tools(Programs(gateway_program, venue), build.player(), DICTIONARIES, build.shim(), options.measures)
+    return Tools(
+        Programs(gateway_program, venue),
+        build.player(),
+        DICTIONARIES,
+        build.shim(),
+        options.measures,
+    )
 
 
 # ------------------------------------------------------------ a folder, a database
@@ -94,12 +90,13 @@ def tools(gateway_program: Path, venue: tuple[str, ...], options: Options) -> To
 @pytest.fixture
 def place(request: pytest.FixtureRequest, options: Options) -> Iterator[Path]:
     """A folder of the test's own, with a short path; --keep keeps that of a test that fails."""
-    folder = Path(tempfile.mkdtemp(prefix="mrt"))
+    folder, failed = Path(tempfile.mkdtemp(prefix="mrt")), request.session.testsfailed
     folder.chmod(0o755)  # a database reads there as another user
     yield folder
-    report = request.node.stash.get(REPORT, None)
-    if options.keep and (report is None or report.failed):
-        shutil.copytree(folder, options.keep / request.node.name.replace("/", "_"), dirs_exist_ok=True)
+    if options.keep and request.session.testsfailed > failed:
+        shutil.copytree(
+            folder, options.keep / request.node.name.replace("/", "_"), dirs_exist_ok=True
+        )
     shutil.rmtree(folder, ignore_errors=True)
 
 
@@ -141,16 +138,24 @@ class _Opened:
 
 
 @pytest.fixture
-def make_gateway(tools: Tools, place: Path, request: pytest.FixtureRequest) -> Iterator[MakeGateway]:
+def make_gateway(
+    tools: Tools, place: Path, request: pytest.FixtureRequest
+) -> Iterator[MakeGateway]:
     """make_gateway(dealers, investors, limits=.., postgres=..) gives a gateway that is not started yet."""
     wait_for_room(request.node.name)
     opened = _Opened([], [])
 
-    def make(dealers: list[Identity], investors: list[Identity], limits: dict[str, int] | None = None,
-             log: PostgresLog | None = None) -> Door:
+    def make(
+        dealers: list[Identity],
+        investors: list[Identity],
+        limits: dict[str, int] | None = None,
+        log: PostgresLog | None = None,
+    ) -> Door:
         folder = place / ("gateway%d" % len(opened.doors))
         folder.mkdir()
-        opened.doors.append(Door(tools.programs, folder, dealers, investors, limits=limits or {}, postgres=log))
+        opened.doors.append(
+            Door(tools.programs, folder, dealers, investors, limits=limits or {}, postgres=log)
+        )
         return opened.doors[-1]
 
     yield make
@@ -168,7 +173,9 @@ def stage(tools: Tools, place: Path, request: pytest.FixtureRequest) -> Iterator
 
 
 @pytest.fixture
-def stage_of_log(tools: Tools, place: Path, log_place: PostgresLog | None, request: pytest.FixtureRequest) -> Iterator[Stage]:
+def stage_of_log(
+    tools: Tools, place: Path, log_place: PostgresLog | None, request: pytest.FixtureRequest
+) -> Iterator[Stage]:
     """The same in SQLite and in PostgreSQL: such a test runs twice."""
     wait_for_room(request.node.name)
     made = Stage(tools, place, log_place)

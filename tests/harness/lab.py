@@ -24,9 +24,14 @@ def lacks() -> str:
 
 def is_installed(package: str) -> bool:
     words = ["dpkg-query", "-W", "-f=${Status}", package]
-    return subprocess.run(words, capture_output=True, text=True, check=False).stdout == "install ok installed"
+    return (
+        subprocess.run(words, capture_output=True, text=True, check=False).stdout
+        == "install ok installed"
+    )
 
 
-def machine(folder: Path, images: Path, gateway: Path, venue: tuple[str, ...], prefix: str) -> Machine:
+def machine(
+    folder: Path, images: Path, gateway: Path, venue: tuple[str, ...], prefix: str
+) -> Machine:
     """Three database hosts, two gateway hosts and one for firms, none of which is up yet."""
     return Machine(folder, images, gateway, site_here(venue, (ALONE,)), prefix)

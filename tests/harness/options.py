@@ -16,7 +16,12 @@ ROOT = Path(__file__).resolve().parents[2]
 PROVED = ROOT / "crates" / "rfq_venue" / "out" / "rfq_venue"
 SECOND = ("/usr/bin/python3", str(ROOT / "tests" / "model" / "program.py"))
 SHORT_EXAMPLES, LONG_EXAMPLES = 100, 5000
-TREE = (str(ROOT), str(ROOT / "audit"), str(ROOT / "tools"), str(ROOT / "deploy"))  # where the tree's modules are found
+TREE = (
+    str(ROOT),
+    str(ROOT / "audit"),
+    str(ROOT / "tools"),
+    str(ROOT / "deploy"),
+)  # where the tree's modules are found
 
 
 class Form(Enum):
@@ -63,13 +68,36 @@ def usual_venue() -> str:
 
 def pytest_addoption(parser: pytest.Parser) -> None:
     group = parser.getgroup("mireseason")
-    group.addoption("--venue", help="proved, second, or the words of a program; VENUE, or the proved one where it stands")
-    group.addoption("--gateway", help="a gateway that is built; GATEWAY, or else it is built in gateway/out")
-    group.addoption("--form", choices=[form.value for form in Form], default=Form.SHORT.value, help="short: minutes; long: hours")
-    group.addoption("--seed", type=int, default=int(os.environ.get("SEED", "1")), help="what is drawn is drawn by this number")
+    group.addoption(
+        "--venue",
+        help="proved, second, or the words of a program; VENUE, or the proved one where it stands",
+    )
+    group.addoption(
+        "--gateway", help="a gateway that is built; GATEWAY, or else it is built in gateway/out"
+    )
+    group.addoption(
+        "--form",
+        choices=[form.value for form in Form],
+        default=Form.SHORT.value,
+        help="short: minutes; long: hours",
+    )
+    group.addoption(
+        "--seed",
+        type=int,
+        default=int(os.environ.get("SEED", "1")),
+        help="what is drawn is drawn by this number",
+    )
     group.addoption("--keep", type=Path, help="a folder for the files of tests that fail")
-    group.addoption("--sanitized", action="store_true", help="the gateway has a sanitizer: its memory and work are not measured")
-    group.addoption("--images", type=Path, help="a folder for the disks of hosts; in /dev/shm where there is room")
+    group.addoption(
+        "--sanitized",
+        action="store_true",
+        help="the gateway has a sanitizer: its memory and work are not measured",
+    )
+    group.addoption(
+        "--images",
+        type=Path,
+        help="a folder for the disks of hosts; in /dev/shm where there is room",
+    )
 
 
 def pytest_configure(config: pytest.Config) -> None:
@@ -98,7 +126,7 @@ def environment(chosen: Options) -> dict[str, str]:
 
 def hypothesis_draws(chosen: Options) -> None:
     """What hypothesis draws is drawn by the seed, too, and as much of it as the form says."""
-    hypothesis.core.global_force_seed = chosen.seed
+    setattr(hypothesis.core, "global_force_seed", chosen.seed)
     for form, count in ((Form.SHORT, SHORT_EXAMPLES), (Form.LONG, LONG_EXAMPLES)):
         hypothesis.settings.register_profile(
             form.value,
@@ -113,9 +141,15 @@ def hypothesis_draws(chosen: Options) -> None:
 
 def pytest_report_header(config: pytest.Config) -> list[str]:
     chosen = config.stash[OPTIONS]
-    lines = ["venue: %s" % shlex.join(chosen.venue), "form: %s, seed %d" % (chosen.form.value, chosen.seed)]
+    lines = [
+        "venue: %s" % shlex.join(chosen.venue),
+        "form: %s, seed %d" % (chosen.form.value, chosen.seed),
+    ]
     if not is_debians_python():
-        lines.append("python: %s is not Debian's, which the tests are written for: /usr/bin/python3 -m pytest" % sys.executable)
+        lines.append(
+            "python: %s is not Debian's, which the tests are written for: /usr/bin/python3 -m pytest"
+            % sys.executable
+        )
     return lines
 
 

@@ -17,14 +17,22 @@ USER = "mireseason"
 def programs() -> Path | None:
     """The folder of the newest server that is installed."""
     found = [path.parent for path in Path("/usr/lib/postgresql").glob("*/bin/initdb")]
-    return max(found, key=lambda path: int(path.parent.name), default=None)
+    return max(found, key=lambda path: int(path.parent.name)) if found else None
 
 
 def as_postgres(words: list[str]) -> list[str]:
     """A server does not run as root; and it ends with who started it, however that ends."""
     if os.geteuid() != 0:
         return words
-    return ["setpriv", "--reuid=postgres", "--regid=postgres", "--clear-groups", "--pdeathsig=QUIT", "--", *words]
+    return [
+        "setpriv",
+        "--reuid=postgres",
+        "--regid=postgres",
+        "--clear-groups",
+        "--pdeathsig=QUIT",
+        "--",
+        *words,
+    ]
 
 
 @dataclass
@@ -46,8 +54,22 @@ class Server:
         return self.connection(name)
 
     def run(self, query: str, database: str = "postgres") -> str:
-        words = ["psql", "-X", "-q", "-A", "-t", "-v", "ON_ERROR_STOP=1", "-d", self.connection(database), "-c", query]
-        return subprocess.run(words, capture_output=True, text=True, check=True, timeout=LONG).stdout.strip()
+        words = [
+            "psql",
+            "-X",
+            "-q",
+            "-A",
+            "-t",
+            "-v",
+            "ON_ERROR_STOP=1",
+            "-d",
+            self.connection(database),
+            "-c",
+            query,
+        ]
+        return subprocess.run(
+            words, capture_output=True, text=True, check=True, timeout=LONG
+        ).stdout.strip()
 
     def answers(self) -> bool:
         words = ["psql", "-X", "-d", self.connection("postgres"), "-c", "SELECT 1"]
@@ -63,9 +85,19 @@ def running(bin_folder: Path, folder: Path) -> Iterator[Server]:
     data = folder / "data"
     words = [str(bin_folder / "initdb"), "-D", str(data), "-A", "trust", "-U", USER, "--no-sync"]
     subprocess.run(as_postgres(words), cwd="/", check=True, capture_output=True, timeout=LONG)
-    words = [str(bin_folder / "postgres"), "-D", str(data), "-k", str(folder), "-c", "listen_addresses="]
+    words = [
+        str(bin_folder / "postgres"),
+        "-D",
+        str(data),
+        "-k",
+        str(folder),
+        "-c",
+        "listen_addresses=",
+    ]
     with (folder / "log").open("wb") as log:
-        process = subprocess.Popen(as_postgres(words), cwd="/", stdin=subprocess.DEVNULL, stdout=log, stderr=log)
+        process = subprocess.Popen(
+            as_postgres(words), cwd="/", stdin=subprocess.DEVNULL, stdout=log, stderr=log
+        )
     try:
         server = Server(folder)
         until("PostgreSQL answers", LONG, lambda: server.answers() or process.poll() is not None)

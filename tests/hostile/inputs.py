@@ -7,6 +7,8 @@ standard error (`live` tells of lines at fault there and goes on), or with statu
 are never refused for memory.
 """
 
+from __future__ import annotations
+
 import os
 import random
 import re
@@ -14,6 +16,7 @@ import resource
 import signal
 import subprocess
 from dataclasses import dataclass
+from random import Random
 
 from tests.isolation.dealer_days import Day, Story
 
@@ -34,7 +37,7 @@ def limited():
     resource.setrlimit(resource.RLIMIT_CPU, (SECONDS, SECONDS + 1))
 
 
-def answered(program, words, text):
+def answered(program: list[str], words: list[str], text: bytes) -> tuple[str, None]:
     """Runs the program; answers what became of it in a word, or ends with what went wrong."""
     try:
         run = subprocess.run([*program, *words], input=text, capture_output=True, timeout=PATIENCE, preexec_fn=limited)
@@ -52,17 +55,17 @@ def answered(program, words, text):
     return None, "status %d, %r" % (run.returncode, told[-200:])
 
 
-def days(draw):
+def days(draw: Random) -> tuple[str, str]:
     """A day of a whole venue: its configuration, and its steps."""
     told = Day(Story(random.Random(draw.randrange(2**40))), draw)
     return told.configuration(), told.text()
 
 
-def without_turns(steps):
+def without_turns(steps: str) -> str:
     return "\n".join(line for line in steps.split("\n") if not line.startswith("turn"))
 
 
-def lawful(program, draw):
+def lawful(program: list[str], draw: Random) -> tuple[list[str], bytes]:
     """A lawful input and the words of a command that reads it."""
     what = draw.choice(["alone", "replay", "due", "dues", "compare", "blotter", "day", "live"])
     frames = draw.choice([[], ["--frames"]])
@@ -83,7 +86,7 @@ def lawful(program, draw):
     return [what, draw.choice(["DLR1", "DLR2", "INV1"])], text.encode()
 
 
-def spoil(draw, text):
+def spoil(draw: Random, text: bytes) -> bytes:
     """One of the things that can happen to a text on its way."""
     what = draw.randrange(6)
     if what == 0:
@@ -107,7 +110,7 @@ def spoil(draw, text):
     return b"\n".join(lines)
 
 
-def spoilt(work):
+def spoilt(work: tuple[list[str], int]) -> tuple[int, list[str], str, None]:
     program, seed = work
     draw = random.Random(seed)
     words, text = lawful(program, draw)

@@ -7,17 +7,21 @@ asked, who wins, what the others quote, ids, traders, requests that the dealer n
 that are refused or dropped, and turns of the others.
 """
 
+from __future__ import annotations
+
+from random import Random
+
 BONDS = ["BONDA0000001", "BONDB0000002", "BONDC0000003"]
 OPENING = 32_400_000  # 09:00:00
 CLOSING = 60_000_000  # 16:40:00, behind every moment of a story
 
 
-def time_text(moment):
+def time_text(moment: int) -> str:
     seconds, thousandths = divmod(moment, 1000)
     return "%02d:%02d:%02d.%03d" % (seconds // 3600, seconds // 60 % 60, seconds % 60, thousandths)
 
 
-def price_text(ticks):
+def price_text(ticks: int) -> str:
     """A price of whole 256ths as a decimal."""
     whole, part = divmod(ticks, 256)
     return str(whole) if part == 0 else ("%d.%08d" % (whole, part * 390625)).rstrip("0")
@@ -26,7 +30,7 @@ def price_text(ticks):
 class Request:
     """A request that the dealer is shown."""
 
-    def __init__(self, draw, number, moment):
+    def __init__(self, draw: Random, number: int, moment: int) -> None:
         self.number = number  # the dealer's own
         self.investor = draw.choice(["INV1", "INV2"])
         self.bond = draw.choice(BONDS[:2])
@@ -40,22 +44,22 @@ class Request:
 class Story:
     """Chapters, each a word, a moment and what belongs to it."""
 
-    def __init__(self, draw):
+    def __init__(self, draw: Random) -> None:
         self.draw, self.moment, self.quotes = draw, OPENING, 0
         self.requests, self.chapters = [], []
         for _ in range(draw.randrange(2, 14)):
             self.moment += draw.randrange(1, 9_000)
             self.live_on(self.chapter())
 
-    def put(self, word, *more):
+    def put(self, word: str, *more: Request | str | int | tuple[str, int] | None) -> None:
         self.chapters.append((word, self.moment) + more)
 
-    def live_on(self, request):
+    def live_on(self, request: Request | None) -> None:
         """Closes the request, where the chapter did."""
         if request:
             request.closed, request.live = True, None
 
-    def chapter(self):
+    def chapter(self) -> Request | None:
         """The next chapter; answers the request that it closes, if any."""
         draw = self.draw
         open_ones = [request for request in self.requests if not request.closed]
@@ -67,7 +71,7 @@ class Story:
         word = draw.choice(["quote"] * 6 + ["cancel", "cancel_all", "decline", "nonsense", "hit", "hit", "leave", "expire"])
         return getattr(self, word)(request)
 
-    def quote(self, request):
+    def quote(self, request: Request) -> None:
         self.quotes += 1
         name, ticks = "a%d" % self.quotes, self.draw.randrange(20_000, 30_000)
         accepted = self.moment < request.deadline and not request.declined
@@ -75,23 +79,23 @@ class Story:
         if accepted:
             request.live = name, ticks
 
-    def cancel(self, request):
+    def cancel(self, request: Request) -> None:
         self.put("cancel", request.live[0] if request.live else "a99")
         request.live = None
 
-    def cancel_all(self, _):
+    def cancel_all(self, _: Request) -> None:
         self.put("cancel_all")
         for request in self.requests:
             request.live = None
 
-    def decline(self, request):
+    def decline(self, request: Request) -> None:
         self.put("decline", request)
         request.declined = request.declined or not request.live
 
-    def nonsense(self, _):
+    def nonsense(self, _: Request) -> None:
         self.put("nonsense", self.draw.randrange(4))
 
-    def hit(self, request):
+    def hit(self, request: Request) -> Request:
         """The investor hits the dealer's quote, another's before it, or another's behind a third's."""
         if self.moment >= request.deadline:
             return None
@@ -99,11 +103,11 @@ class Story:
         self.put("hit", request, self.draw.choice(ends), request.live)
         return request
 
-    def leave(self, request):
+    def leave(self, request: Request) -> Request:
         self.put("leave", request)
         return request
 
-    def expire(self, request):
+    def expire(self, request: Request) -> Request:
         self.moment = max(self.moment, request.deadline)
         self.put("expire", request)
         return request
@@ -112,7 +116,7 @@ class Story:
 class Day:
     """A story, told as a day of a whole venue."""
 
-    def __init__(self, story, draw):
+    def __init__(self, story: Story, draw: Random) -> None:
         self.story, self.draw = story, draw
         self.rich = ["DLR%d" % n for n in range(2, 2 + draw.randrange(2, 6))]
         self.poor = ["DLR%d" % n for n in range(20, 20 + draw.randrange(3))]
@@ -121,7 +125,7 @@ class Day:
         self.made, self.seen, self.offers = {}, {}, {}  # requests, requests shown, quotes shown
         self.moment = OPENING
 
-    def configuration(self):
+    def configuration(self) -> str:
         draw = self.draw
         bonds = BONDS + ["BONDX%07d" % draw.randrange(10**7)]
         dealers = ["DLR1"] + self.rich + self.poor
@@ -141,13 +145,13 @@ class Day:
             text.append("requests = %d\nopen = 500\nquantity = %d" % (draw.randrange(500, 800), draw.randrange(5 * 10**6, 10**9)))
         return "\n".join(text)
 
-    def say(self, firm, kind, body, trader=None):
+    def say(self, firm: str, kind: str, body: str, trader: str | None=None) -> None:
         self.steps.append("say %s %s %s %s %s" % (firm, trader or self.traders[firm], time_text(self.moment), kind, body))
 
-    def turn(self, actor, times):
+    def turn(self, actor: str, times: int) -> None:
         self.steps.append("turn %s %d" % (actor, times))
 
-    def ask(self, investor, bond, side, quantity, deadline, dealers):
+    def ask(self, investor: str, bond: str, side: int, quantity: int, deadline: int, dealers: list[str]) -> str:
         """A request to these dealers, in this order, which is shown to each; answers its id."""
         name = "%s%d" % (self.draw.choice("qrs"), self.draw.randrange(10**9))
         parties = "|".join("448=%s|447=D|452=35" % dealer for dealer in dealers)
@@ -159,7 +163,7 @@ class Day:
             self.seen[dealer] = self.seen.get(dealer, 0) + 1
         return name
 
-    def offer(self, investor, dealer, request, bond, side, ticks):
+    def offer(self, investor: str, dealer: str, request: int, bond: str, side: int, ticks: int) -> int:
         """Another dealer's quote, shown to the investor; answers its number there."""
         tag = 133 if side == 1 else 132
         name = "b%d" % self.draw.randrange(10**9)
@@ -169,7 +173,7 @@ class Day:
             self.offers[investor] = self.offers.get(investor, 0) + 1
         return self.offers.get(investor, 0)
 
-    def aside(self):
+    def aside(self) -> None:
         """Something among the others of which the story does not tell, or nothing."""
         draw = self.draw
         for _ in range(draw.choice([0, 0, 1, 1, 2])):
@@ -191,7 +195,7 @@ class Day:
             else:
                 self.turn(draw.choice(self.rich + ["CLOCK"]), draw.randrange(1, 4))
 
-    def text(self):
+    def text(self) -> str:
         for word, moment, *more in self.story.chapters:
             self.moment = moment
             self.aside()
@@ -199,7 +203,7 @@ class Day:
         self.aside()
         return "\n".join(self.steps)
 
-    def tell_ask(self, request):
+    def tell_ask(self, request: Request) -> None:
         # At least two others who can quote are asked, so that another can win before a third.
         others = self.draw.sample(self.rich, self.draw.randrange(2, len(self.rich) + 1))
         others += self.draw.sample(self.poor, self.draw.randrange(len(self.poor) + 1))
@@ -212,12 +216,12 @@ class Day:
             if self.draw.random() < 0.5:
                 self.counter(request, dealer, self.draw.randrange(20_000, 30_000))
 
-    def counter(self, request, dealer, ticks):
+    def counter(self, request: Request, dealer: str, ticks: int) -> int:
         """A quote of another dealer on a request of the story."""
         shown = self.rooms[request.number]["asked"][dealer]
         return self.offer(request.investor, dealer, shown, request.bond, request.side, ticks)
 
-    def tell_quote(self, request, name, ticks, accepted):
+    def tell_quote(self, request: Request, name: str, ticks: int, accepted: bool) -> None:
         tag = 133 if request.side == 1 else 132
         self.say("DLR1", "S", "117=%s|131=R%d|48=%s|22=4|%d=%s" % (name, request.number, request.bond, tag, price_text(ticks)))
         self.turn("DLR1", 2)
@@ -225,19 +229,19 @@ class Day:
             self.offers[request.investor] = self.offers.get(request.investor, 0) + 1
             self.rooms[request.number]["own"] = self.offers[request.investor]
 
-    def tell_cancel(self, name):
+    def tell_cancel(self, name: str) -> None:
         self.say("DLR1", "Z", "298=5|117=%s" % name)
         self.turn("DLR1", 2)
 
-    def tell_cancel_all(self):
+    def tell_cancel_all(self) -> None:
         self.say("DLR1", "Z", "298=4")
         self.turn("DLR1", 3 * len(self.story.requests) + 1)
 
-    def tell_decline(self, request):
+    def tell_decline(self, request: Request) -> None:
         self.say("DLR1", "AG", "131=R%d|658=10" % request.number)
         self.turn("DLR1", 2)
 
-    def tell_nonsense(self, kind):
+    def tell_nonsense(self, kind: int) -> None:
         if kind == 0:
             self.say("DLR1", "Z", "298=5|117=x", trader="T1X")
         elif kind == 1:
@@ -247,7 +251,7 @@ class Day:
         else:
             self.say("DLR1", "R", "131=q")
 
-    def tell_hit(self, request, end, live):
+    def tell_hit(self, request: Request, end: str, live: tuple[str, int] | None) -> None:
         room = self.rooms[request.number]
         worse = 1 if request.side == 1 else -1
         able = [dealer for dealer in room["asked"] if dealer in self.rich]
@@ -266,12 +270,12 @@ class Day:
             self.tell_cancel(live[0])
         self.turn(request.investor, len(room["asked"]) + 3)
 
-    def tell_leave(self, request):
+    def tell_leave(self, request: Request) -> None:
         room = self.rooms[request.number]
         self.say(request.investor, "AJ", "693=p%d|694=6|131=%s" % (self.draw.randrange(10**9), room["id"]))
         self.turn(request.investor, len(room["asked"]) + 3)
 
-    def tell_expire(self, request):
+    def tell_expire(self, request: Request) -> None:
         room = self.rooms[request.number]
         self.steps.append("expire %s %d %s" % (request.investor, room["n"], time_text(self.moment)))
         self.turn("CLOCK", len(room["asked"]) + 5)

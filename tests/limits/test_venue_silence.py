@@ -13,7 +13,7 @@ from tests.gateway.wait import LONG, until
 from tests.harness.budget import Budget, seconds_of
 from tests.harness.fixtures import MakeGateway
 
-SECONDS = 6  # venue_seconds of these tests
+SECONDS = 15  # venue_seconds of these tests: no venue that works takes so long, however busy the machine is
 SILENT, ENDED = "venue does not answer", "has answered nothing for %d s" % SECONDS
 
 
@@ -47,22 +47,18 @@ def test_a_venue_that_hangs_at_its_start(stage: Stage) -> None:
         told = len(stage.door.told.read_bytes())
         stage.door.start()
         took = seconds_of(lambda: until("the silence is told", LONG, lambda: tells(stage.door, SILENT, told)))
+        ended = seconds_of(lambda: until("the gateway ends", SECONDS + 30, stage.door.has_ended))
         assert stage.door.wait_end() == 1
         assert tells(stage.door, ENDED, told), "it does not say why it ends"
+        assert took + ended >= SECONDS, "it ends after %.1f s" % (took + ended)
         return took
 
     Budget("that a venue hangs at its start", most=5).hold(measure)
-    Budget("the end of such a start", most=SECONDS + 1, slack=20).hold(lambda: seconds_of(lambda: started_and_ended(stage)))
     (stage.folder / "hang").unlink()
     stage.door.start()
     stage.door.wait_open()
     stage.log_on(stage.dealer)
     stage.ping(stage.dealer)
-
-
-def started_and_ended(stage: Stage) -> None:
-    stage.door.start()
-    assert stage.door.wait_end() == 1
 
 
 def test_a_venue_that_hangs_while_it_is_fed(stage: Stage) -> None:
@@ -97,6 +93,6 @@ def test_another_gateway_takes_over(make_gateway: MakeGateway, postgres_database
     (first.folder / "hang").touch()
     assert first.kill_venue()
     took = seconds_of(lambda: until("the second one speaks", LONG, lambda: tells(second, " speaks ")))
-    assert took <= SECONDS + 15, "it takes over after %.1f s" % took
+    assert took <= SECONDS + 30, "it takes over after %.1f s" % took
     assert first.wait_end() == 1
     second.wait_open()

@@ -8,6 +8,8 @@ A seed has one or more inputs. The first that differs is written to the working 
 words, beside both answers; the status is then 1. With --notes each command that has that flag is given it.
 """
 
+from __future__ import annotations
+
 import collections
 import io
 import multiprocessing
@@ -15,6 +17,7 @@ import re
 import subprocess
 import sys
 import traceback
+from typing import TYPE_CHECKING
 
 from . import faults
 from . import main as model
@@ -25,10 +28,13 @@ from .lines import due_text
 from .replay import seen_by
 from .venue_command import words_of
 
+if TYPE_CHECKING:
+    from .configuration import Dealer, Investor
+
 # ---------------------------------------------------------------- the inputs of a seed
 
 
-def inputs(seed):
+def inputs(seed: int) -> list[tuple[list[str], bytes]]:
     """Pairs of arguments and standard input."""
     draw = Draw(seed)
     kinds = [a_day] * 10 + [two_days] * 2 + [due_list] * 3 + [investor_list] * 2 + [made_up] * 4 + [spoilt] * 3 + [configurations] * 2 + [streams] * 2 + [rarely]
@@ -39,7 +45,7 @@ def joined(*parts: bytes) -> bytes:
     return b"\n%%\n".join(parts)
 
 
-def ended(draw, data):
+def ended(draw: Draw, data: bytes) -> bytes:
     """With a line feed at its end, or without."""
     return data + draw.of(b"\n", b"\n", b"")
 
@@ -48,24 +54,24 @@ def head(day: Day) -> bytes:
     return "\n".join(day.head).encode()
 
 
-def firm_word(draw, day, dealer=False):
+def firm_word(draw: Draw, day: Day, dealer: bool=False) -> str:
     """A firm of the day, for the most part."""
     return word_among(draw, day.configuration.dealers if dealer else day.configuration.firms)
 
 
-def investor_words(draw, day):
+def investor_words(draw: Draw, day: Day) -> list[str]:
     """The words that name an investor of the day, for the most part."""
     words = ["--investor", word_among(draw, day.configuration.investors)]
     return words if draw.chance(0.8) else words[::-1]
 
 
-def word_among(draw, rows):
+def word_among(draw: Draw, rows: list[Dealer | Investor]) -> str:
     if not rows or draw.chance(0.02):
         return draw.of("NOBODY", "CLOCK", "INV1", "DLR1", "DLR99")
     return draw.choice(rows).name.decode()
 
 
-def commands(draw, day):
+def commands(draw: Draw, day: Day) -> list[list[str]]:
     """Some commands that read a day."""
     all_of_them = [["replay"], ["replay", firm_word(draw, day)], ["replay", "--frames"], ["dues"],
                    ["due", firm_word(draw, day, True)], ["blotter", firm_word(draw, day)],
@@ -73,7 +79,7 @@ def commands(draw, day):
     return draw.sample(all_of_them, draw.of(2, 3, 5))
 
 
-def a_day(draw):
+def a_day(draw: Draw) -> list[tuple[list[str], bytes]]:
     day = Day(draw)
     data = ended(draw, joined(head(day), day.text()))
     found = [(words, data) for words in commands(draw, day)]
@@ -84,11 +90,11 @@ def a_day(draw):
     return found
 
 
-def live_words(draw):
+def live_words(draw: Draw) -> list[str]:
     return ["live"] + draw.sample(["--marks", "--frames"], draw.randint(0, 2))
 
 
-def audits(draw, day):
+def audits(draw: Draw, day: Day) -> list[list[str]]:
     """Commands that read a day of `live`."""
     found = [["replay", "--live"], ["replay", firm_word(draw, day), "--live"], ["replay", "--live", "--frames"],
              ["dues", "--live"], ["due", firm_word(draw, day, True), "--live"], ["blotter", "--live", firm_word(draw, day)],
@@ -96,12 +102,12 @@ def audits(draw, day):
     return draw.sample(found, draw.of(1, 2, 3))
 
 
-def without_turns(draw, data):
+def without_turns(draw: Draw, data: bytes) -> bytes:
     """For the most part without the lines `turn`, which the answer line by line has no use for."""
     return data if draw.chance(0.05) else b"\n".join(line for line in data.split(b"\n") if not line.startswith(b"turn "))
 
 
-def two_days(draw):
+def two_days(draw: Draw) -> list[tuple[list[str], bytes]]:
     """A day against itself with something changed, or against another of the same firms."""
     day = Day(draw, length=draw.randint(1, 40))
     first, second = day.text(), day.text()
@@ -130,7 +136,7 @@ def two_days(draw):
     return [(words, data)]
 
 
-def due_list(draw):
+def due_list(draw: Draw) -> list[tuple[list[str], bytes]]:
     """What was due to a dealer of a day, as it was or with something changed."""
     day = Day(draw)
     if not day.configuration.dealers:
@@ -142,7 +148,7 @@ def due_list(draw):
     return draw.sample(found, draw.of(1, 2))
 
 
-def investor_list(draw):
+def investor_list(draw: Draw) -> list[tuple[list[str], bytes]]:
     """The same of an investor."""
     day = Day(draw)
     if not day.configuration.investors:
@@ -153,7 +159,7 @@ def investor_list(draw):
     return draw.sample(found, draw.of(1, 2))
 
 
-def made_up(draw):
+def made_up(draw: Draw) -> list[tuple[list[str], bytes]]:
     data = faults.MadeUp(draw).text() if draw.chance(0.6) else MadeUpInvestor(draw).text()
     found = [(draw.of(["alone"], [], ["alone", "--frames"]), ended(draw, data))]
     if draw.chance(0.5):
@@ -161,7 +167,7 @@ def made_up(draw):
     return found
 
 
-def spoilt(draw):
+def spoilt(draw: Draw) -> list[tuple[list[str], bytes]]:
     """A lawful input with some bytes, words or lines changed."""
     day = Day(draw, length=draw.randint(1, 20))
     found = []
@@ -178,7 +184,7 @@ def spoilt(draw):
     return found
 
 
-def configurations(draw):
+def configurations(draw: Draw) -> list[tuple[list[str], bytes]]:
     day, found = Day(draw, length=2), []
     for _ in range(4):
         lines = faults.crowded_configuration(draw) if draw.chance(0.05) else faults.spoilt_configuration(draw)
@@ -187,7 +193,7 @@ def configurations(draw):
     return found
 
 
-def streams(draw):
+def streams(draw: Draw) -> list[tuple[list[str], bytes]]:
     """Streams in pieces, lawful or not."""
     top, found = "\n".join(faults.STREAM_FIRMS).encode(), []
     for _ in range(3):
@@ -196,7 +202,7 @@ def streams(draw):
     return found
 
 
-def rarely(draw):
+def rarely(draw: Draw) -> list[tuple[list[str], bytes]]:
     day = Day(draw, length=3)
     parts = [head(day), day.text()] * draw.of(0, 1, 2, 3) + draw.of([], [b""], [b"x"])
     words = draw.of(["replay"], ["alone"], ["compare", "DLR1"], ["due", "DLR1"], live_words(draw), ["blotter", "INV1"])
@@ -219,17 +225,17 @@ def model_answer(words: list[str], data: bytes) -> tuple[int, bytes, bytes]:
     return status, out.getvalue(), err.getvalue()
 
 
-def program_answer(program, words, data):
+def program_answer(program: list[str], words: list[str], data: bytes) -> tuple[int, bytes, bytes]:
     run = subprocess.run([*program, *words], input=data, capture_output=True)
     return run.returncode, run.stdout, run.stderr
 
 
-def same(mine, other):
+def same(mine: tuple[int, bytes, bytes], other: tuple[int, bytes, bytes]) -> bool:
     """Whether both answers are equal; what is said of wrong arguments is not held against one another."""
     return mine == other or (mine[0] == 2 and mine[:2] == other[:2])
 
 
-def kinds_of(words, answer):
+def kinds_of(words: list[str], answer: tuple[int, bytes, bytes]) -> dict[str, int]:
     """What kinds of answers there are: for the count behind a run."""
     status, out, err = answer
     kinds = collections.Counter({"%s, status %d" % (words[0] if words and words[0] in model.COMMANDS else "other", status): 1})
@@ -264,7 +270,7 @@ def noted_kind(line: bytes) -> str:
     return "why %s" % name if word == "why" else "trade %s" % name.rsplit("-", 1)[1]
 
 
-def compared(work):
+def compared(work: tuple[list[str], int, bool]) -> tuple[int, None, int, dict[str, int]]:
     """The first difference of a seed's inputs, if any; how many there are; the kinds of their answers."""
     program, seed, notes = work
     count, kinds = 0, collections.Counter()

@@ -1,7 +1,11 @@
 """The configuration of a venue, and each of its faults: Toml, Missing, Name, Twice, Limit."""
 
+from __future__ import annotations
+
 import re
+from collections.abc import Callable, Iterator
 from dataclasses import dataclass
+from typing import Any
 
 import tomllib
 
@@ -45,44 +49,44 @@ class Investor:
 
 
 class Configuration:
-    def __init__(self, date, bonds, dealers, investors):
+    def __init__(self, date: bytes, bonds: list[Bond], dealers: list[Dealer], investors: list[Investor]) -> None:
         self.date, self.bonds, self.dealers, self.investors = date, bonds, dealers, investors
         self.firms = dealers + investors
         self.numbers = {row.name: number for number, row in enumerate(self.firms)}
 
-    def firm(self, name):
+    def firm(self, name: bytes) -> int:
         """The number of a firm, dealers first, or None."""
         return self.numbers.get(name)
 
-    def is_dealer(self, firm):
+    def is_dealer(self, firm: int) -> bool:
         return firm < len(self.dealers)
 
-    def has_room(self, firm, n):
+    def has_room(self, firm: int, n: int) -> bool:
         return not self.is_dealer(firm) and 1 <= n <= self.firms[firm].requests
 
-    def rooms(self):
+    def rooms(self) -> Iterator[tuple[int, int]]:
         """The rooms of the venue: investor and request, in their order."""
         for firm in range(len(self.dealers), len(self.firms)):
             for n in range(1, self.firms[firm].requests + 1):
                 yield firm, n
 
 
-def is_name(text):
+def is_name(text: str) -> bool:
     return bool(NAME.match(text))
 
 
-def is_firm_name(text):
+def is_firm_name(text: str) -> bool:
     return is_name(text) and text not in NO_FIRMS
 
 
-def is_bond(text):
+def is_bond(text: str) -> bool:
     return bool(BOND.match(text))
 
 
 # ---------------------------------------------------------------- values of a table, each by its kind
 
 
-def value_of(table, key, kind):
+def value_of(table: dict[str, int | str | list[dict[str, str | int | list[str]] | str]], key: str, kind: type[int] | type[str] | type[list]) -> int | str | list[dict[str, str | int | list[str]] | str]:
     """The value of a key, of this kind; truth values are no integers."""
     value = table.get(key)
     if type(value) is not kind:
@@ -90,14 +94,14 @@ def value_of(table, key, kind):
     return value
 
 
-def integer(table, key, most):
+def integer(table: dict[str, int | list[str] | str], key: str, most: int) -> int:
     value = value_of(table, key, int)
     if not 1 <= value <= most:
         raise ConfigFault("Limit")
     return value
 
 
-def new_name(value, lawful, earlier):
+def new_name(value: str, lawful: Callable[..., Any], earlier: set[str]) -> bytes:
     """A text of a lawful form that was not named before; joins those that were."""
     if type(value) is not str:
         raise ConfigFault("Missing")
@@ -109,7 +113,7 @@ def new_name(value, lawful, earlier):
     return value.encode()
 
 
-def rows(table, key, most):
+def rows(table: dict[str, int | str | list[dict[str, str | int | list[str]]]], key: str, most: int) -> Iterator[dict[str, str | int | list[str]]]:
     """The tables of an array, in order; absent it is empty. What is no table is found in its turn."""
     if key not in table:
         return
@@ -122,7 +126,7 @@ def rows(table, key, most):
         yield row
 
 
-def traders_of(row):
+def traders_of(row: dict[str, int | list[str] | str]) -> tuple[bytes, ...]:
     array = value_of(row, "traders", list)
     if not 1 <= len(array) <= MOST_TRADERS:
         raise ConfigFault("Limit")
@@ -133,7 +137,7 @@ def traders_of(row):
 # ---------------------------------------------------------------- the whole
 
 
-def read_toml(data):
+def read_toml(data: bytes) -> dict[str, int | str | list[dict[str, str | int | list[str]]]] | None:
     try:
         table = tomllib.loads(data.decode("utf-8"))
     except (ValueError, RecursionError):
@@ -143,7 +147,7 @@ def read_toml(data):
     return table
 
 
-def has_wide_integer(value):
+def has_wide_integer(value: int | str | dict[str, int | str | list[dict[str, str | int | list[str]] | str]] | list[dict[str, str | int | list[str]] | str]) -> bool:
     """Whether an integer stands in it that has no place in 64 bits."""
     if type(value) is dict:
         return any(has_wide_integer(item) for item in value.values())
@@ -152,7 +156,7 @@ def has_wide_integer(value):
     return type(value) is int and not -(2**63) <= value < 2**63
 
 
-def read_configuration(data):
+def read_configuration(data: bytes) -> Configuration | None:
     """The configuration that these bytes spell; ConfigFault with the name of its first fault."""
     table = read_toml(data)
     version = value_of(table, "version", int)

@@ -4,13 +4,21 @@ A day is drawn along a venue of the model, so that ids, numbers and moments fit 
 what the venue makes of it is for the comparison to say.
 """
 
+from __future__ import annotations
+
 import random
+from collections.abc import Callable
+from typing import TYPE_CHECKING, Any
 
 from .configuration import read_configuration
 from .frames import Stream, StreamFault, moment_text, read_fields, time_text, write_frame
 from .lines import Framer, LineFault, StepReader
 from .prices import price_text
 from .replay import CLOCK, Venue
+
+if TYPE_CHECKING:
+    from .dealer import Quote, Request
+    from .investor import Shown
 
 OPENING = 32_400_000  # 09:00:00
 SOH = b"\x01"
@@ -19,24 +27,24 @@ SOH = b"\x01"
 class Draw(random.Random):
     old = False  # whether what came later (lines `hex` and `clock`, --marks, --live) is left out
 
-    def chance(self, share):
+    def chance(self, share: float | int) -> bool:
         return self.random() < share
 
-    def of(self, *values):
+    def of(self, *values: int | str | bytes | list[str | int | tuple[int, str]]) -> int | str | bytes | list[int | tuple[int, str]]:
         return self.choice(values)
 
 
 # ---------------------------------------------------------------- configurations
 
 
-def names(draw, count, prefix):
+def names(draw: Draw, count: int, prefix: str) -> list[str]:
     found = [prefix + str(n) for n in range(1, count + 1)]
     if draw.chance(0.1) and found:
         found[-1] = draw.of("A", "ABCDEFGH", "Z9999999", "VENUES", "CLOCKS", "R", "X0")
     return found
 
 
-def draw_configuration(draw):
+def draw_configuration(draw: Draw) -> list[str]:
     """A lawful configuration, as a list of lines."""
     version = draw.of(1, 2)
     lines = ["version = %d" % version, 'date = "%s"' % draw.of("20250314", "20250314", "20241231", "00000101", "20250231")]
@@ -58,14 +66,14 @@ def draw_configuration(draw):
     return lines
 
 
-def keyed(draw, head, pairs):
+def keyed(draw: Draw, head: str, pairs: list[tuple[str, str | int]]) -> list[str]:
     pairs = [("%s = %s" % pair) for pair in pairs]
     if draw.chance(0.2):
         draw.shuffle(pairs)
     return [head] + pairs
 
 
-def bond_table(draw, name, version):
+def bond_table(draw: Draw, name: str, version: int) -> list[str]:
     pairs = [("id", '"%s"' % name)]
     if version == 2:
         pairs.append(("grid", draw.choice([32, 64, 128, 256])))
@@ -74,19 +82,19 @@ def bond_table(draw, name, version):
     return keyed(draw, "[[bond]]", pairs)
 
 
-def trader_list(draw, traders):
+def trader_list(draw: Draw, traders: list[str]) -> str:
     chosen = draw.sample(traders, draw.choice([1, 1, 2, 3]))
     return "[%s]" % ", ".join('"%s"' % trader for trader in chosen)
 
 
-def dealer_table(draw, name, traders):
+def dealer_table(draw: Draw, name: str, traders: list[str]) -> list[str]:
     quotes = draw.choice([1, 2, 4, 20, 20, 4096])
     exposure = draw.choice([1, 2_000_000, 3_000_000, 4_000_000, 10_000_000, 10_000_000, 10**15, 10**15])
     pairs = [("name", '"%s"' % name), ("traders", trader_list(draw, traders)), ("quotes", quotes), ("exposure", exposure)]
     return keyed(draw, "[[dealer]]", pairs)
 
 
-def investor_table(draw, name, traders):
+def investor_table(draw: Draw, name: str, traders: list[str]) -> list[str]:
     requests = draw.choice([1, 3, 5, 20, 20, 20, 1024])
     opened, quantity = draw.choice([1, 2, 3, 20, 20, 1024]), draw.choice([1, 1_000_000, 2_000_000, 5_000_000, 5_000_000, 10**12])
     pairs = [("name", '"%s"' % name), ("traders", trader_list(draw, traders)), ("requests", requests)]
@@ -96,17 +104,17 @@ def investor_table(draw, name, traders):
 # ---------------------------------------------------------------- texts of values
 
 
-def moment_word(draw, moment):
+def moment_word(draw: Draw, moment: int) -> str:
     """A moment as a TIME, without milliseconds where it has none and the draw says so."""
     text = time_text(moment).decode()
     return text[:-4] if text.endswith(".000") and draw.chance(0.5) else text
 
 
-def quantity_text(draw, quantity):
+def quantity_text(draw: Draw, quantity: int) -> str:
     return draw.of("%d", "%d", "%d", "%d.0", "0%d", "%d.") % quantity
 
 
-def spelled_price(draw, ticks):
+def spelled_price(draw: Draw, ticks: int) -> str:
     text = price_text(ticks).decode()
     if "." not in text:
         text += draw.of("", "", ".", ".0", ".000")
@@ -130,7 +138,7 @@ BAD_VALUES = {117: BAD_IDS, 131: BAD_IDS + ["R0", "R01", "R1", "R99"], 48: BAD_I
 OTHER_TAGS = [1, 11, 55, 58, 60, 999999999, 100000000, 453, 448, 447, 452, 35, 34, 49, 56, 52, 50, 62, 117, 131]
 
 
-def spoil(draw, fields):
+def spoil(draw: Draw, fields: list[tuple[int, str]]) -> list[tuple[int, str]]:
     """One fault of a message, or something that is none, among the fields of its body."""
     fields = list(fields)
     what, place = draw.randrange(7), draw.randrange(len(fields)) if fields else 0
@@ -177,10 +185,10 @@ class Day:
         for _ in range(draw.randint(1, longest) if length is None else length):
             self.go_on()
 
-    def text(self):
+    def text(self) -> bytes:
         return b"\n".join(self.lines)
 
-    def go_on(self):
+    def go_on(self) -> None:
         """One more thing happens."""
         draw = self.draw
         self.moment = max(0, min(86_399_999, self.moment + draw.choice(self.strides)))
@@ -192,7 +200,7 @@ class Day:
         if draw.chance(self.busy):
             self.settle()
 
-    def settle(self):
+    def settle(self) -> None:
         """Duties are done, of some actors, or of all until nothing is left."""
         actors = self.firms + [CLOCK]
         self.draw.shuffle(actors)
@@ -202,16 +210,16 @@ class Day:
             if pending and self.draw.chance(self.lag):
                 self.turn(actor, self.draw.choice([1, pending, pending, pending + 2]))
 
-    def turn(self, actor, times):
+    def turn(self, actor: int | str, times: int) -> None:
         self.put(b"turn %s %d" % (self.actor_name(actor), min(times, 1000)))
 
-    def actor_name(self, actor):
+    def actor_name(self, actor: int | str) -> bytes:
         return b"CLOCK" if actor == CLOCK else self.configuration.firms[actor].name
 
-    def turns(self):
+    def turns(self) -> None:
         self.turn(self.draw.choice(self.firms + [CLOCK]), self.draw.of(1, 2, 5, 1000))
 
-    def put(self, line):
+    def put(self, line: bytes) -> None:
         """A line of steps, which is done by the venue of the model too."""
         self.lines.append(line)
         try:
@@ -227,13 +235,13 @@ class Day:
 
     # ------------------------------------------------------------ messages
 
-    def dealers(self):
+    def dealers(self) -> list[int]:
         return self.firms[: len(self.configuration.dealers)]
 
-    def investors(self):
+    def investors(self) -> list[int]:
         return self.firms[len(self.configuration.dealers) :]
 
-    def message(self, firm, kind, fields):
+    def message(self, firm: int, kind: str, fields: list[tuple[int, str | int]]) -> None:
         """A message of a firm, said, framed here, or in pieces of its stream."""
         draw, row = self.draw, self.configuration.firms[firm]
         fields = [(tag, str(value)) for tag, value in fields]
@@ -258,18 +266,18 @@ class Day:
         data = write_frame(fields)
         self.deliver(how, firm, self.spoil_bytes(data))
 
-    def number(self, firm):
+    def number(self, firm: int) -> int:
         """The number that is expected, for the most part."""
         expected = self.venue.desks[firm].inbox.expected + self.waiting(firm)
         return expected if self.draw.chance(0.98) else self.draw.of(0, 1, expected + 1, expected - 1, "0%d" % expected, "x", 10**9)
 
-    def waiting(self, firm):
+    def waiting(self, firm: int) -> int:
         return 0
 
-    def sending(self):
+    def sending(self) -> str:
         return (moment_text(self.configuration.date, self.moment)).decode()
 
-    def say(self, firm, trader, kind, fields):
+    def say(self, firm: int, trader: str, kind: str, fields: list[tuple[int, str]]) -> None:
         draw, name = self.draw, self.configuration.firms[firm].name
         expected = self.venue.desks[firm].inbox.expected
         if self.reader.framer.counts.get(name, 0) + 1 != expected and draw.chance(0.98):
@@ -279,7 +287,7 @@ class Day:
         body += draw.of("", "", "", "|")
         self.put(("say %s %s %s %s %s" % (name.decode(), trader, moment_word(draw, self.moment), kind, body)).encode())
 
-    def spoil_bytes(self, data):
+    def spoil_bytes(self, data: bytes) -> bytes:
         """The bytes of a frame, now and then no frame any more, or another spelling of one."""
         draw = self.draw
         if not draw.chance(self.faulty / 2):
@@ -295,7 +303,7 @@ class Day:
             return data + draw.of(b"\x01", b"x", data)
         return respelled(data, draw.of(b"%04d", b"%06d", b"%07d", b"%d"), draw)
 
-    def deliver(self, how, firm, data):
+    def deliver(self, how: str, firm: int, data: bytes) -> None:
         name, time = self.configuration.firms[firm].name, moment_word(self.draw, self.moment).encode()
         if how == "hex":
             digits = data.hex() if self.draw.chance(0.5) else data.hex().upper()
@@ -320,7 +328,7 @@ class Day:
 
     # ------------------------------------------------------------ what firms do
 
-    def ask(self):
+    def ask(self) -> None:
         draw = self.draw
         if not self.investors():
             return self.noise()
@@ -334,7 +342,7 @@ class Day:
         fields.append((126, moment_text(self.configuration.date, deadline).decode()))
         return self.message(firm, "R", fields + self.parties())
 
-    def parties(self):
+    def parties(self) -> list[tuple[int, int | str]]:
         draw, dealers = self.draw, [self.configuration.firms[firm].name.decode() for firm in self.dealers()]
         chosen = draw.sample(dealers, min(len(dealers), draw.choice([1, 2, 2, 3, 3, 8, 9])))
         if draw.chance(0.04):
@@ -352,7 +360,7 @@ class Day:
         count = sum(tag == 448 for tag, _ in entries)
         return [(453, count if draw.chance(0.97) else draw.of(0, count + 1, "0%d" % count))] + entries
 
-    def quote(self):
+    def quote(self) -> None:
         draw = self.draw
         if not self.dealers():
             return self.noise()
@@ -373,10 +381,10 @@ class Day:
             draw.shuffle(fields)
         return self.message(firm, "S", fields)
 
-    def can_be_quoted(self, request):
+    def can_be_quoted(self, request: Request) -> bool:
         return request.closed is None and not request.declined and request.ask.deadline > self.moment
 
-    def race(self):
+    def race(self) -> None:
         """An investor hits a quote while its dealer takes it back, or at the moment at which it ends."""
         draw, found = self.draw, []
         for firm in self.investors():
@@ -399,7 +407,7 @@ class Day:
             act()
         return None
 
-    def contest(self):
+    def contest(self) -> None:
         """The dealers of an open room quote close to one another, some once more, and one of them is hit."""
         draw = self.draw
         able = [(room, self.venue.rooms[room]) for room in self.venue.rooms if self.venue.rooms[room].takes()]
@@ -417,12 +425,12 @@ class Day:
             self.turn(firm, draw.of(1, 20))
         return None
 
-    def quote_again(self, dealer, request):
+    def quote_again(self, dealer: int, request: Request) -> None:
         ask, name = request.ask, "q%d" % (len(self.venue.desks[dealer].quotes) + 1)
         price = (133 if ask.side == 1 else 132, self.price(request))
         self.message(dealer, "S", [(117, name), (131, "R%d" % request.k), (48, ask.bond.decode()), (22, 4), price])
 
-    def take_back(self, dealer, quote):
+    def take_back(self, dealer: int, quote: Quote) -> None:
         """The dealer cancels or replaces a quote of its own."""
         request, what = quote.request, self.draw.randrange(3)
         if what == 0:
@@ -432,14 +440,14 @@ class Day:
         else:
             self.quote_again(dealer, request)
 
-    def likely(self, rows, fits):
+    def likely(self, rows: list[Request | Shown | Quote], fits: Callable[..., Any]) -> Request | Shown | Quote | None:
         """One of the rows, of those that fit for the most part; None where there are none."""
         fitting = [row for row in rows if fits(row)]
         if fitting and self.draw.chance(0.9):
             return self.draw.choice(fitting)
         return self.draw.choice(rows[-4:]) if rows else None
 
-    def price(self, request):
+    def price(self, request: Request | None) -> str:
         draw = self.draw
         if draw.chance(0.03):
             return draw.choice(BAD_PRICES)
@@ -447,7 +455,7 @@ class Day:
         step = 256 // grid
         return spelled_price(draw, 25_472 + draw.randint(-self.spread, self.spread) * step)
 
-    def extras(self, request):
+    def extras(self, request: Request | None) -> list[tuple[int, int | str]]:
         """Fields of a quote that need not be there."""
         draw, fields = self.draw, []
         quantity = request.ask.quantity if request else 5
@@ -461,27 +469,27 @@ class Day:
             fields.append((62, moment_text(self.configuration.date, until).decode()))
         return fields
 
-    def dealer_and_quote(self):
+    def dealer_and_quote(self) -> tuple[int | None, Quote | None]:
         able = [firm for firm in self.dealers() if self.venue.desks[firm].quotes]
         if not able:
             return None, None
         firm = self.draw.choice(able)
         return firm, self.likely(self.venue.desks[firm].quotes, lambda quote: quote.is_live())
 
-    def cancel(self):
+    def cancel(self) -> None:
         firm, quote = self.dealer_and_quote()
         if firm is None:
             return self.quote()
         name = quote.id.decode() if self.draw.chance(0.95) else self.draw.of("none", "q1")
         return self.message(firm, "Z", [(298, self.draw.of(5, 5, 5, 5, 5, "05", 1, 4)), (117, name)])
 
-    def cancel_all(self):
+    def cancel_all(self) -> None:
         firm, quote = self.dealer_and_quote()
         if firm is None:
             return self.quote()
         return self.message(firm, "Z", [(298, self.draw.of(4, 4, "004"))] + self.draw.of([], [], [(117, "all")], [(117, "a b")]))
 
-    def decline(self):
+    def decline(self) -> None:
         able = [firm for firm in self.dealers() if self.venue.desks[firm].requests]
         if not able:
             return self.ask()
@@ -489,7 +497,7 @@ class Day:
         request = self.likely(self.venue.desks[firm].requests, lambda request: request.closed is None and not self.venue.desks[firm].live_quote(request))
         return self.message(firm, "AG", [(131, "R%d" % (request.k + self.draw.of(0, 0, 0, 0, 0, 0, 5))), (658, self.draw.of(10, 10, 10, 10, "010", 99))])
 
-    def hit(self):
+    def hit(self) -> None:
         able = [firm for firm in self.investors() if self.venue.desks[firm].shown]
         if not able:
             return self.quote()
@@ -497,11 +505,11 @@ class Day:
         quote = self.likely(self.venue.desks[firm].shown, lambda quote: quote.request.is_open() and not quote.gone)
         return self.hit_quote(firm, quote)
 
-    def hit_quote(self, firm, quote):
+    def hit_quote(self, firm: int, quote: Shown) -> None:
         name = "Q%d" % quote.k if self.draw.chance(0.96) else self.draw.of("Q0", "Q01", "Q999", "q1")
         return self.message(firm, "AJ", [(693, "h%d" % self.draw.randrange(99)), (117, name), (694, 1)] + self.draw.of([], [], [], [(131, "x")]))
 
-    def leave(self):
+    def leave(self) -> None:
         able = [firm for firm in self.investors() if self.venue.desks[firm].requests]
         if not able:
             return self.ask()
@@ -510,7 +518,7 @@ class Day:
         name = request.id.decode() if self.draw.chance(0.95) else self.draw.of("none", "A1")
         return self.message(firm, "AJ", [(693, "p"), (694, 6), (131, name)] + self.draw.of([], [], [], [(117, "Q1")]))
 
-    def sweep(self):
+    def sweep(self) -> None:
         if self.draw.chance(0.3):
             return self.put(b"clock " + moment_word(self.draw, self.clock_moment()).encode())
         able = [firm for firm in self.investors() if self.venue.desks[firm].requests]
@@ -527,7 +535,7 @@ class Day:
         n = request.n if self.draw.chance(0.9) else self.draw.randint(1, self.configuration.firms[firm].requests)
         self.put(b"expire %s %d %s" % (self.configuration.firms[firm].name, n, moment_word(self.draw, moment).encode()))
 
-    def clock_moment(self):
+    def clock_moment(self) -> int:
         """A moment about the earliest deadline, or about now."""
         deadline = self.venue.first_deadline()
         moment = self.moment if deadline is None or self.draw.chance(0.3) else deadline + self.draw.of(-1, 0, 0, 1)
@@ -536,7 +544,7 @@ class Day:
             self.moment = max(moment, self.moment)
         return moment
 
-    def noise(self):
+    def noise(self) -> None:
         """Bytes that are no frame, or a message of a type that is not the firm's."""
         if not self.firms:
             return None
@@ -549,7 +557,7 @@ class Day:
         return self.message(firm, self.draw.of("S", "R", "Z", "AG", "AJ", "0"), [(117, "x"), (298, 5), (131, "R1")])
 
 
-def with_any_bytes(draw, fields):
+def with_any_bytes(draw: Draw, fields: list[tuple[int, bytes]]) -> list[tuple[int, bytes]]:
     """A field more, or another value of one, of any bytes but the one that ends it."""
     value = bytes(draw.choice(ANY_BYTES) for _ in range(draw.of(1, 1, 3, 20)))
     value += draw.of(b"", b"", b"|34=7", b"\n%%", b"\nsay DLR1 T1 09:00:00 Z 298=4", b"\r", b"\r\n")
@@ -563,7 +571,7 @@ def with_any_bytes(draw, fields):
 ANY_BYTES = [byte for byte in range(256) if byte != 1]
 
 
-def respelled(data, length, draw):
+def respelled(data: bytes, length: bytes, draw: Draw) -> bytes:
     """A frame with another spelling of its length, and its sum right again or not."""
     start, _, rest = data.partition(b"9=")
     number, _, rest = rest.partition(SOH)

@@ -3,12 +3,20 @@
 A desk asks the word of an own quote by calling `ask_word(q)`, which answers 'withdrawn' or 'lifted'.
 """
 
+from __future__ import annotations
+
+from collections.abc import Callable, Iterator
 from dataclasses import dataclass
+from typing import TYPE_CHECKING, Any
 
 from .desk import Desk, Reason, Trade, first, party, price_field, price_tag, terms
 from .frames import moment_text
 from .prices import is_price, on_grid, thirty_seconds
 from .session import DEALER_TYPES
+
+if TYPE_CHECKING:
+    from .configuration import Dealer
+    from .desk import Ask
 
 HIT, EXPIRED, COVER, DONE_AWAY, PASS = 1, 3, 4, 5, 6  # 694 of a closing notice
 INVESTOR_ROLE = 13
@@ -64,44 +72,44 @@ class Quote:
     ended: str = None  # withdrawn or replaced
     known_lifted: bool = False
 
-    def is_live(self):
+    def is_live(self) -> bool:
         return self.ended is None and self.request.closed is None
 
-    def is_droppable(self):
+    def is_droppable(self) -> bool:
         return self.is_live() and not self.known_lifted
 
 
 class DealerDesk(Desk):
     types = DEALER_TYPES
 
-    def __init__(self, date, row, ask_word):
+    def __init__(self, date: bytes, row: Dealer, ask_word: Callable[..., Any]) -> None:
         super().__init__(date, row)
         self.ask_word = ask_word
         self.requests, self.quotes, self.notices = [], [], 0
 
     # ------------------------------------------------------------ what the desk knows
 
-    def request(self, name):
+    def request(self, name: bytes) -> Request | None:
         """The request shown under this name, R and its number."""
         return next((request for request in self.requests if name == b"R%d" % request.k), None)
 
-    def request_in(self, room):
+    def request_in(self, room: tuple[int, int]) -> Request:
         return next((request for request in self.requests if request.room == room), None)
 
-    def quote(self, name):
+    def quote(self, name: bytes) -> Quote | None:
         return next((quote for quote in self.quotes if quote.id == name), None)
 
-    def live_quote(self, request):
+    def live_quote(self, request: Request) -> Quote | None:
         return next((quote for quote in self.quotes if quote.request is request and quote.is_live()), None)
 
-    def is_known_lifted(self, request):
+    def is_known_lifted(self, request: Request) -> bool:
         return any(quote.request is request and quote.known_lifted for quote in self.quotes)
 
-    def exposure_without(self, request):
+    def exposure_without(self, request: Request) -> int:
         others = [quote for quote in self.quotes if quote.is_live() and quote.request is not request]
         return sum(quote.request.ask.quantity for quote in others)
 
-    def found_lifted(self, quote, ended):
+    def found_lifted(self, quote: Quote, ended: str) -> bool:
         """Asks the quote's word by a withdrawal; it has ended so, or is known to be lifted."""
         if self.ask_word(quote.q) == "lifted":
             quote.known_lifted = True
@@ -111,14 +119,14 @@ class DealerDesk(Desk):
 
     # ------------------------------------------------------------ own messages; each answers the duties that follow
 
-    def take_message(self, moment, message):
+    def take_message(self, moment: int, message: dict[int, bytes | int]) -> list[tuple[str | tuple[int, int] | int | None, ...]]:
         if message[35] == b"S":
             return self.take_quote(moment, message)
         if message[35] == b"Z":
             return self.take_cancel_all(moment, message) if message[298] == 4 else self.take_cancel(moment, message)
         return self.take_decline(moment, message)
 
-    def take_quote(self, moment, message):
+    def take_quote(self, moment: int, message: dict[int, bytes | int]) -> list[tuple[str, tuple[int, int], int, int, int | None, int]]:
         request = self.request(message[131])
         refusal = first(self.quote_refusals(moment, message, request))
         answer = [(131, message[131]), (117, message[117])]
@@ -131,7 +139,7 @@ class DealerDesk(Desk):
         self.send(moment, b"AI", answer + [(297, b"0")])
         return [("Post", request.room, quote.q, ticks, until, moment)]
 
-    def quote_refusals(self, moment, message, request):
+    def quote_refusals(self, moment: int, message: dict[int, bytes | int], request: Request | None) -> Iterator[tuple[bool, str]]:
         yield request is None, "UnknownRequest"
         ask = request.ask
         yield request.declined, "Declined"
@@ -148,7 +156,7 @@ class DealerDesk(Desk):
         replaced = self.live_quote(request)
         yield replaced is not None and self.found_lifted(replaced, "replaced"), "Lifted"
 
-    def take_cancel(self, moment, message):
+    def take_cancel(self, moment: int, message: dict[int, bytes | int]) -> list[tuple[str, tuple[int, int] | None, int, int]]:
         answer = [(117, message.get(117))]
         quote = self.quote(message.get(117))
         result = first(self.cancel_refusals(message, quote))
@@ -158,14 +166,14 @@ class DealerDesk(Desk):
         self.refuse(moment, answer, result, CANCEL_REASONS)
         return []
 
-    def cancel_refusals(self, message, quote):
+    def cancel_refusals(self, message: dict[int, bytes | int], quote: Quote | None) -> Iterator[tuple[bool, str]]:
         yield message[298] != 5, "UnknownCancelType"
         yield quote is None, "UnknownQuote"
         yield quote.ended is not None, "Withdrawn"
         yield quote.request.closed is not None or quote.known_lifted, "Closed"
         yield self.found_lifted(quote, "withdrawn"), "Lifted"
 
-    def take_decline(self, moment, message):
+    def take_decline(self, moment: int, message: dict[int, bytes | int]) -> list[tuple[str, tuple[int, int] | None, int]]:
         request = self.request(message[131])
         refusal = first(self.decline_refusals(request))
         answer = [(131, message[131])]
@@ -176,7 +184,7 @@ class DealerDesk(Desk):
         self.send(moment, b"AI", answer + [(297, b"11")])
         return [("Decline", request.room, moment)]
 
-    def decline_refusals(self, request):
+    def decline_refusals(self, request: Request | None) -> Iterator[tuple[bool, str]]:
         yield request is None, "UnknownRequest"
         yield request.declined, "Declined"
         yield request.closed is not None, "Closed"
@@ -184,13 +192,13 @@ class DealerDesk(Desk):
 
     # ------------------------------------------------------------ the cancel of all quotes
 
-    def take_cancel_all(self, moment, message):
+    def take_cancel_all(self, moment: int, message: dict[int, bytes | int]) -> list[tuple[str, int, int]]:
         if not any(quote.is_droppable() for quote in self.quotes):
             self.refuse(moment, [(117, message.get(117))], "NothingToCancel", CANCEL_REASONS)
             return []
         return [("Drop", len(self.quotes), moment)]
 
-    def drop(self, last, moment):
+    def drop(self, last: int, moment: int) -> list[tuple[str | tuple[int, int] | int | None, ...]]:
         """Drops the first droppable quote up to number `last`, and goes on where another is left."""
         quotes = [quote for quote in self.quotes if quote.is_droppable() and quote.q <= last]
         if not quotes:
@@ -207,14 +215,14 @@ class DealerDesk(Desk):
 
     # ------------------------------------------------------------ what comes from rooms
 
-    def show(self, room, ask, moment):
+    def show(self, room: tuple[int, int] | None, ask: Ask, moment: int) -> None:
         request = Request(len(self.requests) + 1, room, ask)
         self.requests.append(request)
         fields = [(131, b"R%d" % request.k), (146, b"1")] + terms(ask)
         fields.append((126, moment_text(self.date, ask.deadline)))
         self.send(moment, b"R", fields + party(ask.investor, INVESTOR_ROLE))
 
-    def tell(self, request, close, moment):
+    def tell(self, request: Request, close: int, moment: int) -> bool:
         """The closing notice; False, and nothing sent, where the request was not shown or was told already."""
         if request is None or request.closed is not None:
             return False
@@ -228,31 +236,31 @@ class DealerDesk(Desk):
         request.closed = close
         return True
 
-    def refuse(self, moment, answer, name, reasons):
+    def refuse(self, moment: int, answer: list[tuple[int, bytes | None]], name: str, reasons: dict[str, int | None]) -> None:
         """Refuses a message by the line of this name: 297=5 with its value of 300, or 297=9 where it has none."""
         reason = reasons[name]
         status = [(297, b"9")] if reason is None else [(297, b"5"), (300, b"%d" % reason)]
         self.send(moment, b"AI", answer + status, Reason(name))
 
-    def sides(self, other):
+    def sides(self, other: bytes) -> tuple[bytes, bytes]:
         return other, self.row.name
 
     # ------------------------------------------------------------ the blotter
 
-    def state(self, quote):
+    def state(self, quote: Quote) -> str:
         if quote.ended:
             return quote.ended
         if quote.known_lifted or quote.request.closed == HIT:
             return "lifted"
         return "live" if quote.is_live() else "ended"
 
-    def blotter(self):
+    def blotter(self) -> Iterator[tuple[Quote, bytes, str]]:
         """Each quote: its number, moment, trader, request, terms, price and state."""
         for quote in self.quotes:
             yield quote, thirty_seconds(quote.ticks), self.state(quote)
 
 
-def is_asked_price(message, ask):
+def is_asked_price(message: dict[int, bytes | int], ask: Ask) -> bool:
     """The price of the asked side, on the bond's grid, and none of the other."""
     asked = price_tag(ask.side)
     other = 132 + 133 - asked

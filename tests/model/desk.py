@@ -1,10 +1,17 @@
 """What the desks of dealers and investors have in common: their numbers, and what they have sent."""
 
+from __future__ import annotations
+
+from collections.abc import Iterator
 from dataclasses import dataclass
+from typing import TYPE_CHECKING, Any
 
 from .frames import moment_text, read_frame, write_frame
 from .prices import price_text
 from .session import Inbox, Reject
+
+if TYPE_CHECKING:
+    from .configuration import Dealer, Investor
 
 
 @dataclass(frozen=True)
@@ -33,7 +40,7 @@ class Trade:
     other: bytes
 
 
-def first(refusals):
+def first(refusals: Iterator[Any]) -> str | None:
     """The name of the first condition that holds, looking at no later one; None where none does."""
     for condition, name in refusals:
         if condition:
@@ -41,7 +48,7 @@ def first(refusals):
     return None
 
 
-def price_tag(side):
+def price_tag(side: int) -> int:
     """Who buys asks for offers, who sells for bids."""
     return 133 if side == 1 else 132
 
@@ -49,18 +56,18 @@ def price_tag(side):
 class Desk:
     types = {}  # the message types that the firm's role sends
 
-    def __init__(self, date, row):
+    def __init__(self, date: bytes, row: Dealer | Investor) -> None:
         self.date, self.row = date, row
         self.inbox, self.sent, self.notes = Inbox(), [], []
 
-    def send(self, moment, kind, fields, note=None):
+    def send(self, moment: int, kind: bytes, fields: list[tuple[int, bytes | None]], note: Reason | Trade | None=None) -> None:
         """Sends a message, beside which this is noted; fields without a value are left out."""
         self.notes.append(note)
         head = [(35, kind), (49, b"VENUE"), (56, self.row.name), (34, b"%d" % (len(self.sent) + 1))]
         head.append((52, moment_text(self.date, moment)))
         self.sent.append(head + [field for field in fields if field[1] is not None])
 
-    def receive(self, moment, data):
+    def receive(self, moment: int, data: bytes) -> dict[int | str, bytes | int | list[bytes]] | None:
         """The message that passed the session checks, or None: dropped, or answered by a Reject."""
         message = self.inbox.receive(data, read_frame, self.date, self.row, self.types)
         if isinstance(message, Reject):
@@ -68,7 +75,7 @@ class Desk:
             return None
         return message
 
-    def take(self, moment, data):
+    def take(self, moment: int, data: bytes) -> list[tuple[str | Ask | list[int] | int | tuple[int | bytes, int | None] | None, ...]]:
         """The duties that follow a message: none where it did not pass the session checks."""
         message = self.receive(moment, data)
         return [] if message is None else self.take_message(moment, message)
@@ -77,7 +84,7 @@ class Desk:
         """The investor and the dealer of a trade with this firm."""
         raise NotImplementedError
 
-    def note_line(self, number):
+    def note_line(self, number: int) -> bytes | None:
         """What is noted beside the message with this number (34), as a line; None where nothing is."""
         note, about = self.notes[number - 1], b"%s %d" % (self.row.name, number)
         if isinstance(note, Reason):
@@ -87,22 +94,22 @@ class Desk:
             return b"trade %s %s" % (about, b"-".join([self.date, *self.sides(note.other), b"%d" % k]))
         return None
 
-    def frames(self):
+    def frames(self) -> list[bytes]:
         return [write_frame(fields) for fields in self.sent]
 
 
-def instrument(bond):
+def instrument(bond: bytes) -> list[tuple[int, bytes]]:
     return [(55, b"[N/A]"), (48, bond), (22, b"4")]
 
 
-def terms(ask):
+def terms(ask: Ask) -> list[tuple[int, bytes]]:
     """The instrument, the investor's side and the quantity."""
     return instrument(ask.bond) + [(54, b"%d" % ask.side), (38, b"%d" % ask.quantity)]
 
 
-def party(name, role):
+def party(name: bytes, role: int) -> list[tuple[int, bytes]]:
     return [(453, b"1"), (448, name), (447, b"D"), (452, b"%d" % role)]
 
 
-def price_field(side, ticks):
+def price_field(side: int, ticks: int) -> tuple[int, bytes]:
     return (price_tag(side), price_text(ticks))

@@ -1,9 +1,16 @@
 """Draws what a venue does not bring about: spoilt configurations, due lists made up, spoilt inputs, wrong arguments."""
 
+from __future__ import annotations
+
+from typing import TYPE_CHECKING
+
 from .days import OPENING, draw_configuration, moment_word, spelled_price, spoil
 from .frames import moment_text, time_text
 from .lines import LineFault, read_due_text
 from .replay import alone
+
+if TYPE_CHECKING:
+    from .days import Day, Draw
 
 BAD_LINES = {
     "version": ["", "version = 0", "version = 3", 'version = "1"', "version = 1.0", "version = true", "version = -1", "version = []",
@@ -30,7 +37,7 @@ OTHER_LINES = ["[", "x", "[bond]", "[[bond]]", "[[dealer]]", "[[investor]]", "bo
                "x = 1__0", "x = 01", "x = 0xFF", "x = +0.0", "x = 1.", "x = .5", "x = {a = 1}", "x = 07:32:00"]
 
 
-def spoilt_configuration(draw):
+def spoilt_configuration(draw: Draw) -> list[str]:
     """A configuration with one or two faults, or things that are none."""
     lines = draw_configuration(draw)
     for _ in range(draw.of(1, 1, 1, 2)):
@@ -45,7 +52,7 @@ def spoilt_configuration(draw):
     return lines
 
 
-def crowded_configuration(draw):
+def crowded_configuration(draw: Draw) -> list[str]:
     """At or past the limits of rows and sums."""
     version, count = draw.of(1, 2), draw.of(15, 16, 17, 63, 64, 65)
     lines = ["version = %d" % version, 'date = "20250314"']
@@ -64,7 +71,7 @@ def crowded_configuration(draw):
 class MadeUp:
     """Due text of one dealer, drawn along the desk that the model makes of it."""
 
-    def __init__(self, draw):
+    def __init__(self, draw: Draw) -> None:
         self.draw, self.moment = draw, OPENING
         quotes, exposure = draw.choice([1, 2, 4, 4096]), draw.of(1, 2_000_000, 4_000_000, 10**15)
         traders = draw.of("T1", "T1 T2", "VENUE", " ".join("T%d" % n for n in range(1, 17)))
@@ -76,10 +83,10 @@ class MadeUp:
         for _ in range(draw.randint(0, 30)):
             self.go_on()
 
-    def text(self):
+    def text(self) -> bytes:
         return b"\n".join(line.encode() for line in self.lines)
 
-    def put(self, line):
+    def put(self, line: str) -> None:
         self.lines.append(line)
         try:
             self.desk = alone(*read_due_text(self.text().split(b"\n"), 1))
@@ -89,7 +96,7 @@ class MadeUp:
             else:
                 self.ended = True
 
-    def go_on(self):
+    def go_on(self) -> None:
         draw = self.draw
         if self.ended:
             return
@@ -99,17 +106,17 @@ class MadeUp:
             acts = [self.shown]
         draw.choice(acts)()
 
-    def time(self):
+    def time(self) -> str:
         return moment_word(self.draw, self.moment)
 
-    def shown(self):
+    def shown(self) -> None:
         draw = self.draw
         quantity = draw.of("1", "2000000", "02000000", "1000000000000")
         deadline = time_text(min(86_399_999, self.moment + draw.of(0, 60_000, 600_000))).decode()
         words = [draw.of("INV1", "INV2", "DLR1", "A"), draw.of("BONDA0000001", "BONDB0000002"), draw.of("1", "2"), quantity, deadline, self.time()]
         self.put("shown " + " ".join(words) + draw.of("", "", " 32", " 64", " 128", " 256", " 00256"))
 
-    def message(self, kind, fields):
+    def message(self, kind: str, fields: list[tuple[int, str | int]]) -> None:
         draw, fields = self.draw, [(tag, str(value)) for tag, value in fields]
         while draw.chance(self.faulty):
             fields = spoil(draw, fields)
@@ -117,7 +124,7 @@ class MadeUp:
         body = "|".join("%d=%s" % field for field in fields)
         self.put("say %s %s %s %s" % (draw.choice(self.traders), self.time(), kind, body))
 
-    def quote(self):
+    def quote(self) -> None:
         draw, desk = self.draw, self.desk
         request = draw.choice(desk.requests) if desk.requests else None
         ask = request.ask if request else None
@@ -130,24 +137,24 @@ class MadeUp:
             fields.append((62, moment_text(b"20250314", max(0, self.moment + draw.of(0, 1, 60_000))).decode()))
         self.message("S", fields)
 
-    def cancel(self):
+    def cancel(self) -> None:
         name = self.draw.choice(self.desk.quotes).id.decode() if self.desk.quotes else "q1"
         self.message("Z", self.draw.of([(298, 5), (117, name)], [(298, 5), (117, name)], [(298, 4)], [(298, 4), (117, name)]))
 
-    def decline(self):
+    def decline(self) -> None:
         self.message("AG", [(131, "R%d" % self.draw.randint(1, len(self.desk.requests) + 1)), (658, 10)])
 
-    def lifted(self):
+    def lifted(self) -> None:
         self.put("lifted %d" % self.draw.randint(0, len(self.desk.quotes) + 2))
 
-    def closed(self):
+    def closed(self) -> None:
         k = self.draw.randint(0, len(self.desk.requests) + 1)
         self.put("closed %d %s %s" % (k, self.draw.of("1", "1", "3", "4", "5", "6"), self.time()))
 
-    def drop(self):
+    def drop(self) -> None:
         self.put("drop %d %s" % (self.draw.randint(0, len(self.desk.quotes) + 1), self.time()))
 
-    def odd(self):
+    def odd(self) -> None:
         if self.draw.chance(0.5):
             return self.put("hex %s %s" % (self.time(), self.draw.of("7c", "0a", "0D", "380a7C", "41" * 4097, "00ff", "7")))
         return self.put(self.draw.of("own %s 8=FIXT.1.1|9=5|35=R|10=000|", "own %s  x", "closed 99 1 %s", "closed 000000001 4 %s", "drop 999999999 %s", "drop 0 %s",
@@ -161,7 +168,7 @@ STREAM_FIRMS = ["version = 1", 'date = "20250314"', "[[dealer]]", 'name = "DLR1"
                 "[[investor]]", 'name = "INV1"', 'traders = ["T8"]', "requests = 4", "open = 4", "quantity = 5"]
 
 
-def stream(draw):
+def stream(draw: Draw) -> bytes:
     """Bytes of a stream of messages, the last of which may be at fault, with bars for the byte 0x01."""
     pieces = []
     for number in range(1, draw.randint(2, 4)):
@@ -181,7 +188,7 @@ def stream(draw):
     return b"".join(pieces)
 
 
-def stream_lines(draw):
+def stream_lines(draw: Draw) -> bytes:
     """Steps of streams, cut in pieces."""
     lines = []
     for name in draw.of([b"DLR1"], [b"DLR1"], [b"DLR1", b"INV1"]):
@@ -200,7 +207,7 @@ def stream_lines(draw):
 # ---------------------------------------------------------------- inputs spoilt as bytes and as lines
 
 
-def spoilt_input(draw, data):
+def spoilt_input(draw: Draw, data: bytes) -> bytes:
     lines = data.split(b"\n")
     for _ in range(draw.of(1, 1, 1, 2, 5)):
         what, place = draw.randrange(8), draw.randrange(len(lines))
@@ -223,7 +230,7 @@ def spoilt_input(draw, data):
     return b"\n".join(lines)
 
 
-def spoilt_words(draw, words):
+def spoilt_words(draw: Draw, words: list[bytes]) -> bytes:
     place = draw.randrange(len(words))
     what = draw.randrange(3)
     if what == 0:
@@ -258,7 +265,7 @@ LATER_ODD_LINES = [b"clock", b"clock ", b"clock 09:00:00 ", b"clock 24:00:00", b
                    b"own 09:00:00 \r", b"in INV1 09:00:00 x\r", b"hex DLR1 09:00:00 0x", b"hex DLR1 09:00:00 +1", b"hex DLR1 09:00:00 \xd9\xa1"]
 
 
-def exact_frames(draw, day):
+def exact_frames(draw: Draw, day: Day) -> bytes:
     """A `say` line whose frame has about 4,096 bytes."""
     name = draw.choice([row.name for row in day.configuration.firms] or [b"NOBODY"])
     head = b"say %s T1 09:00:00 S 58=" % name

@@ -4,6 +4,8 @@ A frame is 8=FIXT.1.1|9=L|, a body of L bytes, and 10=ccc| (a vertical bar stand
 A body is read as a list of (tag, value), the tag a number, the value bytes.
 """
 
+from __future__ import annotations
+
 import re
 
 SOH = b"\x01"
@@ -17,7 +19,7 @@ FRAMING_TAGS = (8, 9, 10)
 # ---------------------------------------------------------------- frames
 
 
-def read_fields(body, divider):
+def read_fields(body: bytes, divider: bytes) -> list[tuple[int, bytes]]:
     """The fields of a text in which each is ended by the divider, or None where one is not lawful."""
     if not body.endswith(divider):
         return None
@@ -30,11 +32,11 @@ def read_fields(body, divider):
     return fields
 
 
-def checksum(data):
+def checksum(data: bytes) -> bytes:
     return b"%03d" % (sum(data) % 256)
 
 
-def read_frame(data):
+def read_frame(data: bytes) -> list[tuple[int, bytes]] | None:
     """The fields of the body, or None where the bytes are no frame."""
     if len(data) > LONGEST or not data.startswith(START):
         return None
@@ -52,7 +54,7 @@ def read_frame(data):
     return fields
 
 
-def write_frame(fields):
+def write_frame(fields: list[tuple[int, bytes]]) -> bytes:
     body = b"".join(b"%d=%s" % (tag, value) + SOH for tag, value in fields)
     head = START + b"%d" % len(body) + SOH + body
     return head + b"10=" + checksum(head) + SOH
@@ -68,10 +70,10 @@ class StreamFault(Exception):
 class Stream:
     """Cuts the bytes of one firm into messages; what is behind the last one waits."""
 
-    def __init__(self, rest=b""):
+    def __init__(self, rest: bytes=b"") -> None:
         self.rest = rest
 
-    def feed(self, piece):
+    def feed(self, piece: bytes) -> tuple[list[bytes], Stream] | None:
         """The messages that the piece ends, and the stream behind them; StreamFault where a byte shows one."""
         rest, messages = self.rest + piece, []
         while True:
@@ -86,7 +88,7 @@ class Stream:
         return messages, Stream(rest)
 
     @staticmethod
-    def message_length(data):
+    def message_length(data: bytes) -> int | None:
         """The length of the message that begins here, or None where it is not told yet."""
         if data[: len(START)] != START[: len(data)]:
             raise StreamFault("Start")
@@ -109,14 +111,14 @@ class Stream:
 # ---------------------------------------------------------------- dates and moments
 
 
-def is_date(text):
+def is_date(text: bytes) -> bool:
     """Eight digits, month 01 to 12, day 01 to 31 in any month."""
     if not re.match(rb"[0-9]{8}\Z", text):
         return False
     return 1 <= int(text[4:6]) <= 12 and 1 <= int(text[6:8]) <= 31
 
 
-def read_time(text):
+def read_time(text: bytes) -> int:
     """The millisecond of the day that HH:MM:SS or HH:MM:SS.sss tells, or None."""
     found = re.match(rb"([0-9]{2}):([0-9]{2}):([0-9]{2})(?:\.([0-9]{3}))?\Z", text)
     if not found:
@@ -127,11 +129,11 @@ def read_time(text):
     return ((hours * 60 + minutes) * 60 + seconds) * 1000 + thousandths
 
 
-def time_text(moment):
+def time_text(moment: int) -> bytes:
     seconds, thousandths = divmod(moment, 1000)
     minutes, seconds = divmod(seconds, 60)
     return b"%02d:%02d:%02d.%03d" % (minutes // 60, minutes % 60, seconds, thousandths)
 
 
-def moment_text(date, moment):
+def moment_text(date: bytes, moment: int) -> bytes:
     return date + b"-" + time_text(moment)

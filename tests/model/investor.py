@@ -1,11 +1,18 @@
 """The desk of one investor: its requests, the quotes that it is shown, its hits and passes."""
 
+from __future__ import annotations
+
+from collections.abc import Iterator
 from dataclasses import dataclass
+from typing import TYPE_CHECKING
 
 from .desk import Ask, Desk, Reason, Trade, first, instrument, party, price_field
 from .frames import moment_text
 from .prices import thirty_seconds
 from .session import INVESTOR_TYPES
+
+if TYPE_CHECKING:
+    from .configuration import Bond, Configuration
 
 DEALER_ROLE = 35
 MOST_DEALERS = 8
@@ -36,7 +43,7 @@ class Request:
     trader: bytes
     closed: str = None  # passed, expired, or won and from whom
 
-    def is_open(self):
+    def is_open(self) -> bool:
         return self.closed is None
 
 
@@ -55,33 +62,33 @@ class Shown:
 class InvestorDesk(Desk):
     types = INVESTOR_TYPES
 
-    def __init__(self, configuration, firm):
+    def __init__(self, configuration: Configuration, firm: int) -> None:
         super().__init__(configuration.date, configuration.firms[firm])
         self.configuration, self.firm = configuration, firm
         self.requests, self.shown = [], []
 
-    def request(self, name):
+    def request(self, name: bytes) -> Request | None:
         return next((request for request in self.requests if request.id == name), None)
 
-    def quote(self, name):
+    def quote(self, name: bytes) -> Shown | None:
         return next((quote for quote in self.shown if name == b"Q%d" % quote.k), None)
 
-    def bond(self, name):
+    def bond(self, name: bytes) -> Bond | None:
         return next((bond for bond in self.configuration.bonds if bond.id == name), None)
 
-    def dealer(self, name):
+    def dealer(self, name: bytes) -> int:
         """The number of a dealer, or None: of an investor too."""
         firm = self.configuration.firm(name)
         return firm if firm is not None and self.configuration.is_dealer(firm) else None
 
     # ------------------------------------------------------------ own messages; each answers the duties that follow
 
-    def take_message(self, moment, message):
+    def take_message(self, moment: int, message: dict[int | str, bytes | int | list[bytes]]) -> list[tuple[str | Ask | list[int] | int | tuple[int | bytes, int | None], ...]]:
         if message[35] == b"R":
             return self.take_request(moment, message)
         return self.take_hit(moment, message) if message[694] == 1 else self.take_pass(moment, message)
 
-    def take_request(self, moment, message):
+    def take_request(self, moment: int, message: dict[int | str, bytes | int | list[bytes]]) -> list[tuple[str, tuple[int, int], Ask, list[int], int]]:
         refusal = first(self.request_refusals(moment, message))
         answer = [(131, message[131])]
         if refusal is not None:
@@ -96,7 +103,7 @@ class InvestorDesk(Desk):
         dealers = [self.dealer(name) for name in message["dealers"]]
         return [("Open", (self.firm, request.n), ask, dealers, moment)]
 
-    def request_refusals(self, moment, message):
+    def request_refusals(self, moment: int, message: dict[int | str, bytes | int | list[bytes]]) -> Iterator[tuple[bool, str]]:
         dealers = message["dealers"]
         yield self.request(message[131]) is not None, "DuplicateRequest"
         yield self.bond(message[48]) is None, "UnknownBond"
@@ -109,14 +116,14 @@ class InvestorDesk(Desk):
         yield len(self.requests) >= self.row.requests, "RequestsUsedUp"
         yield sum(request.is_open() for request in self.requests) >= self.row.open, "TooManyOpen"
 
-    def take_hit(self, moment, message):
+    def take_hit(self, moment: int, message: dict[int, bytes | int]) -> list[tuple[str, tuple[int, int], tuple[bytes, int], tuple[int, int] | int, int]]:
         quote = self.quote(message[117])
         if quote is None:
             self.send(moment, b"AI", [(693, message[693]), (117, message[117]), (297, b"9")])
             return []
         return [("Hit", (self.firm, quote.request.n), (message[693], quote.k), quote.word, moment)]
 
-    def take_pass(self, moment, message):
+    def take_pass(self, moment: int, message: dict[int, bytes | int]) -> list[tuple[str, tuple[int, int], tuple[bytes, None], int]]:
         request = self.request(message[131])
         if request is None:
             self.send(moment, b"AI", [(693, message[693]), (131, message[131]), (297, b"9")])
@@ -125,11 +132,11 @@ class InvestorDesk(Desk):
 
     # ------------------------------------------------------------ what comes from rooms
 
-    def standing(self, request):
+    def standing(self, request: Request) -> list[Shown]:
         """The quotes on a request that are not gone."""
         return [quote for quote in self.shown if quote.request is request and not quote.gone]
 
-    def quote_came(self, n, dealer, word, ticks, until, moment):
+    def quote_came(self, n: int, dealer: bytes, word: tuple[int, int] | int, ticks: int, until: int | None, moment: int) -> None:
         request = self.requests[n - 1]
         if not request.is_open():
             return
@@ -145,22 +152,22 @@ class InvestorDesk(Desk):
         fields.append((62, None if until is None else moment_text(self.date, until)))
         self.send(moment, b"S", fields + [(537, b"1")] + party(dealer, DEALER_ROLE))
 
-    def report_gone(self, quote, moment):
+    def report_gone(self, quote: Shown, moment: int) -> None:
         quote.gone = True
         self.send(moment, b"AI", [(131, quote.request.id), (117, b"Q%d" % quote.k), (297, b"17")])
 
-    def quote_gone(self, n, word, moment):
+    def quote_gone(self, n: int, word: tuple[int, int] | int, moment: int) -> None:
         request = self.requests[n - 1]
         found = next((quote for quote in self.standing(request) if quote.word == word), None)
         if request.is_open() and found is not None:
             self.report_gone(found, moment)
 
-    def dealer_declined(self, n, dealer, moment):
+    def dealer_declined(self, n: int, dealer: bytes, moment: int) -> None:
         request = self.requests[n - 1]
         if request.is_open():
             self.send(moment, b"AI", [(131, request.id), (297, b"11")] + party(dealer, DEALER_ROLE))
 
-    def answered(self, n, response, reply, moment):
+    def answered(self, n: int, response: tuple[bytes, int | None], reply: str, moment: int) -> None:
         """The room's answer to a hit or a pass."""
         request, (name, k), note = self.requests[n - 1], response, None
         fields = [(693, name), (131, request.id), (117, None if k is None else b"Q%d" % k)]
@@ -176,16 +183,16 @@ class InvestorDesk(Desk):
             fields += [(297, b"5"), (300, b"4"), (58, reply.encode())]
         self.send(moment, b"AI", fields, note)
 
-    def sides(self, other):
+    def sides(self, other: bytes) -> tuple[bytes, bytes]:
         return self.row.name, other
 
-    def closed(self, n, moment):
+    def closed(self, n: int, moment: int) -> None:
         """The request has expired."""
         request = self.requests[n - 1]
         self.close(request, "expired")
         self.send(moment, b"AI", [(131, request.id), (297, b"7")])
 
     @staticmethod
-    def close(request, how):
+    def close(request: Request, how: str) -> None:
         if request.is_open():
             request.closed = how

@@ -1,7 +1,14 @@
 """Draws due text of an investor that no venue brings about."""
 
+from __future__ import annotations
+
+from typing import TYPE_CHECKING
+
 from .frames import time_text
 from .investor_lines import REPLIES
+
+if TYPE_CHECKING:
+    from .days import Draw
 
 OPENING = 9 * 3_600_000
 BOND = "BONDA0000001"
@@ -11,7 +18,7 @@ PARTIES = "453=%d%s"
 class MadeUpInvestor:
     """Due text of one investor: its own messages, and items that fit them or do not."""
 
-    def __init__(self, draw):
+    def __init__(self, draw: Draw) -> None:
         self.draw, self.moment, self.number = draw, OPENING, 1
         self.requests = self.quotes = 0
         self.names = ["DLR%d" % n for n in range(1, draw.of(1, 3, 3, 12))]
@@ -25,23 +32,23 @@ class MadeUpInvestor:
         for _ in range(draw.randint(0, 30)):
             self.go_on()
 
-    def text(self):
+    def text(self) -> bytes:
         return b"\n".join(line.encode() for line in self.lines)
 
-    def go_on(self):
+    def go_on(self) -> None:
         draw = self.draw
         self.moment = max(0, min(86_399_999, self.moment + draw.of(0, 1, 1_000, 60_000, -1_000)))
         acts = [self.request] * 3 + [self.quoted] * 6 + [self.hit] * 3 + [self.answered] * 3
         draw.choice(acts + [self.gone, self.gone, self.declined, self.leave, self.expired, self.odd])()
 
-    def time(self, later=0):
+    def time(self, later: int=0) -> str:
         return time_text(min(86_399_999, self.moment + later)).decode()
 
-    def one_of(self, count):
+    def one_of(self, count: int) -> int:
         """A number up to this one, for the most part."""
         return self.draw.randint(1, max(1, count)) if self.draw.chance(0.9) else self.draw.of(0, count + 1, 999_999_999)
 
-    def say(self, kind, body):
+    def say(self, kind: str, body: str) -> None:
         number = "|34=%d" % self.number if self.draw.chance(0.05) else ""
         self.number += 1
         self.lines.append("say %s %s %s %s%s" % (self.draw.of("T8", "T8", "T8", "T7"), self.time(), kind, body, number))
@@ -55,7 +62,7 @@ class MadeUpInvestor:
         self.say("R", body % (self.one_of(self.requests), draw.of(BOND, BOND, "BONDB0000002", "X"), draw.of(1, 2),
                               draw.of(1_000_000, 5_000_001), self.time(draw.of(0, 60_000, 600_000)), len(chosen), parties))
 
-    def quoted(self):
+    def quoted(self) -> None:
         draw = self.draw
         self.quotes += 1
         price = draw.of("99.5", "099.50390625", ".5", "5.", "999.99609375", "99.50390625", "100", "0.00390625")
@@ -66,16 +73,16 @@ class MadeUpInvestor:
     def gone(self):
         self.lines.append("gone %d %d %s" % (self.one_of(self.requests), self.one_of(self.quotes), self.time()))
 
-    def declined(self):
+    def declined(self) -> None:
         self.lines.append("declined %d %s %s" % (self.one_of(self.requests), self.draw.of("DLR1", "DLR2"), self.time()))
 
     def hit(self):
         self.say("AJ", "693=h%d|694=1|117=Q%d" % (self.number, self.one_of(self.quotes)))
 
-    def leave(self):
+    def leave(self) -> None:
         self.say("AJ", "693=p%d|694=6|131=a%d" % (self.number, self.one_of(self.requests)))
 
-    def answered(self):
+    def answered(self) -> None:
         reply = self.draw.choice(REPLIES).decode()
         quote = self.draw.of("", " %d" % self.one_of(self.quotes), " %d" % self.one_of(self.quotes))
         self.lines.append("answered %d h%d %s %s%s" % (self.one_of(self.requests), self.number, reply, self.time(), quote))

@@ -10,6 +10,8 @@ in common, and why no duties of the clock may be left: in two small days of each
 actions that gives what was printed, which is searched as `lawful.py` does it.
 """
 
+from __future__ import annotations
+
 from collections.abc import Callable
 
 from .configuration import Configuration, read_configuration
@@ -45,7 +47,7 @@ def views(seed: int) -> tuple[int, list[str]]:
 class Story:
     """Lines of some firms of a venue: each a firm and its line, in the order of their moments."""
 
-    def __init__(self, draw: Draw, configuration: Configuration, asked: Callable[[int], list[int]], hits: bool):
+    def __init__(self, draw: Draw, configuration: Configuration, asked: Callable[[int], list[int]], hits: bool) -> None:
         self.draw, self.configuration, self.asked, self.hits = draw, configuration, asked, hits
         self.counts: dict[int, int] = {}
         self.lines: list[tuple[float, int, bytes]] = []

@@ -1,6 +1,10 @@
 """The lines that the program reads and writes: steps, due text, messages, blotters."""
 
+from __future__ import annotations
+
 import re
+from collections.abc import Callable, Iterator
+from typing import TYPE_CHECKING, Any
 
 from .configuration import (
     MOST_EXPOSURE,
@@ -28,6 +32,11 @@ from .frames import (
 from .prices import GRIDS
 from .replay import CLOCK
 
+if TYPE_CHECKING:
+    from .configuration import Configuration
+    from .dealer import DealerDesk
+    from .investor import InvestorDesk
+
 MOST_TURNS = 1000
 HEX = re.compile(rb"(?:[0-9A-Fa-f]{2})+\Z")
 OWN_TAGS = (49, 56, 34, 52, 50)  # the program's own fields of a `say` line, where BODY has none
@@ -37,40 +46,40 @@ class LineFault(Exception):
     """What is wrong with a line: form, unknown firm, unknown room or stream."""
 
 
-def number_of(text, digits=9):
+def number_of(text: bytes, digits: int=9) -> int:
     if not re.match(rb"[0-9]{1,%d}\Z" % digits, text):
         raise LineFault("form")
     return int(text)
 
 
-def limited(text, most, digits=9):
+def limited(text: bytes, most: int, digits: int=9) -> int:
     value = number_of(text, digits)
     if not 1 <= value <= most:
         raise LineFault("form")
     return value
 
 
-def time_of(text):
+def time_of(text: bytes) -> int:
     moment = read_time(text)
     if moment is None:
         raise LineFault("form")
     return moment
 
 
-def named(text, lawful):
+def named(text: bytes, lawful: Callable[..., Any]) -> bytes:
     """A text of this form, as bytes."""
     if not text.isascii() or not lawful(text.decode()):
         raise LineFault("form")
     return text
 
 
-def one_of(text, values):
+def one_of(text: bytes, values: tuple[bytes, ...]) -> bytes:
     if text not in values:
         raise LineFault("form")
     return text
 
 
-def parts_of(line, count, rest=False):
+def parts_of(line: bytes, count: int, rest: bool=False) -> list[bytes]:
     """The parts of a line, none of them empty; with `rest` the last is the rest of the line."""
     parts = line.split(b" ", count - 1) if rest else line.split(b" ")
     if len(parts) != count or b"" in parts:
@@ -78,11 +87,11 @@ def parts_of(line, count, rest=False):
     return parts
 
 
-def bars(data):
+def bars(data: bytes) -> bytes:
     return data.replace(SOH, b"|")
 
 
-def unbarred(text):
+def unbarred(text: bytes) -> bytes:
     return text.replace(b"|", SOH)
 
 
@@ -103,7 +112,7 @@ def is_said(line: bytes) -> bool:
     return bool(line) and not line.startswith(b"#")
 
 
-def numbered(lines, first):
+def numbered(lines: tuple[bytes, ...] | list[bytes], first: int) -> Iterator[Any]:
     """The lines that say something, each with its number."""
     return ((number, line) for number, line in enumerate(lines, first) if is_said(line))
 
@@ -114,10 +123,10 @@ def numbered(lines, first):
 class Framer:
     """Frames `say` lines, and counts those of each firm whose BODY has no 34."""
 
-    def __init__(self, date):
+    def __init__(self, date: bytes) -> None:
         self.date, self.counts = date, {}
 
-    def frame(self, firm, trader, time, kind, body):
+    def frame(self, firm: bytes, trader: bytes, time: bytes, kind: bytes, body: bytes) -> tuple[int, bytes, bool]:
         """The moment, the message, and whether it used a number of the firm's count."""
         moment = time_of(time)
         for word in (trader, kind):
@@ -134,7 +143,7 @@ class Framer:
             raise LineFault("form")
         return moment, data, 34 not in there
 
-    def count(self, firm):
+    def count(self, firm: bytes) -> None:
         self.counts[firm] = self.counts.get(firm, 0) + 1
 
 
@@ -144,17 +153,17 @@ class Framer:
 class StepReader:
     """Reads the lines of steps, one after the other, of one configuration."""
 
-    def __init__(self, configuration):
+    def __init__(self, configuration: Configuration) -> None:
         self.configuration = configuration
         self.framer, self.streams = Framer(configuration.date), {}
 
-    def firm(self, word):
+    def firm(self, word: bytes) -> int:
         firm = self.configuration.firm(word)
         if firm is None:
             raise LineFault("unknown firm")
         return firm
 
-    def steps(self, line):
+    def steps(self, line: bytes) -> list[tuple[str | int | bytes, ...]]:
         """The steps of a line: ("came", firm, moment, bytes), ("turn", actor, n) and ("expire", firm, n, moment).
 
         A line `clock` is the last of these for each room of the venue.
@@ -192,7 +201,7 @@ class StepReader:
             return [("expire", firm, n, moment)]
         raise LineFault("form")
 
-    def cut(self, firm, piece):
+    def cut(self, firm: int, piece: bytes) -> list[bytes] | None:
         try:
             messages, self.streams[firm] = self.streams.get(firm, Stream()).feed(piece)
         except StreamFault:
@@ -203,7 +212,7 @@ class StepReader:
 # ---------------------------------------------------------------- due text
 
 
-def read_due_text(lines, first):
+def read_due_text(lines: tuple[bytes, ...] | list[bytes], first: int) -> tuple[bytes, Dealer, list[tuple[str | int | Ask | bytes, ...]]] | None:
     """The date, the dealer and the due list; LineFault and the number of the line at fault."""
     said, number = list(numbered(lines, first)), first + len(lines)
     try:
@@ -221,7 +230,7 @@ def read_due_text(lines, first):
         raise LineFault(fault.args[0], number) from None
 
 
-def read_dealer_line(line):
+def read_dealer_line(line: bytes) -> Dealer:
     parts = line.split(b" ")
     if len(parts) < 5 or parts[0] != b"dealer":
         raise LineFault("form")
@@ -234,7 +243,7 @@ def read_dealer_line(line):
     return Dealer(name, tuple(traders), limited(quotes, MOST_QUOTES), limited(exposure, MOST_EXPOSURE, 16))
 
 
-def read_due_line(line, name, framer):
+def read_due_line(line: bytes, name: bytes, framer: Framer) -> tuple[str | int | Ask | bytes, ...]:
     keyword = line.split(b" ", 1)[0]
     if keyword == b"say":
         moment, data, counts = framer.frame(name, *parts_of(line, 5, rest=True)[1:])
@@ -260,7 +269,7 @@ def read_due_line(line, name, framer):
     raise LineFault("form")
 
 
-def read_shown(line):
+def read_shown(line: bytes) -> tuple[str, Ask, int]:
     grid = b"256"
     if line.count(b" ") == 7:
         line, grid = line.rsplit(b" ", 1)
@@ -275,14 +284,14 @@ def read_shown(line):
     return "shown", ask, time_of(time)
 
 
-def due_text(date, row, due):
+def due_text(date: bytes, row: Dealer, due: list[tuple[str | Ask | int | bytes, ...]]) -> Iterator[bytes]:
     yield b"date " + date
     yield b" ".join([b"dealer", row.name, b"%d" % row.quotes, b"%d" % row.exposure, *row.traders])
     for item in due:
         yield due_line(*item)
 
 
-def due_line(kind, *item):
+def due_line(kind: str, *item: int | bytes | Ask) -> bytes:
     if kind == "own":
         moment, data = item
         if can_be_own(data):
@@ -311,7 +320,7 @@ def fault_mark(number: int, name: str) -> bytes:
     return b"fault %d %s" % (number, name.encode())
 
 
-def message_line(firm, fields, frames):
+def message_line(firm: bytes, fields: list[tuple[int, bytes]], frames: bool) -> bytes:
     """A message that the venue has sent; its first five fields are 35, 49, 56, 34 and 52."""
     if frames:
         return firm + b" " + bars(write_frame(fields))
@@ -320,11 +329,11 @@ def message_line(firm, fields, frames):
     return b" ".join([firm, number, sending.split(b"-", 1)[1], kind, body])
 
 
-def side_letter(ask):
+def side_letter(ask: Ask) -> str:
     return "B" if ask.side == 1 else "S"
 
 
-def dealer_blotter(desk):
+def dealer_blotter(desk: DealerDesk) -> Iterator[bytes]:
     for quote, price, state in desk.blotter():
         request, moment = quote.request, time_text(quote.moment).decode()
         line = f"{quote.q:>4} {moment} {quote.trader.decode():<8} {f'R{request.k}':<5} {request.ask.bond.decode()} "
@@ -332,7 +341,7 @@ def dealer_blotter(desk):
         yield line.encode()
 
 
-def investor_blotter(desk):
+def investor_blotter(desk: InvestorDesk) -> Iterator[bytes]:
     for request in desk.requests:
         ask, moment = request.ask, time_text(request.moment).decode()
         line = f"{request.n:>4} {moment} {request.trader.decode():<8} {ask.bond.decode()} "

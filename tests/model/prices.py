@@ -1,5 +1,7 @@
 """Prices: whole 256ths of a point, 1 to 255,999, and the grids of bonds."""
 
+from __future__ import annotations
+
 import re
 from fractions import Fraction
 
@@ -10,7 +12,7 @@ QUANTITY = re.compile(rb"([0-9]*)(?:\.([0-9]*))?\Z")
 MOST_DIGITS = 15
 
 
-def decimal(whole, part):
+def decimal(whole: bytes, part: bytes | None) -> Fraction | None:
     """The value of digits before and behind a point, or None where there are none or too many."""
     part = part or b""
     digits = whole + part
@@ -19,7 +21,7 @@ def decimal(whole, part):
     return Fraction(int(digits), 10 ** len(part))
 
 
-def read_price(text):
+def read_price(text: bytes) -> int:
     """None where the form is wrong; else the 256ths, or 'Range' or 'Grid'."""
     found = PRICE.match(text)
     value = decimal(found[2], found[3]) if found else None
@@ -33,29 +35,29 @@ def read_price(text):
     return int(ticks)
 
 
-def is_price(value):
+def is_price(value: int) -> bool:
     """Whether what read_price answered is a price of whole 256ths."""
     return isinstance(value, int)
 
 
-def on_grid(ticks, grid):
+def on_grid(ticks: int, grid: int) -> bool:
     return ticks % (256 // grid) == 0
 
 
-def read_quantity(text):
+def read_quantity(text: bytes) -> Fraction | None:
     """None where the form is wrong; else its value, a Fraction."""
     found = QUANTITY.match(text)
     return decimal(found[1], found[2]) if found else None
 
 
-def price_text(ticks):
+def price_text(ticks: int) -> bytes:
     whole, part = divmod(ticks, 256)
     if part == 0:
         return b"%d" % whole
     return (b"%d.%08d" % (whole, part * 390625)).rstrip(b"0")
 
 
-def thirty_seconds(ticks):
+def thirty_seconds(ticks: int) -> bytes:
     """Points, 32nds, and eighths of a 32nd, a plus sign for four of them."""
     points, part = divmod(ticks, 256)
     thirty_second, eighths = divmod(part, 8)

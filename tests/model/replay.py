@@ -1,9 +1,18 @@
 """The venue of a day, step by step; what was due to a firm; and a dealer's or an investor's view of such a list."""
 
+from __future__ import annotations
+
+from collections.abc import Callable
+from typing import TYPE_CHECKING, Any
+
 from .configuration import Configuration, Dealer
 from .dealer import DealerDesk
 from .investor import InvestorDesk
 from .room import Room
+
+if TYPE_CHECKING:
+    from .configuration import Bond, Investor
+    from .desk import Ask
 
 CLOCK = "CLOCK"
 
@@ -11,18 +20,18 @@ CLOCK = "CLOCK"
 class Words:
     """One word for each quote that a dealer may have: open, or settled once for all."""
 
-    def __init__(self):
+    def __init__(self) -> None:
         self.settled = {}
 
-    def withdraw(self, word):
+    def withdraw(self, word: tuple[int, int] | int) -> str:
         return self.settled.setdefault(word, "withdrawn")
 
-    def lift(self, word):
+    def lift(self, word: tuple[int, int] | int) -> str:
         return self.settled.setdefault(word, "lifted")
 
 
 class Venue:
-    def __init__(self, configuration):
+    def __init__(self, configuration: Configuration) -> None:
         self.configuration, self.words = configuration, Words()
         self.desks = [self.desk(firm) for firm in range(len(configuration.firms))]
         self.rooms = {}
@@ -30,16 +39,16 @@ class Venue:
         self.due = {firm: [] for firm in range(len(self.desks))}
         self.log = []  # (firm, fields) of each message, in the order in which they were sent
 
-    def desk(self, firm):
+    def desk(self, firm: int) -> DealerDesk | InvestorDesk:
         if self.configuration.is_dealer(firm):
             row = self.configuration.firms[firm]
             return DealerDesk(self.configuration.date, row, lambda q: self.words.withdraw((firm, q)))
         return InvestorDesk(self.configuration, firm)
 
-    def room(self, room):
+    def room(self, room: tuple[int, int]) -> Room:
         return self.rooms.setdefault(room, Room())
 
-    def logged(self, firm, act):
+    def logged(self, firm: int, act: Callable[..., Any]) -> bool | list[tuple[str | Ask | list[int] | int | tuple[int | bytes, int | None] | None, ...]] | None:
         """Does something at a firm's desk, and logs what the desk sends."""
         before = len(self.desks[firm].sent)
         result = act(self.desks[firm])
@@ -48,11 +57,11 @@ class Venue:
 
     # ------------------------------------------------------------ steps
 
-    def came(self, firm, moment, data):
+    def came(self, firm: int, moment: int, data: bytes) -> None:
         self.due[firm].append(("own", moment, data))
         self.queues[firm] += self.logged(firm, lambda desk: desk.take(moment, data))
 
-    def turn(self, actor):
+    def turn(self, actor: int) -> bool:
         """Does the oldest duty of the actor; whether there was one."""
         if not self.queues[actor]:
             return False
@@ -60,75 +69,75 @@ class Venue:
         self.queues[actor] += getattr(self, "do_" + name.lower())(actor, *rest) or []
         return True
 
-    def expire(self, investor, n, moment):
+    def expire(self, investor: int, n: int, moment: int) -> None:
         room = (investor, n)
         if room in self.rooms and self.rooms[room].expire(moment):
             self.queues[CLOCK] += [("Close", room, moment)] + self.notices(room, moment)
 
-    def first_deadline(self):
+    def first_deadline(self) -> int | None:
         """The earliest deadline of the rooms that are opening or open, or None."""
         return min((room.ask.deadline for room in self.rooms.values() if room.takes()), default=None)
 
-    def notices(self, room, moment):
+    def notices(self, room: tuple[int, int], moment: int) -> list[tuple[str, int, tuple[int, int], int, int]]:
         return [("Tell", dealer, room, close, moment) for dealer, close in self.room(room).notices]
 
     # ------------------------------------------------------------ duties; each answers those that follow
 
-    def do_open(self, _actor, room, ask, dealers, moment):
+    def do_open(self, _actor: int, room: tuple[int, int], ask: Ask, dealers: list[int], moment: int) -> list[tuple[str | int | tuple[int, int] | Ask, ...]]:
         self.room(room).open(ask, dealers)
         return [("Show", dealer, room, ask, moment) for dealer in dealers] + [("Ready", room)]
 
-    def do_show(self, _actor, dealer, room, ask, moment):
+    def do_show(self, _actor: int, dealer: int, room: tuple[int, int], ask: Ask, moment: int) -> None:
         self.due[dealer].append(("shown", ask, moment))
         self.logged(dealer, lambda desk: desk.show(room, ask, moment))
 
-    def do_ready(self, _actor, room):
+    def do_ready(self, _actor: int, room: tuple[int, int]) -> None:
         self.room(room).ready()
 
-    def do_post(self, dealer, room, q, ticks, until, moment):
+    def do_post(self, dealer: int, room: tuple[int, int], q: int, ticks: int, until: int | None, moment: int) -> list[tuple[str, tuple[int, int], tuple[int, int], int, int | None, int]]:
         if self.room(room).post(dealer, (dealer, q), ticks, until):
             return [("Relay", room, (dealer, q), ticks, until, moment)]
 
-    def do_relay(self, dealer, room, word, ticks, until, moment):
+    def do_relay(self, dealer: int, room: tuple[int, int], word: tuple[int, int], ticks: int, until: int | None, moment: int) -> None:
         name, (investor, n) = self.configuration.firms[dealer].name, room
         self.due[investor].append(("quoted", n, name, ticks, until, moment))
         self.logged(investor, lambda desk: desk.quote_came(n, name, word, ticks, until, moment))
 
-    def do_unpost(self, dealer, room, q, moment):
+    def do_unpost(self, dealer: int, room: tuple[int, int], q: int, moment: int) -> list[tuple[str, tuple[int, int], tuple[int, int], int]] | None:
         if self.room(room).unpost((dealer, q)):
             return [("Gone", room, (dealer, q), moment)]
 
-    def do_gone(self, _dealer, room, word, moment):
+    def do_gone(self, _dealer: int, room: tuple[int, int], word: tuple[int, int], moment: int) -> None:
         investor, n = room
         self.due[investor].append(("gone", n, self.number_of(investor, n, word), moment))
         self.logged(investor, lambda desk: desk.quote_gone(n, word, moment))
 
-    def number_of(self, investor, n, word):
+    def number_of(self, investor: int, n: int, word: tuple[int, int]) -> int:
         """The number of the quote with this word that stands on the open request; 0 where none does."""
         desk = self.desks[investor]
         request = desk.requests[n - 1]
         standing = desk.standing(request) if request.is_open() else []
         return next((quote.k for quote in standing if quote.word == word), 0)
 
-    def do_decline(self, _dealer, room, moment):
+    def do_decline(self, _dealer: int, room: tuple[int, int], moment: int) -> list[tuple[str, tuple[int, int], int]]:
         if self.room(room).takes():
             return [("Declined", room, moment)]
 
-    def do_declined(self, dealer, room, moment):
+    def do_declined(self, dealer: int, room: tuple[int, int], moment: int) -> None:
         name, (investor, n) = self.configuration.firms[dealer].name, room
         self.due[investor].append(("declined", n, name, moment))
         self.logged(investor, lambda desk: desk.dealer_declined(n, name, moment))
 
-    def do_drop(self, dealer, last, moment):
+    def do_drop(self, dealer: int, last: int, moment: int) -> list[tuple[str | tuple[int, int] | int, ...]]:
         self.due[dealer].append(("drop", last, moment))
         return self.logged(dealer, lambda desk: desk.drop(last, moment))
 
-    def do_hit(self, _investor, room, response, word, moment):
+    def do_hit(self, _investor: int, room: tuple[int, int], response: tuple[bytes, int], word: tuple[int, int], moment: int) -> list[tuple[str, tuple[int, int] | int, tuple[bytes | int, int], str | int, int]]:
         reply = self.room(room).hit(word, moment, self.lift)
         duties = [("Answer", room, response, reply, moment)]
         return duties + (self.notices(room, moment) if reply == "Awarded" else [])
 
-    def lift(self, word):
+    def lift(self, word: tuple[int, int]) -> str:
         dealer, q = word
         before = word in self.words.settled
         answer = self.words.lift(word)
@@ -136,34 +145,34 @@ class Venue:
             self.due[dealer].append(("lifted", q))
         return answer
 
-    def do_pass(self, _investor, room, response, moment):
+    def do_pass(self, _investor: int, room: tuple[int, int], response: tuple[bytes, None], moment: int) -> list[tuple[str, tuple[int, int] | int, tuple[bytes | int, int | None], str | int, int]]:
         reply = self.room(room).leave()
         duties = [("Answer", room, response, reply, moment)]
         return duties + (self.notices(room, moment) if reply == "Passed" else [])
 
-    def do_answer(self, _investor, room, response, reply, moment):
+    def do_answer(self, _investor: int, room: tuple[int, int], response: tuple[bytes, int | None], reply: str, moment: int) -> None:
         investor, n = room
         self.due[investor].append(("answered", n, response, reply, moment))
         self.logged(investor, lambda desk: desk.answered(n, response, reply, moment))
 
-    def do_close(self, _actor, room, moment):
+    def do_close(self, _actor: str, room: tuple[int, int], moment: int) -> None:
         investor, n = room
         self.due[investor].append(("expired", n, moment))
         self.logged(investor, lambda desk: desk.closed(n, moment))
 
-    def do_tell(self, _actor, dealer, room, close, moment):
+    def do_tell(self, _actor: int | str, dealer: int, room: tuple[int, int], close: int, moment: int) -> None:
         request = self.desks[dealer].request_in(room)
         if self.logged(dealer, lambda desk: desk.tell(request, close, moment)):
             self.due[dealer].append(("closed", request.k, close, moment))
 
 
-def seen_by(configuration, investor):
+def seen_by(configuration: Configuration, investor: int) -> tuple[bytes, Investor, list[Bond], list[bytes]]:
     """What an investor sees of a venue: the day, its row, the bonds, and the names of the dealers."""
     dealers = [row.name for row in configuration.dealers]
     return configuration.date, configuration.firms[investor], configuration.bonds, dealers
 
 
-def fits(desk, kind, item):
+def fits(desk: InvestorDesk, kind: str, item: list[int | bytes | str | tuple[bytes, int | None] | None]) -> bool:
     """Whether an item is about a request that was accepted; an answer, to a response that could be its own."""
     n = item[0]
     if not 1 <= n <= len(desk.requests):
@@ -176,7 +185,7 @@ def fits(desk, kind, item):
     return 1 <= k <= len(desk.shown) and desk.shown[k - 1].request.n == n and reply != "Passed"
 
 
-def investor_alone(seen, due):
+def investor_alone(seen: tuple[bytes, Investor, list[Bond], list[bytes]], due: list[tuple[str | int | bytes | tuple[bytes, int | None] | None, ...]]) -> InvestorDesk:
     """The desk of an investor that sees this and to which this is due; nothing else of the venue is known."""
     date, row, bonds, names = seen
     dealers = [Dealer(name, (), 0, 0) for name in names]
@@ -195,7 +204,7 @@ def investor_alone(seen, due):
     return desk
 
 
-def alone(date, row, due):
+def alone(date: bytes, row: Dealer, due: list[tuple[str | Ask | int | bytes, ...]]) -> DealerDesk:
     """The desk of a dealer to whom this is due, and nothing else is known of the venue."""
     words = Words()
     desk = DealerDesk(date, row, words.withdraw)

@@ -1,8 +1,15 @@
 """The room of one request: who is asked, the book of their quotes, and how it ends."""
 
+from __future__ import annotations
+
+from collections.abc import Callable
 from dataclasses import dataclass
+from typing import TYPE_CHECKING, Any
 
 from .dealer import COVER, DONE_AWAY, EXPIRED, HIT, PASS
+
+if TYPE_CHECKING:
+    from .desk import Ask
 
 
 @dataclass
@@ -14,21 +21,21 @@ class Posted:
 
 
 class Room:
-    def __init__(self):
+    def __init__(self) -> None:
         self.phase, self.ask, self.dealers = "vacant", None, []
         self.book = []  # the quotes that stand, in the order in which they were posted
         self.notices = []  # of a room that ended: each dealer and its 694
 
-    def open(self, ask, dealers):
+    def open(self, ask: Ask, dealers: list[int]) -> None:
         self.phase, self.ask, self.dealers = "opening", ask, dealers
 
-    def ready(self):
+    def ready(self) -> None:
         self.phase = "open"
 
-    def takes(self):
+    def takes(self) -> bool:
         return self.phase in ("opening", "open")
 
-    def post(self, dealer, word, ticks, until):
+    def post(self, dealer: int, word: tuple[int, int], ticks: int, until: int | None) -> bool:
         """Whether it took effect; a dealer's quote replaces the one before."""
         if not self.takes():
             return False
@@ -36,17 +43,17 @@ class Room:
         self.book.append(Posted(dealer, word, ticks, until))
         return True
 
-    def unpost(self, word):
+    def unpost(self, word: tuple[int, int]) -> bool:
         """Whether it took effect: where the quote stands in a room that has not ended."""
         if not self.takes() or self.standing(word) is None:
             return False
         self.book.remove(self.standing(word))
         return True
 
-    def standing(self, word):
+    def standing(self, word: tuple[int, int]) -> Posted | None:
         return next((quote for quote in self.book if quote.word == word), None)
 
-    def hit(self, word, moment, lift):
+    def hit(self, word: tuple[int, int], moment: int, lift: Callable[..., Any]) -> str:
         """Awarded, or the name of the first refusal; the word is asked by `lift` where none was before it."""
         if self.phase != "open":
             return "NotOpen"
@@ -62,7 +69,7 @@ class Room:
         self.award(quote)
         return "Awarded"
 
-    def award(self, winner):
+    def award(self, winner: Posted) -> None:
         others = [quote for quote in self.book if quote is not winner]
         better = (lambda quote: quote.ticks) if self.ask.side == 1 else (lambda quote: -quote.ticks)
         cover = min(others, key=better, default=None)  # of equals the first posted
@@ -72,19 +79,19 @@ class Room:
         kinds[winner.dealer] = HIT
         self.end(kinds)
 
-    def leave(self):
+    def leave(self) -> str:
         """The investor passes: Passed, or the refusal."""
         if self.phase != "open":
             return "NotOpen"
         self.end({dealer: PASS for dealer in self.dealers})
         return "Passed"
 
-    def expire(self, moment):
+    def expire(self, moment: int) -> bool:
         if self.phase != "open" or moment < self.ask.deadline:
             return False
         self.end({dealer: EXPIRED for dealer in self.dealers})
         return True
 
-    def end(self, kinds):
+    def end(self, kinds: dict[int, int]) -> None:
         self.phase = "ended"
         self.notices = [(dealer, kinds[dealer]) for dealer in self.dealers]

@@ -4,10 +4,17 @@ Each table has its tags in the order in which they are checked. Of each tag: mis
 required 1, more than once 13, empty 4, of wrong form 6, and then the value.
 """
 
+from __future__ import annotations
+
 import re
+from collections.abc import Callable
+from typing import TYPE_CHECKING, Any
 
 from .frames import is_date, read_time
 from .prices import read_price, read_quantity
+
+if TYPE_CHECKING:
+    from .configuration import Dealer, Investor
 
 MISSING, EMPTY, VALUE, FORM, COMP_ID, MSG_TYPE, TWICE, GROUP = 1, 4, 5, 6, 9, 11, 13, 16
 ID = re.compile(rb"[!-{}~]{1,40}\Z")
@@ -19,7 +26,7 @@ GROUP_TAGS = (448, 447, 452)
 class SessionFault(Exception):
     """A tag (371) and a reason (373)."""
 
-    def __init__(self, tag, reason):
+    def __init__(self, tag: int, reason: int) -> None:
         super().__init__(tag, reason)
         self.tag, self.reason = tag, reason
 
@@ -31,23 +38,23 @@ class Wrong(Exception):
 # ---------------------------------------------------------------- forms: bytes to a value, or Wrong
 
 
-def any_text(value, _date):
+def any_text(value: bytes, _date: bytes) -> bytes:
     return value
 
 
-def an_id(value, _date):
+def an_id(value: bytes, _date: bytes) -> bytes | None:
     if not ID.match(value):
         raise Wrong(FORM)
     return value
 
 
-def number(value, _date):
+def number(value: bytes, _date: bytes) -> int:
     if not NUMBER.match(value):
         raise Wrong(FORM)
     return int(value)
 
 
-def price(value, _date):
+def price(value: bytes, _date: bytes) -> int:
     """256ths, or the name of a fault that the desk looks at."""
     ticks = read_price(value)
     if ticks is None:
@@ -55,7 +62,7 @@ def price(value, _date):
     return ticks
 
 
-def quantity(value, _date):
+def quantity(value: bytes, _date: bytes) -> int | None:
     amount = read_quantity(value)
     if amount is None:
         raise Wrong(FORM)
@@ -64,7 +71,7 @@ def quantity(value, _date):
     return int(amount)
 
 
-def moment(value, date):
+def moment(value: bytes, date: bytes) -> int | None:
     day, dash, time = value[:8], value[8:9], read_time(value[9:])
     if not is_date(day) or dash != b"-" or time is None:
         raise Wrong(FORM)
@@ -76,11 +83,11 @@ def moment(value, date):
 # ---------------------------------------------------------------- tables
 
 
-def always(_message):
+def always(_message: dict[int, bytes | int]) -> bool:
     return True
 
 
-def never(_message):
+def never(_message: dict[int, bytes | int]) -> bool:
     return False
 
 
@@ -138,7 +145,7 @@ INVESTOR_TYPES = {
 }
 
 
-def header(row, types):
+def header(row: Investor | Dealer, types: dict[bytes, list[tuple[int, Callable[..., Any], Callable[..., Any], tuple[Callable[..., Any], int | None]]]]) -> list[tuple[int, Callable[..., Any], Callable[..., Any], tuple[Callable[..., Any], int | None]]]:
     """The tags that every message has, as those of this firm, whose role has these types."""
     return [
         (49, any_text, always, ((lambda value: value == row.name), COMP_ID)),
@@ -149,7 +156,7 @@ def header(row, types):
     ]
 
 
-def check_table(table, fields, date, message):
+def check_table(table: list[tuple[int, Callable[..., Any], Callable[..., Any], tuple[Callable[..., Any], int | None]]], fields: list[tuple[int, bytes]], date: bytes, message: dict[int, bytes | int]) -> None:
     """Puts the value of each tag that is present into the message; SessionFault at the first fault."""
     values = {}
     for tag, value in fields:
@@ -173,7 +180,7 @@ def check_table(table, fields, date, message):
         message[tag] = value
 
 
-def party_group(fields, count, known):
+def party_group(fields: list[tuple[int, bytes]], count: int, known: list[int]) -> list[bytes] | None:
     """The dealers of the group behind 453, in order; fields of other tags than those known are no part of it."""
     fields = [field for field in fields if field[0] in known or field[0] in GROUP_TAGS]
     begin = [tag for tag, _ in fields].index(453) + 1
@@ -192,7 +199,7 @@ def party_group(fields, count, known):
     return [dealer for dealer in map(party, entries) if dealer is not None]
 
 
-def party(entry):
+def party(entry: list[tuple[int, bytes]]) -> bytes | None:
     """The dealer that an entry names, or None where it names something else."""
     values = {}
     for tag in GROUP_TAGS:
@@ -209,7 +216,7 @@ def party(entry):
     return values[448] if values[447] == b"D" and values[452] == b"35" else None
 
 
-def read_message(fields, date, row, types):
+def read_message(fields: list[tuple[int, bytes]], date: bytes, row: Investor | Dealer, types: dict[bytes, list[tuple[int, Callable[..., Any], Callable[..., Any], tuple[Callable[..., Any], int | None]]]]) -> dict[int | str, bytes | int | list[bytes]] | None:
     """The values of a message by tag, its dealers under 'dealers'; SessionFault with the first fault."""
     message, head = {}, header(row, types)
     check_table(head, fields, date, message)
@@ -227,10 +234,10 @@ def read_message(fields, date, row, types):
 class Inbox:
     """Counts the numbers of a firm's messages, and refuses what comes out of turn."""
 
-    def __init__(self):
+    def __init__(self) -> None:
         self.expected = 1
 
-    def receive(self, data, read_fields, date, row, types):
+    def receive(self, data: bytes, read_fields: Callable[..., Any], date: bytes, row: Investor | Dealer, types: dict[bytes, list[tuple[int, Callable[..., Any], Callable[..., Any], tuple[Callable[..., Any], int | None]]]]) -> dict[int | str, bytes | int | list[bytes]] | Reject | None:
         """None where the bytes are dropped; else the message, or the fields of a Reject."""
         fields = read_fields(data)
         numbers = [value for tag, value in fields or [] if tag == 34]
@@ -246,11 +253,11 @@ class Inbox:
 
 
 class Reject:
-    def __init__(self, fields):
+    def __init__(self, fields: list[tuple[int, bytes]]) -> None:
         self.fields = fields
 
 
-def reject(fields, number, fault):
+def reject(fields: list[tuple[int, bytes]], number: bytes, fault: SessionFault) -> Reject:
     kind = fields[0][1]
     answer = [(45, number), (371, b"%d" % fault.tag)]
     if re.match(rb"[A-Za-z0-9]{1,4}\Z", kind):

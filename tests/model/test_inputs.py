@@ -6,7 +6,16 @@ import pytest
 from hypothesis import given
 from hypothesis import strategies as st
 
-from tests.model.compare import compared, head, inputs, joined, model_answer, program_answer, report, same
+from tests.model.compare import (
+    compared,
+    head,
+    inputs,
+    joined,
+    model_answer,
+    program_answer,
+    report,
+    same,
+)
 from tests.model.days import Day, Draw
 
 MOST_SEED = 2**32

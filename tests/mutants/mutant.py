@@ -29,7 +29,10 @@ class Mutant:
     def planted_in(self, text: str) -> str:
         """The file's text with the wrong body in its place."""
         if text.count(self.old) != 1:
-            raise Misfit("%s: its old text stands %d times in %s" % (self.name, text.count(self.old), self.file))
+            raise Misfit(
+                "%s: its old text stands %d times in %s"
+                % (self.name, text.count(self.old), self.file)
+            )
         return text.replace(self.old, self.new)
 
 

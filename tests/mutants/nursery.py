@@ -43,7 +43,18 @@ class Nursery:
         if shutil.which("ccache"):
             words.append("-DCMAKE_CXX_COMPILER_LAUNCHER=ccache")
         told(words)
-        told(["cmake", "--build", str(self.out), "--target", GATEWAY, "terms_test", "-j", str(os.cpu_count() or 1)])
+        told(
+            [
+                "cmake",
+                "--build",
+                str(self.out),
+                "--target",
+                GATEWAY,
+                "terms_test",
+                "-j",
+                str(os.cpu_count() or 1),
+            ]
+        )
 
     @contextmanager
     def planted(self, mutant: Mutant) -> Iterator[None]:
@@ -61,23 +72,67 @@ class Nursery:
         """What its test says of it, and the last lines of that."""
         report = self.folder.parent / (mutant.name + ".xml")
         report.unlink(missing_ok=True)
-        words = [sys.executable, "-m", "pytest", mutant.test, "--junitxml", str(report), "-o", "junit_family=xunit1"]
+        words = [
+            sys.executable,
+            "-m",
+            "pytest",
+            mutant.test,
+            "--junitxml",
+            str(report),
+            "-o",
+            "junit_family=xunit1",
+        ]
         for word in self.venue_words():
             words.append(word)
-        own = {name: value for name, value in os.environ.items() if name not in ("PYTHONPATH", "VENUE", "GATEWAY", "FORM")}
-        done = subprocess.run(words, cwd=self.folder, env=own, stdout=subprocess.PIPE, stderr=subprocess.STDOUT, text=True,
-                              timeout=LIMIT, check=False)
+        own = {
+            name: value
+            for name, value in os.environ.items()
+            if name not in ("PYTHONPATH", "VENUE", "GATEWAY", "FORM")
+        }
+        done = subprocess.run(
+            words,
+            cwd=self.folder,
+            env=own,
+            stdout=subprocess.PIPE,
+            stderr=subprocess.STDOUT,
+            text=True,
+            timeout=LIMIT,
+            check=False,
+        )
         return (counted([report]) if report.exists() else Count()), done.stdout[-3000:]
 
     def venue_words(self) -> list[str]:
         program = self.out / GATEWAY
-        return ["--venue", " ".join(self.venue), *(["--gateway", str(program)] if program.exists() else [])]
+        return [
+            "--venue",
+            " ".join(self.venue),
+            *(["--gateway", str(program)] if program.exists() else []),
+        ]
 
 
 def files_of(root: Path) -> list[str]:
     """The files of the tree that belong to it."""
-    words = ["git", "-C", str(root), "ls-files", "-z", "--cached", "--others", "--exclude-standard", "--", "audit", "conftest.py",
-             "deploy", "docs", "examples", "fix", "gateway", "pyproject.toml", "tests", "tools"]
+    words = [
+        "git",
+        "-C",
+        str(root),
+        "ls-files",
+        "-z",
+        "--cached",
+        "--others",
+        "--exclude-standard",
+        "--",
+        "audit",
+        "conftest.py",
+        "deploy",
+        "docs",
+        "examples",
+        "fix",
+        "gateway",
+        "pyproject.toml",
+        "tests",
+        "tools",
+    ]
     listed = subprocess.run(words, capture_output=True, check=True).stdout.decode().split("\0")
     return [name for name in listed if name and (root / name).is_file()]
 

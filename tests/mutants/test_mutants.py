@@ -19,7 +19,7 @@ def pytest_generate_tests(metafunc: pytest.Metafunc) -> None:
     chosen, mutants = metafunc.config.stash[OPTIONS], all_mutants()
     if chosen.is_short:
         mutants = random.Random(chosen.seed).sample(mutants, min(DRAWN, len(mutants)))
-    metafunc.parametrize("mutant", mutants, ids=lambda mutant: mutant.name)
+    metafunc.parametrize("mutant", mutants, ids=[mutant.name for mutant in mutants])
 
 
 @pytest.fixture(scope="module")
@@ -37,7 +37,7 @@ def test_a_mutant_is_rejected(mutant: Mutant, tree: Nursery) -> None:
     assert "ERROR at setup" not in told, told
 
 
-@pytest.mark.parametrize("each", all_mutants(), ids=lambda each: each.name)
+@pytest.mark.parametrize("each", all_mutants(), ids=[each.name for each in all_mutants()])
 def test_a_mutant_fits(each: Mutant) -> None:
     """The text that it changes stands once in its file, and the test that it names is there."""
     assert each.planted_in((ROOT / each.file).read_text()) != ""

@@ -50,7 +50,7 @@ FAULTS = {
 
 def told(stage: Stage, *words: str) -> subprocess.CompletedProcess[str]:
     """What --check says."""
-    command = [stage.door.programs.gateway, "--check", stage.folder / "gateway.toml", *words]
+    command = [str(stage.door.programs.gateway), "--check", str(stage.folder / "gateway.toml"), *words]
     return subprocess.run(command, capture_output=True, text=True, timeout=60, check=False)
 
 

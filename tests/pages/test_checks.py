@@ -20,8 +20,7 @@ from page_checks.page import Page
 from page_checks.vocabulary import Vocabulary, ends_of, flags_in, names_in
 
 FILES = {
-    "crates/desk/src/rules.rt":
-        "pub fn price_for(ask: &Ask) -> bool\n    ensures grid { result ≡ true }\n{}\n",
+    "crates/desk/src/rules.rt": "pub fn price_for(ask: &Ask) -> bool\n    ensures grid { result ≡ true }\n{}\n",
     "crates/desk/specs/Rules.antt": "abbrev pub quote_checks : ℕ → ℕ\n",
     "tests/run.sh": "rfq_venue --marks\n",
 }
@@ -64,8 +63,10 @@ class Checks(unittest.TestCase):
         self.assertEqual(faults(held), [])
         self.assertEqual(faults("`src/rule.rt`"), ["there is no file src/rule.rt"])
         self.assertEqual(faults("`price_for` (`desk/src/rules.rt`)"), [])
-        self.assertEqual(faults("`quote_checks` (`desk/src/rules.rt`)"),
-                         ["quote_checks does not stand in desk/src/rules.rt"])
+        self.assertEqual(
+            faults("`quote_checks` (`desk/src/rules.rt`)"),
+            ["quote_checks does not stand in desk/src/rules.rt"],
+        )
 
     def test_blocks_have_no_names(self) -> None:
         page = Page("docs/MARKET.md", ["```", "`price_of`", "```", "    `price_of`"])
@@ -74,12 +75,30 @@ class Checks(unittest.TestCase):
     def test_links(self) -> None:
         market = Page("docs/MARKET.md", ["# The rules", "[a](#the-rules) [b](#rules) [c](TOUR.md)"])
         found = [finding.text for finding in check_links([market], vocabulary()).findings]
-        self.assertEqual(found, ["docs/MARKET.md has no heading rules",
-                                 "there is no docs/TOUR.md behind the link TOUR.md"])
+        self.assertEqual(
+            found,
+            [
+                "docs/MARKET.md has no heading rules",
+                "there is no docs/TOUR.md behind the link TOUR.md",
+            ],
+        )
 
     def test_commands(self) -> None:
-        lines = ["```console", "$ printf 'a\\nb\\nc\\n'", "a", "...", "$ echo d", "e",
-                 "$ rfq_venue x", "x", "```", "```sh", "tests/run.sh", "tests/runs.sh", "```"]
+        lines = [
+            "```console",
+            "$ printf 'a\\nb\\nc\\n'",
+            "a",
+            "...",
+            "$ echo d",
+            "e",
+            "$ rfq_venue x",
+            "x",
+            "```",
+            "```sh",
+            "tests/run.sh",
+            "tests/runs.sh",
+            "```",
+        ]
         page = Page("docs/MARKET.md", lines)
         checked, listed = check_commands([page], Path("."), vocabulary(), "echo")
         self.assertEqual([finding.line for finding in checked.findings], [12, 5])
@@ -87,9 +106,19 @@ class Checks(unittest.TestCase):
         self.assertEqual([shown.command for shown in listed], ["tests/run.sh", "tests/runs.sh"])
 
     def test_words(self) -> None:
-        lines = ["| two | words |", "|---|---|", "", "    four words of code", "```", "x", "```",
-                 "<!-- written by tests/x.py -->", "nine", "<!-- end of what is written -->",
-                 "last"]
+        lines = [
+            "| two | words |",
+            "|---|---|",
+            "",
+            "    four words of code",
+            "```",
+            "x",
+            "```",
+            "<!-- written by tests/x.py -->",
+            "nine",
+            "<!-- end of what is written -->",
+            "last",
+        ]
         self.assertEqual(Page("a.md", lines).words(), 3)
 
 
@@ -98,15 +127,18 @@ class Clauses(unittest.TestCase):
 
     def found(self, *carried: str) -> list[str]:
         """What is found of rows that say what carries them, over a crate of one law and one type."""
-        source = ("pub fn prices_rise()\n    ensures twice { true }\n{}\n\nimpl Desk {\n"
-                  "    pub fn ask(&self) -> u32\n        requires open { true }\n    {\n        1\n"
-                  "    }\n}\n")
+        source = (
+            "pub fn prices_rise()\n    ensures twice { true }\n{}\n\nimpl Desk {\n"
+            "    pub fn ask(&self) -> u32\n        requires open { true }\n    {\n        1\n"
+            "    }\n}\n"
+        )
         with tempfile.TemporaryDirectory() as folder:
             root = Path(folder)
             for path in ("crates/desk/src", "docs"):
                 (root / path).mkdir(parents=True)
             (root / "crates/desk/src/lib.rt").write_text(
-                "mod desk;\npub use desk::{Desk, prices_rise};\n", encoding="utf-8")
+                "mod desk;\npub use desk::{Desk, prices_rise};\n", encoding="utf-8"
+            )
             (root / "crates/desk/src/desk.rt").write_text(source, encoding="utf-8")
             rows = [f"| prices rise | {words} |" for words in carried]
             page = "\n".join([BEGIN, "", HEAD, "|---|---|", *rows, "", END, ""])
@@ -114,10 +146,15 @@ class Clauses(unittest.TestCase):
             return [finding.text for finding in check_clauses(root).findings]
 
     def test_clauses(self) -> None:
-        self.assertEqual(self.found("`desk::prices_rise` (`twice`)", "`desk::prices_rise`",
-                                    "by no clause: a test"), [])
-        self.assertEqual(self.found("`desk::prices_rise` (`once`)"),
-                         ["desk::prices_rise has no clause once"])
+        self.assertEqual(
+            self.found(
+                "`desk::prices_rise` (`twice`)", "`desk::prices_rise`", "by no clause: a test"
+            ),
+            [],
+        )
+        self.assertEqual(
+            self.found("`desk::prices_rise` (`once`)"), ["desk::prices_rise has no clause once"]
+        )
         self.assertEqual(self.found("`desk::prices_fall`"), ["desk gives out no prices_fall"])
         self.assertEqual(self.found("`desk::Desk::ask`"), ["desk::Desk::ask ensures nothing"])
         self.assertEqual(self.found("`room::prices_rise`"), ["there is no crate room"])
@@ -128,22 +165,31 @@ class Written(unittest.TestCase):
     """What the scripts read."""
 
     def test_promises(self) -> None:
-        text = ("impl Desk {\n    /// The price of [`Ask`].\n    pub fn price(&self) -> u32\n"
-                "        requires open { is_open self.now }\n        // Nothing is rounded.\n"
-                "        ensures { IfSome result (λ p.\n            p ≡ 1) }\n"
-                "    {\n        1\n    }\n\n"
-                "    fn hidden(&self)\n        ensures { true }\n    {}\n}\n")
-        promise, = FileReader(text.split("\n")).read()
+        text = (
+            "impl Desk {\n    /// The price of [`Ask`].\n    pub fn price(&self) -> u32\n"
+            "        requires open { is_open self.now }\n        // Nothing is rounded.\n"
+            "        ensures { IfSome result (λ p.\n            p ≡ 1) }\n"
+            "    {\n        1\n    }\n\n"
+            "    fn hidden(&self)\n        ensures { true }\n    {}\n}\n"
+        )
+        (promise,) = FileReader(text.split("\n")).read()
         self.assertEqual((promise.name, promise.says), ("Desk::price", "The price of `Ask`."))
-        self.assertEqual([(clause.name, clause.text, clause.comment) for clause in promise.clauses],
-                         [("requires open", "is_open self.now", ""),
-                          ("", "IfSome result (λ p. p ≡ 1)", "Nothing is rounded.")])
+        self.assertEqual(
+            [(clause.name, clause.text, clause.comment) for clause in promise.clauses],
+            [
+                ("requires open", "is_open self.now", ""),
+                ("", "IfSome result (λ p. p ≡ 1)", "Nothing is rounded."),
+            ],
+        )
 
     def test_reading_list(self) -> None:
-        text = ("ghost use Rattle.low.specs.Rows.{Row, names};\n"
-                "ghost use Rattle.low.specs.Text as texts;\n")
-        self.assertEqual(cited_by(text, "(row : Row) → texts.is_name row"),
-                         [("low", "Rows"), ("low", "Text")])
+        text = (
+            "ghost use Rattle.low.specs.Rows.{Row, names};\n"
+            "ghost use Rattle.low.specs.Text as texts;\n"
+        )
+        self.assertEqual(
+            cited_by(text, "(row : Row) → texts.is_name row"), [("low", "Rows"), ("low", "Text")]
+        )
         self.assertEqual(cited_by(text, "(row : ℕ) → row"), [])
         self.assertEqual(lines_of("-- a comment\nuse A.{b}\n\nabbrev pub one : ℕ\none = 1\n"), 2)
 

@@ -40,7 +40,9 @@ class Case:
     def whole(self) -> Ended:
         if self.wanted is not None:
             return self.wanted
-        done = subprocess.run([*SECOND, *self.words], input=self.input, capture_output=True, timeout=LIMIT, check=True)
+        done = subprocess.run(
+            [*SECOND, *self.words], input=self.input, capture_output=True, timeout=LIMIT, check=True
+        )
         return Ended(0, done.stdout, b"")
 
 
@@ -58,7 +60,9 @@ def by_the_model(name: str, text: bytes, *commands: str) -> list[Case]:
 
 
 def model(text: bytes, *words: str) -> bytes:
-    return subprocess.run([*SECOND, *words], input=text, capture_output=True, timeout=LIMIT, check=True).stdout
+    return subprocess.run(
+        [*SECOND, *words], input=text, capture_output=True, timeout=LIMIT, check=True
+    ).stdout
 
 
 def dealers_lists() -> list[Case]:
@@ -68,7 +72,10 @@ def dealers_lists() -> list[Case]:
         text, wanted = given(EXAMPLES / (day + ".due")), printed(EXAMPLES / (day + ".out"))
         found.append(Case(day + ", no words", (), text, wanted))
         if day != "busy-morning":
-            found += [Case(day + ", alone", ("alone",), text, wanted), *by_the_model(day, text, "alone --frames")]
+            found += [
+                Case(day + ", alone", ("alone",), text, wanted),
+                *by_the_model(day, text, "alone --frames"),
+            ]
     return found
 
 
@@ -76,9 +83,21 @@ def auctions() -> list[Case]:
     """Every command on a whole auction."""
     text = given(EXAMPLES / "auction.venue")
     found = [Case("auction, replay", ("replay",), text, printed(EXAMPLES / "auction.out"))]
-    found += by_the_model("auction", text, "replay --frames", "replay DLR1 --frames", "replay INV1", "due DLR1",
-                          "due --investor INV1", "dues", "blotter DLR1", "blotter INV1")
-    found += by_the_model("auction twice", text + b"%%\n" + text, "compare DLR1", "compare --investor INV1")
+    found += by_the_model(
+        "auction",
+        text,
+        "replay --frames",
+        "replay DLR1 --frames",
+        "replay INV1",
+        "due DLR1",
+        "due --investor INV1",
+        "dues",
+        "blotter DLR1",
+        "blotter INV1",
+    )
+    found += by_the_model(
+        "auction twice", text + b"%%\n" + text, "compare DLR1", "compare --investor INV1"
+    )
     due = model(text, "due", "--investor", "INV1")
     return found + by_the_model("what was due to INV1", due, "alone", "alone --frames")
 
@@ -87,12 +106,28 @@ def lines_of_auctions() -> list[Case]:
     """The same line by line."""
     text = re.sub(rb"(?m)^turn .*\n", b"", given(EXAMPLES / "auction.venue"))
     live = EXAMPLES / "live"
-    found = [Case("auction, live", ("live",), given(live / "auction.lines"), printed(live / "auction.out"))]
-    found += by_the_model("auction", text, "live --frames", "live --marks", "replay --live", "replay INV1 --frames --live",
-                          "due DLR1 --live", "due --investor INV1 --live", "dues --live", "blotter DLR1 --live",
-                          "blotter INV1 --live")
+    found = [
+        Case(
+            "auction, live", ("live",), given(live / "auction.lines"), printed(live / "auction.out")
+        )
+    ]
+    found += by_the_model(
+        "auction",
+        text,
+        "live --frames",
+        "live --marks",
+        "replay --live",
+        "replay INV1 --frames --live",
+        "due DLR1 --live",
+        "due --investor INV1 --live",
+        "dues --live",
+        "blotter DLR1 --live",
+        "blotter INV1 --live",
+    )
     twice = text + b"%%\n" + text
-    return found + by_the_model("auction twice", twice, "compare DLR1 --live", "compare --investor INV1 --live")
+    return found + by_the_model(
+        "auction twice", twice, "compare DLR1 --live", "compare --investor INV1 --live"
+    )
 
 
 def days_on_threads() -> list[Case]:
@@ -103,7 +138,12 @@ def days_on_threads() -> list[Case]:
     return [
         Case("a day on threads, day", ("day",), text, Ended(0, out, b"")),
         Case("a day on threads, day --frames", ("day", "--frames"), text, Ended(0, frames, b"")),
-        Case("a day on threads, day --woven", ("day", "--woven"), text, Ended(0, out + b"woven 15\n", b"")),
+        Case(
+            "a day on threads, day --woven",
+            ("day", "--woven"),
+            text,
+            Ended(0, out + b"woven 15\n", b""),
+        ),
     ]
 
 
@@ -129,20 +169,41 @@ def faults() -> list[Case]:
         ("parts", auction, "compare DLR1"),
         ("line 1: form", b"", "alone"),
     ]
-    return [Case(fault, tuple(words.split()), text, Ended(1, b"", fault.encode() + b"\n")) for fault, text, words in told]
+    return [
+        Case(fault, tuple(words.split()), text, Ended(1, b"", fault.encode() + b"\n"))
+        for fault, text, words in told
+    ]
 
 
-GROUPS: list[Callable[[], list[Case]]] = [dealers_lists, auctions, lines_of_auctions, days_on_threads, whole_days, faults]
+GROUPS: list[Callable[[], list[Case]]] = [
+    dealers_lists,
+    auctions,
+    lines_of_auctions,
+    days_on_threads,
+    whole_days,
+    faults,
+]
 HELP = ("--help", "help replay", "due --help", "--version")
 IN_TESTS = [
-    *("memory::" + name for name in (
-        "frames::a_refused_configuration_is_read_again", "frames::a_refused_frame_is_written_again",
-        "dealers::a_refused_call_leaves_the_desk", "dealers::a_refused_drop_leaves_the_desk",
-        "investors::a_refused_call_leaves_the_desk", "rooms::a_refused_call_leaves_the_room",
-        "rooms::a_hundred_posts_are_refused_in_turn", "steps::a_refused_step_leaves_its_place",
-        "streams::a_refused_piece_is_fed_again", "streams::a_refused_piece_with_a_fault_is_fed_again",
-        "texts::a_refused_message_is_written_again", "texts::a_refused_blotter_is_written_again",
-        "texts::refused_steps_are_read_again", "words::refused_memory_is_asked_for_again")),
+    *(
+        "memory::" + name
+        for name in (
+            "frames::a_refused_configuration_is_read_again",
+            "frames::a_refused_frame_is_written_again",
+            "dealers::a_refused_call_leaves_the_desk",
+            "dealers::a_refused_drop_leaves_the_desk",
+            "investors::a_refused_call_leaves_the_desk",
+            "rooms::a_refused_call_leaves_the_room",
+            "rooms::a_hundred_posts_are_refused_in_turn",
+            "steps::a_refused_step_leaves_its_place",
+            "streams::a_refused_piece_is_fed_again",
+            "streams::a_refused_piece_with_a_fault_is_fed_again",
+            "texts::a_refused_message_is_written_again",
+            "texts::a_refused_blotter_is_written_again",
+            "texts::refused_steps_are_read_again",
+            "words::refused_memory_is_asked_for_again",
+        )
+    ),
     # The sessions of a day and its clock have no answer but that they ended, which no clause can hold against what they did.
     "days::actors::whoever_is_refused_memory_says_so",
 ]
@@ -158,7 +219,9 @@ class Refused:
 
     def run(self, text: bytes, **more: str) -> Ended:
         environment = {**os.environ, "LD_PRELOAD": str(self.shim), **more}
-        done = subprocess.run(self.words, input=text, env=environment, capture_output=True, timeout=LIMIT, check=False)
+        done = subprocess.run(
+            self.words, input=text, env=environment, capture_output=True, timeout=LIMIT, check=False
+        )
         return Ended(done.returncode, done.stdout, done.stderr)
 
     def counted(self, text: bytes) -> tuple[Ended, int]:
@@ -184,7 +247,11 @@ def program(venue: tuple[str, ...]) -> str:
 def is_left(case: Case, ended: Ended, whole: Ended) -> bool:
     """Whether a run that ended with memory may have printed this: nothing, but of `live`, which prints as it goes, whole lines
     from the front."""
-    of_live = case.words[:1] == ("live",) and ended.out.endswith(b"\n") and whole.out.startswith(ended.out)
+    of_live = (
+        case.words[:1] == ("live",)
+        and ended.out.endswith(b"\n")
+        and whole.out.startswith(ended.out)
+    )
     return (ended.status, ended.err) == (1, b"memory\n") and (not ended.out or of_live)
 
 
@@ -196,12 +263,18 @@ def look(case: Case, refused: Refused, whole: Ended) -> None:
     for call in range(1, calls + 1):
         ended = refused.refused(case.input, call)
         left += is_left(case, ended, whole)
-        assert is_left(case, ended, whole) or ended == whole, "call %d refused: status %d, %r" % (call, ended.status, ended.err)
+        assert is_left(case, ended, whole) or ended == whole, "call %d refused: status %d, %r" % (
+            call,
+            ended.status,
+            ended.err,
+        )
     assert left > 0, "no run ended with memory, so nothing was refused"
 
 
-@pytest.mark.parametrize("group", GROUPS, ids=lambda group: group.__name__)
-def test_a_refused_call(program: str, refuse: Path, place: Path, group: Callable[[], list[Case]]) -> None:
+@pytest.mark.parametrize("group", GROUPS, ids=[group.__name__ for group in GROUPS])
+def test_a_refused_call(
+    program: str, refuse: Path, place: Path, group: Callable[[], list[Case]]
+) -> None:
     """Each run ends with status 1, `memory` on standard error and nothing printed, or as it has to end with all its memory."""
     for case in group():
         print(case.name)
@@ -211,9 +284,15 @@ def test_a_refused_call(program: str, refuse: Path, place: Path, group: Callable
 @pytest.mark.parametrize("words", HELP)
 def test_a_refused_call_of_help(program: str, refuse: Path, place: Path, words: str) -> None:
     """What help and version have to be is what the program prints with all its memory."""
-    whole = subprocess.run([program, *words.split()], input=b"", capture_output=True, timeout=LIMIT, check=False)
+    whole = subprocess.run(
+        [program, *words.split()], input=b"", capture_output=True, timeout=LIMIT, check=False
+    )
     wanted = Ended(whole.returncode, whole.stdout, whole.stderr)
-    look(Case(words, tuple(words.split()), b""), Refused(refuse, [program, *words.split()], place), wanted)
+    look(
+        Case(words, tuple(words.split()), b""),
+        Refused(refuse, [program, *words.split()], place),
+        wanted,
+    )
 
 
 @pytest.mark.parametrize("name", IN_TESTS)

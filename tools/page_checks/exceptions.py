@@ -15,6 +15,7 @@ ON_A_PAGE = [
     ("crates/all_cases/README.md", "data/PLACE-subject.cases"),  # a file that a reader writes
     ("tests/edits/README.md", "FUNCTION-what.edit"),  # a file that a reader writes
     ("CONTRIBUTING.md", "*-what.edit"),  # a file that a reader writes
+    ("gateway/README.md", "192.0.2.0/24"),  # a network
     ("deploy/README.md", "NAME_DATE"),  # stands for a schema of a reader's
     ("deploy/README.md", "gw2"),  # a second host of a reader's
     ("deploy/README.md", "10.77.0.0/24"),  # a network
