@@ -3,6 +3,7 @@ import {h, arrange, set} from './dom.js';
 import {DealerCard} from './dealer_card.js';
 import {InvestorCard} from './investor_card.js';
 import {isOpen} from './model.js';
+import {guardPresses} from './presses.js';
 
 const kept = 45_000; // behind its end, unless the pointer or the focus is in the cards
 
@@ -13,13 +14,13 @@ export class Cards {
     this.link = link;
     this.cards = new Map();
     this.closed = new Set();
-    this.lasts = new Map();
+    guardPresses(section, button => this.cardOf(button)?.say('The page moved under your press: look again.'));
     this.empty = h('p', {className: 'quiet empty'});
   }
+  cardOf(node) { return [...this.cards.values()].find(card => card.node.contains(node)); }
   anew() {
     this.cards.clear();
     this.closed.clear();
-    this.lasts.clear();
     this.place();
   }
   update(requests) {
@@ -56,7 +57,7 @@ export class Cards {
   }
   add(id, request) {
     const Card = this.model.isDealer() ? DealerCard : InvestorCard;
-    const card = new Card(request, {model: this.model, link: this.link, lasts: this.lasts, close: one => this.close(one)});
+    const card = new Card(request, {model: this.model, link: this.link, close: one => this.close(one)});
     this.cards.set(id, card);
     card.update(request);
   }

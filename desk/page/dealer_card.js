@@ -4,24 +4,26 @@ import {decimal, other, parse, text, thirtySeconds} from './price.js';
 import {amount, clock, span} from './amounts.js';
 import {Card} from './card.js';
 import {liveQuote} from './model.js';
+import {twoPresses} from './presses.js';
 
-const far = 256; // a price a point away from the last one asks again
+const far = 256;          // a price a point away from the last one asks again
+const veryFar = 5 * 256;  // and without a last one, five points from par and from all that was seen
+const par = 100 * 256;
+const confirmAfter = 600; // milliseconds: a press before that was no answer to the question
 const validities = [['0', 'to deadline'], ['10', '10 s'], ['30', '30 s'], ['60', '1 min'], ['300', '5 min']];
 
 export class DealerCard extends Card {
   constructor(request, desk) {
     super(request, desk);
-    this.lasts = desk.lasts; // a bond's last own price on each side
-    this.key = request.bond + request.side;
     this.sure = null;
     this.entry = h('input', {className: 'number entry', autocomplete: 'off', inputMode: 'decimal',
       oninput: () => { this.sure = null; this.say(''); }, onkeydown: event => this.press(event)});
     this.seconds = h('select', {className: 'seconds', 'aria-label': 'Valid for'},
       ...validities.map(([value, name]) => h('option', {value}, name)));
     this.echo = h('p', {className: 'quiet number echo'});
-    this.button = h('button', {type: 'button', className: 'strong send', onclick: () => this.send()});
-    this.withdraw = h('button', {type: 'button', className: 'withdraw', onclick: () => this.act({do: 'withdraw'})}, 'Withdraw');
-    this.decline = h('button', {type: 'button', className: 'decline', onclick: () => this.act({do: 'decline'})}, 'Decline');
+    this.button = h('button', {type: 'button', className: 'strong send', 'data-binds': 'send', onclick: () => this.send()});
+    this.withdraw = h('button', {type: 'button', className: 'withdraw', 'data-binds': 'withdraw', onclick: () => this.act({do: 'withdraw'})}, 'Withdraw');
+    this.decline = twoPresses('Decline', 'decline', () => this.act({do: 'decline'}));
     this.live = h('span', {className: 'live'});
     this.whom = h('b');
     this.form = h('div', {className: 'form'}, this.entry, this.seconds, this.button);
@@ -52,32 +54,44 @@ export class DealerCard extends Card {
     event.preventDefault();
   }
   move(step) {
-    const from = parse(this.entry.value, this.bond.grid).price ?? liveQuote(this.request)?.price ?? this.lasts.get(this.key);
+    const from = parse(this.entry.value, this.bond.grid).price ?? liveQuote(this.request)?.price ?? this.last();
     if (from === undefined) return;
     this.entry.value = text(from + step * 256 / this.bond.grid);
     this.sure = null;
     this.read();
   }
   read() {
-    const typed = this.entry.value.trim(), last = this.lasts.get(this.key);
+    const typed = this.entry.value.trim(), last = this.last();
     const {price, why} = parse(typed, this.bond.grid);
     set(this.echo, typed === '' ? `grid 1/${this.bond.grid}${last ? `, your last ${text(last)}` : ''}`
       : why ?? `= ${/[-']/.test(typed) ? decimal(price) : thirtySeconds(price)}`);
     this.echo.classList.toggle('why', typed !== '' && price === undefined);
   }
+  last() { return this.desk.model.lastPrice(this.request.bond, this.request.side); }
+  // Why a price has to be confirmed; an empty text where it need not be.
+  question(price) {
+    const last = this.last();
+    if (last !== undefined) return Math.abs(price - last) >= far ? `${Math.abs(price - last) / 256} points from your last, ${text(last)}` : '';
+    const seen = [par, ...this.desk.model.pricesOf(this.request.bond)];
+    return seen.every(one => Math.abs(price - one) > veryFar) ? `Your first price on this bond is ${Math.abs(price - par) / 256} points from 100` : '';
+  }
   send() {
     const {price, why} = parse(this.entry.value, this.bond.grid);
     if (price === undefined) return this.say(why);
-    const last = this.lasts.get(this.key);
-    if (last !== undefined && Math.abs(price - last) >= far && this.sure !== price) {
-      this.sure = price;
-      return this.say(`${Math.abs(price - last) / 256} points from your last, ${text(last)}: Enter again if it is meant.`);
+    const question = this.question(price);
+    if (question && this.sure?.price !== price) {
+      this.sure = {price, at: performance.now()};
+      return this.say(`${question}: Enter again if it is meant.`);
     }
+    if (question && performance.now() - this.sure.at < confirmAfter) return;
     this.sure = null;
     const replaces = liveQuote(this.request)?.id ?? '';
     const command = {do: 'quote', request: this.request.id, price, seconds: Number(this.seconds.value), replaces};
     this.desk.link.act(command, refusal => {
-      if (!refusal) this.entry.value = '';
+      if (!refusal) {
+        this.entry.value = '';
+        this.seconds.value = '0'; // a validity is of one quote
+      }
       this.say(refusal);
     });
   }
@@ -88,8 +102,6 @@ export class DealerCard extends Card {
     this.drawHead(buys ? 'OFFER' : 'BID');
     set(this.whom, `${request.investor} ${buys ? 'buys' : 'sells'}`);
     this.entry.setAttribute('aria-label', `${buys ? 'Offer' : 'Bid'} for ${amount(request.quantity)} ${this.bond.name}`);
-    const last = request.quotes.filter(quote => quote.state !== 'refused' && quote.state !== 'undelivered').at(-1);
-    if (last) this.lasts.set(this.key, last.price);
     set(this.button, live ? 'Replace' : 'Send');
     const isAnswerable = is && !request.declined && this.desk.model.mayAct();
     show(this.form, isAnswerable);

@@ -4,10 +4,10 @@ import {aligned, apart, text} from './price.js';
 import {amount, clock, span} from './amounts.js';
 import {Card} from './card.js';
 import {ranked} from './model.js';
+import {doubleClick, twoPresses} from './presses.js';
 
 const guard = 500;   // a press so soon behind a change was meant for what stood there before
 const armedFor = 4000;
-const doubleClick = 250; // is one press
 
 const answers = {none: 'waiting', declined: 'declined', 'took back': 'took back'};
 
@@ -20,7 +20,7 @@ export class InvestorCard extends Card {
     this.list = h('tbody');
     this.price = h('th', {className: 'number', scope: 'col'});
     this.state = h('span', {className: 'quiet'});
-    this.pass = h('button', {type: 'button', className: 'pass', onclick: () => this.act({do: 'pass'})}, 'Pass');
+    this.pass = twoPresses('Pass', 'pass', () => this.act({do: 'pass'}));
     const head = (name, kind = 'number') => h('th', {scope: 'col', className: kind}, name);
     this.table = h('table', {className: 'quotes'}, h('thead', {}, h('tr', {}, head('Dealer', 'who'), this.price,
       head('\u00b1 32nds'), head('Valid'), h('th', {scope: 'col'}, h('span', {className: 'unseen'}, 'Hit')))), this.list);
@@ -36,8 +36,6 @@ export class InvestorCard extends Card {
   }
   key(event) {
     if (event.key === 'Escape') this.disarm();
-    // A key that is held down is one press.
-    if (event.repeat && (event.key === 'Enter' || event.key === ' ')) event.preventDefault();
     if (event.key !== 'ArrowDown' && event.key !== 'ArrowUp') return;
     const buttons = [...this.node.querySelectorAll('button')].filter(one => !one.disabled && one.offsetParent);
     const at = buttons.indexOf(document.activeElement) + (event.key === 'ArrowDown' ? 1 : -1);
@@ -68,7 +66,7 @@ export class InvestorCard extends Card {
     const row = {
       name: h('th', {scope: 'row'}, name), price: h('td', {className: 'number price'}), off: h('td', {className: 'number'}),
       valid: h('td', {className: 'number'}), done: h('b', {}, 'Done'), quote: null};
-    row.button = h('button', {type: 'button', className: 'hit', onclick: () => row.quote && this.hit(row.quote)});
+    row.button = h('button', {type: 'button', className: 'hit', 'data-binds': 'hit', onclick: () => row.quote && this.hit(row.quote)});
     row.node = h('tr', {}, row.name, row.price, row.off, row.valid, h('td', {className: 'do'}, row.button, row.done));
     this.rows.set(name, row);
     return row;

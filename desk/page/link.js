@@ -10,6 +10,7 @@ export class Link {
     this.isUp = false;
     this.skew = 0; // of the desk's clock to the browser's, in milliseconds
     this.count = 0;
+    this.refusals = 0; // of the handshake, one after the other, by a desk that serves
     this.waiting = new Map();
   }
   now() { return Date.now() + this.skew; }
@@ -27,20 +28,23 @@ export class Link {
 
   take(message) {
     this.isUp = true;
+    this.refusals = 0;
     if (message.now) this.skew = message.now - Date.now();
     if (message.t !== 'said') return this.hear(message);
     this.waiting.get(message.number)?.(message.why);
     this.waiting.delete(message.number);
   }
 
-  // A refusal of the handshake can't be told from a desk that is down: the desk is asked.
+  // A refusal of the handshake can't be told from a desk that is down: the desk is asked. One that came
+  // back between the two questions has refused nothing, so it takes two refusals.
   async lose(isOver, opened) {
     this.isUp = false;
     for (const tell of this.waiting.values()) {
       tell('The desk did not answer. Look at the state when it is back: nothing is sent twice.');
     }
     this.waiting.clear();
-    if (isOver || (!opened && await isServed())) return this.forget();
+    this.refusals = !opened && await isServed() ? this.refusals + 1 : 0;
+    if (isOver || this.refusals > 1) return this.forget();
     this.hear({t: 'down'});
     setTimeout(() => this.connect(), pause);
   }

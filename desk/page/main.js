@@ -3,13 +3,15 @@ import {set, show} from './dom.js';
 import {toggleMode} from './price.js';
 import {Link} from './link.js';
 import {Login} from './login.js';
-import {Model} from './model.js';
+import {Model, liveQuote} from './model.js';
 import {Ticket} from './ticket.js';
 import {Cards} from './cards.js';
 import {Blotter} from './blotter.js';
 import {Top, alarms} from './top.js';
 
 const tickTime = 200;
+const leaveAfter = 600; // milliseconds between the two presses that leave live quotes behind
+const leaveFor = 8000;  // as long the question stands
 const keys = {
   dealer: 'F2 next request without a quote \u00b7 Enter send \u00b7 \u2191\u2193 one step of the grid \u00b7 Escape clear \u00b7 F4 decimals or 32nds \u00b7 F9 cancel all',
   investor: 'F2 ticket \u00b7 F3 best quote of the next request \u00b7 \u2191\u2193 from quote to quote \u00b7 Enter twice hits \u00b7 Escape takes the first back \u00b7 F4 decimals or 32nds'};
@@ -22,8 +24,9 @@ class Page {
     this.link = new Link(message => this.hear(message));
     this.login = new Login(this.link);
     this.cards = new Cards(of('cards'), this.model, this.link);
-    this.top = new Top({toggle: () => this.toggle(), cancelAll: () => this.cancelAll(), logOut: () => this.link.logOut()});
+    this.top = new Top({toggle: () => this.toggle(), cancelAll: () => this.cancelAll(), logOut: () => this.logOut()});
     this.isKnown = true; // whether somebody is logged in
+    this.leavesAt = -leaveFor;
     this.ticket = null;
     this.blotter = null;
     of('top').append(...this.top.nodes);
@@ -61,6 +64,7 @@ class Page {
       show(of('ticket'), true);
     }
     this.blotter ??= this.makeBlotter();
+    this.blotter.draw(); // a day that begins is empty
     set(of('keys'), keys[model.hello.market.role]);
     set(of('banner'), model.hello.banner);
     show(of('banner'), Boolean(model.hello.banner));
@@ -115,6 +119,17 @@ class Page {
   }
   cancelAll() {
     if (this.model.hello && this.model.isDealer()) this.link.act({do: 'cancel all'}, why => why && this.top.say(why, true));
+  }
+  // Live quotes outlive a login: whoever leaves is asked first.
+  logOut() {
+    const {model} = this, moment = performance.now();
+    const live = model.hello && model.isDealer() ? [...model.requests.values()].filter(liveQuote).length : 0;
+    if (live && moment - this.leavesAt > leaveFor) {
+      this.leavesAt = moment;
+      return this.top.say(`${live} ${live === 1 ? 'quote stays' : 'quotes stay'} live and can be hit. Cancel all, or press Log out again to leave.`, true);
+    }
+    if (live && moment - this.leavesAt < leaveAfter) return;
+    this.link.logOut();
   }
   key(event) {
     if (event.key === 'F2') {

@@ -30,6 +30,13 @@ export class Model {
   isOn() { return this.isLinked && Boolean(this.session?.on); }
   isDealer() { return this.hello.market.role === 'dealer'; }
   mayAct() { return this.hello.trader.mayAct; }
+  // Of a dealer: the quotes on a bond, on one side or on both, that the venue has not refused.
+  quotesOf(bond, side) {
+    const own = [...this.requests.values()].filter(one => one.bond === bond && (!side || one.side === side));
+    return own.flatMap(one => one.quotes).filter(quote => quote.state !== 'refused' && quote.state !== 'undelivered');
+  }
+  pricesOf(bond) { return this.quotesOf(bond).map(quote => quote.price); }
+  lastPrice(bond, side) { return this.quotesOf(bond, side).reduce((last, one) => !last || one.at >= last.at ? one : last, null)?.price; }
   bond(id) { return this.hello.market.bonds.find(one => one.id === id) ?? {id, name: id, grid: 256}; }
 }
 

@@ -4,6 +4,8 @@ import {amount, parseAmount, parseSpan, span} from './amounts.js';
 import {BondField} from './bond_field.js';
 import {DealerField} from './dealer_field.js';
 
+const looked = 700; // milliseconds: a press so soon behind `Again` was no look at what it filled in
+
 const narrow = matchMedia('(max-width: 760px)');
 
 export class Ticket {
@@ -20,10 +22,14 @@ export class Ticket {
     this.read = h('p', {className: 'quiet echo'});
     this.button = h('button', {type: 'submit', className: 'strong'});
     this.why = h('p', {className: 'why', role: 'alert'});
+    this.filledAt = -looked;
     this.foldButton = h('button', {type: 'button', className: 'fold', onclick: () => this.fold()}, 'New request');
     this.node = h('form', {className: 'ticket', onsubmit: event => { event.preventDefault(); this.ask(); },
       oninput: () => { set(this.why, ''); this.draw(); },
-      onkeydown: event => { if (event.key === 'Escape') this.clear(); }},
+      onkeydown: event => {
+        if (event.key === 'Escape') this.clear();
+        if (event.key === 'Enter' && event.repeat) event.preventDefault();
+      }},
       h('h2', {}, this.foldButton),
       h('label', {htmlFor: 'bond'}, 'Bond'), this.bond.node,
       h('fieldset', {className: 'sides'}, h('legend', {}, 'Side'),
@@ -57,6 +63,7 @@ export class Ticket {
     this.sell.checked = request.side === 'sell';
     this.quantity.value = amount(request.quantity);
     this.dealers.choose(request.dealers.map(one => one.name));
+    this.filledAt = performance.now();
     this.button.focus();
     this.node.scrollIntoView({block: 'nearest'});
   }
@@ -84,6 +91,7 @@ export class Ticket {
       : !dealers.length ? 'Choose the dealers to ask.' : '';
   }
   ask() {
+    if (performance.now() - this.filledAt < looked) return set(this.why, 'Filled in just now: look at it, and press again.');
     this.bond.leave();
     const values = this.values(), why = this.whyNot(values);
     if (why) return set(this.why, why);

@@ -18,8 +18,8 @@ constexpr const char *bytes_are_used_up =
     "no "
     "request and no quote is taken; cancels, declines, hits and passes are";
 constexpr const char *clock_was_set =
-    "the clock of the venue was set: until the operator says that it is right, no request and no "
-    "quote is taken; cancels, declines, hits and passes are";
+    "the clock of the venue was set: until the gateway is started again with one that is right, no "
+    "request and no quote is taken; cancels, declines, hits and passes are";
 
 // A message that begins something, and takes nothing back: a request (R), or a quote (S).
 bool begins_business(const WireMessage &message) {

@@ -46,8 +46,8 @@ struct VenueDay {
     const std::unique_ptr<Database> database;
     // Nobody else writes the log: this gateway speaks, or is about to.
     std::atomic<bool> has_term{false};
-    // False once the clock was set by more than two seconds: no request and no quote is taken, and
-    // an operator has to say that the clock is right.
+    // False once the clock was set by more than two seconds: no request and no quote is taken until
+    // the gateway is started again.
     std::atomic<bool> clock_is_right{true};
 
   private:

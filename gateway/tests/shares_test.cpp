@@ -184,6 +184,8 @@ void no_more_than_the_venue_answers() {
     same(std::uint32_t{3}, gated.log->last_place(), "entries before the first answer");
     // The gateway speaks for the firm all the same.
     gated.log->append_message("BUSY", std::nullopt, "x");
+    // The venue is given what is committed, and nothing else.
+    gated.log->flush();
     gated.log->answered(4);
     busy.join();
     same(many + 1, gated.log->last_place(), "entries after it");

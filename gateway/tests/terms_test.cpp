@@ -120,7 +120,7 @@ void tables_refuse(Schema &schema) {
 void another_form(Schema &schema) {
     schema.run("UPDATE form SET number = 2");
     const std::string told = thrown_by([&] { schema.open("fourth")->take_over(); });
-    schema.run("UPDATE form SET number = 3");
+    schema.run("UPDATE form SET number = 4");
     check(told.find("has tables of form 2, and this gateway's are of form 4: no day spans") !=
               std::string::npos,
           "told of another form: " + told);

@@ -5,7 +5,9 @@
 #include "trading_days.h"
 
 #include <array>
-#include <sstream>
+#include <cstdio>
+#include <stdexcept>
+#include <string>
 
 #include <date/date.h>
 
@@ -19,11 +21,11 @@ std::set<unsigned> all_days() {
 }
 
 SystemSeconds at(const char *text) {
-    std::istringstream in(text);
-    SystemSeconds moment;
-    in >> date::parse("%F %T", moment);
-    REQUIRE_FALSE(in.fail());
-    return moment;
+    int year = 0, month = 0, day = 0, hour = 0, minute = 0, second = 0;
+    REQUIRE(std::sscanf(text, "%d-%d-%d %d:%d:%d", &year, &month, &day, &hour, &minute, &second) ==
+            6);
+    return date::sys_days(date::year(year) / month / day) + std::chrono::hours(hour) +
+           std::chrono::minutes(minute) + std::chrono::seconds(second);
 }
 
 // London's week, with Boxing Day 2026 kept on Monday the 28th.

@@ -49,7 +49,7 @@ class Example(unittest.TestCase):
             # quotes 99.5.
             self.assertEqual(texts[2], "INV1")
             self.assertEqual(texts[4:9], ["buys", "2 000 000", "BONDA0000001", "2", "2"])
-            self.assertEqual(texts[9:], ["◆ awarded", "DLR2", "99-14 99.4375", "DLR1"])
+            self.assertEqual(texts[9:], ["◆ awarded", "DLR2", "99.4375", "DLR1"])
             # Of each firm a message came; what is no message of it the gateway made, at its end.
             on_one = r"received [0-9:.]{15} on connection [0-9]+ from 127\.0\.0\.1:[0-9]+, since "
             for firm in ("DLR1", "DLR2", "INV1"):

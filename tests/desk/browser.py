@@ -42,6 +42,7 @@ class Browser:
         options.set_capability("goog:loggingPrefs", {"browser": "ALL"})
         options.add_experimental_option("prefs", {"download.default_directory": str(profile / "downloads")})
         self.profile = profile
+        self.pressed = False
         self.driver = started(options)
 
     def quit(self) -> None:
@@ -152,15 +153,38 @@ class Browser:
         return found[0]
 
     def press_in_card(self, where: str, number: int = -1) -> None:
-        """Clicks an element of a card, once it can be clicked."""
+        """Clicks a button of a card, once it can be clicked and has stood there long enough."""
         def done() -> bool:
             button = self.in_card(where, number)
-            if button.is_enabled():
+            if not button.is_enabled():
+                return False
+            if self.stands(button):
                 button.click()
                 return True
             return False
 
         self.until("%s of card %d can be clicked" % (where, number), done)
+
+    def stands(self, button: WebElement) -> bool:
+        """Whether an element has not moved for a second, as the page asks of what binds."""
+        place = """const {left, top} = arguments[0].getBoundingClientRect(); return [left + scrollX, top + scrollY].join()"""
+        before = self.script(place, button)
+        self.script("return new Promise(done => setTimeout(done, 1000))")
+        return bool(before == self.script(place, button))
+
+    def press_twice(self, where: str, number: int = -1) -> None:
+        """The two presses of a button that asks first, by keys; again where the first is forgotten by then."""
+        def done() -> bool:
+            buttons = [one for one in self.card(number).find_elements(By.CSS_SELECTOR, where) if one.is_displayed()]
+            if not buttons or not buttons[0].is_enabled():
+                return self.pressed
+            self.pressed = True
+            self.script("document.activeElement !== arguments[0] && arguments[0].focus()", buttons[0])
+            buttons[0].send_keys(Keys.ENTER)
+            return False
+
+        self.pressed = False
+        self.until("%s of card %d is pressed twice" % (where, number), done)
 
     def quote(self, price: str, number: int = -1) -> None:
         entry = self.in_card("input.entry", number)

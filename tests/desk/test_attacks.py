@@ -74,9 +74,10 @@ def test_a_cookie_alone_is_nothing(house: House) -> None:
     assert upgrade(other.port.number, "127.0.0.1:%d" % other.port.number, other.origin, ticket.cookie)[1] == 403
     for token in ("", "0" * 64, ticket.token[:-1], value):
         view = object.__new__(View)
-        view.__dict__.update(desk=desk, requests={}, hello={}, session={}, said={}, is_whole=False, closed=None, on_message=None, _count=0, _parts=b"")
+        view.__dict__.update(desk=desk, requests={}, hello={}, session={}, said={}, is_whole=False, closed=None, sending=threading.Lock(), _count=0, _parts=b"")
         view.link, status = upgrade(desk.port.number, here, desk.origin, ticket.cookie)
         assert status == 101
+        view.listen()
         view.send({"token": token})
         assert view.until_closed() == 1008
         assert view.hello == {} and view.requests == {}

@@ -1,5 +1,6 @@
 """Whole auctions in a browser, from both sides: each button, each key, and what each says."""
 
+from selenium.webdriver.common.action_chains import ActionChains
 from selenium.webdriver.common.keys import Keys
 
 from tests.desk.browser import Browser
@@ -101,11 +102,11 @@ def test_each_way_that_a_request_ends(house: House) -> None:
     dealer.press_in_card("button.withdraw")
     dealer.card_says("No live quote")
     investor.card_says("took back")
-    dealer.press_in_card("button.decline")
+    dealer.press_twice("button.decline")
     dealer.card_says("Declined")
     investor.card_says("declined")
     other.quote(other.wait_shown(1), 98 * POINT)
-    investor.press_in_card("button.pass")
+    investor.press_twice("button.pass")
     investor.card_says("Passed")
     dealer.card_says("The investor passed", "You declined.")
     investor.press_in_card("button.small")
@@ -145,13 +146,73 @@ def test_the_dealers_entry(house: House) -> None:
     dealer.until("it is empty", lambda: dealer.in_card("input.entry").get_attribute("value") == "")
     dealer.quote("97")
     dealer.card_says("2.5 points from your last, 99.5: Enter again if it is meant.", "Live 99.5")
-    dealer.press(Keys.ENTER)
-    dealer.card_says("Live 97 (97-00)")
+    dealer.until("the second Enter confirms", lambda: confirmed(dealer, "Live 97 (97-00)"))
     dealer.script("const list = arguments[0]; list.value = '10'; list.dispatchEvent(new Event('change'))", dealer.in_card("select.seconds"))
     dealer.quote("97.5")
     dealer.card_says("Live 97.5 (97-16), valid 0:")
     dealer.card_says("validity over: it can\u2019t be hit, and still counts as exposure")
     assert dealer.text("#top").count("Exposure 2,000,000 of") == 1
+
+
+def confirmed(page: Browser, words: str) -> bool:
+    """Presses Enter again, until the card says so."""
+    if words not in page.card().text:
+        page.press(Keys.ENTER)
+    return words in page.card().text
+
+
+def test_presses_that_were_meant_for_what_stood_there_before(house: House) -> None:
+    """A double click on Close, on Withdraw, and on a price far off binds nothing; nor does a pass or a decline by one press."""
+    investor, dealer, view = house.browser(house.investor), house.browser(house.dealer), house.view(house.investor)
+    first, second = view.ask_for(["DLR1"]), view.ask_for(["DLR1"])
+    assert view.act(do="pass", request=first) == ""
+    for page in (investor, dealer):
+        page.until("the first has ended", lambda page=page: "assed" in page.card(0).text)  # type: ignore[misc]
+        page.until("Close stands", lambda page=page: page.stands(page.in_card("button.small", 0)))  # type: ignore[misc]
+        twice = ActionChains(page.driver).move_to_element(page.in_card("button.small", 0)).click().pause(0.25).click()
+        twice.click().perform()  # type: ignore[no-untyped-call]
+        page.until("one card is left", lambda page=page: len(page.all("article.card")) == 1)  # type: ignore[misc]
+    dealer.quote("19.5")
+    dealer.card_says("Your first price on this bond is 80.5 points from 100: Enter again if it is meant.", "No live quote")
+    dealer.script("""const entry = arguments[0];
+        entry.value = '19.25';
+        entry.dispatchEvent(new Event('input'));
+        for (let count = 0; count < 5; ++count) entry.dispatchEvent(new KeyboardEvent('keydown', {key: 'Enter', bubbles: true, cancelable: true}));""",
+                  dealer.in_card("input.entry"))
+    dealer.card_says("80.75 points from 100", "No live quote")
+    dealer.quote("99.5")
+    dealer.card_says("Live 99.5")
+    dealer.until("Withdraw stands", lambda: dealer.stands(dealer.in_card("button.withdraw")))
+    ActionChains(dealer.driver).move_to_element(dealer.in_card("button.withdraw")).click().pause(0.4).click().perform()  # type: ignore[no-untyped-call]
+    dealer.card_says("No live quote")
+    assert "Declined" not in dealer.card().text
+    investor.press_in_card("button.pass")
+    investor.card_says("Pass?")
+    dealer.press_in_card("button.decline")
+    dealer.card_says("Decline?")
+    view.until("nothing is pending", lambda: not view.requests[second]["pending"])
+    assert view.requests[second]["state"] == "open" and "Declined" not in dealer.card().text
+
+
+def test_who_leaves_live_quotes_is_asked(house: House) -> None:
+    """The first press of Log out says how many quotes stay live, and the last price is known at the next login."""
+    view, dealer = house.view(house.investor), house.browser(house.dealer)
+    view.ask_for(["DLR1"])
+    dealer.card_says("INV1 buys")
+    dealer.quote("99.5")
+    dealer.card_says("Live 99.5")
+    dealer.click("#logout")
+    dealer.until_says("#top", "1 quote stays live and can be hit", "Venue connected")
+
+    def left() -> bool:
+        if dealer.all("#login") and dealer.one("#login").is_displayed():
+            return True
+        dealer.one("#logout").click()
+        return False
+
+    dealer.until("the next press leaves", left)
+    dealer.log_in("tess")
+    dealer.card_says("Live 99.5", "your last 99.5")
 
 
 def test_the_ticket(house: House) -> None:
@@ -186,12 +247,14 @@ def test_the_ticket(house: House) -> None:
     investor.card_says("BUY", "1,500,000", "Cedar", "waiting")
     investor.driver.refresh()
     investor.until_says(".chips", "the best")  # the desk keeps it
-    investor.click("button.again")
+    investor.until("the request can be repeated", lambda: investor.all("button.again"))
+    investor.script("document.querySelector('button.again').click(); document.querySelector('.ticket button.strong').click()")
     investor.until("the ticket is filled in", lambda: investor.one("#quantity").get_attribute("value") == "1,500,000")
     assert investor.one("#bond").get_attribute("value") == "Cedar 4.75 02/34"
     assert [box.get_attribute("value") for box in investor.all(".picks input") if box.is_selected()] == ["DLR2"]
-    investor.press(Keys.ENTER)
-    investor.until("there are two", lambda: len(investor.all("article.card")) == 2)
+    investor.until_says(".ticket", "Filled in just now")  # so soon it is no look at what stands there
+    assert len(investor.all("article.card")) == 1
+    investor.until("a later one asks", lambda: len(investor.all("article.card")) == 2 or investor.press(Keys.ENTER))
     assert investor.complaints() == []
 
 

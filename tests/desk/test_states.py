@@ -33,7 +33,7 @@ def test_two_windows_and_a_restart_show_the_same(house: House) -> None:
     window = house.view(house.investor, "tom")
     dealer.quote(shown, 99 * POINT)
     window.until("the quote is in the other window", lambda: window.requests[asked]["quotes"])
-    assert window.requests == investor.requests or investor.hear(5)
+    window.until("both show the same", lambda: window.requests == investor.requests)
     dealer.quote(shown, 98 * POINT)
     house.dealer.kill()
     house.dealer.start()

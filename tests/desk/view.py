@@ -6,13 +6,14 @@ import json
 import os
 import socket
 import struct
+import threading
 import time
 from collections.abc import Callable
 from dataclasses import dataclass, field
 from typing import Any
 
 from tests.desk.desks import PASSWORD, Desk
-from tests.gateway.wait import LONG, TooLong
+from tests.gateway.wait import LONG, STEP, TooLong
 
 Json = dict[str, Any]
 
@@ -97,7 +98,7 @@ class View:
     said: dict[int, str] = field(default_factory=dict)
     is_whole: bool = False  # it has all requests of the day
     closed: int | None = None
-    on_message: Callable[[Json], None] | None = None
+    sending: threading.Lock = field(default_factory=threading.Lock)
     _count: int = 0
     _parts: bytes = b""
 
@@ -105,13 +106,26 @@ class View:
         self.ticket = self.ticket or log_in(self.desk, self.login)
         self.link, status = upgrade(self.desk.port.number, "127.0.0.1:%d" % self.desk.port.number, self.desk.origin, self.ticket.cookie)
         assert status == 101, status
+        self.listen()
         self.send({"token": self.ticket.token})
         self.until("the day", lambda: self.is_whole)
+
+    def listen(self) -> None:
+        """Reads from now on, and answers the desk's pings, whatever else the test does."""
+        threading.Thread(target=self.read, daemon=True).start()
+
+    def read(self) -> None:
+        while self.closed is None:
+            self.hear()
 
     def send(self, message: Json) -> None:
         data, mask = json.dumps(message).encode(), os.urandom(4)
         size = bytes([0x80 | len(data)]) if len(data) < 126 else bytes([0xFE]) + struct.pack(">H", len(data))
-        self.link.sendall(b"\x81" + size + mask + bytes(one ^ mask[at % 4] for at, one in enumerate(data)))
+        self.put(b"\x81" + size + mask + bytes(one ^ mask[at % 4] for at, one in enumerate(data)))
+
+    def put(self, data: bytes) -> None:
+        with self.sending:
+            self.link.sendall(data)
 
     def _take(self, count: int) -> bytes:
         data = b""
@@ -122,59 +136,53 @@ class View:
             data += piece
         return data
 
-    def hear(self, seconds: float) -> bool:
-        """Takes one frame that comes within this time; whether one came."""
-        self.link.settimeout(seconds)
+    def hear(self) -> None:
+        """Takes one frame."""
         try:
             first = self._take(2)
-            self.link.settimeout(LONG)
             length = first[1] & 127
             if length > 125:
                 length = struct.unpack(">H", self._take(2))[0] if length == 126 else struct.unpack(">Q", self._take(8))[0]
             data = self._take(length)
+            kind = first[0] & 15
+            if kind == CLOSE:
+                self.closed = struct.unpack(">H", data[:2])[0]
+            elif kind == PING:
+                self.put(b"\x8a" + bytes([0x80 | len(data)]) + bytes(4) + data)
+            else:
+                self._parts += data
+                if first[0] & 0x80:
+                    data, self._parts = self._parts, b""
+                    self.take(json.loads(data))
         except TimeoutError:
-            return False
-        except (ConnectionError, OSError):
+            return
+        except OSError:
             self.closed = self.closed or 1006
-            return False
-        kind = first[0] & 15
-        if kind == CLOSE:
-            self.closed = struct.unpack(">H", data[:2])[0]
-        elif kind == PING:
-            self.link.sendall(b"\x8a" + bytes([0x80 | len(data)]) + bytes(4) + data)
-        else:
-            self._parts += data
-            if first[0] & 0x80:
-                data, self._parts = self._parts, b""
-                self.take(json.loads(data))
-        return True
 
     def take(self, message: Json) -> None:
         kind = message["t"]
         if kind == "hello":
             self.hello, self.session, self.requests, self.is_whole = message, message["session"], {}, False
         elif kind == "requests":
-            self.requests.update((one["id"], one) for one in message["requests"])
+            self.requests = {**self.requests, **{one["id"]: one for one in message["requests"]}}
             self.is_whole = self.is_whole or message.get("last", False)
         elif kind == "session":
             self.session = message
         elif kind == "said":
             self.said[message["number"]] = message["why"]
-        if self.on_message:
-            self.on_message(message)
 
     def until(self, what: str, holds: Callable[[], object], seconds: float = LONG) -> None:
         end = time.monotonic() + seconds
         while not holds():
             if time.monotonic() > end or self.closed:
                 raise TooLong("%s (closed: %s): not within %g s\n%s\n%s" % (what, self.closed, seconds, json.dumps(list(self.requests.values())[-2:]), self.session))
-            self.hear(0.1)
+            time.sleep(STEP)
 
     def until_closed(self) -> int:
         end = time.monotonic() + LONG
         while self.closed is None:
             assert time.monotonic() < end, "the socket is open still"
-            self.hear(0.1)
+            time.sleep(STEP)
         return self.closed
 
     def act(self, **command: Any) -> str:

@@ -47,8 +47,14 @@ def test_many_connections(stage: Stage) -> None:
     stage.door.limits |= {"strangers_per_address": 8, "logon_seconds": int(LONG)}
     stage.open(stage.other, stage.dealer)
     wires = [Wire(stage.door.port) for _ in range(100)]
-    until("those past the limit are closed", LONG, lambda: sum(wire.closed_within(0.001) for wire in wires) == 92)
-    until("they are counted", LONG, lambda: stage.counters().get(refused_for("too many strangers of an address")) == 92)
+
+    def closed() -> int:
+        return sum(wire.closed_within(0.001) for wire in wires)
+
+    # A firm that has just logged on may have a stranger's place for a moment more: then fewer of these have one.
+    until("those past the limit are closed", LONG, lambda: closed() >= 92)
+    until("they are counted", LONG, lambda: stage.counters().get(refused_for("too many strangers of an address")) == closed())
+    check(closed() < 100, "nobody has a place")
     stage.ping(stage.other)
     stage.ping(stage.dealer)
     for wire in wires:

@@ -30,7 +30,7 @@ from tests.gateway.strangers import (
     with_others,
     with_repeats,
 )
-from tests.gateway.wait import within
+from tests.gateway.wait import LONG, until, within
 from tests.gateway.wire import Wire, framed
 
 
@@ -222,8 +222,7 @@ def test_firms_of_one_address(stage: Stage) -> None:
         wire.logon(b"NOBODY", b"secret")
     ended = [wire.closed_within(CLOSED) for wire in wires]
     check(all(ended), "%d of 16 stay" % ended.count(False))
-    judged = stage.counters().get('mireseason_refused_total{reason="unknown name"}', 0)
-    check(judged == 16, "%g of 16 were judged" % judged)
+    until("all are judged", LONG, lambda: stage.counters().get('mireseason_refused_total{reason="unknown name"}', 0) == 16)
     stage.ping(stage.other)
 
 

@@ -77,6 +77,11 @@ class Nursery:
             "-m",
             "pytest",
             mutant.test,
+            # The copy's own settings: paths among the options are no places to look for others.
+            "-c",
+            str(self.folder / "pyproject.toml"),
+            "--rootdir",
+            str(self.folder),
             "--junitxml",
             str(report),
             "-o",
@@ -104,9 +109,8 @@ class Nursery:
     def venue_words(self) -> list[str]:
         program = self.out / GATEWAY
         return [
-            "--venue",
-            " ".join(self.venue),
-            *(["--gateway", str(program)] if program.exists() else []),
+            "--venue=" + " ".join(self.venue),
+            *(["--gateway=" + str(program)] if program.exists() else []),
         ]
 
 

@@ -1,0 +1,63 @@
+// Presses that bind the firm. One that comes so soon after its button came to this place, or began to
+// mean something else, was meant for what stood there before: it does nothing.
+import {h, set} from './dom.js';
+
+export const settled = 700;      // milliseconds that a button has to have stood where it is
+const look = 100;                // between two looks at where buttons stand
+const moved = 3;                 // pixels
+const armedFor = 4000;           // how long a first press is remembered
+export const doubleClick = 300;  // is one press
+
+const places = new WeakMap();
+
+// In the document, so that scrolling moves nothing.
+function placeOf(button) {
+  const rect = button.getBoundingClientRect();
+  return {x: rect.left + scrollX, y: rect.top + scrollY, is: rect.width > 0, since: performance.now()};
+}
+
+function sees(button) {
+  const now = placeOf(button), before = places.get(button);
+  const stands = before?.is && now.is && Math.abs(now.x - before.x) <= moved && Math.abs(now.y - before.y) <= moved;
+  if (!stands) places.set(button, now);
+  return stands ? now.since - before.since : 0;
+}
+
+// Guards every button with data-binds under this node; tell(button) is called where a press did nothing.
+export function guardPresses(root, tell) {
+  setInterval(() => { for (const button of root.querySelectorAll('button[data-binds]')) sees(button); }, look);
+  root.addEventListener('click', event => {
+    const button = event.target.closest('button[data-binds]');
+    if (!button || event.detail === 0) return; // a key presses what has the focus, wherever it stands
+    if (sees(button) >= settled) return;
+    event.preventDefault();
+    event.stopImmediatePropagation();
+    tell(button);
+  }, true);
+  root.addEventListener('keydown', event => { // a key that is held down is one press
+    if (event.repeat && (event.key === 'Enter' || event.key === ' ') && event.target.closest('button')) event.preventDefault();
+  }, true);
+}
+
+// A button that acts on its second press; the first asks.
+export function twoPresses(name, kind, act) {
+  let armed = null;
+  const disarm = () => {
+    clearTimeout(armed?.timer);
+    armed = null;
+    set(button, name);
+    button.classList.remove('armed');
+  };
+  const button = h('button', {type: 'button', className: kind, 'data-binds': kind, onclick: () => {
+    const moment = performance.now();
+    if (!armed) {
+      armed = {at: moment, timer: setTimeout(disarm, armedFor)};
+      set(button, `${name}?`);
+      return button.classList.add('armed');
+    }
+    if (moment - armed.at < doubleClick) return;
+    disarm();
+    act();
+  }, onkeydown: event => { if (event.key === 'Escape') disarm(); }, onblur: () => armed && disarm()}, name);
+  return button;
+}
