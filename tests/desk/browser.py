@@ -10,6 +10,7 @@ from selenium.common.exceptions import (ElementNotInteractableException, Javascr
                                         StaleElementReferenceException, WebDriverException)
 from selenium.webdriver.chrome.options import Options
 from selenium.webdriver.chrome.service import Service
+from selenium.webdriver.common.action_chains import ActionChains
 from selenium.webdriver.common.by import By
 from selenium.webdriver.common.keys import Keys
 from selenium.webdriver.remote.webelement import WebElement
@@ -164,6 +165,11 @@ class Browser:
             return False
 
         self.until("%s of card %d can be clicked" % (where, number), done)
+
+    def click_twice(self, button: WebElement, pause: float) -> None:
+        """Two clicks at the place where a button stands now, whatever stands there at the second."""
+        chain = ActionChains(self.driver).move_to_element(button).click().pause(pause).click()  # type: ignore[no-untyped-call]
+        chain.perform()
 
     def stands(self, button: WebElement) -> bool:
         """Whether an element has not moved for a second, as the page asks of what binds."""

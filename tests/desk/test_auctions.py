@@ -1,6 +1,5 @@
 """Whole auctions in a browser, from both sides: each button, each key, and what each says."""
 
-from selenium.webdriver.common.action_chains import ActionChains
 from selenium.webdriver.common.keys import Keys
 
 from tests.desk.browser import Browser
@@ -169,8 +168,7 @@ def test_presses_that_were_meant_for_what_stood_there_before(house: House) -> No
     for page in (investor, dealer):
         page.until("the first has ended", lambda page=page: "assed" in page.card(0).text)  # type: ignore[misc]
         page.until("Close stands", lambda page=page: page.stands(page.in_card("button.small", 0)))  # type: ignore[misc]
-        twice = ActionChains(page.driver).move_to_element(page.in_card("button.small", 0)).click().pause(0.25).click()
-        twice.click().perform()  # type: ignore[no-untyped-call]
+        page.click_twice(page.in_card("button.small", 0), 0.25)
         page.until("one card is left", lambda page=page: len(page.all("article.card")) == 1)  # type: ignore[misc]
     dealer.quote("19.5")
     dealer.card_says("Your first price on this bond is 80.5 points from 100: Enter again if it is meant.", "No live quote")
@@ -183,7 +181,7 @@ def test_presses_that_were_meant_for_what_stood_there_before(house: House) -> No
     dealer.quote("99.5")
     dealer.card_says("Live 99.5")
     dealer.until("Withdraw stands", lambda: dealer.stands(dealer.in_card("button.withdraw")))
-    ActionChains(dealer.driver).move_to_element(dealer.in_card("button.withdraw")).click().pause(0.4).click().perform()  # type: ignore[no-untyped-call]
+    dealer.click_twice(dealer.in_card("button.withdraw"), 0.4)
     dealer.card_says("No live quote")
     assert "Declined" not in dealer.card().text
     investor.press_in_card("button.pass")
@@ -254,8 +252,15 @@ def test_the_ticket(house: House) -> None:
     assert [box.get_attribute("value") for box in investor.all(".picks input") if box.is_selected()] == ["DLR2"]
     investor.until_says(".ticket", "Filled in just now")  # so soon it is no look at what stands there
     assert len(investor.all("article.card")) == 1
-    investor.until("a later one asks", lambda: len(investor.all("article.card")) == 2 or investor.press(Keys.ENTER))
+    investor.until("a later one asks", lambda: asked_again(investor))
     assert investor.complaints() == []
+
+
+def asked_again(page: Browser) -> bool:
+    """Presses Enter on the ticket's button, until there are two requests."""
+    if len(page.all("article.card")) < 2 and page.driver.switch_to.active_element.text.startswith("Ask"):
+        page.press(Keys.ENTER)
+    return len(page.all("article.card")) == 2
 
 
 def test_blotter_filter_and_export(house: House) -> None:

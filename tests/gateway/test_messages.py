@@ -52,6 +52,12 @@ def test_another_firms_words(stage: Stage) -> None:
     request = stage.ask()
     for dealer in (stage.dealer, stage.other):
         stage.quote(dealer, request)
+
+    def quotes() -> int:
+        stage.investor.look()
+        return sum(message.kind == b"S" for message in stage.investor.received)
+
+    until("the investor is shown both quotes", LONG, lambda: quotes() == 2)
     texts = [b"x\nhex DLR2 09:00:00 00", b"x\nsay DLR2 T2 09:00:00 Z 298=4", b"x|34=7|", b"x\r\n%%\r\n", b"\n\n\n", b"# x\n#", b"x\nclock 23:59:59\n"]
 
     def send_all() -> None:

@@ -17,9 +17,10 @@ from tests.harness.options import Options
 LIMIT = 14_400  # seconds of one part: each has its own limits, and ends by them
 ROOM = 1_500_000_000  # bytes of memory in which the disks of hosts may be
 # However it ends, so does all that it started, and what it mounted is gone, its hosts' network namespaces too. And nobody else
-# has a disk of its hosts mounted, which then would not lose its power.
+# has a disk of its hosts mounted, which then would not lose its power. The shell stays, as the first process, which takes the
+# status of whatever has lost its parent: a server that was killed and whose end nobody takes is one that runs, to Patroni.
 APART = ["unshare", "--pid", "--mount-proc", "--fork", "--kill-child", "sh", "-c",
-         'mkdir -p /run/netns && mount -t tmpfs tmpfs /run/netns && exec "$@"', "sh"]
+         'mkdir -p /run/netns && mount -t tmpfs tmpfs /run/netns || exit; "$@"; exit $?', "sh"]
 PASSED = re.compile(r"^(\d+) passed, (\d+) failed$", re.MULTILINE)
 Part = Callable[..., tuple[int, int, str]]
 
