@@ -116,7 +116,7 @@ heard_of names bytes = heard_by names (front_of bytes) bytes
 abbrev pub whole_body : List ℕ → Option (List ℕ)
 whole_body bytes = if is_whole (front_of bytes) bytes then Some (body_of bytes) else None
 
--- whether bytes are a Logon that can be read: row 1, but for the names
+-- whether bytes are a Logon that can be read, whoever its names mean
 abbrev pub is_logon : List ℕ → Bool
 is_logon bytes =
     let fields = fields_in (body_of bytes) in

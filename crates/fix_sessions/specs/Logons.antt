@@ -161,7 +161,7 @@ answered_expects after reading.Missing = None
 answered_expects after reading.Faulty = None
 answered_expects after (reading.Is number) = Some after.expected
 
--- row 9
+-- a Logon that nothing refuses is answered, and counted
 abbrev pub accepts : Session → ℕ → ℕ → Terms → Turn
 accepts s connection now terms =
     let after = accepted_day s.day terms in
@@ -175,7 +175,7 @@ accepts s connection now terms =
       drops_rejects = terms.resets;
     }
 
--- row 8: 789 is no number from 1 to the next that the venue will send
+-- whether 789 is no number from 1 to the next that the venue will send
 abbrev pub is_ahead : Reading → ℕ → Bool
 is_ahead reading.Missing answer = false
 is_ahead reading.Faulty answer = true
@@ -186,7 +186,7 @@ judged_ahead s connection now terms =
     if is_ahead terms.expects (answer_number s.day terms) then refused s connection terms why.Ahead
     else accepts s connection now terms
 
--- row 7
+-- a Logon whose number is too low is refused
 abbrev pub too_low : Session → ℕ → Terms → Turn
 too_low s connection terms =
     let low = why.TooLow s.day.expected in
@@ -202,8 +202,8 @@ judged_number s connection now terms =
     else if nat_lt terms.number (expected_by s.day terms) then too_low s connection terms
     else judged_ahead s connection now terms
 
--- row 6: numbers are not reset once a message of the firm was given to the venue, or the firm is
--- known to have one of the venue's
+-- whether a Logon may reset the numbers: not once a message of the firm was given to the venue, or
+-- the firm is known to have one of the venue's
 abbrev pub may_reset : Day → Bool
 may_reset d = not d.was_taken && not (nat_lt 0 d.first_given && nat_le d.first_given d.had)
 
@@ -212,7 +212,7 @@ judged_reset s connection now terms =
     if terms.resets && not ((terms.number == 1) && may_reset s.day) then refused s connection terms why.Reset
     else judged_number s connection now terms
 
--- rows 4 and 5
+-- a Logon while the venue is closed or the firm suspended is refused, and one of wrong terms
 abbrev pub judged : Session → ℕ → Clock → Terms → Turn
 judged s connection clock terms =
     if not s.day.is_open then refused s connection terms why.Closed
@@ -223,7 +223,7 @@ judged s connection clock terms =
     else if not (is_in_time clock terms.sent) then refused s connection terms why.Clock
     else judged_reset s connection clock.moment terms
 
--- row 3: another connection has the session
+-- Where another connection has the session.
 
 -- a TestRequest asks the old one
 abbrev pub probed : Phase → Phase
@@ -250,7 +250,7 @@ judged_by s connection clock terms phase.Away =
     judged (record s { waiting = without connection s.waiting }) connection clock terms
 judged_by s connection clock terms other = waits_for s connection clock.moment s.waiting
 
--- rows 1 and 2
+-- no Logon that can be read, or wrong credentials: the connection ends, and nothing is sent
 abbrev pub first_by : Session → ℕ → Clock → Bool → Option Terms → Turn
 first_by s connection clock is_known None = ended s connection
 first_by s connection clock is_known (Some terms) =
