@@ -1,14 +1,15 @@
 -- The investors' places at the start of a day stand where no fact stands.
 use Rattle.step_replay.proofs.Common.{◌≡◌, ◌<◌, ℕ, zero, suc, ◌+◌, ◌++◌, get_or, option_map, List}
-use Rattle.step_replay.proofs.Common.{[], ◌∷◌, length, replicate, Some, refl, sym, ap, ◌∙◌, subst}
+use Rattle.step_replay.proofs.Common.{[], ◌∷◌, length, replicate, Some, None, refl, sym, ap, ◌∙◌, subst}
 use Rattle.step_replay.proofs.Common.{same_Some, Configuration, investor_numbered, InvestorRow}
 use Rattle.step_replay.proofs.Common.{market_of, market_for, InvestorEvent, room_after, RoomEvent}
 use Rattle.step_replay.proofs.Common.{Match, InvestorOpens, InvestorsOpen, InvestorStands, RoomIs}
 use Rattle.step_replay.proofs.Common.{slots, of_investor, of_room, InvestorPlace}
 use Rattle.std.proofs.lemmas.Option.{slice_get_read}
 use Rattle.investor_desk.specs.InvestorDesk.{DeskEvents, no_events}
-use Rattle.investor_desk.specs.InvestorOutput.{desk_after}
+use Rattle.investor_desk.specs.InvestorOutput.{desk_after, investor_notes}
 use Rattle.step_replay.proofs.InvestorPlaceLemmas.{numbered_as}
+use Rattle.step_replay.specs.NotedTrail.{noted_in, noted_so}
 use Rattle.step_replay.proofs.MatchLemmas.{grown}
 
 vacant : (firm many k : ℕ)
@@ -19,7 +20,7 @@ vacant firm (suc many) k = (refl, vacant firm many (k + 1))
 
 pub investor_begins : (config : Configuration) (firm : ℕ) (row : InvestorRow) (place : InvestorPlace)
     → InvestorOpens config firm row place → InvestorStands config [] firm row place
-unfolding desk_after of_investor
+unfolding desk_after of_investor noted_in
 investor_begins config firm row place opens =
     let events_are : place.desk.events ≡ [] =
     ap (λ (d : DeskEvents). d.events) opens.desk_is in
@@ -27,6 +28,8 @@ investor_begins config firm row place opens =
       market_is = ap (λ (d : DeskEvents). d.market) opens.desk_is;
       state_is = ap (λ (events : List InvestorEvent).
           desk_after (market_of config firm row) events) events_are;
+      notes_are = ap (λ (events : List InvestorEvent).
+          noted_so [] None (investor_notes (market_of config firm row) events)) (sym events_are);
       rooms_are = subst (λ (l : List (List RoomEvent)). Match (RoomIs [] firm) 1 (slots row) l)
           (sym opens.rooms_are) (vacant firm row.requests 1);
     }

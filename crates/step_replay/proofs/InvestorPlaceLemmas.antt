@@ -29,6 +29,8 @@ use Rattle.venue_places.specs.declared.arrivals.ForInvestor.TheVariants as to_in
 use Rattle.step_replay.specs.InvestorTrail.{book_by, entries_of}
 use Rattle.step_replay.specs.InvestorGrowth.{desk_push, trail_push}
 use Rattle.step_replay.proofs.FoundDealers.{idle_does}
+use Rattle.step_replay.specs.NotedGrowth.{noted_push}
+use Rattle.step_replay.specs.NotedTrail.{NotedAs}
 
 -- the row of an investor, by its place behind the dealers
 pub numbered_as : (config : Configuration) (number index : ℕ)
@@ -123,8 +125,9 @@ module _ {config : Configuration} {facts : List Fact} {floor : Floor} {number : 
     -- where its desk has come as far as its trail
     desk_stands : (added : List InvestorEntry) → desk.market ≡ place.desk.market
         → desk_after market desk.events ≡ desk_of (trail ++ added)
+        → NotedAs market desk.events (trail ++ added)
         → Stands config (facts ++ map (AtInvestor number) added) after
-    desk_stands added same state =
+    desk_stands added same state noted =
         let more : List Fact = map (AtInvestor number) added in
         at_investor_stands more at (record place { desk = desk }) is own.there before
         (λ n. trail_at_investor n number added)
@@ -137,6 +140,8 @@ module _ {config : Configuration} {facts : List Fact} {floor : Floor} {number : 
           state_is = state ∙ ap (λ (l : List InvestorEntry). desk_of l)
               (sym (investor_grown number facts more
               ∙ ap (λ l. trail ++ l) (own_investor number added)));
+          notes_are = subst (NotedAs market desk.events) (sym (investor_grown number facts more
+              ∙ ap (λ l. trail ++ l) (own_investor number added))) noted;
           rooms_are = kept (RoomIs facts number) (RoomIs (facts ++ more) number) 1 (slots own.row)
               place.rooms.items
               (λ n slot events least known. known
@@ -154,6 +159,9 @@ module _ {config : Configuration} {facts : List Fact} {floor : Floor} {number : 
         ∙ desk_push market place.desk.events more
         ∙ ap (λ (state : DeskState). after_event market state more) own.stands.state_is
         ∙ trail_push market trail more)
+        (subst (λ (d : DeskEvents).
+        NotedAs market d.events (trail ++ entries_of market trail more)) (sym same)
+        (noted_push market place.desk.events trail more own.stands.state_is own.stands.notes_are))
 
     -- one event at its desk, where it may come
     event_if : (may : Bool) (more : InvestorEvent) → desk ≡ where_so may place.desk more
@@ -162,7 +170,10 @@ module _ {config : Configuration} {facts : List Fact} {floor : Floor} {number : 
     event_if false more same = record {
       stands = desk_stands [] (ap (λ (d : DeskEvents). d.market) same)
           (ap (λ (d : DeskEvents). desk_after market d.events) same ∙ own.stands.state_is
-          ∙ ap (λ (l : List InvestorEntry). desk_of l) (sym (append-nil trail)));
+          ∙ ap (λ (l : List InvestorEntry). desk_of l) (sym (append-nil trail)))
+          (subst (λ (d : DeskEvents). NotedAs market d.events (trail ++ [])) (sym same)
+          (subst (NotedAs market place.desk.events) (sym (append-nil trail))
+          own.stands.notes_are));
       leaves = refl;
     }
 

@@ -18,6 +18,7 @@ use Rattle.step_replay.specs.DealerView.{sent_at, view_at_start}
 use Rattle.step_replay.specs.RowOfWords.{Happens, settlement_in, with_lifting}
 use Rattle.step_replay.proofs.RowLemmas.{asked_stands, asks_at, unasked, lifting_desk}
 use Rattle.step_replay.proofs.RowLemmas.{lifting_words}
+use Rattle.step_replay.specs.NoteViews.{dealer_note_view, notes_at}
 
 -- Items.
 
@@ -135,3 +136,11 @@ pub all_sent : (date : List ℕ) (row : DealerRow) (dues : List Due) (place : �
     → sent_at desk ≡ dealer_view date row dues
 all_sent date row dues place desk words done stands =
     ap sent_at stands.desk_is ∙ ap (dealer_view date row) (take_all place dues done)
+
+-- what is noted with it
+pub all_noted : (date : List ℕ) (row : DealerRow) (dues : List Due) (place : ℕ)
+    → (desk : DeskEvents) (words : Row) → length dues ≤ place
+    → StandsFor (view_after date row (take place dues)) desk words
+    → notes_at desk ≡ dealer_note_view date row dues
+all_noted date row dues place desk words done stands =
+    ap notes_at stands.desk_is ∙ ap (dealer_note_view date row) (take_all place dues done)

@@ -19,6 +19,7 @@ mod LiftingLemmas
 mod ListEnds
 mod LiveLemmas
 mod MatchLemmas
+mod NotedLemmas
 mod OpenDeadlines
 mod OpenRoomLemmas
 mod OpeningLemmas

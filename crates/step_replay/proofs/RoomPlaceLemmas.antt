@@ -9,7 +9,8 @@ use Rattle.step_replay.proofs.Common.{InvestorRow, RoomRef, room_after, RoomEven
 use Rattle.step_replay.proofs.Common.{of_room, InRoom, InvestorStands, RoomIs, Stands, slots}
 use Rattle.step_replay.proofs.Common.{InvestorPlace, Floor, behind_dealers, lent, numbered_at}
 use Rattle.step_replay.proofs.Common.{investor_stays, other_room, room_grown, room_stays, desk_of}
-use Rattle.step_replay.proofs.Common.{and_left}
+use Rattle.step_replay.proofs.Common.{and_left, market_of}
+use Rattle.step_replay.specs.NotedTrail.{NotedAs}
 use Rattle.std.proofs.lemmas.Option.{cond_some}
 use Rattle.step_replay.specs.RoomPlaces.{within, room_place}
 use Rattle.step_replay.specs.PlaceLemmas.{own_room, investor_in_room, trail_in_room}
@@ -234,6 +235,9 @@ module _ {config : Configuration} {facts : List Fact} {floor : Floor} {at : Room
         market_is = found.stands.market_is;
         state_is = found.stands.state_is ∙ ap desk_of
             (sym (investor_stays at.investor facts more (investor_in_room at.investor at added)));
+        notes_are = subst (NotedAs (market_of config at.investor found.row) old.desk.events)
+            (sym (investor_stays at.investor facts more (investor_in_room at.investor at added)))
+            found.stands.notes_are;
         rooms_are = changed (RoomIs facts at.investor) (RoomIs (facts ++ more) at.investor) 1
             (slots found.row) old.rooms.items index at.n found.slot new found.n_is found.slot_is
             (grown ∙ ap (λ l. of_room at facts ++ l) (sym (own_room at added))

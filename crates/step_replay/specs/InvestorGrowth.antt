@@ -36,7 +36,7 @@ module _ (market : InvestorMarket) (trail : List InvestorEntry) (more : Investor
   messages = written_from market (length (sent_by trail) + 1) (moment_of more)
       (event_messages market (book_by trail) more)
 
-  facts_grown : facts_of (trail ++ entries_of market trail more)
+  pub facts_grown : facts_of (trail ++ entries_of market trail more)
       ≡ facts_of trail ++ event_facts market (book_by trail) more
   unfolding entries_of
   facts_grown =

@@ -22,6 +22,9 @@ pub mod Liftings
 pub mod LiveDays
 pub mod LiveStanding
 pub mod Matching
+pub mod NoteViews
+pub mod NotedGrowth
+pub mod NotedTrail
 pub mod OpenRooms
 pub mod Openings
 pub mod OwnerLemmas

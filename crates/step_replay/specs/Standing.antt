@@ -17,6 +17,7 @@ use Rattle.step_replay.specs.DealerTrail.{DealerEntry, facts_of, rooms_by, sent_
 use Rattle.step_replay.specs.DealerTrail.{was_lifted, was_withdrawn}
 use Rattle.step_replay.specs.InvestorTrail as investor_trail
 use Rattle.step_replay.specs.Matching.{Match}
+use Rattle.step_replay.specs.NotedTrail.{NotedAs}
 use Rattle.step_replay.specs.VenueFacts.{Fact, of_dealer, of_room, of_investor}
 use Rattle.step_replay.specs.Actions.{Effect, dealer_of, first_word, word_for, words_of}
 use Rattle.step_replay.specs.DueList.{due_list}
@@ -60,6 +61,8 @@ pub record InvestorStands (config : Configuration) (facts : List Fact) (number :
         facts = investor_trail.facts_of (of_investor number facts);
         sent = investor_trail.sent_by (of_investor number facts);
       }
+  pub notes_are : NotedAs (market_of config number row) place.desk.events
+      (of_investor number facts)
   pub rooms_are : Match (RoomIs facts number) 1 (slots row) place.rooms.items
 
 -- what the word of a quote is: lifted, withdrawn, or open yet

@@ -8,11 +8,13 @@ ghost use Rattle.dealer_desk.specs.DealerOutput.{word_asked};
 ghost use Rattle.dealer_desk.specs.declared.events.DealerEvent.{DealerEvent};
 ghost use Rattle.step_replay.specs.declared.dues.Due.{Due};
 ghost use Rattle.step_replay.specs.DealerView as spec;
+ghost use Rattle.step_replay.specs.NoteViews.{dealer_note_view};
 ghost use Rattle.step_replay.specs.RowOfWords as kept;
 
 use crate::Due;
 use dealer_desk::{
-    DealerDesk, DealerVerdict, facts_say_how_words_were_settled, words_are_asked_event_by_event,
+    DealerDesk, DealerNote, DealerVerdict, facts_say_how_words_were_settled,
+    words_are_asked_event_by_event,
 };
 use fix_fields::{Date, Memory, Moment};
 use quote_messages::{FirmMessage, RoomRef, SentMessage};
@@ -33,12 +35,29 @@ pub fn alone(
     ensures { IfOk result (λ messages.
         messages.items ≡ spec.dealer_view date.now row.now dues.now) }
 {
+    let (messages, _) = alone_output(alloc, date, row, dues)?;
+    Ok(messages)
+}
+
+/// The messages that [`alone`] gives, and beside each what the dealer's desk notes of it: why it
+/// refuses, or of which trade it tells. It fails only for memory.
+pub fn alone_output(
+    alloc: Global,
+    date: &Date,
+    row: &DealerRow,
+    dues: &[Due],
+) -> Result<(Vec<SentMessage>, Vec<Option<DealerNote>>), Memory>
+    ensures messages { IfOk result (λ output.
+        output.0.items ≡ spec.dealer_view date.now row.now dues.now) }
+    ensures notes { IfOk result (λ output.
+        output.1.items ≡ dealer_note_view date.now row.now dues.now) }
+{
     let mut desk = DealerDesk::new(alloc, *date, row.copy())?;
     let mut words = PlainWords::new(alloc, row.quotes)?;
     for due in dues {
         do_due(&mut desk, &mut words, due)?;
     }
-    Ok(desk.into_sent())
+    Ok(desk.into_output())
 }
 
 /// Lets an item happen at the desk of its dealer, or to the word of its quote.
@@ -170,4 +189,11 @@ fn quotes_are_withdrawn_event_by_event()
 pub fn equal_lists_have_equal_views()
     ensures { (date : List ℕ) (row : DealerRow) (dues others : List Due) → dues ≡ others
         → spec.dealer_view date row dues ≡ spec.dealer_view date row others }
+{}
+
+/// So are the notes beside its messages: two lists that are equal have equal notes. It does nothing,
+/// and is called for what it says.
+pub fn equal_lists_have_equal_notes()
+    ensures { (date : List ℕ) (row : DealerRow) (dues others : List Due) → dues ≡ others
+        → dealer_note_view date row dues ≡ dealer_note_view date row others }
 {}

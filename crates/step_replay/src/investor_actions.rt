@@ -12,7 +12,7 @@ use venue_steps::{Duties, own_investor};
 
 /// Where the investor with this number among the firms has its place among the investors', which
 /// are numbered behind these dealers: none for a dealer's number.
-fn place_of(firm: u16, dealers: usize) -> Option<usize>
+pub(crate) fn place_of(firm: u16, dealers: usize) -> Option<usize>
     ensures some { IfSome result (λ at. firm ≡ dealers + at) }
     ensures none { result ≡ None → firm < dealers }
 {

@@ -28,8 +28,10 @@
 //! # What is promised
 //!
 //! - [`alone`] is `dealer_view` of the date, the dealer's row and the list, on every list, or
-//!   memory is refused. The view depends on nothing else of the venue.
-//! - [`equal_lists_have_equal_views`] says so of two lists.
+//!   memory is refused. The view depends on nothing else of the venue. [`alone_output`] gives beside
+//!   each message what the desk notes of it, which depends on the same alone.
+//! - [`equal_lists_have_equal_views`] says so of two lists, and [`equal_lists_have_equal_notes`] of
+//!   what is noted.
 //!
 //! # The whole venue
 //!
@@ -46,7 +48,9 @@
 //!   of the steps so far, each followed by turns of its actor that leave it none, and what it gives
 //!   are the messages that these added, in their order. [`LiveVenue::sweep`] is a sweep of every
 //!   room, one behind the other, at the cost of those that end. At the end of the day it is the
-//!   [`World`] of these steps ([`LiveVenue::into_world`]).
+//!   [`World`] of these steps ([`LiveVenue::into_world`]). [`LiveVenue::dealer_notes`] is what is
+//!   noted beside the messages of a dealer, by what was due to it so far, and
+//!   [`LiveVenue::investor_notes`] the same of an investor, by what became so at its place.
 //!
 //! - [`SteppedVenue`]: a venue that goes step by step, each turn a step of its own. It stands as the
 //!   audit trail of the steps so far, and tells the duty that an actor's next turn does.
@@ -82,6 +86,7 @@ mod hits;
 mod investor_actions;
 mod laws;
 mod live;
+mod live_notes;
 mod open_rooms;
 mod opening;
 mod queues;
@@ -93,7 +98,9 @@ mod steps;
 mod sweep_laws;
 mod world;
 
-pub use dealer_view::{alone, equal_lists_have_equal_views};
+pub use dealer_view::{
+    alone, alone_output, equal_lists_have_equal_notes, equal_lists_have_equal_views,
+};
 pub use dues::Due;
 pub use faults::ReplayFault;
 pub use laws::{

@@ -1,7 +1,7 @@
 use Rattle.step_replay.proofs.Common.{◌∙◌, None, ap, length, rules, take, length-replicate}
 use Rattle.step_replay.proofs.Common.{view_after}
-use Rattle.step_replay.proofs.ItemLemmas.{all_sent, item_stands, start_stands}
-use Rattle.step_replay.proofs.dealer_view.alone.Goals as goal
+use Rattle.step_replay.proofs.ItemLemmas.{all_noted, all_sent, item_stands, start_stands}
+use Rattle.step_replay.proofs.dealer_view.alone_output.Goals as goal
 
 pub loop-due-init : goal.loop-due-init
 loop-due-init c = record {
@@ -23,8 +23,14 @@ loop-due-preserved c =
       row = c.in_ok-do_due.ensures.row ∙ c.loop-due.invariant.row;
     }
 
-pub returns : goal.returns
-returns c =
-    c.into_sent.ensures
+pub returns-clause-messages : goal.returns-clause-messages
+returns-clause-messages c =
+    c.into_output.ensures.sent
     ∙ all_sent c.args.date.now c.args.row.now c.args.dues.now c.loop-due.due-index
+    c.loop-due.desk c.loop-due.words c.loop-due-test.false c.loop-due.invariant.stands
+
+pub returns-clause-notes : goal.returns-clause-notes
+returns-clause-notes c =
+    c.into_output.ensures.notes
+    ∙ all_noted c.args.date.now c.args.row.now c.args.dues.now c.loop-due.due-index
     c.loop-due.desk c.loop-due.words c.loop-due-test.false c.loop-due.invariant.stands

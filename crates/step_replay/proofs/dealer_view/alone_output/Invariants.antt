@@ -1,5 +1,5 @@
 use Rattle.step_replay.proofs.Common.{◌≡◌, length, take, view_after, StandsFor}
-use Rattle.step_replay.proofs.dealer_view.alone.Given as goal
+use Rattle.step_replay.proofs.dealer_view.alone_output.Given as goal
 
 abbrev pub invariant-loop-due : goal.invariant-loop-due
 invariant-loop-due l = record {
