@@ -9,7 +9,8 @@ use Rattle.market_terms.specs.declared.rooms.ResponseRef.{ResponseRef}
 use Rattle.investor_desk.specs.InvestorFacts.{InvestorFact, StandingRequest, offer_numbered}
 use Rattle.investor_desk.specs.InvestorFacts.{offers_of, open_request, request_numbered}
 use Rattle.investor_desk.specs.InvestorRules.{InvestorMarket}
-use Rattle.investor_desk.specs.InvestorOutput.{answer_facts, answer_messages, award_of, close_by}
+use Rattle.investor_desk.specs.InvestorOutput.{answer_facts, answer_messages, answer_note}
+use Rattle.investor_desk.specs.InvestorOutput.{award_note, award_of, close_by, event_note}
 use Rattle.investor_desk.specs.InvestorOutput.{close_by_answer, closed_facts, decline_messages}
 use Rattle.investor_desk.specs.InvestorOutput.{event_facts, event_messages, expiry_facts}
 use Rattle.investor_desk.specs.InvestorOutput.{expiry_messages, refusal_of, response_message}
@@ -31,11 +32,12 @@ module _ (market : InvestorMarket) (facts : List InvestorFact) where
   pub declined_answers : (request : ℕ) (dealer : List ℕ) (moment : ℕ)
       → Answers market facts (event.DealerDeclined request dealer moment)
       (event.DealerDeclined request dealer moment)
-  unfolding event_facts event_messages
+  unfolding event_facts event_messages event_note
   declined_answers request dealer moment = record {
     facts_are = refl;
     messages_are = ap (decline_messages dealer) (open_numbered (book market facts) request)
         ∙ declined_messages dealer (open_request (book market facts) request);
+    note_is = refl;
     numbered_on = tt;
   }
 
@@ -78,6 +80,12 @@ module _ (market : InvestorMarket) (facts : List InvestorFact) where
     answered_messages (Some own) =
         ap (λ (m : OutMessage). m ∷ []) (answer_kind own response.k (refusal_of reply))
 
+    answered_note : (found : Option StandingRequest)
+        → answer_note (again market facts) response reply (option_map renamed_request found)
+        ≡ answer_note (book market facts) response reply found
+    answered_note None = refl
+    answered_note (Some own) = ap award_note (closes_so (refusal_of reply))
+
     answered_on : (found : Option StandingRequest)
         → NumberedFrom (length (offers_of facts)) (answer_facts (book market facts) request response
         reply found)
@@ -89,7 +97,7 @@ module _ (market : InvestorMarket) (facts : List InvestorFact) where
     pub answered_answers : (moment : ℕ)
         → Answers market facts (event.Answered request response reply moment)
         (event.Answered request response reply moment)
-    unfolding event_facts event_messages
+    unfolding event_facts event_messages event_note
     answered_answers moment = record {
       facts_are = ap (answer_facts (again market facts) request response reply) (numbered (book
           market facts)
@@ -97,6 +105,9 @@ module _ (market : InvestorMarket) (facts : List InvestorFact) where
           ∙ answered_facts (request_numbered (book market facts) request);
       messages_are = ap (answer_messages response reply) (numbered (book market facts) request)
           ∙ answered_messages (request_numbered (book market facts) request);
+      note_is = ap (answer_note (again market facts) response reply)
+          (numbered (book market facts) request)
+          ∙ answered_note (request_numbered (book market facts) request);
       numbered_on = answered_on (request_numbered (book market facts) request);
     }
 
@@ -121,12 +132,13 @@ module _ (market : InvestorMarket) (facts : List InvestorFact) where
 
     pub expired_answers : (moment : ℕ)
         → Answers market facts (event.Closed request moment) (event.Closed request moment)
-    unfolding event_facts event_messages
+    unfolding event_facts event_messages event_note
     expired_answers moment = record {
       facts_are = ap (expiry_facts request) (numbered (book market facts) request)
           ∙ expired_facts (request_numbered (book market facts) request);
       messages_are = ap (λ (o : Option StandingRequest). expiry_messages o) (numbered (book market
           facts) request)
           ∙ expired_messages (request_numbered (book market facts) request);
+      note_is = refl;
       numbered_on = expired_on (request_numbered (book market facts) request);
     }

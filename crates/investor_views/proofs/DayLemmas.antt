@@ -13,7 +13,7 @@ use Rattle.venue_rows.specs.declared.dealer_rows.DealerRow.{DealerRow}
 use Rattle.venue_rows.specs.declared.investor_rows.InvestorRow.{InvestorRow}
 use Rattle.investor_desk.specs.InvestorRules.{InvestorMarket}
 use Rattle.investor_desk.specs.InvestorDesk.{DeskEvents, market_for, market_of, no_events}
-use Rattle.investor_desk.specs.InvestorOutput.{DeskState, investor_output}
+use Rattle.investor_desk.specs.InvestorOutput.{DeskState, investor_notes, investor_output}
 use Rattle.investor_desk.specs.declared.events.InvestorEvent.TheVariants as event
 use Rattle.venue_places.specs.Dealers.{dealer_at}
 use Rattle.venue_places.specs.Placed.{placed, swept, where_so}
@@ -28,6 +28,7 @@ use Rattle.step_replay.specs.AuditTrail.{pending, sent_to}
 use Rattle.step_replay.specs.Coming.{effect_where}
 use Rattle.step_replay.specs.DealerTrail as dealer_trail
 use Rattle.step_replay.specs.InvestorTrail as investor_trail
+use Rattle.step_replay.specs.NotedTrail.{NotedSoFar, notes_by}
 use Rattle.step_replay.specs.PlaceLemmas.{other_investor}
 use Rattle.step_replay.specs.VenueFacts.{Fact, of_dealer, of_investor}
 use Rattle.step_replay.specs.declared.steps.Step.{Step}
@@ -206,3 +207,10 @@ module _ (duties_come : DutiesCome) (sweeps_come : SweepsCome) (config : Configu
       else investor_trail.sent_by (of_investor number (audit_trail config steps).facts))
       (no_dealer config number row is_investor)
       ∙ sym (ap (λ (state : DeskState). state.sent) (day_stands steps).state_is)
+
+  -- and what is noted of it is what that desk notes
+  pub is_noted_by_its_desk : (steps : List Step)
+      → notes_by market (of_investor number (audit_trail config steps).facts)
+      ≡ investor_notes market (desk_by market (comings config number steps)).events
+  is_noted_by_its_desk steps =
+      ap (λ (so_far : NotedSoFar). so_far.notes) (day_stands steps).notes_are

@@ -1,7 +1,7 @@
 -- An investor's desk stands where its trail has come, after what happens there and after what
 -- happens anywhere else.
 use Rattle.std.proofs.Common.{◌≡◌, Bool, true, false, List, [], ◌++◌, map, if◌then◌else◌, refl, sym}
-use Rattle.std.proofs.Common.{ap, ◌∙◌}
+use Rattle.std.proofs.Common.{ap, ◌∙◌, ◌∷◌, subst}
 use Rattle.investor_desk.specs.InvestorFacts.{book_of}
 use Rattle.investor_desk.specs.InvestorRules.{InvestorMarket}
 use Rattle.investor_desk.specs.InvestorDesk.{DeskEvents, book_at, no_events, with_event}
@@ -11,6 +11,8 @@ use Rattle.venue_steps.specs.InvestorSteps.{where_so}
 use Rattle.step_replay.specs.Actions.{at_market, nothing}
 use Rattle.step_replay.specs.InvestorGrowth.{desk_of, desk_push, trail_push}
 use Rattle.step_replay.specs.InvestorTrail.{InvestorEntry, book_by, entries_of}
+use Rattle.step_replay.specs.NotedGrowth.{noted_push}
+use Rattle.step_replay.specs.NotedTrail.{NotedAs, noted_in}
 use Rattle.step_replay.specs.PlaceLemmas.{investor_grown, own_investor, investor_stays}
 use Rattle.step_replay.specs.VenueFacts.{Fact, AtInvestor, of_investor}
 
@@ -19,6 +21,7 @@ pub record DeskStands (market : InvestorMarket) (facts : List Fact) (desk : Desk
     : Type 0 where
   pub market_is : desk.market ≡ market
   pub state_is : desk_after market desk.events ≡ desk_of (of_investor market.firm facts)
+  pub notes_are : NotedAs market desk.events (of_investor market.firm facts)
 
 module _ (market : InvestorMarket) where
   -- the trail of the investor
@@ -27,8 +30,8 @@ module _ (market : InvestorMarket) where
 
   -- at the start of the day
   pub start_stands : DeskStands market [] (no_events market)
-  unfolding desk_after of_investor
-  start_stands = record { market_is = refl; state_is = refl }
+  unfolding desk_after of_investor noted_in
+  start_stands = record { market_is = refl; state_is = refl; notes_are = refl }
 
   -- after what is added elsewhere
   pub stays : (facts added : List Fact) (desk : DeskEvents) → trail_by added ≡ []
@@ -38,6 +41,8 @@ module _ (market : InvestorMarket) where
     state_is = before.state_is
         ∙ ap (λ (l : List InvestorEntry). desk_of l)
         (sym (investor_stays market.firm facts added none));
+    notes_are = subst (NotedAs market desk.events)
+        (sym (investor_stays market.firm facts added none)) before.notes_are;
   }
 
   -- after one event there
@@ -56,6 +61,10 @@ module _ (market : InvestorMarket) where
             ∙ ap (λ (l : List InvestorEntry). desk_of l)
             (sym (investor_grown market.firm facts (map (AtInvestor market.firm) added)
             ∙ ap (λ l. trail_by facts ++ l) (own_investor market.firm added)));
+        notes_are = subst (NotedAs market (desk.events ++ more ∷ []))
+            (sym (investor_grown market.firm facts (map (AtInvestor market.firm) added)
+            ∙ ap (λ l. trail_by facts ++ l) (own_investor market.firm added)))
+            (noted_push market desk.events (trail_by facts) more before.state_is before.notes_are);
       }
 
   -- the book of the desk is that of the trail

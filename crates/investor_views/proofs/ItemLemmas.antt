@@ -10,6 +10,7 @@ use Rattle.investor_desk.specs.InvestorFacts.{Gone, Offered, book_of, offer_of_d
 use Rattle.investor_desk.specs.InvestorFacts.{offer_with_word, offers_of, open_request}
 use Rattle.investor_desk.specs.InvestorRules.{InvestorMarket, investor_verdict}
 use Rattle.investor_desk.specs.InvestorOutput.{award_of, closed_facts, event_facts, event_messages}
+use Rattle.investor_desk.specs.InvestorOutput.{event_note}
 use Rattle.investor_desk.specs.InvestorOutput.{gone_facts, gone_message, next_offer, offer_facts}
 use Rattle.investor_desk.specs.InvestorOutput.{offer_message, offer_messages, uses_number}
 use Rattle.investor_desk.specs.InvestorOutput.{verdict_facts, withdrawal_facts, withdrawal_messages}
@@ -28,13 +29,15 @@ use Rattle.investor_views.proofs.Renamed.{renamed, renamed_book, renamed_fact, r
 use Rattle.investor_views.proofs.Renamed.{unnumbered}
 
 -- An event at a desk with these facts, and the one in its place with own numbers: they add the same
--- and send the same, and the quotes that are added are numbered on.
+-- and send the same, the same is noted of them, and the quotes that are added are numbered on.
 pub record Answers (market : InvestorMarket) (facts : List InvestorFact)
     (one other : InvestorEvent) : Type 0 where
   pub facts_are : event_facts (unnumbered market) (renamed_book (book_of facts)) other
       ≡ map renamed_fact (event_facts market (book_of facts) one)
   pub messages_are : event_messages (unnumbered market) (renamed_book (book_of facts)) other
       ≡ event_messages market (book_of facts) one
+  pub note_is : event_note (unnumbered market) (renamed_book (book_of facts)) other
+      ≡ event_note market (book_of facts) one
   pub numbered_on : NumberedFrom (length (offers_of facts))
       (event_facts market (book_of facts) one)
 
@@ -87,7 +90,7 @@ module _ (market : InvestorMarket) (facts : List InvestorFact) where
 
   pub own_answers : (moment : ℕ) (bytes : List ℕ)
       → Answers market facts (event.Received moment bytes) (event.Received moment bytes)
-  unfolding event_facts event_messages
+  unfolding event_facts event_messages event_note
   own_answers moment bytes =
       let same = verdict_alike book market moment bytes in
       record {
@@ -98,6 +101,7 @@ module _ (market : InvestorMarket) (facts : List InvestorFact) where
             (uses_number (investor_verdict market book moment bytes)) ∷ l)
             same.facts_are;
         messages_are = ap option_to_list same.message_is;
+        note_is = same.note_is;
         numbered_on = verdict_numbered (length (offers_of facts))
             (investor_verdict market book moment bytes);
       }
@@ -168,12 +172,13 @@ module _ (market : InvestorMarket) (facts : List InvestorFact) where
     pub came_answers : (moment : ℕ)
         → Answers market facts (event.QuoteCame request offer moment)
         (event.QuoteCame request offer_again moment)
-    unfolding event_facts event_messages
+    unfolding event_facts event_messages event_note
     came_answers moment = record {
       facts_are = ap (offer_facts again request offer_again) (open_numbered book request)
           ∙ came_facts (open_request book request);
       messages_are = ap (offer_messages again request offer_again) (open_numbered book request)
           ∙ came_messages (open_request book request);
+      note_is = refl;
       numbered_on = came_numbered (open_request book request);
     }
 
@@ -212,7 +217,7 @@ module _ (market : InvestorMarket) (facts : List InvestorFact) where
     pub gone_answers : (moment : ℕ)
         → Answers market facts (event.QuoteGone request word moment)
         (event.QuoteGone request (number_of (quote_meant book request word)) moment)
-    unfolding event_facts event_messages
+    unfolding event_facts event_messages event_note
     gone_answers moment =
         let number = number_of (quote_meant book request word) in
         record {
@@ -220,5 +225,6 @@ module _ (market : InvestorMarket) (facts : List InvestorFact) where
               ∙ gone_there (open_request book request) refl;
           messages_are = ap (withdrawal_messages number) (open_numbered book request)
               ∙ gone_told (open_request book request) refl;
+          note_is = refl;
           numbered_on = gone_on (open_request book request);
         }

@@ -25,6 +25,7 @@ use Rattle.investor_desk.specs.InvestorFacts.{request_numbered, while_open, open
 use Rattle.investor_desk.specs.InvestorFacts.{offer_named, offer_numbered, offer_of_dealer}
 use Rattle.investor_desk.specs.InvestorFacts.{was_shown_on, knows_quote, knows}
 use Rattle.investor_desk.specs.InvestorOutput.{uses_number, verdict_facts, verdict_message}
+use Rattle.investor_desk.specs.InvestorOutput.{verdict_note}
 use Rattle.investor_desk.specs.InvestorRules.{InvestorMarket, request_refusal, request_answer}
 use Rattle.investor_desk.specs.InvestorRules.{request_verdict, bond_with_id, hit_of, hit_verdict}
 use Rattle.investor_desk.specs.InvestorRules.{pass_of, pass_verdict, arrival_verdict}
@@ -126,6 +127,7 @@ pub record Alike (one other : InvestorVerdict) : Type 0 where
   pub uses_are : uses_number other ≡ uses_number one
   pub facts_are : verdict_facts other ≡ map renamed_fact (verdict_facts one)
   pub message_is : verdict_message other ≡ verdict_message one
+  pub note_is : verdict_note other ≡ verdict_note one
 
 plain : (v : InvestorVerdict) → verdict_facts v ≡ map renamed_fact (verdict_facts v)
 plain (verdict.RequestAccepted id request) = refl
@@ -136,6 +138,7 @@ alike one other same = record {
   uses_are = ap uses_number same;
   facts_are = ap verdict_facts same ∙ plain one;
   message_is = ap verdict_message same;
+  note_is = ap verdict_note same;
 }
 
 module _ (book : InvestorBook) where
@@ -248,8 +251,18 @@ module _ (book : InvestorBook) where
 
     hit_alike : (hit : QuoteHit) (found : Option ShownOffer)
         → Alike (hit_of hit found) (hit_of hit (option_map renamed found))
-    hit_alike hit None = record { uses_are = refl; facts_are = refl; message_is = refl }
-    hit_alike hit (Some shown) = record { uses_are = refl; facts_are = refl; message_is = refl }
+    hit_alike hit None = record {
+      uses_are = refl;
+      facts_are = refl;
+      message_is = refl;
+      note_is = refl;
+    }
+    hit_alike hit (Some shown) = record {
+      uses_are = refl;
+      facts_are = refl;
+      message_is = refl;
+      note_is = refl;
+    }
 
     pass_same : (pass : RequestPass) (found : Option StandingRequest)
         → pass_of pass (option_map renamed_request found) ≡ pass_of pass found

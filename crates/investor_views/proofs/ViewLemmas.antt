@@ -1,14 +1,16 @@
 -- What the desk of an investor sends for all that comes to it is the investor view of what is due.
 use Rattle.std.proofs.Common.{◌≡◌, ℕ, ◌+◌, Bool, true, false, List, [], ◌∷◌, ◌++◌, map, fold}
-use Rattle.std.proofs.Common.{length, refl, ap, sym, subst, ◌∙◌, arith, ◌&&◌, None}
+use Rattle.std.proofs.Common.{length, refl, ap, ap₂, sym, subst, ◌∙◌, arith, ◌&&◌, Option, None}
 use Rattle.std.proofs.lemmas.List.{append-nil, append_assoc, map-append}
 use Rattle.quote_messages.specs.declared.out_messages.OutMessage.{OutMessage}
 use Rattle.investor_desk.specs.InvestorFacts.{InvestorFact, InvestorBook, book_of, knows, offers_of}
 use Rattle.investor_desk.specs.InvestorRules.{InvestorMarket}
 use Rattle.investor_desk.specs.InvestorDesk.{DeskEvents, book_at, no_events, with_event}
 use Rattle.investor_desk.specs.InvestorOutput.{DeskState, after_event, desk_after, event_facts}
-use Rattle.investor_desk.specs.InvestorOutput.{event_messages, head_of, investor_output, moment_of}
+use Rattle.investor_desk.specs.InvestorOutput.{beside_each, event_messages, event_note, head_of}
+use Rattle.investor_desk.specs.InvestorOutput.{investor_notes, investor_output, moment_of, no_facts}
 use Rattle.investor_desk.specs.InvestorOutput.{sent_with, written_from}
+use Rattle.investor_desk.specs.declared.notes.InvestorNote.{InvestorNote}
 use Rattle.investor_desk.specs.declared.events.InvestorEvent.{InvestorEvent}
 use Rattle.investor_desk.specs.declared.events.InvestorEvent.TheVariants as event
 use Rattle.quote_messages.specs.Written.{written}
@@ -20,6 +22,8 @@ use Rattle.investor_views.specs.DeskView.{coming_of, event_dues, event_dues_from
 use Rattle.investor_views.specs.InvestorDues.{due_by, dues_from, number_of, quote_meant}
 use Rattle.investor_views.specs.InvestorView.{after_due, coming_by, offer_due, sent_at}
 use Rattle.step_replay.specs.InvestorGrowth.{desk_push}
+use Rattle.step_replay.specs.NotedGrowth.{notes_more}
+use Rattle.investor_views.specs.NoteView.{notes_at}
 use Rattle.investor_views.proofs.ClosingItems.{answered_answers, declined_answers, expired_answers}
 use Rattle.investor_views.proofs.ItemLemmas.{Answers, came_answers, gone_answers, own_answers}
 use Rattle.investor_views.proofs.NumberedBook.{book_same, knows_same}
@@ -37,7 +41,7 @@ module _ (market : InvestorMarket) where
       (written_same (number + 1) moment messages)
 
   -- The view's desk stands where the desk of the day does: it has the same facts, with own numbers
-  -- in the place of words, and sent the same.
+  -- in the place of words, sent the same and noted the same.
   pub record Sees (desk view : DeskEvents) : Type 0 where
     pub own_market : desk.market ≡ market
     pub view_market : view.market ≡ unnumbered market
@@ -45,6 +49,8 @@ module _ (market : InvestorMarket) where
         ≡ map renamed_fact (desk_after market desk.events).facts
     pub sent_are : (desk_after (unnumbered market) view.events).sent
         ≡ (desk_after market desk.events).sent
+    pub notes_are : investor_notes (unnumbered market) view.events
+        ≡ investor_notes market desk.events
     pub numbered_are : NumberedFrom 0 (desk_after market desk.events).facts
 
   start_sees : Sees (no_events market) (no_events (unnumbered market))
@@ -54,6 +60,7 @@ module _ (market : InvestorMarket) where
     view_market = refl;
     facts_are = refl;
     sent_are = refl;
+    notes_are = refl;
     numbered_are = tt;
   }
 
@@ -119,6 +126,24 @@ module _ (market : InvestorMarket) where
           ∙ ap (λ l. here.sent ++ l) (written_same (length here.sent + 1) (moment_of one)
           (event_messages market book one))
 
+      -- what is noted beside the messages of each, by the book as it stands there
+      noted_there : beside_each (event_messages (unnumbered market) (book_of there.facts) other)
+          (event_note (unnumbered market) (book_of there.facts) other)
+          ≡ beside_each (event_messages market book one) (event_note market book one)
+      noted_there =
+          ap (λ (b : InvestorBook). beside_each (event_messages (unnumbered market) b other)
+          (event_note (unnumbered market) b other))
+          (ap book_of before.facts_are ∙ book_same stood)
+          ∙ ap₂ beside_each same.messages_are same.note_is
+
+      notes_there : investor_notes (unnumbered market) (view.events ++ other ∷ [])
+          ≡ investor_notes market (desk.events ++ one ∷ [])
+      unfolding desk_after
+      notes_there =
+          notes_more (unnumbered market) no_facts view.events other
+          ∙ ap₂ (λ (l more : List (Option InvestorNote)). l ++ more) before.notes_are noted_there
+          ∙ sym (notes_more market no_facts desk.events one)
+
       numbered_here : NumberedFrom 0 (after_event market here one).facts
       numbered_here =
           let all : length (offers_of stood) ≡ 0 + length (offers_of stood) = omega arith in
@@ -136,6 +161,7 @@ module _ (market : InvestorMarket) where
                 ∙ ap (λ (s : DeskState). map renamed_fact s.facts) (sym pushed);
             sent_are = ap (λ (s : DeskState). s.sent) pushed_there ∙ sent_there
                 ∙ ap (λ (s : DeskState). s.sent) (sym pushed);
+            notes_are = notes_there;
             numbered_are = subst (λ (s : DeskState). NumberedFrom 0 s.facts) (sym pushed)
                 numbered_here;
           }
@@ -256,6 +282,17 @@ module _ (market : InvestorMarket) where
       fold after_due (no_events (unnumbered market)) (dues_from (no_events market) came) in
       sym seen.sent_are
       ∙ ap (λ (m : InvestorMarket). investor_output m view.events) (sym seen.view_market)
+
+  -- and what is noted of it is what is noted in the view
+  pub notes_its_view : (came : List Coming)
+      → investor_notes market (desk_by market came).events
+      ≡ notes_at (fold after_due (no_events (unnumbered market)) (dues_from (no_events market) came))
+  notes_its_view came =
+      let seen = comings_see (no_events market) (no_events (unnumbered market)) came start_sees in
+      let view =
+      fold after_due (no_events (unnumbered market)) (dues_from (no_events market) came) in
+      sym seen.notes_are
+      ∙ ap (λ (m : InvestorMarket). investor_notes m view.events) (sym seen.view_market)
 
   -- The same of events, each taken as it stands.
 

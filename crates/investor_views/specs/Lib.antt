@@ -2,3 +2,4 @@ pub mod Comings
 pub mod DeskView
 pub mod InvestorDues
 pub mod InvestorView
+pub mod NoteView

@@ -16,6 +16,9 @@
 //!   was due to it, sent it the same bytes.
 //! - [`investors_are_given_their_view`]: so is what a replay gives of an investor's day, and what a
 //!   venue sends it that answers as steps come.
+//! - [`investors_are_noted_their_view`]: what is noted beside its messages, why a request is refused
+//!   and whom it traded with, follows from the same list (`note_view`), and [`notes_are_isolated`]:
+//!   so two such venues note the same.
 //! - [`desks_send_their_view`]: of any events at a desk, whatever brought them, what it sends is the
 //!   *desk view* of what was due by them, which takes each item as it stands.
 #![tactic(auto)]
@@ -23,9 +26,11 @@
 mod desk_laws;
 mod dues;
 mod laws;
+mod note_laws;
 
 pub use desk_laws::desks_send_their_view;
 pub use dues::{InvestorDue, OwnRequest, ShownQuote};
 pub use laws::{
     investors_are_given_their_view, investors_are_isolated, investors_are_sent_their_view,
 };
+pub use note_laws::{investors_are_noted_their_view, notes_are_isolated};
