@@ -3,11 +3,11 @@
 
 usage: prove_venue.py [--jobs N] [--program CRATE]
 
-Each crate below the program is proved by an `rt ci CRATE` of its own, as soon as those below it are;
-`rt run` alone proves them one behind the other. They lie in a copy of the repository without tests
-and without wrong bodies, and what each run proves rt keeps for the next ones, and for the gate. A
-last `rt ci` over the whole copy takes all that, and proves, builds and runs the program. What an
-earlier run or a gate has proved is taken, and so is a program that is newer than all its sources.
+The crates below the program lie in a copy of the repository without tests and without wrong bodies.
+An `rt ci` over the whole copy proves them side by side, where memory allows, and proves, builds and
+runs the program. Where the kit's `rt ci` takes names and keeps what it proves, each crate is proved
+before that by an `rt ci CRATE` of its own, as soon as those below it are, and what an earlier run or
+a gate has proved is taken. So is a program that is newer than all its sources.
 """
 
 import argparse
@@ -91,6 +91,12 @@ def copy_crates(names: list[str], to: Path) -> None:
 def crates_in_memory() -> int:
     memory = os.sysconf("SC_PAGE_SIZE") * os.sysconf("SC_PHYS_PAGES")
     return max(1, memory // MEMORY_OF_A_CRATE)
+
+
+def takes_names() -> bool:
+    """Whether the kit's `rt ci` proves the crates that it is given, and keeps them for the next run."""
+    told = subprocess.run(["rt", "help"], capture_output=True, text=True, check=False)
+    return re.search(r"^ *rt ci \[?NAME", told.stdout + told.stderr, re.MULTILINE) is not None
 
 
 def jobs_here() -> int:
@@ -227,15 +233,16 @@ def main() -> None:
     if is_newer(program, [*names, given.program]):
         print("%s stands, and is newer than its sources" % program)
         return
-    print("Proving %d crates, %d at a time:" % (len(names), given.jobs), flush=True)
+    print("Proving %d crates:" % len(names), flush=True)
     minutes = MINUTES_OF_ONE // given.jobs
     print("about %d minutes the first time, where nothing else runs." % minutes, flush=True)
     # Outside the repository: rt ci runs at the top of one.
     with tempfile.TemporaryDirectory(prefix="mireseason-") as name:
         place = Path(name)
         copy_crates([*names, given.program], place)
-        Prover(crates, names, given.jobs, place).run()
-        print("The program is proved, built and run:", flush=True)
+        if takes_names():
+            Prover(crates, names, given.jobs, place).run()
+            print("The program is proved, built and run:", flush=True)
         prove_all(place)
         made.mkdir(exist_ok=True)
         shutil.copy2(place / "crates" / given.program / "out" / given.program, program)
