@@ -16,6 +16,7 @@ from pathlib import Path
 
 from tests.audit.common import AUDIT, DAY, LogCase, audit, remembered, venue_words
 from tests.audit.witness import Witness
+from tests.gateway.wait import LONG
 
 
 class Statuses(LogCase):
@@ -256,7 +257,7 @@ class Statuses(LogCase):
             self.wait_until(lambda: file.exists() and file.read_text().strip() != "")
             asked = Path("/proc") / file.read_text().strip()
             process.send_signal(number)
-            _, told = process.communicate(timeout=30)  # whoever has it open is gone then
+            _, told = process.communicate(timeout=LONG)  # whoever has it open is gone then
             self.assertEqual((process.returncode, told), (status, b""))
             # The kernel kills it where nobody else can, and a little later.
             self.wait_until(lambda: not asked.exists())
@@ -264,7 +265,7 @@ class Statuses(LogCase):
                 self.assertEqual([path.name for path in left.iterdir()], ["asleep"])
 
     def wait_until(self, holds: Callable[[], bool]) -> None:
-        deadline = time.monotonic() + 60
+        deadline = time.monotonic() + LONG
         while not holds():
             self.assertLess(time.monotonic(), deadline)
             time.sleep(0.05)

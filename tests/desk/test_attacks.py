@@ -7,6 +7,7 @@ import socket
 import ssl
 import subprocess
 import threading
+import time
 from collections.abc import Iterator
 from contextlib import contextmanager
 
@@ -14,7 +15,7 @@ import pytest
 
 from tests.desk.conftest import House
 from tests.desk.desks import MARKUP, PASSWORD, Desk
-from tests.desk.view import Ticket, View, ask, log_in, log_out, own, upgrade
+from tests.desk.view import Answer, Ticket, View, ask, log_in, log_out, own, upgrade
 from tests.gateway.wait import LONG
 
 LOGIN = json.dumps({"login": "tess", "password": PASSWORD}).encode()
@@ -131,16 +132,24 @@ def test_what_no_page_sends_ends_the_socket(house: House, text: str) -> None:
     assert house.view(house.investor).session["on"]
 
 
+def guessed(desk: Desk, login: str, password: str) -> Answer:
+    body = json.dumps({"login": login, "password": password}).encode()
+    return ask(desk.port.number, "POST", "/login", own(desk), body)
+
+
 def test_passwords_are_not_guessed(house: House) -> None:
     """Ten wrong ones of a login in a minute, whether anybody has it or not; whoever is logged in goes on."""
     view = house.view(house.investor)
     for login in ("tess", "nobody"):
-        for count in range(10):
-            body = json.dumps({"login": login, "password": "guess %d" % count}).encode()
-            answer = ask(house.investor.port.number, "POST", "/login", own(house.investor), body)
-            assert (answer.status, answer.json()["why"]) == (403, "Wrong login or password.")
-    answer = ask(house.investor.port.number, "POST", "/login", own(house.investor), LOGIN)
-    assert answer.status == 429
+        began, tries = time.monotonic(), 0
+        while (answer := guessed(house.investor, login, "guess %d" % tries)).status == 403:
+            assert answer.json()["why"] == "Wrong login or password."
+            tries += 1
+            most = 10 * (1 + int((time.monotonic() - began) // 60))  # on a slow machine a minute may be over
+            assert tries <= most, "%d wrong passwords of %s are judged" % (tries, login)
+        assert answer.status == 429 and tries >= 10, (answer, tries)
+        answer = guessed(house.investor, login, PASSWORD)
+        assert answer.status == 429 or time.monotonic() - began > 60, "the right one is judged after ten wrong ones"
     assert view.act(do="pass", request="none") == "The request has ended."
 
 
@@ -150,10 +159,12 @@ def test_too_much(house: House) -> None:
     port = desk.port.number
     assert ask(port, "POST", "/login", own(desk), b"x" * 5000).status == 413
     view = house.view(desk)
+    began = time.monotonic()
     for count in range(300):
         view.send({"do": "pass", "request": "none", "number": count + 1})
     view.until("all are answered", lambda: len(view.said) == 300)
-    assert list(view.said.values()).count("Too many at once: nothing was sent.") > 50
+    let_through = 300 - list(view.said.values()).count("Too many at once: nothing was sent.")
+    assert 60 <= let_through <= 61 + 20 * (time.monotonic() - began), "%d of 300 are let through" % let_through
 
 
 @contextmanager

@@ -184,7 +184,7 @@ def test_a_quote_that_is_withdrawn_at_the_moment_of_the_hit(house: House) -> Non
 
 def test_a_quote_that_expires_at_the_moment_of_the_hit(house: House) -> None:
     investor, dealer, asked, shown = one_open(house)
-    dealer.quote(shown, 99 * POINT, seconds=6)
+    dealer.quote(shown, 99 * POINT, seconds=15)  # it is accepted by then, on a busy machine too
     investor.until("the quote", lambda: investor.requests[asked]["quotes"])
     quote = investor.requests[asked]["quotes"][0]
     until("it is nearly over", LONG, lambda: bool(time.time() * 1000 > quote["valid"] - 3))

@@ -13,8 +13,9 @@ from tests.gateway.wait import LONG, until
 from tests.gateway.wire import Wire, framed, now
 
 NAME = INVESTOR.name.encode()  # in whose name they come
-CLOSED = 20.0  # seconds in which a connection has to have ended, on a machine that has much else to do
-STILL = 0.2  # seconds without a change after which all has come that was to come
+CLOSED = 60.0  # seconds in which a connection has to have ended, on a machine that has much else to do
+STILL = 0.2  # seconds without a change after which strangers are taken to have changed nothing
+CALM = 2.0  # the same after what firms did, so that nothing of theirs is taken for a stranger's
 TABLES = ("entry", "sent", "outgoing", "session")
 COUNTED = ("entries_total", "sent_total", "delivered_total", "logons_total", "sessions", "logged_seconds_count", "answered_seconds_count")
 
@@ -160,7 +161,7 @@ def state_of(stage: Stage) -> State:
     return State({table: rows_of(stage, table) for table in TABLES}, counted, seen)
 
 
-def still_state(stage: Stage) -> State:
+def still_state(stage: Stage, seconds: float = STILL) -> State:
     """Once it has not changed for a time."""
     found, since = state_of(stage), time.monotonic()
 
@@ -168,7 +169,7 @@ def still_state(stage: Stage) -> State:
         nonlocal found, since
         if (other := state_of(stage)) != found:
             found, since = other, time.monotonic()
-        return time.monotonic() - since >= STILL
+        return time.monotonic() - since >= seconds
 
     until("nothing happens", LONG, is_still)
     return found
@@ -228,7 +229,8 @@ def firm_away(stage: Stage, way: Way) -> Scene:
     found = stage.answer(stage.investor, "a quote", lambda message: message.kind == b"S")
     stage.log_off(stage.investor)
     stage.quote(stage.other, b"R%d" % stage.shown(stage.other))
-    still_state(stage)
+    until("the investor's session is over", LONG, lambda: stage.counters()["mireseason_sessions"] == 2)
+    still_state(stage, CALM)
     return scene_now(stage, found.value(117) or b"")
 
 

@@ -6,6 +6,7 @@ from pathlib import Path
 
 from tests.gateway.stage import DEALER, Stage, check
 from tests.gateway.test_logon import with_tls
+from tests.gateway.wait import LONG
 
 ROOT = Path(__file__).resolve().parent.parent.parent
 
@@ -52,7 +53,7 @@ def test_part_without_a_command(stage: Stage) -> None:
 def checked(stage: Stage) -> subprocess.CompletedProcess[str]:
     """What --check says of the configuration."""
     words = [str(stage.door.programs.gateway), "--check", str(stage.folder / "gateway.toml")]
-    return subprocess.run(words, capture_output=True, text=True, timeout=60, check=False)
+    return subprocess.run(words, capture_output=True, text=True, timeout=LONG, check=False)
 
 
 def test_checked_beforehand(stage: Stage) -> None:
@@ -93,4 +94,4 @@ def test_password_of_a_shell(stage: Stage) -> None:
 def configured(site: Path, folder: Path) -> subprocess.CompletedProcess[str]:
     """What configure.py says of a database host."""
     words = [str(ROOT / "deploy" / "configure.py"), str(site), "db1", str(folder)]
-    return subprocess.run(words, capture_output=True, text=True, timeout=60, check=False)
+    return subprocess.run(words, capture_output=True, text=True, timeout=LONG, check=False)

@@ -152,6 +152,7 @@ def test_second_with_words(stage: Stage) -> None:
 
 def test_races(stage: Stage) -> None:
     """Two connections with the right password and many with a wrong one, all at once and again and again: one at a time has the session."""
+    stage.door.limits["logon_seconds"] = int(LONG)
     quiet_firms(stage)
     stage.open(stage.other)
     number, rounds, answers = 1, 12, 0
@@ -160,7 +161,7 @@ def test_races(stage: Stage) -> None:
         for place, wire in enumerate(wires):
             wire.number = number
             threading.Thread(target=wire.logon, args=(NAME, PASSWORD if place in (3, 5) else b"wrong")).start()
-        found = [wire for place, wire in enumerate(wires) if place in (3, 5) and wire.read_kind(b"A", limit=4) is not None]
+        found = [wire for place, wire in enumerate(wires) if place in (3, 5) and wire.read_kind(b"A") is not None]
         check(len(found) <= 1, "two connections have the session at once")
         answers += len(found)
         for wire in wires:
@@ -218,7 +219,7 @@ def test_cut_off_at_each_place(stage: Stage) -> None:
 
 def test_crowd_of_many_addresses(stage: Stage) -> None:
     """Sixteen silent connections of each of twelve addresses leave room for the firms of another one."""
-    stage.door.limits["logon_seconds"] = 30
+    stage.door.limits["logon_seconds"] = int(LONG)
     quiet_firms(stage)
     stage.open(stage.other)
     wires = [Wire(stage.door.port, source="127.0.0.%d" % (2 + place % 12)) for place in range(12 * 16)]
@@ -284,7 +285,7 @@ def test_passwords_of_one_address(stage: Stage) -> None:
 
 def test_stops_among_strangers(stage: Stage) -> None:
     """A gateway that is told to stop waits for no stranger."""
-    stage.door.limits["logon_seconds"] = 60
+    stage.door.limits["logon_seconds"] = int(LONG)
     quiet_firms(stage)
     stage.open()
     wires = [Wire(stage.door.port, source="127.0.0.%d" % (2 + place % 4)) for place in range(40)]
@@ -292,6 +293,6 @@ def test_stops_among_strangers(stage: Stage) -> None:
         wire.raw(b"8=FIXT.1.1\x019=100\x0135=A\x01")
     began = time.monotonic()
     check(stage.door.stop() == 0, "it ends with a fault")
-    check(time.monotonic() - began < 20, "it takes %.1f s" % (time.monotonic() - began))
+    check(time.monotonic() - began < LONG / 2, "it takes %.1f s" % (time.monotonic() - began))
     for wire in wires:
         wire.socket.close()

@@ -251,7 +251,7 @@ def test_late_logon(stage: Stage) -> None:
         message = wire.read_kind(b"5")
         check(message is not None and message.value(58), "no Logout with a text")
         check(wire.closed_within(SLACK), "the connection stays")
-    check(grown(before, stage.counters()), "no counter has grown")
+    until("a counter has grown", LONG, lambda: bool(grown(before, stage.counters())))
     stage.log_on(stage.dealer)
     stage.ping(stage.dealer)
 
@@ -268,7 +268,7 @@ def test_logon_at_fault(stage: Stage) -> None:
             message = wire.read_kind(b"5")
             check(message is not None and message.value(58), "no Logout with a text where %d is %r" % (tag, value))
             check(wire.closed_within(SLACK), "the connection stays where %d is %r" % (tag, value))
-        check(grown(before, stage.counters()), "no counter has grown where %d is %r" % (tag, value))
+        until("a counter has grown where %d is %r" % (tag, value), LONG, lambda: bool(grown(before, stage.counters())))
     stage.log_on(stage.dealer)
     stage.ping(stage.dealer)
 

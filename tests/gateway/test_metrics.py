@@ -51,18 +51,24 @@ def test_what_a_day_counts(stage: Stage) -> None:
               lambda: metric(stage, name) == sent_in_log(stage))
     commits = metric(stage, "commits_total")
     check(commits >= messages, "%g commits of %d messages that came one by one" % (commits, messages))
-    counts(stage, "commit_seconds_count", metric(stage, "commits_total"))
+    until("each commit is timed", LONG, lambda: each_commit_is_timed(stage))
     for name in HISTOGRAMS:
         took = metric(stage, name + "_seconds_sum")
         check(0 < took < LONG, "%s: %g s in all" % (name, took))
+
+
+def each_commit_is_timed(stage: Stage) -> bool:
+    counters = stage.counters()  # of one moment: a session's own messages are committed too
+    return counters["mireseason_commit_seconds_count"] == counters["mireseason_commits_total"]
 
 
 def test_what_connections_count(stage: Stage) -> None:
     """Connections and sessions that stand, and those that were."""
     stage.open()
     counts(stage, "speaks", 1)
+    looks = 1  # whether it listens
+    counts(stage, "connections_total", looks)
     counts(stage, "connections", 0)
-    looks = metric(stage, "connections_total")  # whether it listens
     stage.log_on(*stage.firms)
     counts(stage, "connections_total", looks + 3)
     counts(stage, "connections", 3)

@@ -11,11 +11,11 @@ from tests.gateway.strangers import rows_of
 from tests.gateway.test_away import clock_of
 from tests.gateway.test_gaps import again, asked_from
 from tests.gateway.test_messages import answered, cancel, on_a_wire
-from tests.gateway.wait import LONG
+from tests.gateway.wait import LONG, until
 from tests.gateway.wire import Fields, Wire, framed, now
 
 NAME = DEALER.name.encode()
-SOON = 30.0  # seconds: what a session answers at once, on a busy machine
+SOON = 90.0  # seconds: what a session answers at once, on a busy machine
 LATER = 130  # seconds: a 52 is none of a message that came so much later
 TWO_32 = 2**32  # what a number is taken modulo, by who reads it into 32 bits
 
@@ -109,6 +109,7 @@ def test_cancels_behind_a_soh(stage: Stage) -> None:
     stage.open(*stage.firms)
     request = stage.ask()
     stage.log_off(stage.dealer)
+    until("its session is over", LONG, lambda: stage.counters()["mireseason_sessions"] == 2)
     number = target_of(stage)
     assert isinstance(number, int)
     with Wire(stage.door.port) as wire:

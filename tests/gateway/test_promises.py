@@ -16,6 +16,7 @@ from tests.gateway.wire import Wire
 from tests.harness.budget import Budget, seconds_until
 
 SLOW_SYNC = 2000  # milliseconds
+ACCEPTED = 8.0  # seconds in which a request has come to the dealers, on a busy machine too
 NAME, PASSWORD = DEALER.name.encode(), DEALER.password.encode()
 
 SETTLING = Budget("what waits for a firm comes ten seconds after a Logon whose TestRequest is not answered", most=10, least=9)
@@ -94,8 +95,9 @@ def test_what_waits_while_a_session_settles(stage: Stage) -> None:
 
     def measure() -> float:
         nonlocal number
+        began = time.monotonic()
         with on(stage, number, answers=False) as wire:
-            began, number = time.monotonic(), wire.number
+            number = wire.number
             stage.ask_of([stage.dealer, stage.other])
             came = seconds_until(lambda: next_of_venue(wire) is not None, SETTLING.limit)
             return came if came == math.inf else time.monotonic() - began
@@ -131,15 +133,19 @@ def test_a_session_is_settled_by_its_answer(stage: Stage) -> None:
 def test_a_gap_is_asked_for_again(stage: Stage) -> None:
     """A message ahead of a gap that nobody fills: the gap is asked for at once, and once more ten seconds later."""
     stage.open(stage.other)
+    number = 1
 
     def measure() -> float:
-        asked = wire.read_kind(b"2", limit=GAP.limit)
-        return seconds_until(lambda: asked is not None and wire.read_kind(b"2", limit=0.05) is not None, GAP.limit)
+        nonlocal number
+        with on(stage, number) as wire:
+            lost, began = wire.number, time.monotonic()
+            wire.raw(wire.message(b"0", NAME, [], number=lost + 1))
+            check(wire.read_kind(b"2") is not None, "the gap is not asked for")
+            number = lost
+            came = seconds_until(lambda: wire.read_kind(b"2", limit=0.05) is not None, GAP.limit)
+            return came if came == math.inf else time.monotonic() - began
 
-    with on(stage) as wire:
-        wire.number += 1
-        wire.raw(wire.message(b"0", NAME, []))
-        GAP.hold(measure)
+    GAP.hold(measure)
 
 
 # ------------------------------------------------------------ connections that end
@@ -167,9 +173,10 @@ def test_a_second_connection_waits(stage: Stage) -> None:
     stage.open(stage.dealer)
 
     def measure() -> float:
+        began = time.monotonic()
         with Wire(stage.door.port) as wire:
             wire.logon(NAME, PASSWORD)
-            return seconds_until(lambda: wire.closed_within(0.05), SECOND.limit)
+            return time.monotonic() - began if wire.closed_within(SECOND.limit) else math.inf
 
     SECOND.hold(measure)
     check(stage.dealer.logged_on(), "the first one ended")
@@ -185,7 +192,7 @@ def test_a_request_ends_at_its_deadline(stage: Stage) -> None:
 
     def measure() -> float:
         nonlocal ended
-        stage.ask(1.5)
+        stage.ask(ACCEPTED)
         ended += 1
         until("the deadline has passed", LONG, lambda: moment_in(0)[9:].decode() >= stage.deadline)
         within(EXPIRES.limit, lambda: len(clock_lines(stage)) >= ended)
@@ -245,10 +252,11 @@ def test_a_silent_venue_is_told(stage: Stage) -> None:
         begin, venues = len(stage.door.told.read_bytes()), stage.door.venues()
         for pid in venues:
             os.kill(pid, signal.SIGSTOP)
-        before = stage.entries_of(stage.dealer)
+        before, began = stage.entries_of(stage.dealer), time.monotonic()
         stage.say(stage.dealer, "Z", [(298, b"5"), (117, stage.name("x"))])
         until("the message is in the log", LONG, lambda: stage.entries_of(stage.dealer) > before)
-        took = seconds_until(lambda: told_since(stage, begin, b"venue does not answer"), SILENT.limit)
+        is_told = within(SILENT.limit, lambda: told_since(stage, begin, b"venue does not answer"))
+        took = time.monotonic() - began if is_told else math.inf
         for pid in venues:
             os.kill(pid, signal.SIGCONT)
         stage.ping(stage.dealer)
@@ -267,8 +275,10 @@ def test_a_slow_log_is_told(stage: Stage) -> None:
         stage.door.start()
         stage.door.wait_open()
         with Wire(stage.door.port) as wire:
+            began = time.monotonic()
             wire.logon(NAME, PASSWORD)
-            took = seconds_until(lambda: told_since(stage, begin, b"log does not answer"), STALLED.limit)
+            is_told = within(STALLED.limit, lambda: told_since(stage, begin, b"log does not answer"))
+            took = time.monotonic() - began if is_told else math.inf
         stage.door.kill()
         return took
 

@@ -28,6 +28,6 @@ def test_a_firm_that_does_not_settle_keeps_nobody_waiting(stage: Stage) -> None:
             number = wire.number
             return took
 
-    Budget("the answer of a venue that was killed, while another firm settles", most=1, slack=3).hold(measure)
+    Budget("the answer of a venue that was killed, while another firm settles", most=1, slack=6).hold(measure)
     stage.log_on(stage.dealer)
     stage.whole()

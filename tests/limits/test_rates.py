@@ -34,9 +34,8 @@ def test_a_flood_is_read_at_its_rate_and_ends(stage: Stage) -> None:
         held = time.monotonic() - began
         assert held >= 5, "it is ended after %.1f s" % held
         assert TOLD in flood.came, "it is not told why: %r" % flood.came[-300:]
-    log = stage.door.told.read_text()
-    assert "cancel of all firm=DLR1" in log, "its quotes are not cancelled"
-    assert "rate of a firm allows" in log, "the operator is not told"
+    until("its quotes are cancelled", LONG, lambda: "cancel of all firm=DLR1" in stage.door.told.read_text())
+    until("the operator is told", LONG, lambda: "rate of a firm allows" in stage.door.told.read_text())
     entries = stage.entries_of(stage.dealer)
     assert entries < flood.sent, "all %d messages of a flood are in the log" % flood.sent
     stage.auction([stage.other])

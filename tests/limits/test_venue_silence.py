@@ -3,6 +3,7 @@
 import os
 import shutil
 import signal
+import time
 from dataclasses import replace
 from pathlib import Path
 
@@ -44,13 +45,14 @@ def test_a_venue_that_hangs_at_its_start(stage: Stage) -> None:
     (stage.folder / "hang").touch()
 
     def measure() -> float:
-        told = len(stage.door.told.read_bytes())
+        told, began = len(stage.door.told.read_bytes()), time.monotonic()
         stage.door.start()
-        took = seconds_of(lambda: until("the silence is told", LONG, lambda: tells(stage.door, SILENT, told)))
-        ended = seconds_of(lambda: until("the gateway ends", SECONDS + 30, stage.door.has_ended))
+        until("the silence is told", LONG, lambda: tells(stage.door, SILENT, told))
+        took = time.monotonic() - began
         assert stage.door.wait_end() == 1
+        ended = time.monotonic() - began
         assert tells(stage.door, ENDED, told), "it does not say why it ends"
-        assert took + ended >= SECONDS, "it ends after %.1f s" % (took + ended)
+        assert ended >= SECONDS, "it ends after %.1f s" % ended
         return took
 
     Budget("that a venue hangs at its start", most=5).hold(measure)
@@ -62,7 +64,7 @@ def test_a_venue_that_hangs_at_its_start(stage: Stage) -> None:
 
 
 def test_a_venue_that_hangs_while_it_is_fed(stage: Stage) -> None:
-    """A venue that is stopped is told within five seconds of the first message that it does not answer, and ends the gateway."""
+    """A venue that is stopped is told before it ends the gateway, which says why; tests/gateway/test_promises.py has when."""
     begun(stage)
     stage.door.start()
     stage.door.wait_open()
@@ -70,12 +72,12 @@ def test_a_venue_that_hangs_while_it_is_fed(stage: Stage) -> None:
     stage.ping(stage.dealer)
     for pid in stage.door.venues():
         os.kill(pid, signal.SIGSTOP)
-    stage.say(stage.dealer, "Z", [(298, b"5"), (117, b"unheard")])
     told = len(stage.door.told.read_bytes())
-    took = seconds_of(lambda: until("the silence is told", LONG, lambda: tells(stage.door, SILENT, told)))
-    assert took <= 5 + 10, "it is told after %.1f s" % took
+    stage.say(stage.dealer, "Z", [(298, b"5"), (117, b"unheard")])
     assert stage.door.wait_end() == 1
-    assert tells(stage.door, ENDED, told), "it does not say why it ends"
+    text = stage.door.told.read_bytes()[told:].decode(errors="replace")
+    assert SILENT in text.split(ENDED)[0], "it is not told before the gateway ends: %s" % text
+    assert ENDED in text, "it does not say why it ends"
 
 
 def test_another_gateway_takes_over(make_gateway: MakeGateway, postgres_database: str) -> None:
@@ -93,6 +95,6 @@ def test_another_gateway_takes_over(make_gateway: MakeGateway, postgres_database
     (first.folder / "hang").touch()
     assert first.kill_venue()
     took = seconds_of(lambda: until("the second one speaks", LONG, lambda: tells(second, " speaks ")))
-    assert took <= SECONDS + 30, "it takes over after %.1f s" % took
+    assert took <= SECONDS + LONG / 2, "it takes over after %.1f s" % took
     assert first.wait_end() == 1
     second.wait_open()

@@ -11,6 +11,7 @@ import pytest
 
 from tests.gateway.door import today
 from tests.gateway.stage import Stage
+from tests.gateway.wait import LONG
 
 VENUE = """version = 2
 [[bond]]
@@ -51,7 +52,7 @@ FAULTS = {
 def told(stage: Stage, *words: str) -> subprocess.CompletedProcess[str]:
     """What --check says."""
     command = [str(stage.door.programs.gateway), "--check", str(stage.folder / "gateway.toml"), *words]
-    return subprocess.run(command, capture_output=True, text=True, timeout=60, check=False)
+    return subprocess.run(command, capture_output=True, text=True, timeout=LONG, check=False)
 
 
 def write(stage: Stage, venue: str) -> Path:
