@@ -245,4 +245,6 @@ class Firm:
 
 def of_bars(text: str) -> list[tuple[int, bytes]]:
     """Fields written with bars between them."""
-    return read_fields(text.encode() + b"|", b"|")
+    fields = read_fields(text.encode() + b"|", b"|")
+    assert fields is not None, text
+    return fields

@@ -120,7 +120,9 @@ def clock_faults(ledger: Ledger, marks: list[Mark]) -> Iterator[str]:
 
 
 def milliseconds(moment: str) -> int:
-    return read_time(moment.encode())
+    found = read_time(moment.encode())
+    assert found is not None, moment
+    return found
 
 
 def count_of(firm: Firm) -> int:

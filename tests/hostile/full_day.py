@@ -211,10 +211,10 @@ class Investor:
         hit = None if answer == "9" else self.shown[number - 1]
         wanted = {693: "h%d" % number} | ({131: "q%d" % hit.ask.number} if hit else {})
         wanted |= {117: "Q%d" % number, 297: answer}
-        if answer == "0":
+        if hit and answer == "0":
             check(hit.ask not in self.won, "a second award:", sent)
             self.won[hit.ask] = hit
-        elif answer == "5":
+        elif hit and answer == "5":
             self.refused.append((hit, sent.fields[58]))
             wanted |= {300: "4", 58: sent.fields[58]}
         check(answer in ("0", "5", "9"), "another answer to a hit:", sent)
@@ -290,7 +290,7 @@ def taken(lines: Iterable[str], requests: int) -> Market:
     """What was sent, message by message, each firm's numbers from 1."""
     dealers = [Dealer(number, asked) for number, asked in enumerate(asked_of(requests))]
     investors = [Investor(number, requests) for number in range(INVESTORS)]
-    firms = {"DLR%d" % number: dealer for number, dealer in enumerate(dealers)}
+    firms: dict[str, Dealer | Investor] = {"DLR%d" % number: dealer for number, dealer in enumerate(dealers)}
     firms |= {"INV%d" % number: investor for number, investor in enumerate(investors)}
     numbers = dict.fromkeys(firms, 0)
     for line in lines:

@@ -32,12 +32,12 @@ FAULT = re.compile(
 LIVE = re.compile(rb"(" + LINE + rb"\n)*")
 
 
-def limited():
+def limited() -> None:
     resource.setrlimit(resource.RLIMIT_AS, (MEMORY, MEMORY))
     resource.setrlimit(resource.RLIMIT_CPU, (SECONDS, SECONDS + 1))
 
 
-def answered(program: list[str], words: list[str], text: bytes) -> tuple[str, None]:
+def answered(program: list[str], words: list[str], text: bytes) -> tuple[str | None, str | None]:
     """Runs the program; answers what became of it in a word, or ends with what went wrong."""
     try:
         run = subprocess.run([*program, *words], input=text, capture_output=True, timeout=PATIENCE, preexec_fn=limited)
@@ -68,7 +68,7 @@ def without_turns(steps: str) -> str:
 def lawful(program: list[str], draw: Random) -> tuple[list[str], bytes]:
     """A lawful input and the words of a command that reads it."""
     what = draw.choice(["alone", "replay", "due", "dues", "compare", "blotter", "day", "live"])
-    frames = draw.choice([[], ["--frames"]])
+    frames: list[str] = draw.choice([[], ["--frames"]])
     configuration, steps = days(draw)
     text = configuration + "\n%%\n" + steps + "\n"
     if what == "alone":
@@ -80,7 +80,8 @@ def lawful(program: list[str], draw: Random) -> tuple[list[str], bytes]:
         flags = frames + (["--woven"] if what == "day" else [])
         return [what] + flags, (configuration + "\n%%\n" + without_turns(steps) + "\n").encode()
     if what == "replay":
-        return ["replay"] + draw.choice([[], ["DLR1"], ["INV1"]]) + frames, text.encode()
+        firm: list[str] = draw.choice([[], ["DLR1"], ["INV1"]])
+        return ["replay"] + firm + frames, text.encode()
     if what == "dues":
         return [what], text.encode()
     return [what, draw.choice(["DLR1", "DLR2", "INV1"])], text.encode()
@@ -110,7 +111,7 @@ def spoil(draw: Random, text: bytes) -> bytes:
     return b"\n".join(lines)
 
 
-def spoilt(work: tuple[list[str], int]) -> tuple[int, list[str], str, None]:
+def spoilt(work: tuple[list[str], int]) -> tuple[int, list[str], str | None, str | None]:
     program, seed = work
     draw = random.Random(seed)
     words, text = lawful(program, draw)
@@ -120,7 +121,7 @@ def spoilt(work: tuple[list[str], int]) -> tuple[int, list[str], str, None]:
     return seed, words, answer, wrong
 
 
-def filled(head, line):
+def filled(head: str, line: str) -> bytes:
     """A text of at most 16 MiB: the head, and then this line with its number, as often as it fits."""
     parts, size, number = [head], len(head), 1
     while True:

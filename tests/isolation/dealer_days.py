@@ -10,6 +10,7 @@ that are refused or dropped, and turns of the others.
 from __future__ import annotations
 
 from random import Random
+from typing import Any
 
 BONDS = ["BONDA0000001", "BONDB0000002", "BONDC0000003"]
 OPENING = 32_400_000  # 09:00:00
@@ -38,7 +39,7 @@ class Request:
         self.quantity = draw.randrange(1, 5_000_000)
         self.deadline = draw.choice([CLOSING, moment + draw.randrange(10_000, 90_000)])
         self.closed = self.declined = False
-        self.live = None  # the dealer's live quote on it: its QuoteID and price
+        self.live: tuple[str, int] | None = None  # the dealer's live quote on it: its QuoteID and price
 
 
 class Story:
@@ -46,7 +47,8 @@ class Story:
 
     def __init__(self, draw: Random) -> None:
         self.draw, self.moment, self.quotes = draw, OPENING, 0
-        self.requests, self.chapters = [], []
+        self.requests: list[Request] = []
+        self.chapters: list[tuple[Any, ...]] = []
         for _ in range(draw.randrange(2, 14)):
             self.moment += draw.randrange(1, 9_000)
             self.live_on(self.chapter())
@@ -66,10 +68,12 @@ class Story:
         if not open_ones or draw.random() < 0.25:
             request = Request(draw, len(self.requests) + 1, self.moment)
             self.requests.append(request)
-            return self.put("ask", request)
+            self.put("ask", request)
+            return None
         request = draw.choice(open_ones)
         word = draw.choice(["quote"] * 6 + ["cancel", "cancel_all", "decline", "nonsense", "hit", "hit", "leave", "expire"])
-        return getattr(self, word)(request)
+        closed: Request | None = getattr(self, word)(request)
+        return closed
 
     def quote(self, request: Request) -> None:
         self.quotes += 1
@@ -95,7 +99,7 @@ class Story:
     def nonsense(self, _: Request) -> None:
         self.put("nonsense", self.draw.randrange(4))
 
-    def hit(self, request: Request) -> Request:
+    def hit(self, request: Request) -> Request | None:
         """The investor hits the dealer's quote, another's before it, or another's behind a third's."""
         if self.moment >= request.deadline:
             return None
@@ -121,8 +125,12 @@ class Day:
         self.rich = ["DLR%d" % n for n in range(2, 2 + draw.randrange(2, 6))]
         self.poor = ["DLR%d" % n for n in range(20, 20 + draw.randrange(3))]
         self.strangers = ["INV%d" % n for n in range(3, 3 + draw.randrange(3))]
-        self.traders, self.steps, self.rooms = {}, [], {}
-        self.made, self.seen, self.offers = {}, {}, {}  # requests, requests shown, quotes shown
+        self.traders: dict[str, str] = {}
+        self.steps: list[str] = []
+        self.rooms: dict[int, dict[str, Any]] = {}
+        self.made: dict[str, int] = {}  # requests
+        self.seen: dict[str, int] = {}  # requests shown
+        self.offers: dict[str, int] = {}  # quotes shown
         self.moment = OPENING
 
     def configuration(self) -> str:
@@ -267,6 +275,7 @@ class Day:
         self.say(request.investor, "AJ", "693=h%d|117=Q%d|694=1" % (self.draw.randrange(10**9), hit))
         if end == "late cancel":
             self.turn(request.investor, 1)
+            assert live is not None
             self.tell_cancel(live[0])
         self.turn(request.investor, len(room["asked"]) + 3)
 

@@ -9,14 +9,16 @@ dealers that can quote nothing, messages that are refused or dropped, and turns 
 """
 
 import random
+from functools import partial
 from typing import NamedTuple
 
 from tests.model.configuration import read_configuration
+from tests.model.dealer import Request as DealerRequest
 from tests.model.frames import time_text
 from tests.model.investor import InvestorDesk, Request, Shown
 from tests.model.lines import StepReader
 from tests.model.prices import price_text
-from tests.model.replay import CLOCK, Venue
+from tests.model.replay import CLOCK, Actor, Venue
 
 BONDS = ("BONDA0000001", "BONDB0000002")
 OPENING, CLOSING = 32_400_000, 60_000_000  # 09:00:00, and 16:40:00, behind every story
@@ -27,6 +29,12 @@ WORDS += ["cancel_all", "decline", "leave", "expire", "nonsense"]
 
 def clock_time(moment: int) -> str:
     return time_text(moment).decode()
+
+
+def word_of(quote: Shown) -> tuple[int, int]:
+    """A quote's dealer and its number there."""
+    assert isinstance(quote.word, tuple)
+    return quote.word
 
 
 class Chapter(NamedTuple):
@@ -60,7 +68,8 @@ class Day:
         self.head = "\n".join(self.rows())
         self.configuration = read_configuration(self.head.encode())
         self.venue, self.reader = Venue(self.configuration), StepReader(self.configuration)
-        self.one, self.lines = self.firm("INV1"), []
+        self.one = self.firm("INV1")
+        self.lines: list[str] = []
         self.moment, self.asked, self.ids = OPENING, 0, draw.randrange(1000)
         for chapter in story.chapters:
             self.moment = max(self.moment, chapter.moment)
@@ -72,7 +81,9 @@ class Day:
         return self.head + "\n%%\n" + "\n".join(self.lines) + "\n"
 
     def firm(self, name: str) -> int:
-        return self.configuration.firm(name.encode())
+        firm = self.configuration.firm(name.encode())
+        assert firm is not None
+        return firm
 
     def name(self, firm: int) -> str:
         return self.configuration.firms[firm].name.decode()
@@ -122,11 +133,11 @@ class Day:
     def settle(self, *names: str) -> None:
         """Each of these actors does its duties until none is left."""
         for name in names:
-            actor = CLOCK if name == "CLOCK" else self.firm(name)
+            actor: Actor = CLOCK if name == "CLOCK" else self.firm(name)
             while self.venue.queues[actor]:
                 self.put("turn %s %d" % (name, len(self.venue.queues[actor])))
 
-    def ask(self, name: str, fields: tuple, dealers: list[str]) -> None:
+    def ask(self, name: str, fields: tuple[str, str, int, int, str], dealers: list[str]) -> None:
         """A request: its id, bond, side, quantity and deadline, and whom it asks."""
         parties = "".join("|448=%s|447=D|452=35" % dealer for dealer in dealers)
         body = "131=%s|146=1|48=%s|22=4|54=%d|38=%d|126=20250314-%s" % fields
@@ -135,23 +146,29 @@ class Day:
 
     def quote(self, dealer: int, room: tuple[int, int], ticks: int, more: str = "") -> None:
         """A dealer's quote on the request of a room, under an id of its own."""
-        request = self.venue.desks[dealer].request_in(room)
+        request = self.shown_in(dealer, room)
         self.ids += self.draw.randrange(1, 9)
         tag = 133 if request.ask.side == 1 else 132
         terms = self.ids, request.k, request.ask.bond.decode(), tag
         body = "117=b%d|131=R%d|48=%s|22=4|%d=" % terms
         self.say(self.name(dealer), "S", body + price_text(ticks).decode() + more)
 
+    def shown_in(self, dealer: int, room: tuple[int, int]) -> DealerRequest:
+        """The request of a room, as a dealer that was asked has it."""
+        request = self.venue.dealer_desk(dealer).request_in(room)
+        assert request is not None
+        return request
+
     def cancel(self, quote: Shown) -> None:
-        dealer, number = quote.word
-        name = self.venue.desks[dealer].quotes[number - 1].id.decode()
+        dealer, number = word_of(quote)
+        name = self.venue.dealer_desk(dealer).quotes[number - 1].id.decode()
         self.say(self.name(dealer), "Z", "298=5|117=" + name)
 
     # ---------------------------------------------------------------- what INV1 knows
 
     @property
     def desk(self) -> InvestorDesk:
-        return self.venue.desks[self.one]
+        return self.venue.investor_desk(self.one)
 
     def open_requests(self) -> list[Request]:
         return [request for request in self.desk.requests if request.is_open()]
@@ -164,7 +181,7 @@ class Day:
         """The dealers that were asked, are not silent, and did not decline."""
         room, silent = (self.one, request.n), self.story.silent
         able = [firm for firm in self.venue.rooms[room].dealers if self.name(firm) not in silent]
-        return [firm for firm in able if not self.venue.desks[firm].request_in(room).declined]
+        return [firm for firm in able if not self.shown_in(firm, room).declined]
 
     def asked_one(self, own: random.Random) -> tuple[Request, int] | None:
         """An open request and a dealer that speaks on it, if there is one."""
@@ -198,10 +215,10 @@ class Day:
         if self.standing():
             quote = own.choice(self.standing())
             self.cancel(quote)
-            self.settle(self.name(quote.word[0]))
+            self.settle(self.name(word_of(quote)[0]))
 
     def tell_cancel_all(self, own: random.Random) -> None:
-        dealers = sorted({quote.word[0] for quote in self.standing()})
+        dealers = sorted({word_of(quote)[0] for quote in self.standing()})
         if dealers:
             name = self.name(own.choice(dealers))
             self.say(name, "Z", "298=4")
@@ -211,7 +228,7 @@ class Day:
         found = self.asked_one(own)
         if found:
             request, dealer = found
-            shown = self.venue.desks[dealer].request_in((self.one, request.n))
+            shown = self.shown_in(dealer, (self.one, request.n))
             self.say(self.name(dealer), "AG", "131=R%d|658=10" % shown.k)
             self.settle(self.name(dealer))
 
@@ -230,11 +247,11 @@ class Day:
         if not self.standing():
             return self.tell_quote(own)
         quote = own.choice(self.standing())
-        dealer = self.name(quote.word[0])
+        dealer = self.name(word_of(quote)[0])
         self.settle(dealer)
         self.hit(own, quote)
         turns = ["turn INV1 1", "turn %s 1" % dealer]
-        acts = [lambda: self.cancel(quote), *[lambda line=line: self.put(line) for line in turns]]
+        acts = [partial(self.cancel, quote), *[partial(self.put, line) for line in turns]]
         own.shuffle(acts)
         for act in acts:
             act()
@@ -285,7 +302,7 @@ class Day:
         firm = self.firm(name)
         for dealer in map(self.firm, dealers):
             if draw.random() < 0.7:
-                room = firm, len(self.venue.desks[firm].requests)
+                room = firm, len(self.venue.investor_desk(firm).requests)
                 self.quote(dealer, room, 25_600 + 8 * draw.randrange(-99, 99))
                 if draw.random() < 0.7:
                     self.settle(self.name(dealer))
@@ -293,7 +310,7 @@ class Day:
     def others_end(self) -> None:
         """Another investor hits a quote or leaves a request, or one of its quotes is cancelled."""
         draw, name = self.draw, self.draw.choice(self.others)
-        desk = self.venue.desks[self.firm(name)]
+        desk = self.venue.investor_desk(self.firm(name))
         what = draw.randrange(4)
         if what == 0 and desk.requests:
             terms = draw.randrange(10**9), draw.choice(desk.requests).id.decode()
@@ -324,7 +341,7 @@ class Day:
         """A dealer whose exposure allows no quote tries one on a request of INV1."""
         for request in self.open_requests():
             for firm in self.venue.rooms[(self.one, request.n)].dealers:
-                if self.configuration.firms[firm].exposure == 1 and request.ask.quantity > 1:
+                if self.configuration.dealer(firm).exposure == 1 and request.ask.quantity > 1:
                     self.quote(firm, (self.one, request.n), 25_600)
 
     def others_turn(self) -> None:

@@ -9,12 +9,12 @@ import itertools
 import random
 import subprocess
 from collections.abc import Sequence
-from typing import NamedTuple
+from typing import Any, NamedTuple
 
 from tests.isolation.dealer_days import Day, Story
-from tests.model.configuration import read_configuration
+from tests.model.configuration import Dealer, read_configuration
 from tests.model.lines import StepReader, message_line
-from tests.model.replay import Venue, alone
+from tests.model.replay import Item, Venue, alone
 
 
 class Whole(NamedTuple):
@@ -22,8 +22,8 @@ class Whole(NamedTuple):
 
     head: str
     lines: str
-    row: tuple
-    due: list
+    row: tuple[bytes, Dealer]
+    due: list[Item]
 
     def text(self) -> bytes:
         return (self.head + "\n%%\n" + self.lines + "\n").encode()
@@ -47,11 +47,12 @@ def whole(day: Day) -> Whole:
         for kind, *step in reader.steps(line.encode()):
             take(venue, kind, *step)
     one = configuration.firm(b"DLR1")
-    row = configuration.date, configuration.firms[one]
+    assert one is not None
+    row = configuration.date, configuration.dealer(one)
     return Whole(head, lines, row, venue.due[one])
 
 
-def take(venue: Venue, kind: str, *step: object) -> None:
+def take(venue: Venue, kind: str, *step: Any) -> None:
     """A step of the day; turns go on until the actor has no duty."""
     if kind != "turn":
         getattr(venue, kind)(*step)

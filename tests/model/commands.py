@@ -3,7 +3,7 @@
 import functools
 from collections.abc import Iterable, Iterator
 from dataclasses import dataclass
-from typing import BinaryIO
+from typing import Any, BinaryIO
 
 from .configuration import Configuration
 from .desk import Desk
@@ -11,6 +11,7 @@ from .inputs import Fault, Part, configuration_of, numbered_lines, parts_of_inpu
 from .investor_lines import investor_text, is_investor_text, read_investor_text
 from .lines import (
     LineFault,
+    Step,
     StepReader,
     dealer_blotter,
     due_text,
@@ -48,8 +49,9 @@ def role_by(investor: bool) -> str:
 # ---------------------------------------------------------------- days
 
 
-def steps_of(configuration: Configuration, part: Part) -> list[tuple]:
-    reader, steps = StepReader(configuration), []
+def steps_of(configuration: Configuration, part: Part) -> list[Step]:
+    reader = StepReader(configuration)
+    steps: list[Step] = []
     for number, line in numbered(part.lines, part.first):
         try:
             steps += reader.steps(line)
@@ -142,10 +144,11 @@ def do_replay(streams: Streams, frames: bool, live: bool, notes: bool, word: byt
 
 def do_due(streams: Streams, live: bool, investor: bool, word: bytes) -> Iterable[bytes]:
     venue, firm = a_day(streams, live, word, role_by(investor))
+    assert firm is not None
     configuration = venue.configuration
     if investor:
         return investor_text(seen_by(configuration, firm), venue.due[firm])
-    return due_text(configuration.date, configuration.firms[firm], venue.due[firm])
+    return due_text(configuration.date, configuration.dealer(firm), venue.due[firm])
 
 
 def do_dues(streams: Streams, live: bool) -> Iterable[bytes]:
@@ -157,15 +160,17 @@ def do_dues(streams: Streams, live: bool) -> Iterable[bytes]:
 
 def do_blotter(streams: Streams, live: bool, word: bytes) -> Iterable[bytes]:
     venue, firm = a_day(streams, live, word)
-    dealer = venue.configuration.is_dealer(firm)
-    return (dealer_blotter if dealer else investor_blotter)(venue.desks[firm])
+    assert firm is not None
+    if venue.configuration.is_dealer(firm):
+        return dealer_blotter(venue.dealer_desk(firm))
+    return investor_blotter(venue.investor_desk(firm))
 
 
 def do_compare(streams: Streams, live: bool, investor: bool, word: bytes) -> Iterable[bytes]:
     days = []
     for venue, firm in two_days(streams, live, word, role_by(investor)):
         configuration = venue.configuration
-        row = seen_by(configuration, firm) if investor else (configuration.date, configuration.firms[firm])
+        row: object = seen_by(configuration, firm) if investor else (configuration.date, configuration.dealer(firm))
         days.append((row, venue.due[firm], venue.desks[firm].frames()))
     (row_a, due_a, sent_a), (row_b, due_b, sent_b) = days
     yield b"row equal" if row_a == row_b else b"row differs"
@@ -173,7 +178,7 @@ def do_compare(streams: Streams, live: bool, investor: bool, word: bytes) -> Ite
     yield difference(b"messages equal", b"messages differ", sent_a, sent_b)
 
 
-def difference(equal: bytes, differ: bytes, a: list, b: list) -> bytes:
+def difference(equal: bytes, differ: bytes, a: list[Any], b: list[Any]) -> bytes:
     for position in range(max(len(a), len(b))):
         if a[position : position + 1] != b[position : position + 1]:
             return b"%s at %d" % (differ, position + 1)

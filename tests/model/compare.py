@@ -13,10 +13,12 @@ from __future__ import annotations
 import collections
 import io
 import multiprocessing
+import os
 import re
 import subprocess
 import sys
 import traceback
+from collections.abc import Sequence
 from typing import TYPE_CHECKING
 
 from . import faults
@@ -31,10 +33,14 @@ from .venue_command import words_of
 if TYPE_CHECKING:
     from .configuration import Dealer, Investor
 
+Input = tuple[list[str], bytes]  # arguments, and standard input
+Answer = tuple[int, bytes, bytes]  # status, output, standard error
+Difference = tuple[int, list[str], bytes, Answer, Answer]  # an input by its number, and both answers to it
+
 # ---------------------------------------------------------------- the inputs of a seed
 
 
-def inputs(seed: int) -> list[tuple[list[str], bytes]]:
+def inputs(seed: int) -> list[Input]:
     """Pairs of arguments and standard input."""
     draw = Draw(seed)
     kinds = [a_day] * 10 + [two_days] * 2 + [due_list] * 3 + [investor_list] * 2 + [made_up] * 4 + [spoilt] * 3 + [configurations] * 2 + [streams] * 2 + [rarely]
@@ -47,16 +53,16 @@ def joined(*parts: bytes) -> bytes:
 
 def ended(draw: Draw, data: bytes) -> bytes:
     """With a line feed at its end, or without."""
-    return data + draw.of(b"\n", b"\n", b"")
+    return data + bytes(draw.of(b"\n", b"\n", b""))
 
 
 def head(day: Day) -> bytes:
     return "\n".join(day.head).encode()
 
 
-def firm_word(draw: Draw, day: Day, dealer: bool=False) -> str:
+def firm_word(draw: Draw, day: Day, dealer: bool = False) -> str:
     """A firm of the day, for the most part."""
-    return word_among(draw, day.configuration.dealers if dealer else day.configuration.firms)
+    return word_among(draw, day.configuration.dealers) if dealer else word_among(draw, day.configuration.firms)
 
 
 def investor_words(draw: Draw, day: Day) -> list[str]:
@@ -65,9 +71,9 @@ def investor_words(draw: Draw, day: Day) -> list[str]:
     return words if draw.chance(0.8) else words[::-1]
 
 
-def word_among(draw: Draw, rows: list[Dealer | Investor]) -> str:
+def word_among(draw: Draw, rows: Sequence[Dealer | Investor]) -> str:
     if not rows or draw.chance(0.02):
-        return draw.of("NOBODY", "CLOCK", "INV1", "DLR1", "DLR99")
+        return str(draw.of("NOBODY", "CLOCK", "INV1", "DLR1", "DLR99"))
     return draw.choice(rows).name.decode()
 
 
@@ -79,7 +85,7 @@ def commands(draw: Draw, day: Day) -> list[list[str]]:
     return draw.sample(all_of_them, draw.of(2, 3, 5))
 
 
-def a_day(draw: Draw) -> list[tuple[list[str], bytes]]:
+def a_day(draw: Draw) -> list[Input]:
     day = Day(draw)
     data = ended(draw, joined(head(day), day.text()))
     found = [(words, data) for words in commands(draw, day)]
@@ -107,7 +113,7 @@ def without_turns(draw: Draw, data: bytes) -> bytes:
     return data if draw.chance(0.05) else b"\n".join(line for line in data.split(b"\n") if not line.startswith(b"turn "))
 
 
-def two_days(draw: Draw) -> list[tuple[list[str], bytes]]:
+def two_days(draw: Draw) -> list[Input]:
     """A day against itself with something changed, or against another of the same firms."""
     day = Day(draw, length=draw.randint(1, 40))
     first, second = day.text(), day.text()
@@ -136,30 +142,30 @@ def two_days(draw: Draw) -> list[tuple[list[str], bytes]]:
     return [(words, data)]
 
 
-def due_list(draw: Draw) -> list[tuple[list[str], bytes]]:
+def due_list(draw: Draw) -> list[Input]:
     """What was due to a dealer of a day, as it was or with something changed."""
     day = Day(draw)
     if not day.configuration.dealers:
         return []
     dealer = draw.choice(day.dealers())
     configuration = day.configuration
-    data = b"\n".join(due_text(configuration.date, configuration.firms[dealer], day.venue.due[dealer]))
-    found = [(["alone"], data + b"\n"), (["alone", "--frames"], data), ([], ended(draw, faults.spoilt_input(draw, data)))]
+    data = b"\n".join(due_text(configuration.date, configuration.dealer(dealer), day.venue.due[dealer]))
+    found: list[Input] = [(["alone"], data + b"\n"), (["alone", "--frames"], data), ([], ended(draw, faults.spoilt_input(draw, data)))]
     return draw.sample(found, draw.of(1, 2))
 
 
-def investor_list(draw: Draw) -> list[tuple[list[str], bytes]]:
+def investor_list(draw: Draw) -> list[Input]:
     """The same of an investor."""
     day = Day(draw)
     if not day.configuration.investors:
         return []
     investor = draw.choice(day.investors())
     data = b"\n".join(investor_text(seen_by(day.configuration, investor), day.venue.due[investor]))
-    found = [(["alone"], data + b"\n"), (["alone", "--frames"], data), ([], ended(draw, faults.spoilt_input(draw, data)))]
+    found: list[Input] = [(["alone"], data + b"\n"), (["alone", "--frames"], data), ([], ended(draw, faults.spoilt_input(draw, data)))]
     return draw.sample(found, draw.of(1, 2))
 
 
-def made_up(draw: Draw) -> list[tuple[list[str], bytes]]:
+def made_up(draw: Draw) -> list[Input]:
     data = faults.MadeUp(draw).text() if draw.chance(0.6) else MadeUpInvestor(draw).text()
     found = [(draw.of(["alone"], [], ["alone", "--frames"]), ended(draw, data))]
     if draw.chance(0.5):
@@ -167,7 +173,7 @@ def made_up(draw: Draw) -> list[tuple[list[str], bytes]]:
     return found
 
 
-def spoilt(draw: Draw) -> list[tuple[list[str], bytes]]:
+def spoilt(draw: Draw) -> list[Input]:
     """A lawful input with some bytes, words or lines changed."""
     day = Day(draw, length=draw.randint(1, 20))
     found = []
@@ -184,7 +190,7 @@ def spoilt(draw: Draw) -> list[tuple[list[str], bytes]]:
     return found
 
 
-def configurations(draw: Draw) -> list[tuple[list[str], bytes]]:
+def configurations(draw: Draw) -> list[Input]:
     day, found = Day(draw, length=2), []
     for _ in range(4):
         lines = faults.crowded_configuration(draw) if draw.chance(0.05) else faults.spoilt_configuration(draw)
@@ -193,7 +199,7 @@ def configurations(draw: Draw) -> list[tuple[list[str], bytes]]:
     return found
 
 
-def streams(draw: Draw) -> list[tuple[list[str], bytes]]:
+def streams(draw: Draw) -> list[Input]:
     """Streams in pieces, lawful or not."""
     top, found = "\n".join(faults.STREAM_FIRMS).encode(), []
     for _ in range(3):
@@ -202,7 +208,7 @@ def streams(draw: Draw) -> list[tuple[list[str], bytes]]:
     return found
 
 
-def rarely(draw: Draw) -> list[tuple[list[str], bytes]]:
+def rarely(draw: Draw) -> list[Input]:
     day = Day(draw, length=3)
     parts = [head(day), day.text()] * draw.of(0, 1, 2, 3) + draw.of([], [b""], [b"x"])
     words = draw.of(["replay"], ["alone"], ["compare", "DLR1"], ["due", "DLR1"], live_words(draw), ["blotter", "INV1"])
@@ -220,8 +226,8 @@ def rarely(draw: Draw) -> list[tuple[list[str], bytes]]:
 
 def model_answer(words: list[str], data: bytes) -> tuple[int, bytes, bytes]:
     out, err = io.BytesIO(), io.BytesIO()
-    words = [word.decode("utf-8", "surrogateescape") if isinstance(word, bytes) else word for word in words]
-    status = model.run(words, io.BytesIO(data), out, err)
+    texts = [os.fsdecode(word) for word in words]
+    status = model.run(texts, io.BytesIO(data), out, err)
     return status, out.getvalue(), err.getvalue()
 
 
@@ -235,7 +241,7 @@ def same(mine: tuple[int, bytes, bytes], other: tuple[int, bytes, bytes]) -> boo
     return mine == other or (mine[0] == 2 and mine[:2] == other[:2])
 
 
-def kinds_of(words: list[str], answer: tuple[int, bytes, bytes]) -> dict[str, int]:
+def kinds_of(words: list[str], answer: tuple[int, bytes, bytes]) -> collections.Counter[str]:
     """What kinds of answers there are: for the count behind a run."""
     status, out, err = answer
     kinds = collections.Counter({"%s, status %d" % (words[0] if words and words[0] in model.COMMANDS else "other", status): 1})
@@ -244,13 +250,13 @@ def kinds_of(words: list[str], answer: tuple[int, bytes, bytes]) -> dict[str, in
     for line in err.decode(errors="replace").splitlines() if status != 2 else []:
         kinds["fault " + re.sub(r"line \d+", "line K", line) if not line.startswith("firm") else "fault firm"] += 1
     if words and words[0] in ("replay", "live") or not words or words[0] == "alone":
-        for line in out.splitlines():
-            if "--notes" in words and line.startswith((b"why ", b"trade ")):
-                kinds[noted_kind(line)] += 1
+        for said in out.splitlines():
+            if "--notes" in words and said.startswith((b"why ", b"trade ")):
+                kinds[noted_kind(said)] += 1
                 continue
-            parts = line.decode(errors="replace").split(" ", 4)
+            parts = said.decode(errors="replace").split(" ", 4)
             if parts[0] in ("done", "fault") and "--marks" in words:
-                kinds["mark %s, %d words" % (parts[0], len(line.split()))] += 1
+                kinds["mark %s, %d words" % (parts[0], len(said.split()))] += 1
             elif len(parts) == 5 and parts[1].isdigit():
                 tags = re.findall(r"(?:^|\|)((?:297|300|58|658|694|371|373)=[^|]*)", parts[4])
                 kinds["%s %s" % (parts[3], " ".join(tags))] += 1
@@ -270,10 +276,10 @@ def noted_kind(line: bytes) -> str:
     return "why %s" % name if word == "why" else "trade %s" % name.rsplit("-", 1)[1]
 
 
-def compared(work: tuple[list[str], int, bool]) -> tuple[int, None, int, dict[str, int]]:
+def compared(work: tuple[list[str], int, bool]) -> tuple[int, Difference | str | None, int, collections.Counter[str]]:
     """The first difference of a seed's inputs, if any; how many there are; the kinds of their answers."""
     program, seed, notes = work
-    count, kinds = 0, collections.Counter()
+    count, kinds = 0, collections.Counter[str]()
     try:
         for number, (words, data) in enumerate(inputs(seed), 1):
             words = with_notes(words) if notes else words
@@ -289,7 +295,7 @@ def compared(work: tuple[list[str], int, bool]) -> tuple[int, None, int, dict[st
     return seed, None, count, kinds
 
 
-def report(seed, difference):
+def report(seed: int, difference: Difference | str) -> str:
     if isinstance(difference, str):
         return "seed %d: the model fails\n%s" % (seed, difference)
     number, words, data, mine, other = difference
@@ -304,14 +310,14 @@ def report(seed, difference):
     return text
 
 
-def write_inputs(seed):
+def write_inputs(seed: int) -> None:
     for number, (words, data) in enumerate(inputs(seed), 1):
         with open("%d-%d.in" % (seed, number), "wb") as file:
             file.write(data)
         print("%d-%d.in: %r" % (seed, number, words))
 
 
-def main():
+def main() -> None:
     words = sys.argv[1:]
     notes = words[0] == "--notes"
     words = words[notes:]
@@ -320,7 +326,7 @@ def main():
     program, wanted = words_of(words[0]), int(words[1])
     first = int(words[2]) if len(words) > 2 else 1
     processes = int(words[3]) if len(words) > 3 else 1
-    total, kinds = 0, collections.Counter()
+    total, kinds = 0, collections.Counter[str]()
     with multiprocessing.Pool(processes) as pool:
         seeds = ((program, seed, notes) for seed in range(first, 2**62))
         for seed, difference, count, found in pool.imap(compared, seeds, 16):

@@ -5,7 +5,7 @@ from __future__ import annotations
 import re
 from collections.abc import Callable, Iterator
 from dataclasses import dataclass
-from typing import Any
+from typing import Any, TypeVar
 
 import tomllib
 
@@ -21,6 +21,10 @@ MOST_REQUESTS, MOST_OPEN, MOST_QUANTITY = 1024, 1024, 10**12
 ALL_QUOTES, ALL_REQUESTS = 65_536, 4_096
 
 
+Table = dict[str, Any]  # of TOML
+Value = TypeVar("Value")
+
+
 class ConfigFault(Exception):
     pass
 
@@ -34,7 +38,7 @@ class Bond:
 @dataclass(frozen=True)
 class Dealer:
     name: bytes
-    traders: tuple
+    traders: tuple[bytes, ...]
     quotes: int
     exposure: int
 
@@ -42,7 +46,7 @@ class Dealer:
 @dataclass(frozen=True)
 class Investor:
     name: bytes
-    traders: tuple
+    traders: tuple[bytes, ...]
     requests: int
     open: int
     quantity: int
@@ -51,23 +55,31 @@ class Investor:
 class Configuration:
     def __init__(self, date: bytes, bonds: list[Bond], dealers: list[Dealer], investors: list[Investor]) -> None:
         self.date, self.bonds, self.dealers, self.investors = date, bonds, dealers, investors
-        self.firms = dealers + investors
+        self.firms: list[Dealer | Investor] = [*dealers, *investors]
         self.numbers = {row.name: number for number, row in enumerate(self.firms)}
 
-    def firm(self, name: bytes) -> int:
+    def firm(self, name: bytes) -> int | None:
         """The number of a firm, dealers first, or None."""
         return self.numbers.get(name)
+
+    def dealer(self, firm: int) -> Dealer:
+        """The row of a dealer."""
+        return self.dealers[firm]
+
+    def investor(self, firm: int) -> Investor:
+        """The row of an investor."""
+        return self.investors[firm - len(self.dealers)]
 
     def is_dealer(self, firm: int) -> bool:
         return firm < len(self.dealers)
 
     def has_room(self, firm: int, n: int) -> bool:
-        return not self.is_dealer(firm) and 1 <= n <= self.firms[firm].requests
+        return not self.is_dealer(firm) and 1 <= n <= self.investor(firm).requests
 
     def rooms(self) -> Iterator[tuple[int, int]]:
         """The rooms of the venue: investor and request, in their order."""
         for firm in range(len(self.dealers), len(self.firms)):
-            for n in range(1, self.firms[firm].requests + 1):
+            for n in range(1, self.investor(firm).requests + 1):
                 yield firm, n
 
 
@@ -86,24 +98,24 @@ def is_bond(text: str) -> bool:
 # ---------------------------------------------------------------- values of a table, each by its kind
 
 
-def value_of(table: dict[str, int | str | list[dict[str, str | int | list[str]] | str]], key: str, kind: type[int] | type[str] | type[list]) -> int | str | list[dict[str, str | int | list[str]] | str]:
+def value_of(table: Table, key: str, kind: type[Value]) -> Value:
     """The value of a key, of this kind; truth values are no integers."""
     value = table.get(key)
-    if type(value) is not kind:
+    if value is None or type(value) is not kind:
         raise ConfigFault("Missing")
     return value
 
 
-def integer(table: dict[str, int | list[str] | str], key: str, most: int) -> int:
+def integer(table: Table, key: str, most: int) -> int:
     value = value_of(table, key, int)
     if not 1 <= value <= most:
         raise ConfigFault("Limit")
     return value
 
 
-def new_name(value: str, lawful: Callable[..., Any], earlier: set[str]) -> bytes:
+def new_name(value: object, lawful: Callable[[str], bool], earlier: set[str]) -> bytes:
     """A text of a lawful form that was not named before; joins those that were."""
-    if type(value) is not str:
+    if not isinstance(value, str):
         raise ConfigFault("Missing")
     if not lawful(value):
         raise ConfigFault("Name")
@@ -113,7 +125,7 @@ def new_name(value: str, lawful: Callable[..., Any], earlier: set[str]) -> bytes
     return value.encode()
 
 
-def rows(table: dict[str, int | str | list[dict[str, str | int | list[str]]]], key: str, most: int) -> Iterator[dict[str, str | int | list[str]]]:
+def rows(table: Table, key: str, most: int) -> Iterator[Table]:
     """The tables of an array, in order; absent it is empty. What is no table is found in its turn."""
     if key not in table:
         return
@@ -126,18 +138,18 @@ def rows(table: dict[str, int | str | list[dict[str, str | int | list[str]]]], k
         yield row
 
 
-def traders_of(row: dict[str, int | list[str] | str]) -> tuple[bytes, ...]:
+def traders_of(row: Table) -> tuple[bytes, ...]:
     array = value_of(row, "traders", list)
     if not 1 <= len(array) <= MOST_TRADERS:
         raise ConfigFault("Limit")
-    named = set()
+    named: set[str] = set()
     return tuple(new_name(trader, is_name, named) for trader in array)
 
 
 # ---------------------------------------------------------------- the whole
 
 
-def read_toml(data: bytes) -> dict[str, int | str | list[dict[str, str | int | list[str]]]] | None:
+def read_toml(data: bytes) -> Table:
     try:
         table = tomllib.loads(data.decode("utf-8"))
     except (ValueError, RecursionError):
@@ -147,16 +159,16 @@ def read_toml(data: bytes) -> dict[str, int | str | list[dict[str, str | int | l
     return table
 
 
-def has_wide_integer(value: int | str | dict[str, int | str | list[dict[str, str | int | list[str]] | str]] | list[dict[str, str | int | list[str]] | str]) -> bool:
+def has_wide_integer(value: object) -> bool:
     """Whether an integer stands in it that has no place in 64 bits."""
-    if type(value) is dict:
+    if isinstance(value, dict):
         return any(has_wide_integer(item) for item in value.values())
-    if type(value) is list:
+    if isinstance(value, list):
         return any(has_wide_integer(item) for item in value)
-    return type(value) is int and not -(2**63) <= value < 2**63
+    return isinstance(value, int) and not -(2**63) <= value < 2**63
 
 
-def read_configuration(data: bytes) -> Configuration | None:
+def read_configuration(data: bytes) -> Configuration:
     """The configuration that these bytes spell; ConfigFault with the name of its first fault."""
     table = read_toml(data)
     version = value_of(table, "version", int)
@@ -165,7 +177,8 @@ def read_configuration(data: bytes) -> Configuration | None:
     date = value_of(table, "date", str).encode()
     if not is_date(date):
         raise ConfigFault("Name")
-    ids, bonds = set(), []
+    ids: set[str] = set()
+    bonds: list[Bond] = []
     for row in rows(table, "bond", MOST_BONDS):
         bond, grid = new_name(row.get("id"), is_bond, ids), 256
         if version == 2:
@@ -173,7 +186,9 @@ def read_configuration(data: bytes) -> Configuration | None:
             if grid not in GRIDS:
                 raise ConfigFault("Limit")
         bonds.append(Bond(bond, grid))
-    names, dealers, investors = set(), [], []
+    names: set[str] = set()
+    dealers: list[Dealer] = []
+    investors: list[Investor] = []
     for row in rows(table, "dealer", MOST_DEALERS):
         name = new_name(row.get("name"), is_firm_name, names)
         traders = traders_of(row)
@@ -185,8 +200,8 @@ def read_configuration(data: bytes) -> Configuration | None:
         requests = integer(row, "requests", MOST_REQUESTS)
         opened = integer(row, "open", MOST_OPEN)
         investors.append(Investor(name, traders, requests, opened, integer(row, "quantity", MOST_QUANTITY)))
-    if sum(row.quotes for row in dealers) > ALL_QUOTES:
+    if sum(dealer.quotes for dealer in dealers) > ALL_QUOTES:
         raise ConfigFault("Limit")
-    if sum(row.requests for row in investors) > ALL_REQUESTS:
+    if sum(investor.requests for investor in investors) > ALL_REQUESTS:
         raise ConfigFault("Limit")
     return Configuration(date, bonds, dealers, investors)

@@ -7,8 +7,8 @@ what the venue makes of it is for the comparison to say.
 from __future__ import annotations
 
 import random
-from collections.abc import Callable
-from typing import TYPE_CHECKING, Any
+from collections.abc import Callable, Sequence
+from typing import TYPE_CHECKING, Any, TypeVar
 
 from .configuration import read_configuration
 from .frames import Stream, StreamFault, moment_text, read_fields, time_text, write_frame
@@ -20,6 +20,7 @@ if TYPE_CHECKING:
     from .dealer import Quote, Request
     from .investor import Shown
 
+Row = TypeVar("Row")
 OPENING = 32_400_000  # 09:00:00
 SOH = b"\x01"
 
@@ -30,7 +31,7 @@ class Draw(random.Random):
     def chance(self, share: float | int) -> bool:
         return self.random() < share
 
-    def of(self, *values: int | str | bytes | list[str | int | tuple[int, str]]) -> int | str | bytes | list[int | tuple[int, str]]:
+    def of(self, *values: Any) -> Any:
         return self.choice(values)
 
 
@@ -66,15 +67,15 @@ def draw_configuration(draw: Draw) -> list[str]:
     return lines
 
 
-def keyed(draw: Draw, head: str, pairs: list[tuple[str, str | int]]) -> list[str]:
-    pairs = [("%s = %s" % pair) for pair in pairs]
+def keyed(draw: Draw, head: str, pairs: Sequence[tuple[str, str | int]]) -> list[str]:
+    lines = ["%s = %s" % pair for pair in pairs]
     if draw.chance(0.2):
-        draw.shuffle(pairs)
-    return [head] + pairs
+        draw.shuffle(lines)
+    return [head] + lines
 
 
 def bond_table(draw: Draw, name: str, version: int) -> list[str]:
-    pairs = [("id", '"%s"' % name)]
+    pairs: list[tuple[str, str | int]] = [("id", '"%s"' % name)]
     if version == 2:
         pairs.append(("grid", draw.choice([32, 64, 128, 256])))
     elif draw.chance(0.2):
@@ -90,14 +91,14 @@ def trader_list(draw: Draw, traders: list[str]) -> str:
 def dealer_table(draw: Draw, name: str, traders: list[str]) -> list[str]:
     quotes = draw.choice([1, 2, 4, 20, 20, 4096])
     exposure = draw.choice([1, 2_000_000, 3_000_000, 4_000_000, 10_000_000, 10_000_000, 10**15, 10**15])
-    pairs = [("name", '"%s"' % name), ("traders", trader_list(draw, traders)), ("quotes", quotes), ("exposure", exposure)]
+    pairs: list[tuple[str, str | int]] = [("name", '"%s"' % name), ("traders", trader_list(draw, traders)), ("quotes", quotes), ("exposure", exposure)]
     return keyed(draw, "[[dealer]]", pairs)
 
 
 def investor_table(draw: Draw, name: str, traders: list[str]) -> list[str]:
     requests = draw.choice([1, 3, 5, 20, 20, 20, 1024])
     opened, quantity = draw.choice([1, 2, 3, 20, 20, 1024]), draw.choice([1, 1_000_000, 2_000_000, 5_000_000, 5_000_000, 10**12])
-    pairs = [("name", '"%s"' % name), ("traders", trader_list(draw, traders)), ("requests", requests)]
+    pairs: list[tuple[str, str | int]] = [("name", '"%s"' % name), ("traders", trader_list(draw, traders)), ("requests", requests)]
     return keyed(draw, "[[investor]]", pairs + [("open", opened), ("quantity", quantity)])
 
 
@@ -111,14 +112,14 @@ def moment_word(draw: Draw, moment: int) -> str:
 
 
 def quantity_text(draw: Draw, quantity: int) -> str:
-    return draw.of("%d", "%d", "%d", "%d.0", "0%d", "%d.") % quantity
+    return str(draw.of("%d", "%d", "%d", "%d.0", "0%d", "%d.") % quantity)
 
 
 def spelled_price(draw: Draw, ticks: int) -> str:
     text = price_text(ticks).decode()
     if "." not in text:
         text += draw.of("", "", ".", ".0", ".000")
-    return draw.of(text, text, text, "0" + text)
+    return str(draw.of(text, text, text, "0" + text))
 
 
 BAD_IDS = ["", "a b", "x" * 41, "x" * 40, "\u00e9", "~", "!", "a=b"]
@@ -170,7 +171,9 @@ class Day:
         self.draw, self.head = draw, lines or draw_configuration(draw)
         self.configuration = read_configuration("\n".join(self.head).encode())
         self.venue, self.reader = Venue(self.configuration), StepReader(self.configuration)
-        self.lines, self.moment, self.bits = [], OPENING, {}
+        self.lines: list[bytes] = []
+        self.moment = OPENING
+        self.bits: dict[int, bytes] = {}
         self.say_counts = Framer(self.configuration.date)
         self.faulty = draw.choice([0, 0, 0.02, 0.02, 0.05, 0.05, 0.3, 0.6])  # how often a message is spoilt
         self.kinds = draw.choice([("say",), ("say",), ("say", "say", "in"), ("in",), ("piece",), ("say", "in", "piece"),
@@ -214,7 +217,7 @@ class Day:
         self.put(b"turn %s %d" % (self.actor_name(actor), min(times, 1000)))
 
     def actor_name(self, actor: int | str) -> bytes:
-        return b"CLOCK" if actor == CLOCK else self.configuration.firms[actor].name
+        return self.configuration.firms[actor].name if isinstance(actor, int) else b"CLOCK"
 
     def turns(self) -> None:
         self.turn(self.draw.choice(self.firms + [CLOCK]), self.draw.of(1, 2, 5, 1000))
@@ -244,29 +247,29 @@ class Day:
     def message(self, firm: int, kind: str, fields: list[tuple[int, str | int]]) -> None:
         """A message of a firm, said, framed here, or in pieces of its stream."""
         draw, row = self.draw, self.configuration.firms[firm]
-        fields = [(tag, str(value)) for tag, value in fields]
+        texts = [(tag, str(value)) for tag, value in fields]
         while draw.chance(self.faulty):
-            fields = spoil(draw, fields)
+            texts = spoil(draw, texts)
         trader = draw.choice(row.traders).decode() if draw.chance(0.98) else draw.of("T1", "T77", "t1")
         kind = kind if draw.chance(0.99) else draw.of("S", "R", "Z", "AG", "AJ", "8", "XXXXX", "a")
         how = draw.choice(self.kinds)
         if how == "say":
-            return self.say(firm, trader, kind, fields)
+            return self.say(firm, trader, kind, texts)
         head = [(49, row.name.decode()), (56, "VENUE"), (34, str(self.number(firm))), (52, self.sending()), (50, trader)]
         if draw.chance(0.1):
             draw.shuffle(head)
-        fields = head + fields
+        texts = head + texts
         if draw.chance(0.1):
-            fields.insert(draw.randint(0, len(fields)), fields.pop(draw.randrange(5)))
+            texts.insert(draw.randint(0, len(texts)), texts.pop(draw.randrange(5)))
         while draw.chance(self.faulty / 2):
-            fields = spoil(draw, fields)
-        fields = [(35, kind.encode())] + [(tag, value.encode()) for tag, value in fields]
+            texts = spoil(draw, texts)
+        body = [(35, kind.encode())] + [(tag, value.encode()) for tag, value in texts]
         if how == "hex" and draw.chance(0.3):
-            fields = with_any_bytes(draw, fields)
-        data = write_frame(fields)
-        self.deliver(how, firm, self.spoil_bytes(data))
+            body = with_any_bytes(draw, body)
+        data = write_frame(body)
+        return self.deliver(how, firm, self.spoil_bytes(data))
 
-    def number(self, firm: int) -> int:
+    def number(self, firm: int) -> Any:
         """The number that is expected, for the most part."""
         expected = self.venue.desks[firm].inbox.expected + self.waiting(firm)
         return expected if self.draw.chance(0.98) else self.draw.of(0, 1, expected + 1, expected - 1, "0%d" % expected, "x", 10**9)
@@ -294,13 +297,13 @@ class Day:
             return data
         what = draw.randrange(5)
         if what == 0:
-            data = bytearray(data)
-            data[draw.randrange(len(data))] = draw.choice(b"0123456789=|AZ \x01\xff")
-            return bytes(data)
+            other = bytearray(data)
+            other[draw.randrange(len(other))] = draw.choice(b"0123456789=|AZ \x01\xff")
+            return bytes(other)
         if what == 1:
             return data[: draw.randrange(1, len(data))]
         if what == 2:
-            return data + draw.of(b"\x01", b"x", data)
+            return data + bytes(draw.of(b"\x01", b"x", data))
         return respelled(data, draw.of(b"%04d", b"%06d", b"%07d", b"%d"), draw)
 
     def deliver(self, how: str, firm: int, data: bytes) -> None:
@@ -333,7 +336,7 @@ class Day:
         if not self.investors():
             return self.noise()
         firm = draw.choice(self.investors())
-        row, desk = self.configuration.firms[firm], self.venue.desks[firm]
+        row, desk = self.configuration.investor(firm), self.venue.investor_desk(firm)
         name = "A%d" % (len(desk.requests) + 1) if draw.chance(0.9) else draw.of("A1", "B", "x" * 40)
         bond = draw.choice(self.configuration.bonds).id.decode() if draw.chance(0.95) else draw.of("BONDX0000009", "b")
         quantity = min(row.quantity, draw.of(1, 500_000, 1_000_000, 2_000_000)) + (1 if draw.chance(0.03) else 0)
@@ -347,13 +350,13 @@ class Day:
         chosen = draw.sample(dealers, min(len(dealers), draw.choice([1, 2, 2, 3, 3, 8, 9])))
         if draw.chance(0.04):
             chosen.append(draw.of("DLR1", "INV1", "NOBODY", "dlr1"))
-        entries = []
+        entries: list[tuple[int, int | str]] = []
         for dealer in chosen:
-            entry = [(448, dealer), (447, "D"), (452, 35)]
+            entry: list[tuple[int, int | str]] = [(448, dealer), (447, "D"), (452, 35)]
             if draw.chance(0.05):
                 entry = [entry[0], entry[2], entry[1]]
             if draw.chance(0.03):
-                entry = spoil(draw, [(tag, str(value)) for tag, value in entry])
+                entry = list(spoil(draw, [(tag, str(value)) for tag, value in entry]))
             entries += entry
             if draw.chance(0.03):
                 entries.append((draw.of(58, 34, 999, 50, 62), draw.of("x", "5", "T1")))
@@ -365,7 +368,7 @@ class Day:
         if not self.dealers():
             return self.noise()
         firm = draw.choice(self.dealers())
-        desk = self.venue.desks[firm]
+        desk = self.venue.dealer_desk(firm)
         if not desk.requests and draw.chance(0.8):
             return self.ask()
         request = self.likely(desk.requests, self.can_be_quoted)
@@ -388,17 +391,18 @@ class Day:
         """An investor hits a quote while its dealer takes it back, or at the moment at which it ends."""
         draw, found = self.draw, []
         for firm in self.investors():
-            quotes = self.venue.desks[firm].shown
+            quotes = self.venue.investor_desk(firm).shown
             found += [(firm, quote) for quote in quotes if quote.request.is_open() and not quote.gone]
         if not found:
             return self.quote()
         firm, quote = draw.choice(found)
+        assert isinstance(quote.word, tuple)
         dealer, q = quote.word
         if draw.chance(0.3):
             posted = self.venue.room((firm, quote.request.n)).standing(quote.word)
             end = posted.until if posted and posted.until is not None else quote.request.ask.deadline
             self.moment = max(0, min(86_399_999, end + draw.of(-1, 0, 1)))
-        acts = [lambda: self.hit_quote(firm, quote), lambda: self.take_back(dealer, self.venue.desks[dealer].quotes[q - 1])]
+        acts: list[Callable[[], None]] = [lambda: self.hit_quote(firm, quote), lambda: self.take_back(dealer, self.venue.dealer_desk(dealer).quotes[q - 1])]
         acts += [lambda: self.turn(firm, draw.of(1, 1, 2)), lambda: self.turn(dealer, draw.of(1, 1, 2))]
         if draw.chance(0.3):
             acts.append(lambda: self.turn(dealer, 20))
@@ -415,18 +419,18 @@ class Day:
             return self.ask()
         (firm, n), room = draw.choice(able)
         for dealer in draw.choices(room.dealers, k=len(room.dealers) + 1):
-            request = self.venue.desks[dealer].request_in((firm, n))
+            request = self.venue.dealer_desk(dealer).request_in((firm, n))
             if request:
                 self.quote_again(dealer, request)
                 self.turn(dealer, 2)
-        shown = [quote for quote in self.venue.desks[firm].shown if quote.request.n == n and not quote.gone]
+        shown = [quote for quote in self.venue.investor_desk(firm).shown if quote.request.n == n and not quote.gone]
         if shown:
             self.hit_quote(firm, draw.choice(shown))
             self.turn(firm, draw.of(1, 20))
         return None
 
     def quote_again(self, dealer: int, request: Request) -> None:
-        ask, name = request.ask, "q%d" % (len(self.venue.desks[dealer].quotes) + 1)
+        ask, name = request.ask, "q%d" % (len(self.venue.dealer_desk(dealer).quotes) + 1)
         price = (133 if ask.side == 1 else 132, self.price(request))
         self.message(dealer, "S", [(117, name), (131, "R%d" % request.k), (48, ask.bond.decode()), (22, 4), price])
 
@@ -440,7 +444,7 @@ class Day:
         else:
             self.quote_again(dealer, request)
 
-    def likely(self, rows: list[Request | Shown | Quote], fits: Callable[..., Any]) -> Request | Shown | Quote | None:
+    def likely(self, rows: list[Row], fits: Callable[[Row], bool]) -> Row | None:
         """One of the rows, of those that fit for the most part; None where there are none."""
         fitting = [row for row in rows if fits(row)]
         if fitting and self.draw.chance(0.9):
@@ -457,7 +461,8 @@ class Day:
 
     def extras(self, request: Request | None) -> list[tuple[int, int | str]]:
         """Fields of a quote that need not be there."""
-        draw, fields = self.draw, []
+        draw = self.draw
+        fields: list[tuple[int, int | str]] = []
         quantity = request.ask.quantity if request else 5
         for tag in (134, 135):
             if draw.chance(0.1):
@@ -470,15 +475,15 @@ class Day:
         return fields
 
     def dealer_and_quote(self) -> tuple[int | None, Quote | None]:
-        able = [firm for firm in self.dealers() if self.venue.desks[firm].quotes]
+        able = [firm for firm in self.dealers() if self.venue.dealer_desk(firm).quotes]
         if not able:
             return None, None
         firm = self.draw.choice(able)
-        return firm, self.likely(self.venue.desks[firm].quotes, lambda quote: quote.is_live())
+        return firm, self.likely(self.venue.dealer_desk(firm).quotes, lambda quote: quote.is_live())
 
     def cancel(self) -> None:
         firm, quote = self.dealer_and_quote()
-        if firm is None:
+        if firm is None or quote is None:
             return self.quote()
         name = quote.id.decode() if self.draw.chance(0.95) else self.draw.of("none", "q1")
         return self.message(firm, "Z", [(298, self.draw.of(5, 5, 5, 5, 5, "05", 1, 4)), (117, name)])
@@ -490,19 +495,22 @@ class Day:
         return self.message(firm, "Z", [(298, self.draw.of(4, 4, "004"))] + self.draw.of([], [], [(117, "all")], [(117, "a b")]))
 
     def decline(self) -> None:
-        able = [firm for firm in self.dealers() if self.venue.desks[firm].requests]
+        able = [firm for firm in self.dealers() if self.venue.dealer_desk(firm).requests]
         if not able:
             return self.ask()
         firm = self.draw.choice(able)
-        request = self.likely(self.venue.desks[firm].requests, lambda request: request.closed is None and not self.venue.desks[firm].live_quote(request))
+        desk = self.venue.dealer_desk(firm)
+        request = self.likely(desk.requests, lambda request: request.closed is None and not desk.live_quote(request))
+        assert request is not None
         return self.message(firm, "AG", [(131, "R%d" % (request.k + self.draw.of(0, 0, 0, 0, 0, 0, 5))), (658, self.draw.of(10, 10, 10, 10, "010", 99))])
 
     def hit(self) -> None:
-        able = [firm for firm in self.investors() if self.venue.desks[firm].shown]
+        able = [firm for firm in self.investors() if self.venue.investor_desk(firm).shown]
         if not able:
             return self.quote()
         firm = self.draw.choice(able)
-        quote = self.likely(self.venue.desks[firm].shown, lambda quote: quote.request.is_open() and not quote.gone)
+        quote = self.likely(self.venue.investor_desk(firm).shown, lambda quote: quote.request.is_open() and not quote.gone)
+        assert quote is not None
         return self.hit_quote(firm, quote)
 
     def hit_quote(self, firm: int, quote: Shown) -> None:
@@ -510,35 +518,35 @@ class Day:
         return self.message(firm, "AJ", [(693, "h%d" % self.draw.randrange(99)), (117, name), (694, 1)] + self.draw.of([], [], [], [(131, "x")]))
 
     def leave(self) -> None:
-        able = [firm for firm in self.investors() if self.venue.desks[firm].requests]
+        able = [firm for firm in self.investors() if self.venue.investor_desk(firm).requests]
         if not able:
             return self.ask()
         firm = self.draw.choice(able)
-        request = self.draw.choice(self.venue.desks[firm].requests[-3:])
+        request = self.draw.choice(self.venue.investor_desk(firm).requests[-3:])
         name = request.id.decode() if self.draw.chance(0.95) else self.draw.of("none", "A1")
         return self.message(firm, "AJ", [(693, "p"), (694, 6), (131, name)] + self.draw.of([], [], [], [(117, "Q1")]))
 
     def sweep(self) -> None:
         if self.draw.chance(0.3):
             return self.put(b"clock " + moment_word(self.draw, self.clock_moment()).encode())
-        able = [firm for firm in self.investors() if self.venue.desks[firm].requests]
+        able = [firm for firm in self.investors() if self.venue.investor_desk(firm).requests]
         if not able:
             if self.investors():
                 self.put(b"expire %s 1 %s" % (self.configuration.firms[self.investors()[0]].name, time_text(self.moment)))
             return
         firm = self.draw.choice(able)
-        request = self.draw.choice(self.venue.desks[firm].requests[-3:])
+        request = self.draw.choice(self.venue.investor_desk(firm).requests[-3:])
         moment = self.draw.choice([self.moment, request.ask.deadline, request.ask.deadline - 1, request.ask.deadline + 1])
         moment = min(86_399_999, max(0, moment))
         if self.draw.chance(0.5):
             self.moment = moment
-        n = request.n if self.draw.chance(0.9) else self.draw.randint(1, self.configuration.firms[firm].requests)
+        n = request.n if self.draw.chance(0.9) else self.draw.randint(1, self.configuration.investor(firm).requests)
         self.put(b"expire %s %d %s" % (self.configuration.firms[firm].name, n, moment_word(self.draw, moment).encode()))
 
     def clock_moment(self) -> int:
         """A moment about the earliest deadline, or about now."""
         deadline = self.venue.first_deadline()
-        moment = self.moment if deadline is None or self.draw.chance(0.3) else deadline + self.draw.of(-1, 0, 0, 1)
+        moment = self.moment if deadline is None or self.draw.chance(0.3) else deadline + int(self.draw.of(-1, 0, 0, 1))
         moment = min(86_399_999, max(0, moment))
         if self.draw.chance(0.5):
             self.moment = max(moment, self.moment)

@@ -5,14 +5,14 @@ A desk asks the word of an own quote by calling `ask_word(q)`, which answers 'wi
 
 from __future__ import annotations
 
-from collections.abc import Callable, Iterator
+from collections.abc import Callable, Iterator, Mapping
 from dataclasses import dataclass
-from typing import TYPE_CHECKING, Any
+from typing import TYPE_CHECKING
 
-from .desk import Desk, Reason, Trade, first, party, price_field, price_tag, terms
+from .desk import Desk, Duty, Reason, Trade, first, party, price_field, price_tag, terms
 from .frames import moment_text
 from .prices import is_price, on_grid, thirty_seconds
-from .session import DEALER_TYPES
+from .session import DEALER_TYPES, Message
 
 if TYPE_CHECKING:
     from .configuration import Dealer
@@ -53,10 +53,10 @@ class Request:
     """A request that was shown to this dealer."""
 
     k: int  # the dealer's own number
-    room: object
-    ask: object
+    room: tuple[int, int] | None  # None where nothing is known of it
+    ask: Ask
     declined: bool = False
-    closed: int = None  # 694 of the closing notice
+    closed: int | None = None  # 694 of the closing notice
 
 
 @dataclass
@@ -69,7 +69,7 @@ class Quote:
     ticks: int
     moment: int
     trader: bytes
-    ended: str = None  # withdrawn or replaced
+    ended: str | None = None  # withdrawn or replaced
     known_lifted: bool = False
 
     def is_live(self) -> bool:
@@ -82,10 +82,13 @@ class Quote:
 class DealerDesk(Desk):
     types = DEALER_TYPES
 
-    def __init__(self, date: bytes, row: Dealer, ask_word: Callable[..., Any]) -> None:
+    def __init__(self, date: bytes, row: Dealer, ask_word: Callable[[int], str]) -> None:
         super().__init__(date, row)
         self.ask_word = ask_word
-        self.requests, self.quotes, self.notices = [], [], 0
+        self.row: Dealer = row
+        self.requests: list[Request] = []
+        self.quotes: list[Quote] = []
+        self.notices = 0
 
     # ------------------------------------------------------------ what the desk knows
 
@@ -93,10 +96,10 @@ class DealerDesk(Desk):
         """The request shown under this name, R and its number."""
         return next((request for request in self.requests if name == b"R%d" % request.k), None)
 
-    def request_in(self, room: tuple[int, int]) -> Request:
+    def request_in(self, room: tuple[int, int]) -> Request | None:
         return next((request for request in self.requests if request.room == room), None)
 
-    def quote(self, name: bytes) -> Quote | None:
+    def quote(self, name: bytes | None) -> Quote | None:
         return next((quote for quote in self.quotes if quote.id == name), None)
 
     def live_quote(self, request: Request) -> Quote | None:
@@ -119,19 +122,19 @@ class DealerDesk(Desk):
 
     # ------------------------------------------------------------ own messages; each answers the duties that follow
 
-    def take_message(self, moment: int, message: dict[int, bytes | int]) -> list[tuple[str | tuple[int, int] | int | None, ...]]:
+    def take_message(self, moment: int, message: Message) -> list[Duty]:
         if message[35] == b"S":
             return self.take_quote(moment, message)
         if message[35] == b"Z":
             return self.take_cancel_all(moment, message) if message[298] == 4 else self.take_cancel(moment, message)
         return self.take_decline(moment, message)
 
-    def take_quote(self, moment: int, message: dict[int, bytes | int]) -> list[tuple[str, tuple[int, int], int, int, int | None, int]]:
+    def take_quote(self, moment: int, message: Message) -> list[Duty]:
         request = self.request(message[131])
         refusal = first(self.quote_refusals(moment, message, request))
-        answer = [(131, message[131]), (117, message[117])]
-        if refusal is not None:
-            self.refuse(moment, answer, refusal, QUOTE_REASONS)
+        answer: list[tuple[int, bytes | None]] = [(131, message[131]), (117, message[117])]
+        if request is None or refusal is not None:
+            self.refuse(moment, answer, refusal or "", QUOTE_REASONS)
             return []
         ticks, until = message[price_tag(request.ask.side)], message.get(62)
         quote = Quote(len(self.quotes) + 1, message[117], request, ticks, moment, message[50])
@@ -139,8 +142,9 @@ class DealerDesk(Desk):
         self.send(moment, b"AI", answer + [(297, b"0")])
         return [("Post", request.room, quote.q, ticks, until, moment)]
 
-    def quote_refusals(self, moment: int, message: dict[int, bytes | int], request: Request | None) -> Iterator[tuple[bool, str]]:
+    def quote_refusals(self, moment: int, message: Message, request: Request | None) -> Iterator[tuple[bool, str]]:
         yield request is None, "UnknownRequest"
+        assert request is not None
         ask = request.ask
         yield request.declined, "Declined"
         yield request.closed is not None or self.is_known_lifted(request), "Closed"
@@ -156,29 +160,30 @@ class DealerDesk(Desk):
         replaced = self.live_quote(request)
         yield replaced is not None and self.found_lifted(replaced, "replaced"), "Lifted"
 
-    def take_cancel(self, moment: int, message: dict[int, bytes | int]) -> list[tuple[str, tuple[int, int] | None, int, int]]:
-        answer = [(117, message.get(117))]
+    def take_cancel(self, moment: int, message: Message) -> list[Duty]:
+        answer: list[tuple[int, bytes | None]] = [(117, message.get(117))]
         quote = self.quote(message.get(117))
         result = first(self.cancel_refusals(message, quote))
-        if result is None:
+        if quote is not None and result is None:
             self.send(moment, b"AI", answer + [(297, b"17")])
             return [("Unpost", quote.request.room, quote.q, moment)]
-        self.refuse(moment, answer, result, CANCEL_REASONS)
+        self.refuse(moment, answer, result or "", CANCEL_REASONS)
         return []
 
-    def cancel_refusals(self, message: dict[int, bytes | int], quote: Quote | None) -> Iterator[tuple[bool, str]]:
+    def cancel_refusals(self, message: Message, quote: Quote | None) -> Iterator[tuple[bool, str]]:
         yield message[298] != 5, "UnknownCancelType"
         yield quote is None, "UnknownQuote"
+        assert quote is not None
         yield quote.ended is not None, "Withdrawn"
         yield quote.request.closed is not None or quote.known_lifted, "Closed"
         yield self.found_lifted(quote, "withdrawn"), "Lifted"
 
-    def take_decline(self, moment: int, message: dict[int, bytes | int]) -> list[tuple[str, tuple[int, int] | None, int]]:
+    def take_decline(self, moment: int, message: Message) -> list[Duty]:
         request = self.request(message[131])
         refusal = first(self.decline_refusals(request))
-        answer = [(131, message[131])]
-        if refusal is not None:
-            self.refuse(moment, answer, refusal, DECLINE_REASONS)
+        answer: list[tuple[int, bytes | None]] = [(131, message[131])]
+        if request is None or refusal is not None:
+            self.refuse(moment, answer, refusal or "", DECLINE_REASONS)
             return []
         request.declined = True
         self.send(moment, b"AI", answer + [(297, b"11")])
@@ -186,24 +191,26 @@ class DealerDesk(Desk):
 
     def decline_refusals(self, request: Request | None) -> Iterator[tuple[bool, str]]:
         yield request is None, "UnknownRequest"
+        assert request is not None
         yield request.declined, "Declined"
         yield request.closed is not None, "Closed"
         yield self.live_quote(request) is not None, "LiveQuote"
 
     # ------------------------------------------------------------ the cancel of all quotes
 
-    def take_cancel_all(self, moment: int, message: dict[int, bytes | int]) -> list[tuple[str, int, int]]:
+    def take_cancel_all(self, moment: int, message: Message) -> list[Duty]:
         if not any(quote.is_droppable() for quote in self.quotes):
             self.refuse(moment, [(117, message.get(117))], "NothingToCancel", CANCEL_REASONS)
             return []
         return [("Drop", len(self.quotes), moment)]
 
-    def drop(self, last: int, moment: int) -> list[tuple[str | tuple[int, int] | int | None, ...]]:
+    def drop(self, last: int, moment: int) -> list[Duty]:
         """Drops the first droppable quote up to number `last`, and goes on where another is left."""
         quotes = [quote for quote in self.quotes if quote.is_droppable() and quote.q <= last]
         if not quotes:
             return []
-        quote, duties = quotes[0], []
+        quote = quotes[0]
+        duties: list[Duty] = []
         if self.found_lifted(quote, "withdrawn"):
             self.refuse(moment, [(117, quote.id)], "Lifted", CANCEL_REASONS)
         else:
@@ -222,24 +229,24 @@ class DealerDesk(Desk):
         fields.append((126, moment_text(self.date, ask.deadline)))
         self.send(moment, b"R", fields + party(ask.investor, INVESTOR_ROLE))
 
-    def tell(self, request: Request, close: int, moment: int) -> bool:
+    def tell(self, request: Request | None, close: int, moment: int) -> bool:
         """The closing notice; False, and nothing sent, where the request was not shown or was told already."""
         if request is None or request.closed is not None:
             return False
         quote = self.live_quote(request) if close == HIT else None
         self.notices += 1
-        fields = [(693, b"N%d" % self.notices), (131, b"R%d" % request.k)]
-        fields += [(117, quote.id if quote else None), (694, b"%d" % close)] + terms(request.ask)
+        fields: list[tuple[int, bytes | None]] = [(693, b"N%d" % self.notices), (131, b"R%d" % request.k)]
+        fields += [(117, quote.id if quote else None), (694, b"%d" % close), *terms(request.ask)]
         if quote:
             fields.append(price_field(request.ask.side, quote.ticks))
         self.send(moment, b"AJ", fields, Trade(request.ask.investor) if close == HIT else None)
         request.closed = close
         return True
 
-    def refuse(self, moment: int, answer: list[tuple[int, bytes | None]], name: str, reasons: dict[str, int | None]) -> None:
+    def refuse(self, moment: int, answer: list[tuple[int, bytes | None]], name: str, reasons: Mapping[str, int | None]) -> None:
         """Refuses a message by the line of this name: 297=5 with its value of 300, or 297=9 where it has none."""
         reason = reasons[name]
-        status = [(297, b"9")] if reason is None else [(297, b"5"), (300, b"%d" % reason)]
+        status: list[tuple[int, bytes | None]] = [(297, b"9")] if reason is None else [(297, b"5"), (300, b"%d" % reason)]
         self.send(moment, b"AI", answer + status, Reason(name))
 
     def sides(self, other: bytes) -> tuple[bytes, bytes]:
@@ -260,7 +267,7 @@ class DealerDesk(Desk):
             yield quote, thirty_seconds(quote.ticks), self.state(quote)
 
 
-def is_asked_price(message: dict[int, bytes | int], ask: Ask) -> bool:
+def is_asked_price(message: Message, ask: Ask) -> bool:
     """The price of the asked side, on the bond's grid, and none of the other."""
     asked = price_tag(ask.side)
     other = 132 + 133 - asked

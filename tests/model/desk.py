@@ -2,16 +2,19 @@
 
 from __future__ import annotations
 
-from collections.abc import Iterator
+from collections.abc import Iterator, Sequence
 from dataclasses import dataclass
 from typing import TYPE_CHECKING, Any
 
 from .frames import moment_text, read_frame, write_frame
 from .prices import price_text
-from .session import Inbox, Reject
+from .session import Inbox, Message, Reject, Types
 
 if TYPE_CHECKING:
     from .configuration import Dealer, Investor
+
+
+Duty = tuple[Any, ...]  # its name, and what it takes
 
 
 @dataclass(frozen=True)
@@ -40,7 +43,7 @@ class Trade:
     other: bytes
 
 
-def first(refusals: Iterator[Any]) -> str | None:
+def first(refusals: Iterator[tuple[object, str]]) -> str | None:
     """The name of the first condition that holds, looking at no later one; None where none does."""
     for condition, name in refusals:
         if condition:
@@ -54,20 +57,22 @@ def price_tag(side: int) -> int:
 
 
 class Desk:
-    types = {}  # the message types that the firm's role sends
+    types: Types = {}  # the message types that the firm's role sends
 
     def __init__(self, date: bytes, row: Dealer | Investor) -> None:
         self.date, self.row = date, row
-        self.inbox, self.sent, self.notes = Inbox(), [], []
+        self.inbox = Inbox()
+        self.sent: list[list[tuple[int, bytes]]] = []
+        self.notes: list[Reason | Trade | None] = []
 
-    def send(self, moment: int, kind: bytes, fields: list[tuple[int, bytes | None]], note: Reason | Trade | None=None) -> None:
+    def send(self, moment: int, kind: bytes, fields: Sequence[tuple[int, bytes | None]], note: Reason | Trade | None = None) -> None:
         """Sends a message, beside which this is noted; fields without a value are left out."""
         self.notes.append(note)
         head = [(35, kind), (49, b"VENUE"), (56, self.row.name), (34, b"%d" % (len(self.sent) + 1))]
         head.append((52, moment_text(self.date, moment)))
-        self.sent.append(head + [field for field in fields if field[1] is not None])
+        self.sent.append(head + [(tag, value) for tag, value in fields if value is not None])
 
-    def receive(self, moment: int, data: bytes) -> dict[int | str, bytes | int | list[bytes]] | None:
+    def receive(self, moment: int, data: bytes) -> Message | None:
         """The message that passed the session checks, or None: dropped, or answered by a Reject."""
         message = self.inbox.receive(data, read_frame, self.date, self.row, self.types)
         if isinstance(message, Reject):
@@ -75,12 +80,16 @@ class Desk:
             return None
         return message
 
-    def take(self, moment: int, data: bytes) -> list[tuple[str | Ask | list[int] | int | tuple[int | bytes, int | None] | None, ...]]:
+    def take(self, moment: int, data: bytes) -> list[Duty]:
         """The duties that follow a message: none where it did not pass the session checks."""
         message = self.receive(moment, data)
         return [] if message is None else self.take_message(moment, message)
 
-    def sides(self, other):
+    def take_message(self, moment: int, message: Message) -> list[Duty]:
+        """The duties that follow a message that passed the session checks."""
+        raise NotImplementedError
+
+    def sides(self, other: bytes) -> tuple[bytes, bytes]:
         """The investor and the dealer of a trade with this firm."""
         raise NotImplementedError
 

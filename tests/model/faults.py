@@ -117,11 +117,11 @@ class MadeUp:
         self.put("shown " + " ".join(words) + draw.of("", "", " 32", " 64", " 128", " 256", " 00256"))
 
     def message(self, kind: str, fields: list[tuple[int, str | int]]) -> None:
-        draw, fields = self.draw, [(tag, str(value)) for tag, value in fields]
+        draw, texts = self.draw, [(tag, str(value)) for tag, value in fields]
         while draw.chance(self.faulty):
-            fields = spoil(draw, fields)
-        fields.append((34, self.desk.inbox.expected if draw.chance(0.97) else draw.of(1, "x", 0)))
-        body = "|".join("%d=%s" % field for field in fields)
+            texts = spoil(draw, texts)
+        texts.append((34, self.desk.inbox.expected if draw.chance(0.97) else draw.of(1, "x", 0)))
+        body = "|".join("%d=%s" % field for field in texts)
         self.put("say %s %s %s %s" % (draw.choice(self.traders), self.time(), kind, body))
 
     def quote(self) -> None:
@@ -131,7 +131,7 @@ class MadeUp:
         name = "q%d" % (len(desk.quotes) + 1) if draw.chance(0.9) else "q1"
         step = 256 // ask.grid if ask and draw.chance(0.95) else 1
         price = spelled_price(draw, 25_344 + step * draw.randrange(20))
-        fields = [(117, name), (131, "R%d" % (request.k if request else 1)), (48, ask.bond.decode() if ask else "BONDA0000001"), (22, 4)]
+        fields: list[tuple[int, str | int]] = [(117, name), (131, "R%d" % (request.k if request else 1)), (48, ask.bond.decode() if ask else "BONDA0000001"), (22, 4)]
         fields.append((133 if ask and ask.side == 1 else 132, price))
         if draw.chance(0.1):
             fields.append((62, moment_text(b"20250314", max(0, self.moment + draw.of(0, 1, 60_000))).decode()))

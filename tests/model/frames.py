@@ -19,7 +19,7 @@ FRAMING_TAGS = (8, 9, 10)
 # ---------------------------------------------------------------- frames
 
 
-def read_fields(body: bytes, divider: bytes) -> list[tuple[int, bytes]]:
+def read_fields(body: bytes, divider: bytes) -> list[tuple[int, bytes]] | None:
     """The fields of a text in which each is ended by the divider, or None where one is not lawful."""
     if not body.endswith(divider):
         return None
@@ -70,10 +70,10 @@ class StreamFault(Exception):
 class Stream:
     """Cuts the bytes of one firm into messages; what is behind the last one waits."""
 
-    def __init__(self, rest: bytes=b"") -> None:
+    def __init__(self, rest: bytes = b"") -> None:
         self.rest = rest
 
-    def feed(self, piece: bytes) -> tuple[list[bytes], Stream] | None:
+    def feed(self, piece: bytes) -> tuple[list[bytes], Stream]:
         """The messages that the piece ends, and the stream behind them; StreamFault where a byte shows one."""
         rest, messages = self.rest + piece, []
         while True:
@@ -118,7 +118,7 @@ def is_date(text: bytes) -> bool:
     return 1 <= int(text[4:6]) <= 12 and 1 <= int(text[6:8]) <= 31
 
 
-def read_time(text: bytes) -> int:
+def read_time(text: bytes) -> int | None:
     """The millisecond of the day that HH:MM:SS or HH:MM:SS.sss tells, or None."""
     found = re.match(rb"([0-9]{2}):([0-9]{2}):([0-9]{2})(?:\.([0-9]{3}))?\Z", text)
     if not found:

@@ -63,7 +63,8 @@ def numbered_lines(stream: BinaryIO) -> Iterator[tuple[int, bytes]]:
 
 def read_head(lines: Iterator[tuple[int, bytes]]) -> Configuration:
     """The configuration in front of the steps, which are left to be read."""
-    head, size = [], 0
+    head: list[bytes] = []
+    size = 0
     for _, line in lines:
         if line == DIVIDER:
             return configuration_of(tuple(head))

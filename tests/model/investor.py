@@ -6,13 +6,13 @@ from collections.abc import Iterator
 from dataclasses import dataclass
 from typing import TYPE_CHECKING
 
-from .desk import Ask, Desk, Reason, Trade, first, instrument, party, price_field
+from .desk import Ask, Desk, Duty, Reason, Trade, first, instrument, party, price_field
 from .frames import moment_text
 from .prices import thirty_seconds
-from .session import INVESTOR_TYPES
+from .session import INVESTOR_TYPES, Message
 
 if TYPE_CHECKING:
-    from .configuration import Bond, Configuration
+    from .configuration import Bond, Configuration, Investor
 
 DEALER_ROLE = 35
 MOST_DEALERS = 8
@@ -41,7 +41,7 @@ class Request:
     ask: Ask
     moment: int
     trader: bytes
-    closed: str = None  # passed, expired, or won and from whom
+    closed: str | None = None  # passed, expired, or won and from whom
 
     def is_open(self) -> bool:
         return self.closed is None
@@ -54,7 +54,7 @@ class Shown:
     k: int
     request: Request
     dealer: bytes
-    word: object
+    word: tuple[int, int] | int  # a number where nothing is known of its dealer
     ticks: int
     gone: bool = False
 
@@ -63,9 +63,11 @@ class InvestorDesk(Desk):
     types = INVESTOR_TYPES
 
     def __init__(self, configuration: Configuration, firm: int) -> None:
-        super().__init__(configuration.date, configuration.firms[firm])
+        self.row: Investor = configuration.investor(firm)
+        super().__init__(configuration.date, self.row)
         self.configuration, self.firm = configuration, firm
-        self.requests, self.shown = [], []
+        self.requests: list[Request] = []
+        self.shown: list[Shown] = []
 
     def request(self, name: bytes) -> Request | None:
         return next((request for request in self.requests if request.id == name), None)
@@ -76,19 +78,19 @@ class InvestorDesk(Desk):
     def bond(self, name: bytes) -> Bond | None:
         return next((bond for bond in self.configuration.bonds if bond.id == name), None)
 
-    def dealer(self, name: bytes) -> int:
+    def dealer(self, name: bytes) -> int | None:
         """The number of a dealer, or None: of an investor too."""
         firm = self.configuration.firm(name)
         return firm if firm is not None and self.configuration.is_dealer(firm) else None
 
     # ------------------------------------------------------------ own messages; each answers the duties that follow
 
-    def take_message(self, moment: int, message: dict[int | str, bytes | int | list[bytes]]) -> list[tuple[str | Ask | list[int] | int | tuple[int | bytes, int | None], ...]]:
+    def take_message(self, moment: int, message: Message) -> list[Duty]:
         if message[35] == b"R":
             return self.take_request(moment, message)
         return self.take_hit(moment, message) if message[694] == 1 else self.take_pass(moment, message)
 
-    def take_request(self, moment: int, message: dict[int | str, bytes | int | list[bytes]]) -> list[tuple[str, tuple[int, int], Ask, list[int], int]]:
+    def take_request(self, moment: int, message: Message) -> list[Duty]:
         refusal = first(self.request_refusals(moment, message))
         answer = [(131, message[131])]
         if refusal is not None:
@@ -96,6 +98,7 @@ class InvestorDesk(Desk):
             self.send(moment, b"AG", answer, Reason(refusal))
             return []
         bond = self.bond(message[48])
+        assert bond is not None
         ask = Ask(self.row.name, bond.id, int(message[54]), message[38], message[126], bond.grid)
         request = Request(len(self.requests) + 1, message[131], ask, moment, message[50])
         self.requests.append(request)
@@ -103,7 +106,7 @@ class InvestorDesk(Desk):
         dealers = [self.dealer(name) for name in message["dealers"]]
         return [("Open", (self.firm, request.n), ask, dealers, moment)]
 
-    def request_refusals(self, moment: int, message: dict[int | str, bytes | int | list[bytes]]) -> Iterator[tuple[bool, str]]:
+    def request_refusals(self, moment: int, message: Message) -> Iterator[tuple[bool, str]]:
         dealers = message["dealers"]
         yield self.request(message[131]) is not None, "DuplicateRequest"
         yield self.bond(message[48]) is None, "UnknownBond"
@@ -116,14 +119,14 @@ class InvestorDesk(Desk):
         yield len(self.requests) >= self.row.requests, "RequestsUsedUp"
         yield sum(request.is_open() for request in self.requests) >= self.row.open, "TooManyOpen"
 
-    def take_hit(self, moment: int, message: dict[int, bytes | int]) -> list[tuple[str, tuple[int, int], tuple[bytes, int], tuple[int, int] | int, int]]:
+    def take_hit(self, moment: int, message: Message) -> list[Duty]:
         quote = self.quote(message[117])
         if quote is None:
             self.send(moment, b"AI", [(693, message[693]), (117, message[117]), (297, b"9")])
             return []
         return [("Hit", (self.firm, quote.request.n), (message[693], quote.k), quote.word, moment)]
 
-    def take_pass(self, moment: int, message: dict[int, bytes | int]) -> list[tuple[str, tuple[int, int], tuple[bytes, None], int]]:
+    def take_pass(self, moment: int, message: Message) -> list[Duty]:
         request = self.request(message[131])
         if request is None:
             self.send(moment, b"AI", [(693, message[693]), (131, message[131]), (297, b"9")])
@@ -146,11 +149,11 @@ class InvestorDesk(Desk):
         quote = Shown(len(self.shown) + 1, request, dealer, word, ticks)
         self.shown.append(quote)
         ask = request.ask
-        fields = [(131, request.id), (117, b"Q%d" % quote.k)] + instrument(ask.bond)
+        fields: list[tuple[int, bytes | None]] = [(131, request.id), (117, b"Q%d" % quote.k), *instrument(ask.bond)]
         fields += [(54, b"%d" % ask.side), price_field(ask.side, ticks)]
         fields.append((135 if ask.side == 1 else 134, b"%d" % ask.quantity))
         fields.append((62, None if until is None else moment_text(self.date, until)))
-        self.send(moment, b"S", fields + [(537, b"1")] + party(dealer, DEALER_ROLE))
+        self.send(moment, b"S", [*fields, (537, b"1"), *party(dealer, DEALER_ROLE)])
 
     def report_gone(self, quote: Shown, moment: int) -> None:
         quote.gone = True
@@ -169,9 +172,11 @@ class InvestorDesk(Desk):
 
     def answered(self, n: int, response: tuple[bytes, int | None], reply: str, moment: int) -> None:
         """The room's answer to a hit or a pass."""
-        request, (name, k), note = self.requests[n - 1], response, None
-        fields = [(693, name), (131, request.id), (117, None if k is None else b"Q%d" % k)]
+        request, (name, k) = self.requests[n - 1], response
+        note: Trade | None = None
+        fields: list[tuple[int, bytes | None]] = [(693, name), (131, request.id), (117, None if k is None else b"Q%d" % k)]
         if reply == "Awarded":
+            assert k is not None
             quote = self.shown[k - 1]
             self.close(request, "won %s %s" % (quote.dealer.decode(), thirty_seconds(quote.ticks).decode()))
             fields.append((297, b"0"))

@@ -1,6 +1,7 @@
 """The due text of an investor: what it sees of the venue, and what is due to it, line by line."""
 
 from collections.abc import Iterator
+from typing import Any
 
 from .configuration import (
     MOST_BONDS,
@@ -31,11 +32,10 @@ from .lines import (
     time_of,
 )
 from .prices import GRIDS, is_price, price_text, read_price
+from .replay import Item, Seen
 from .session import ID
 
 REPLIES = (b"Awarded", b"Passed", b"NotOpen", b"Deadline", b"Gone", b"Expired", b"Withdrawn")
-
-Seen = tuple[bytes, Investor, list[Bond], list[bytes]]  # the day, its row, the bonds, the names of the dealers
 
 
 def is_investor_text(lines: tuple[bytes, ...]) -> bool:
@@ -47,7 +47,7 @@ def is_investor_text(lines: tuple[bytes, ...]) -> bool:
 # ---------------------------------------------------------------- reading
 
 
-def read_investor_text(lines: tuple[bytes, ...], first: int) -> tuple[Seen, list[tuple]]:
+def read_investor_text(lines: tuple[bytes, ...], first: int) -> tuple[Seen, list[Item]]:
     """What the investor sees, and its due list; LineFault and the number of the line at fault."""
     number, said = first, list(numbered(lines, first))
     try:
@@ -57,7 +57,10 @@ def read_investor_text(lines: tuple[bytes, ...], first: int) -> tuple[Seen, list
         if not is_date(date):
             raise LineFault("form")
         number, line = said[1]
-        row, bonds, dealers, due, framer = read_row(line), [], [], [], Framer(date)
+        row, framer = read_row(line), Framer(date)
+        bonds: list[Bond] = []
+        dealers: list[bytes] = []
+        due: list[Item] = []
         for number, line in said[2:]:
             keyword = line.split(b" ", 1)[0]
             if keyword == b"bond" and not dealers and not due:
@@ -89,10 +92,10 @@ def read_bond(line: bytes, bonds: list[Bond]) -> None:
     """A bond more, which none before it is."""
     _, bond, grid = parts_of(line, 3)
     named(bond, is_bond)
-    grid = number_of(grid)
-    if grid not in GRIDS or bond in (other.id for other in bonds) or len(bonds) == MOST_BONDS:
+    steps = number_of(grid)
+    if steps not in GRIDS or bond in (other.id for other in bonds) or len(bonds) == MOST_BONDS:
         raise LineFault("form")
-    bonds.append(Bond(bond, grid))
+    bonds.append(Bond(bond, steps))
 
 
 def read_dealer(line: bytes, own: bytes, dealers: list[bytes]) -> None:
@@ -104,7 +107,7 @@ def read_dealer(line: bytes, own: bytes, dealers: list[bytes]) -> None:
     dealers.append(name)
 
 
-def read_item(line: bytes, name: bytes, framer: Framer) -> tuple:
+def read_item(line: bytes, name: bytes, framer: Framer) -> Item:
     keyword = line.split(b" ", 1)[0]
     if keyword in (b"say", b"own", b"hex"):
         return read_due_line(line, name, framer)
@@ -132,27 +135,27 @@ def with_last(line: bytes, count: int) -> tuple[list[bytes], bytes | None]:
     return parts, last
 
 
-def read_quoted(line: bytes) -> tuple:
+def read_quoted(line: bytes) -> Item:
     (_, n, dealer, price, time), until = with_last(line, 5)
     ticks = read_price(price)
     if not is_price(ticks):
         raise LineFault("form")
-    until = None if until is None else time_of(until)
-    return "quoted", number_of(n), named(dealer, is_firm_name), ticks, until, time_of(time)
+    end = None if until is None else time_of(until)
+    return "quoted", number_of(n), named(dealer, is_firm_name), ticks, end, time_of(time)
 
 
-def read_answered(line: bytes) -> tuple:
+def read_answered(line: bytes) -> Item:
     (_, n, name, reply, time), quote = with_last(line, 5)
     if not ID.match(name):
         raise LineFault("form")
-    quote = None if quote is None else number_of(quote)
-    return "answered", number_of(n), (name, quote), one_of(reply, REPLIES).decode(), time_of(time)
+    k = None if quote is None else number_of(quote)
+    return "answered", number_of(n), (name, k), one_of(reply, REPLIES).decode(), time_of(time)
 
 
 # ---------------------------------------------------------------- writing
 
 
-def investor_text(seen: Seen, due: list[tuple]) -> Iterator[bytes]:
+def investor_text(seen: Seen, due: list[Item]) -> Iterator[bytes]:
     date, row, bonds, dealers = seen
     yield b"date " + date
     yield b" ".join([b"investor", row.name, b"%d %d %d" % (row.requests, row.open, row.quantity), *row.traders])
@@ -164,7 +167,7 @@ def investor_text(seen: Seen, due: list[tuple]) -> Iterator[bytes]:
         yield item_line(*item)
 
 
-def item_line(kind: str, *item: object) -> bytes:
+def item_line(kind: str, *item: Any) -> bytes:
     if kind == "own":
         return due_line(kind, *item)
     if kind == "quoted":

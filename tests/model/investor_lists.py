@@ -41,19 +41,19 @@ class MadeUpInvestor:
         acts = [self.request] * 3 + [self.quoted] * 6 + [self.hit] * 3 + [self.answered] * 3
         draw.choice(acts + [self.gone, self.gone, self.declined, self.leave, self.expired, self.odd])()
 
-    def time(self, later: int=0) -> str:
+    def time(self, later: int = 0) -> str:
         return time_text(min(86_399_999, self.moment + later)).decode()
 
     def one_of(self, count: int) -> int:
         """A number up to this one, for the most part."""
-        return self.draw.randint(1, max(1, count)) if self.draw.chance(0.9) else self.draw.of(0, count + 1, 999_999_999)
+        return self.draw.randint(1, max(1, count)) if self.draw.chance(0.9) else int(self.draw.of(0, count + 1, 999_999_999))
 
     def say(self, kind: str, body: str) -> None:
         number = "|34=%d" % self.number if self.draw.chance(0.05) else ""
         self.number += 1
         self.lines.append("say %s %s %s %s%s" % (self.draw.of("T8", "T8", "T8", "T7"), self.time(), kind, body, number))
 
-    def request(self):
+    def request(self) -> None:
         draw = self.draw
         chosen = draw.sample(self.names, draw.randint(0, min(9, len(self.names)))) + draw.of([], [], ["INV1"], ["DLR1"])
         parties = "".join("|448=%s|447=D|452=35" % name for name in chosen)
@@ -70,13 +70,13 @@ class MadeUpInvestor:
         dealer = draw.of(*(self.names or ["DLR1"]), "DLR9")
         self.lines.append("quoted %d %s %s %s%s" % (self.one_of(self.requests), dealer, price, self.time(), until))
 
-    def gone(self):
+    def gone(self) -> None:
         self.lines.append("gone %d %d %s" % (self.one_of(self.requests), self.one_of(self.quotes), self.time()))
 
     def declined(self) -> None:
         self.lines.append("declined %d %s %s" % (self.one_of(self.requests), self.draw.of("DLR1", "DLR2"), self.time()))
 
-    def hit(self):
+    def hit(self) -> None:
         self.say("AJ", "693=h%d|694=1|117=Q%d" % (self.number, self.one_of(self.quotes)))
 
     def leave(self) -> None:
@@ -87,10 +87,10 @@ class MadeUpInvestor:
         quote = self.draw.of("", " %d" % self.one_of(self.quotes), " %d" % self.one_of(self.quotes))
         self.lines.append("answered %d h%d %s %s%s" % (self.one_of(self.requests), self.number, reply, self.time(), quote))
 
-    def expired(self):
+    def expired(self) -> None:
         self.lines.append("expired %d %s" % (self.one_of(self.requests), self.time()))
 
-    def odd(self):
+    def odd(self) -> None:
         lines = ["own %s  x", "hex %s 7c", "quoted 1 DLR1 99.5 %s 09", "quoted 1 DLR1 99.501 %s", "quoted 1 VENUE 99.5 %s", "gone 1 %s", "gone 1 0 %s",
                  "answered 1 h|x Passed %s", "answered 1 h passed %s", "answered 1 h Passed %s x", "answered 1 h Passed %s ", "expired x %s",
                  "declined 1 dlr1 %s", "lifted 1", "bond BONDC0000003 32", "dealer DLR7", "closed 1 1 %s", "expired 1 %s 1"]

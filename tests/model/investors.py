@@ -263,6 +263,7 @@ def channels(_seed: int) -> tuple[int, list[str]]:
     limits = [(9, 1_000_000), (9, 1_000_000)]
     configuration = read_configuration(b"\n".join(drawn_head(Draw(1), limits, 3)))
     investor, faults = configuration.firm(b"INV2"), []
+    assert investor is not None
     for days, run in ((through_a_third, lived), (through_the_clock, told)):
         lists = [run(configuration, [line.encode() for line in days(yes)]).due[investor] for yes in (True, False)]
         if lists[0] == lists[1]:
@@ -304,6 +305,7 @@ def threads(program: list[str], seed: int) -> tuple[int, list[str]]:
         return 0, [str(fault)]
     faults, sent = [], 0
     for firm in range(len(configuration.dealers), len(configuration.firms)):
+        assert search.venue is not None
         desk = investor_alone(seen_by(configuration, firm), search.venue.due[firm])
         sent += len(desk.sent)
         if [message_of(fields) for fields in desk.sent] != wanted[firm]:

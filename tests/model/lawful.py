@@ -12,20 +12,21 @@ import subprocess
 from collections.abc import Callable, Iterator
 from dataclasses import dataclass
 from functools import partial
-from typing import NamedTuple
+from typing import Any, NamedTuple, cast
 
 from .compare import joined
 from .configuration import Configuration, read_configuration
 from .days import Day, Draw
 from .dealer import DealerDesk
+from .desk import Duty
 from .frames import SOH, moment_text, read_frame
+from .investor import InvestorDesk
 from .lines import StepReader
-from .replay import CLOCK, Venue
+from .replay import CLOCK, Actor, Item, Venue
 
-Actor = int | str
 Place = tuple[str, object]
-Step = tuple[Actor, tuple]
-Inboxes = dict[Actor, list[tuple]]
+Step = tuple[Actor, Duty]
+Inboxes = dict[Actor, list[Duty]]
 
 MOST_ACTIONS = 2_000_000  # that are tried in the search for one day; a lawful day takes some hundreds
 
@@ -49,7 +50,8 @@ class Sent:
     """In the place of a desk's list of messages: how many there were, and those of the last action."""
 
     def __init__(self) -> None:
-        self.before, self.new = 0, []
+        self.before = 0
+        self.new: list[Message] = []
 
     def __len__(self) -> int:
         return self.before + len(self.new)
@@ -64,7 +66,7 @@ class Unheard:
     def __getitem__(self, _dealer: int) -> "Unheard":
         return self
 
-    def append(self, _item: tuple) -> None:
+    def append(self, _item: Item) -> None:
         pass
 
 
@@ -73,25 +75,25 @@ class Threads(Venue):
 
     def __init__(self, configuration: Configuration) -> None:
         super().__init__(configuration)
-        self.due = Unheard()
+        self.due = cast("dict[int, list[Item]]", Unheard())
         self.taken: dict[Actor, int] = dict.fromkeys(self.queues, 0)
         self.orders: dict[Place, int] = {}
         for desk in self.desks:
-            desk.sent = Sent()
+            desk.sent = cast("list[list[tuple[int, bytes]]]", Sent())
 
-    def desk(self, firm: int) -> object:
+    def desk(self, firm: int) -> DealerDesk | InvestorDesk:
         if not self.configuration.is_dealer(firm):
             return super().desk(firm)
-        row = self.configuration.firms[firm]
+        row = self.configuration.dealer(firm)
         return DealerDesk(self.configuration.date, row, partial(self.asked, firm))
 
     def asked(self, firm: int, quote: int) -> str:
         return self.words.withdraw((firm, quote))
 
-    def logged(self, firm: int, act: Callable) -> object:
+    def logged(self, firm: int, act: Callable[[Any], Any]) -> Any:
         return act(self.desks[firm])
 
-    def act(self, actor: Actor, inbox: list[tuple]) -> list[tuple] | None:
+    def act(self, actor: Actor, inbox: list[Duty]) -> list[Duty] | None:
         """Does the next action of an actor and answers the duties that it left; None where none is left."""
         queue = self.queues[actor]
         if queue:
@@ -113,7 +115,7 @@ class Threads(Venue):
         return hash((frozenset(self.orders.items()), frozenset(self.words.settled.items())))
 
 
-def place_of(actor: Actor, duty: tuple) -> Place:
+def place_of(actor: Actor, duty: Duty) -> Place:
     name, first, *_ = duty
     if name in ROOM_DUTIES:
         return "room", first
@@ -176,7 +178,7 @@ class Search:
         """Whether something was sent; None where it was not what the firm was sent."""
         something = False
         for desk, wanted in zip(venue.desks, self.wanted):
-            sent: Sent = desk.sent
+            sent = cast(Sent, desk.sent)
             if sent.new:
                 something = True
                 if wanted[sent.before : len(sent)] != sent.new:
@@ -184,7 +186,7 @@ class Search:
                 sent.before, sent.new = len(sent), []
         return something
 
-    def is_promised(self, venue: Threads, duty: tuple) -> bool:
+    def is_promised(self, venue: Threads, duty: Duty) -> bool:
         """Whether a duty that will send a message, whatever comes before it, sends one that is yet to come."""
         name, *rest = duty
         if name not in ("Answer", "Close", "Tell"):
@@ -192,17 +194,20 @@ class Search:
         firm = rest[0] if name == "Tell" else rest[0][0]
         desk, moment = venue.desks[firm], rest[-1]
         sending = moment_text(venue.configuration.date, moment)
-        says = told_as(desk, *rest[1:3]) if name == "Tell" else answered_as(desk, name, *rest)
+        if name == "Tell":
+            says = told_as(venue.dealer_desk(firm), *rest[1:3])
+        else:
+            says = answered_as(venue.investor_desk(firm), name, *rest)
         later = self.wanted[firm][len(desk.sent) :]
         return any(message.sending == sending and says <= set(message.body) for message in later)
 
 
-def told_as(desk: DealerDesk, room: tuple, close: int) -> set[tuple[int, bytes]]:
+def told_as(desk: DealerDesk, room: tuple[int, int], close: int) -> set[tuple[int, bytes]]:
     request = desk.request_in(room)
     return {(131, b"R%d" % request.k), (694, b"%d" % close)} if request else {(694, b"%d" % close)}
 
 
-def answered_as(desk: object, name: str, room: tuple, *rest: object) -> set[tuple[int, bytes]]:
+def answered_as(desk: InvestorDesk, name: str, room: tuple[int, int], *rest: Any) -> set[tuple[int, bytes]]:
     request = (131, desk.requests[room[1] - 1].id)
     if name == "Close":
         return {request, (297, b"7")}
@@ -276,7 +281,10 @@ def sent_in(configuration: Configuration, output: bytes) -> list[list[Message]]:
     wanted: list[list[Message]] = [[] for _ in configuration.firms]
     for line in output.splitlines():
         name, _, frame = line.partition(b" ")
-        fields, messages = read_frame(frame.replace(b"|", SOH)), wanted[configuration.firm(name)]
+        fields, firm = read_frame(frame.replace(b"|", SOH)), configuration.firm(name)
+        if firm is None:
+            raise ValueError(line.decode())
+        messages = wanted[firm]
         if fields is None or fields[3] != (34, b"%d" % (len(messages) + 1)):
             raise ValueError(line.decode())
         messages.append(message_of(fields))

@@ -21,11 +21,15 @@ Ask = Callable[[list[str], bytes], Answer]
 
 
 def asker(program: list[str] | None) -> Ask:
+    if program is None:
+        return model_answer
+    first = program
+
     def of_program(words: list[str], data: bytes) -> Answer:
-        run = subprocess.run([*program, *words], input=data, capture_output=True)
+        run = subprocess.run([*first, *words], input=data, capture_output=True)
         return run.returncode, run.stdout, run.stderr
 
-    return model_answer if program is None else of_program
+    return of_program
 
 
 def of_firm(lines: list[bytes], firm: bytes) -> list[bytes]:
@@ -83,5 +87,5 @@ def unread(day: Day) -> Iterator[str]:
             yield "the due text of %s" % row.name.decode()
     for firm in day.investors():
         due, seen = day.venue.due[firm], seen_by(day.configuration, firm)
-        if read_investor_text(list(investor_text(seen, due)), 1) != (seen, due):
+        if read_investor_text(tuple(investor_text(seen, due)), 1) != (seen, due):
             yield "the due text of %s" % day.configuration.firms[firm].name.decode()

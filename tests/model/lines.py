@@ -30,7 +30,7 @@ from .frames import (
     write_frame,
 )
 from .prices import GRIDS
-from .replay import CLOCK
+from .replay import CLOCK, Item
 
 if TYPE_CHECKING:
     from .configuration import Configuration
@@ -42,17 +42,20 @@ HEX = re.compile(rb"(?:[0-9A-Fa-f]{2})+\Z")
 OWN_TAGS = (49, 56, 34, 52, 50)  # the program's own fields of a `say` line, where BODY has none
 
 
+Step = tuple[Any, ...]  # its name, and what it takes
+
+
 class LineFault(Exception):
     """What is wrong with a line: form, unknown firm, unknown room or stream."""
 
 
-def number_of(text: bytes, digits: int=9) -> int:
+def number_of(text: bytes, digits: int = 9) -> int:
     if not re.match(rb"[0-9]{1,%d}\Z" % digits, text):
         raise LineFault("form")
     return int(text)
 
 
-def limited(text: bytes, most: int, digits: int=9) -> int:
+def limited(text: bytes, most: int, digits: int = 9) -> int:
     value = number_of(text, digits)
     if not 1 <= value <= most:
         raise LineFault("form")
@@ -66,7 +69,7 @@ def time_of(text: bytes) -> int:
     return moment
 
 
-def named(text: bytes, lawful: Callable[..., Any]) -> bytes:
+def named(text: bytes, lawful: Callable[[str], bool]) -> bytes:
     """A text of this form, as bytes."""
     if not text.isascii() or not lawful(text.decode()):
         raise LineFault("form")
@@ -79,7 +82,7 @@ def one_of(text: bytes, values: tuple[bytes, ...]) -> bytes:
     return text
 
 
-def parts_of(line: bytes, count: int, rest: bool=False) -> list[bytes]:
+def parts_of(line: bytes, count: int, rest: bool = False) -> list[bytes]:
     """The parts of a line, none of them empty; with `rest` the last is the rest of the line."""
     parts = line.split(b" ", count - 1) if rest else line.split(b" ")
     if len(parts) != count or b"" in parts:
@@ -112,7 +115,7 @@ def is_said(line: bytes) -> bool:
     return bool(line) and not line.startswith(b"#")
 
 
-def numbered(lines: tuple[bytes, ...] | list[bytes], first: int) -> Iterator[Any]:
+def numbered(lines: tuple[bytes, ...] | list[bytes], first: int) -> Iterator[tuple[int, bytes]]:
     """The lines that say something, each with its number."""
     return ((number, line) for number, line in enumerate(lines, first) if is_said(line))
 
@@ -124,7 +127,8 @@ class Framer:
     """Frames `say` lines, and counts those of each firm whose BODY has no 34."""
 
     def __init__(self, date: bytes) -> None:
-        self.date, self.counts = date, {}
+        self.date = date
+        self.counts: dict[bytes, int] = {}
 
     def frame(self, firm: bytes, trader: bytes, time: bytes, kind: bytes, body: bytes) -> tuple[int, bytes, bool]:
         """The moment, the message, and whether it used a number of the firm's count."""
@@ -155,7 +159,8 @@ class StepReader:
 
     def __init__(self, configuration: Configuration) -> None:
         self.configuration = configuration
-        self.framer, self.streams = Framer(configuration.date), {}
+        self.framer = Framer(configuration.date)
+        self.streams: dict[int, Stream] = {}
 
     def firm(self, word: bytes) -> int:
         firm = self.configuration.firm(word)
@@ -163,7 +168,7 @@ class StepReader:
             raise LineFault("unknown firm")
         return firm
 
-    def steps(self, line: bytes) -> list[tuple[str | int | bytes, ...]]:
+    def steps(self, line: bytes) -> list[Step]:
         """The steps of a line: ("came", firm, moment, bytes), ("turn", actor, n) and ("expire", firm, n, moment).
 
         A line `clock` is the last of these for each room of the venue.
@@ -190,18 +195,18 @@ class StepReader:
             return [("expire", firm, n, moment) for firm, n in self.configuration.rooms()]
         if keyword == b"turn":
             _, name, times = parts_of(line, 3)
-            times = limited(times, MOST_TURNS)
-            return [("turn", CLOCK if name == b"CLOCK" else self.firm(name), times)]
+            count = limited(times, MOST_TURNS)
+            return [("turn", CLOCK if name == b"CLOCK" else self.firm(name), count)]
         if keyword == b"expire":
-            _, name, n, time = parts_of(line, 4)
-            n, moment = number_of(n), time_of(time)
+            _, name, number, time = parts_of(line, 4)
+            room, moment = number_of(number), time_of(time)
             firm = self.firm(name)
-            if not self.configuration.has_room(firm, n):
+            if not self.configuration.has_room(firm, room):
                 raise LineFault("unknown room")
-            return [("expire", firm, n, moment)]
+            return [("expire", firm, room, moment)]
         raise LineFault("form")
 
-    def cut(self, firm: int, piece: bytes) -> list[bytes] | None:
+    def cut(self, firm: int, piece: bytes) -> list[bytes]:
         try:
             messages, self.streams[firm] = self.streams.get(firm, Stream()).feed(piece)
         except StreamFault:
@@ -212,7 +217,7 @@ class StepReader:
 # ---------------------------------------------------------------- due text
 
 
-def read_due_text(lines: tuple[bytes, ...] | list[bytes], first: int) -> tuple[bytes, Dealer, list[tuple[str | int | Ask | bytes, ...]]] | None:
+def read_due_text(lines: tuple[bytes, ...] | list[bytes], first: int) -> tuple[bytes, Dealer, list[Item]]:
     """The date, the dealer and the due list; LineFault and the number of the line at fault."""
     said, number = list(numbered(lines, first)), first + len(lines)
     try:
@@ -222,7 +227,8 @@ def read_due_text(lines: tuple[bytes, ...] | list[bytes], first: int) -> tuple[b
         if not is_date(date):
             raise LineFault("form")
         number, line = said[1] if len(said) > 1 else (first + len(lines), b"")
-        row, framer, due = read_dealer_line(line), Framer(date), []
+        row, framer = read_dealer_line(line), Framer(date)
+        due: list[Item] = []
         for number, line in said[2:]:
             due.append(read_due_line(line, row.name, framer))
         return date, row, due
@@ -243,7 +249,7 @@ def read_dealer_line(line: bytes) -> Dealer:
     return Dealer(name, tuple(traders), limited(quotes, MOST_QUOTES), limited(exposure, MOST_EXPOSURE, 16))
 
 
-def read_due_line(line: bytes, name: bytes, framer: Framer) -> tuple[str | int | Ask | bytes, ...]:
+def read_due_line(line: bytes, name: bytes, framer: Framer) -> Item:
     keyword = line.split(b" ", 1)[0]
     if keyword == b"say":
         moment, data, counts = framer.frame(name, *parts_of(line, 5, rest=True)[1:])
@@ -274,24 +280,24 @@ def read_shown(line: bytes) -> tuple[str, Ask, int]:
     if line.count(b" ") == 7:
         line, grid = line.rsplit(b" ", 1)
     _, investor, bond, side, quantity, deadline, time = parts_of(line, 7)
-    grid = number_of(grid)
-    if grid not in GRIDS:
+    steps = number_of(grid)
+    if steps not in GRIDS:
         raise LineFault("form")
     named(investor, is_firm_name)
     named(bond, is_bond)
     one_of(side, (b"1", b"2"))
-    ask = Ask(investor, bond, int(side), limited(quantity, MOST_QUANTITY, 16), time_of(deadline), grid)
+    ask = Ask(investor, bond, int(side), limited(quantity, MOST_QUANTITY, 16), time_of(deadline), steps)
     return "shown", ask, time_of(time)
 
 
-def due_text(date: bytes, row: Dealer, due: list[tuple[str | Ask | int | bytes, ...]]) -> Iterator[bytes]:
+def due_text(date: bytes, row: Dealer, due: list[Item]) -> Iterator[bytes]:
     yield b"date " + date
     yield b" ".join([b"dealer", row.name, b"%d" % row.quotes, b"%d" % row.exposure, *row.traders])
     for item in due:
         yield due_line(*item)
 
 
-def due_line(kind: str, *item: int | bytes | Ask) -> bytes:
+def due_line(kind: str, *item: Any) -> bytes:
     if kind == "own":
         moment, data = item
         if can_be_own(data):

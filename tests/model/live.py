@@ -7,9 +7,10 @@ from .configuration import Configuration
 from .desk import Desk
 from .inputs import DIVIDER, Fault, numbered_lines, read_head
 from .lines import LineFault, StepReader, done_mark, fault_mark, is_said, message_line
-from .replay import CLOCK, Venue
+from .replay import CLOCK, Actor, Venue
 
 Lines = Iterator[tuple[int, bytes]]
+Fields = list[tuple[int, bytes]]
 
 
 class LiveDay:
@@ -18,7 +19,7 @@ class LiveDay:
     def __init__(self, configuration: Configuration) -> None:
         self.venue, self.reader = Venue(configuration), StepReader(configuration)
 
-    def answer(self, line: bytes) -> list[tuple[int, list]]:
+    def answer(self, line: bytes) -> list[tuple[int, Fields]]:
         """Does a line; answers the messages that are sent for it, each with its firm. LineFault changes nothing."""
         if not is_said(line):
             return []
@@ -30,12 +31,12 @@ class LiveDay:
         sent, self.venue.log = self.venue.log, []
         return sent
 
-    def do_all(self, actor: int | str) -> None:
+    def do_all(self, actor: Actor) -> None:
         while self.venue.turn(actor):
             pass
 
 
-def sent_lines(desk: Desk, fields: list, frames: bool, notes: bool) -> list[bytes]:
+def sent_lines(desk: Desk, fields: Fields, frames: bool, notes: bool) -> list[bytes]:
     """The line of a message, and where that is asked for, behind it what is noted beside it."""
     note = desk.note_line(int(dict(fields)[34])) if notes else None
     line = message_line(desk.row.name, fields, frames)
@@ -50,7 +51,7 @@ def live(stream: BinaryIO, frames: bool, marks: bool, notes: bool, out: BinaryIO
     for number, line in lines:
         try:
             sent = day.answer(line)
-            mark = done_mark(number, day.venue.first_deadline()) if marks else None
+            mark = done_mark(number, day.venue.first_deadline()) if marks else b""
         except LineFault as fault:
             sent = []
             tell(err, number, fault)

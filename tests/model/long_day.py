@@ -16,7 +16,7 @@ import tempfile
 from collections.abc import Iterator
 from dataclasses import dataclass, field
 from pathlib import Path
-from typing import BinaryIO
+from typing import IO
 
 from .frames import SOH, moment_text, time_text, write_frame
 from .venue_command import words_of
@@ -102,7 +102,7 @@ class Writer:
             yield b"in %s %s %s" % (firm, time, data.replace(SOH, b"|"))
 
 
-def write_day(file: BinaryIO, size: int, seed: int) -> int:
+def write_day(file: IO[bytes], size: int, seed: int) -> int:
     """Writes a day of this many bytes; how many lines it has behind its configuration."""
     writer, written, count = Writer(random.Random(seed)), 0, 0
     file.write(configuration())
@@ -139,6 +139,7 @@ class Told:
 def run(words: list[str], day: Path) -> Told:
     told = Told()
     with day.open("rb") as file, subprocess.Popen(words, stdin=file, stdout=subprocess.PIPE, stderr=subprocess.DEVNULL) as process:
+        assert process.stdout is not None
         for line in process.stdout:
             told.take(line)
         _, status, usage = os.wait4(process.pid, 0)

@@ -9,7 +9,7 @@ usage: program.py [alone [--frames] [--notes]] | replay [FIRM] [--frames] [--liv
 
 import os
 import sys
-from collections.abc import Callable
+from collections.abc import Callable, Iterable
 from dataclasses import dataclass
 from typing import BinaryIO
 
@@ -27,7 +27,7 @@ class Command:
     """What does it (None for `live`), its flags, the fewest and the most words behind it, and a flag that another one
     has to stand beside."""
 
-    act: Callable | None
+    act: Callable[..., Iterable[bytes]] | None
     flags: tuple[str, ...]
     fewest: int
     most: int
@@ -73,11 +73,12 @@ def run(words: list[str], stream: BinaryIO, out: BinaryIO, err: BinaryIO) -> int
         err.write(b"wrong arguments\n")
         return 2
     if command is None:
-        out.write(__doc__.encode())
+        out.write((__doc__ or "").encode())
         return 0
     try:
         if command.act is None:
-            live(stream, *flags, out, err)
+            frames, marks, notes = flags
+            live(stream, frames, marks, notes, out, err)
         else:
             out.write(b"".join(line + b"\n" for line in command.act(Streams(stream, err), *flags, *names)))
         return 0

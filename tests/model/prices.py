@@ -4,6 +4,7 @@ from __future__ import annotations
 
 import re
 from fractions import Fraction
+from typing import TypeGuard
 
 HIGHEST = 255_999
 GRIDS = (32, 64, 128, 256)
@@ -21,11 +22,11 @@ def decimal(whole: bytes, part: bytes | None) -> Fraction | None:
     return Fraction(int(digits), 10 ** len(part))
 
 
-def read_price(text: bytes) -> int:
+def read_price(text: bytes) -> int | str | None:
     """None where the form is wrong; else the 256ths, or 'Range' or 'Grid'."""
     found = PRICE.match(text)
     value = decimal(found[2], found[3]) if found else None
-    if value is None:
+    if found is None or value is None:
         return None
     ticks = value * 256
     if found[1] or ticks < 1 or ticks > HIGHEST:
@@ -35,7 +36,7 @@ def read_price(text: bytes) -> int:
     return int(ticks)
 
 
-def is_price(value: int) -> bool:
+def is_price(value: object) -> TypeGuard[int]:
     """Whether what read_price answered is a price of whole 256ths."""
     return isinstance(value, int)
 

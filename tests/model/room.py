@@ -4,7 +4,7 @@ from __future__ import annotations
 
 from collections.abc import Callable
 from dataclasses import dataclass
-from typing import TYPE_CHECKING, Any
+from typing import TYPE_CHECKING
 
 from .dealer import COVER, DONE_AWAY, EXPIRED, HIT, PASS
 
@@ -15,19 +15,26 @@ if TYPE_CHECKING:
 @dataclass
 class Posted:
     dealer: int
-    word: object
+    word: tuple[int, int]
     ticks: int
-    until: int
+    until: int | None
 
 
 class Room:
     def __init__(self) -> None:
-        self.phase, self.ask, self.dealers = "vacant", None, []
-        self.book = []  # the quotes that stand, in the order in which they were posted
-        self.notices = []  # of a room that ended: each dealer and its 694
+        self.phase = "vacant"
+        self.ask: Ask | None = None
+        self.dealers: list[int] = []
+        self.book: list[Posted] = []  # the quotes that stand, in the order in which they were posted
+        self.notices: list[tuple[int, int]] = []  # of a room that ended: each dealer and its 694
 
     def open(self, ask: Ask, dealers: list[int]) -> None:
         self.phase, self.ask, self.dealers = "opening", ask, dealers
+
+    def asked(self) -> Ask:
+        """What is asked for in a room that was opened."""
+        assert self.ask is not None
+        return self.ask
 
     def ready(self) -> None:
         self.phase = "open"
@@ -47,17 +54,17 @@ class Room:
         """Whether it took effect: where the quote stands in a room that has not ended."""
         if not self.takes() or self.standing(word) is None:
             return False
-        self.book.remove(self.standing(word))
+        self.book = [quote for quote in self.book if quote.word != word]
         return True
 
     def standing(self, word: tuple[int, int]) -> Posted | None:
         return next((quote for quote in self.book if quote.word == word), None)
 
-    def hit(self, word: tuple[int, int], moment: int, lift: Callable[..., Any]) -> str:
+    def hit(self, word: tuple[int, int], moment: int, lift: Callable[[tuple[int, int]], str]) -> str:
         """Awarded, or the name of the first refusal; the word is asked by `lift` where none was before it."""
         if self.phase != "open":
             return "NotOpen"
-        if moment >= self.ask.deadline:
+        if moment >= self.asked().deadline:
             return "Deadline"
         quote = self.standing(word)
         if quote is None:
@@ -71,8 +78,8 @@ class Room:
 
     def award(self, winner: Posted) -> None:
         others = [quote for quote in self.book if quote is not winner]
-        better = (lambda quote: quote.ticks) if self.ask.side == 1 else (lambda quote: -quote.ticks)
-        cover = min(others, key=better, default=None)  # of equals the first posted
+        sign = 1 if self.asked().side == 1 else -1
+        cover = min(others, key=lambda quote: sign * quote.ticks, default=None)  # of equals the first posted
         kinds = {dealer: DONE_AWAY for dealer in self.dealers}
         if cover:
             kinds[cover.dealer] = COVER
@@ -87,7 +94,7 @@ class Room:
         return "Passed"
 
     def expire(self, moment: int) -> bool:
-        if self.phase != "open" or moment < self.ask.deadline:
+        if self.phase != "open" or moment < self.asked().deadline:
             return False
         self.end({dealer: EXPIRED for dealer in self.dealers})
         return True

@@ -23,6 +23,12 @@ MOST_QUANTITY = 10**12
 GROUP_TAGS = (448, 447, 452)
 
 
+Message = dict[Any, Any]  # values by their tags, each as its form has it, and the dealers under 'dealers'
+Lawful = tuple[Callable[[Any], bool], int]  # whether a value is, and the reason where it is not
+Table = list[tuple[int, Callable[[bytes, bytes], Any], Callable[[Message], bool], Lawful]]
+Types = dict[bytes, Table]
+
+
 class SessionFault(Exception):
     """A tag (371) and a reason (373)."""
 
@@ -42,7 +48,7 @@ def any_text(value: bytes, _date: bytes) -> bytes:
     return value
 
 
-def an_id(value: bytes, _date: bytes) -> bytes | None:
+def an_id(value: bytes, _date: bytes) -> bytes:
     if not ID.match(value):
         raise Wrong(FORM)
     return value
@@ -54,7 +60,7 @@ def number(value: bytes, _date: bytes) -> int:
     return int(value)
 
 
-def price(value: bytes, _date: bytes) -> int:
+def price(value: bytes, _date: bytes) -> int | str:
     """256ths, or the name of a fault that the desk looks at."""
     ticks = read_price(value)
     if ticks is None:
@@ -62,7 +68,7 @@ def price(value: bytes, _date: bytes) -> int:
     return ticks
 
 
-def quantity(value: bytes, _date: bytes) -> int | None:
+def quantity(value: bytes, _date: bytes) -> int:
     amount = read_quantity(value)
     if amount is None:
         raise Wrong(FORM)
@@ -71,7 +77,7 @@ def quantity(value: bytes, _date: bytes) -> int | None:
     return int(amount)
 
 
-def moment(value: bytes, date: bytes) -> int | None:
+def moment(value: bytes, date: bytes) -> int:
     day, dash, time = value[:8], value[8:9], read_time(value[9:])
     if not is_date(day) or dash != b"-" or time is None:
         raise Wrong(FORM)
@@ -83,26 +89,26 @@ def moment(value: bytes, date: bytes) -> int | None:
 # ---------------------------------------------------------------- tables
 
 
-def always(_message: dict[int, bytes | int]) -> bool:
+def always(_message: Message) -> bool:
     return True
 
 
-def never(_message: dict[int, bytes | int]) -> bool:
+def never(_message: Message) -> bool:
     return False
 
 
-def where(tag, value):
+def where(tag: int, value: object) -> Callable[[Message], bool]:
     """Required where an earlier tag has this value."""
-    return lambda message: message.get(tag) == value
+    return lambda message: bool(message.get(tag) == value)
 
 
-def one_of(*values):
+def one_of(*values: object) -> Lawful:
     return (lambda value: value in values), VALUE
 
 
-ANYTHING = (lambda value: True), None
+ANYTHING: Lawful = (lambda value: True), VALUE
 
-DEALER_TYPES = {
+DEALER_TYPES: Types = {
     b"S": [
         (117, an_id, always, ANYTHING),
         (131, an_id, always, ANYTHING),
@@ -125,7 +131,7 @@ DEALER_TYPES = {
     ],
 }
 
-INVESTOR_TYPES = {
+INVESTOR_TYPES: Types = {
     b"R": [
         (131, an_id, always, ANYTHING),
         (146, number, always, one_of(1)),
@@ -145,20 +151,20 @@ INVESTOR_TYPES = {
 }
 
 
-def header(row: Investor | Dealer, types: dict[bytes, list[tuple[int, Callable[..., Any], Callable[..., Any], tuple[Callable[..., Any], int | None]]]]) -> list[tuple[int, Callable[..., Any], Callable[..., Any], tuple[Callable[..., Any], int | None]]]:
+def header(row: Investor | Dealer, types: Types) -> Table:
     """The tags that every message has, as those of this firm, whose role has these types."""
     return [
-        (49, any_text, always, ((lambda value: value == row.name), COMP_ID)),
-        (56, any_text, always, ((lambda value: value == b"VENUE"), COMP_ID)),
+        (49, any_text, always, ((lambda value: bool(value == row.name)), COMP_ID)),
+        (56, any_text, always, ((lambda value: bool(value == b"VENUE")), COMP_ID)),
         (52, moment, always, ANYTHING),
         (50, any_text, always, ((lambda value: value in row.traders), VALUE)),
         (35, any_text, always, ((lambda value: value in types), MSG_TYPE)),
     ]
 
 
-def check_table(table: list[tuple[int, Callable[..., Any], Callable[..., Any], tuple[Callable[..., Any], int | None]]], fields: list[tuple[int, bytes]], date: bytes, message: dict[int, bytes | int]) -> None:
+def check_table(table: Table, fields: list[tuple[int, bytes]], date: bytes, message: Message) -> None:
     """Puts the value of each tag that is present into the message; SessionFault at the first fault."""
-    values = {}
+    values: dict[int, list[bytes]] = {}
     for tag, value in fields:
         values.setdefault(tag, []).append(value)
     for tag, form, required, (lawful, reason) in table:
@@ -180,7 +186,7 @@ def check_table(table: list[tuple[int, Callable[..., Any], Callable[..., Any], t
         message[tag] = value
 
 
-def party_group(fields: list[tuple[int, bytes]], count: int, known: list[int]) -> list[bytes] | None:
+def party_group(fields: list[tuple[int, bytes]], count: int, known: list[int]) -> list[bytes]:
     """The dealers of the group behind 453, in order; fields of other tags than those known are no part of it."""
     fields = [field for field in fields if field[0] in known or field[0] in GROUP_TAGS]
     begin = [tag for tag, _ in fields].index(453) + 1
@@ -191,7 +197,7 @@ def party_group(fields: list[tuple[int, bytes]], count: int, known: list[int]) -
     heads = [tag for tag, _ in run].count(448)
     if (run and run[0][0] != 448) or heads != count or any(tag in GROUP_TAGS for tag, _ in outside):
         raise SessionFault(453, GROUP)
-    entries = []
+    entries: list[list[tuple[int, bytes]]] = []
     for field in run:
         if field[0] == 448:
             entries.append([])
@@ -216,9 +222,10 @@ def party(entry: list[tuple[int, bytes]]) -> bytes | None:
     return values[448] if values[447] == b"D" and values[452] == b"35" else None
 
 
-def read_message(fields: list[tuple[int, bytes]], date: bytes, row: Investor | Dealer, types: dict[bytes, list[tuple[int, Callable[..., Any], Callable[..., Any], tuple[Callable[..., Any], int | None]]]]) -> dict[int | str, bytes | int | list[bytes]] | None:
+def read_message(fields: list[tuple[int, bytes]], date: bytes, row: Investor | Dealer, types: Types) -> Message:
     """The values of a message by tag, its dealers under 'dealers'; SessionFault with the first fault."""
-    message, head = {}, header(row, types)
+    message: Message = {}
+    head = header(row, types)
     check_table(head, fields, date, message)
     table = types[message[35]]
     check_table(table, fields, date, message)
@@ -237,11 +244,11 @@ class Inbox:
     def __init__(self) -> None:
         self.expected = 1
 
-    def receive(self, data: bytes, read_fields: Callable[..., Any], date: bytes, row: Investor | Dealer, types: dict[bytes, list[tuple[int, Callable[..., Any], Callable[..., Any], tuple[Callable[..., Any], int | None]]]]) -> dict[int | str, bytes | int | list[bytes]] | Reject | None:
+    def receive(self, data: bytes, read_fields: Callable[[bytes], list[tuple[int, bytes]] | None], date: bytes, row: Investor | Dealer, types: Types) -> Message | Reject | None:
         """None where the bytes are dropped; else the message, or the fields of a Reject."""
         fields = read_fields(data)
         numbers = [value for tag, value in fields or [] if tag == 34]
-        if len(numbers) != 1 or not NUMBER.match(numbers[0]) or int(numbers[0]) < 1:
+        if fields is None or len(numbers) != 1 or not NUMBER.match(numbers[0]) or int(numbers[0]) < 1:
             return None
         try:
             if int(numbers[0]) != self.expected:

@@ -21,7 +21,7 @@ from .configuration import Configuration, read_configuration
 from .days import Day, Draw
 from .frames import read_frame
 from .lawful import Inboxes, Message, day_of, inboxes_of, sent_in
-from .replay import CLOCK
+from .replay import CLOCK, Actor
 
 Texts = dict[int, bytes]
 
@@ -337,7 +337,8 @@ def replayed(program: list[str], seed: int) -> Played:
     """A day of steps; one of an even seed goes on until no duty is left."""
     day = Day(Draw(seed))
     if seed % 2 == 0:
-        for actor in [*day.firms, CLOCK] * ROUNDS:
+        actors: list[Actor] = [*day.firms, CLOCK]
+        for actor in actors * ROUNDS:
             day.turn(actor, MOST_TURNS)
     is_done = all(not queue for queue in day.venue.queues.values())
     configuration = read_configuration("\n".join(day.head).encode())
