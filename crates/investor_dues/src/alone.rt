@@ -2,12 +2,13 @@
 ghost use Rattle.std.specs.Prelude.{◌≡◌, ◌+◌, IfOk, OnOk};
 ghost use Rattle.investor_desk.specs.InvestorFacts.{offers_shown};
 ghost use Rattle.investor_desk.specs.InvestorDesk.{book_at, no_events};
+ghost use Rattle.investor_views.specs.NoteView.{note_view};
 ghost use Rattle.investor_views.specs.InvestorView as spec;
 
 use crate::{InvestorDue, InvestorSeen};
 use bond_prices::Ticks;
 use fix_fields::{Memory, Moment};
-use investor_desk::InvestorDesk;
+use investor_desk::{InvestorDesk, InvestorNote};
 use market_terms::{Offer, Reply, ResponseRef};
 use quote_messages::SentMessage;
 use std::alloc::Global;
@@ -25,12 +26,27 @@ pub fn alone_investor(
 ) -> Result<Vec<SentMessage>, Memory>
     ensures { IfOk result (λ messages. messages.items ≡ spec.investor_view seen.now dues.now) }
 {
+    let (messages, _) = alone_investor_output(alloc, seen, dues)?;
+    Ok(messages)
+}
+
+/// The messages that [`alone_investor`] gives, and beside each what the investor's desk notes of it:
+/// why a request is refused, or whom the investor traded with. It fails for memory alone.
+pub fn alone_investor_output(
+    alloc: Global,
+    seen: &InvestorSeen,
+    dues: &[InvestorDue],
+) -> Result<(Vec<SentMessage>, Vec<Option<InvestorNote>>), Memory>
+    ensures messages { IfOk result (λ output.
+        output.0.items ≡ spec.investor_view seen.now dues.now) }
+    ensures notes { IfOk result (λ output.
+        output.1.items ≡ note_view seen.now dues.now) }
+{
     let mut desk = desk_of(alloc, seen)?;
     for due in dues {
         happen(&mut desk, due)?;
     }
-    let (_, sent, _) = desk.into_parts();
-    Ok(sent)
+    Ok(desk.into_output())
 }
 
 /// The desk at the start of the day.

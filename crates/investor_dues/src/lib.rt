@@ -18,6 +18,7 @@
 //!   step and behind it all duties of its actor, as a day does whose steps come one by one.
 //! - [`alone_investor`] is the investor view of what is seen and of the list, on every list, or
 //!   memory is refused. So by the laws of `investor_views` it gives what the investor was sent.
+//!   [`alone_investor_output`] gives beside each message what is noted of it (`note_view`).
 //! - [`is_same_due`] is equality.
 #![tactic(auto)]
 
@@ -28,7 +29,7 @@ mod placing;
 mod same;
 mod seen;
 
-pub use alone::alone_investor;
+pub use alone::{alone_investor, alone_investor_output};
 pub use follow::{FollowedInvestor, followed_day};
 pub use investor_views::InvestorDue;
 pub use same::is_same_due;
