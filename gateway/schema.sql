@@ -16,8 +16,12 @@ INSERT INTO form (number) VALUES (4);
 --     version TEXT        what the venue's program says with --version, or `unknown`
 --     program HEX         the SHA-256 of the program's file
 --     configuration HEX   the SHA-256 of the configuration
+--     reason NAME WORDS   on a day that gives reasons and names of trades, for each name (1 to 40 letters, rising)
+--                         the words that a firm is told (1 to 100 bytes of printable ASCII, no vertical bar)
 --     %%
--- each with a line feed after it, and then the configuration, byte for byte.
+-- each with a line feed after it, and then the configuration, byte for byte. Behind `version` there may stand a
+-- line `gateway TEXT`: what the gateway that began the day says with --version. (A day of an older gateway has
+-- neither, and one that a newer gateway began with them an older one does not go on with.)
 --
 -- Every other line is a step line of `rfq_venue live`, without its line feed: `hex FIRM TIME HEX` or
 -- `clock TIME`. Fed after the configuration, `%%` and one line `#`, place P is line C + 2 + P of the
@@ -81,7 +85,8 @@ CREATE TABLE connection (
 );
 
 -- What the venue gave for a firm: its frame as the venue wrote it, SOH as the byte 0x01. number is the
--- venue's MsgSeqNum (34) to that firm, place that of the entry which it answers.
+-- venue's MsgSeqNum (34) to that firm, place that of the entry which it answers. What the venue notes beside it
+-- follows from the entries too, and stands in outgoing alone.
 CREATE TABLE sent (
     firm   TEXT    NOT NULL,
     number INTEGER NOT NULL,
@@ -91,8 +96,10 @@ CREATE TABLE sent (
 );
 
 -- The outgoing side of each session: number is the session's MsgSeqNum (34), bytes the message on the
--- wire. sent is the number of the row of `sent` that it carries, NULL in a message of the session itself
--- (Logon, Heartbeat, ..). A row of `sent` and the row that carries it come in one transaction.
+-- wire: that of the row, 1181, 60, and on a day with reasons what is told beside it, as the last field: Text (58),
+-- the words of the reason that the venue notes, or TradeID (1003), the name of the trade. sent is the number of the
+-- row of `sent` that it carries, NULL in a message of the session itself (Logon, Heartbeat, ..). A row of `sent` and
+-- the row that carries it come in one transaction.
 CREATE TABLE outgoing (
     firm   TEXT    NOT NULL,
     number INTEGER NOT NULL,

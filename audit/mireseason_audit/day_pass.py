@@ -46,6 +46,10 @@ class DayPass:
     def facts(self) -> Facts:
         return self._collector.facts
 
+    def reason_of(self, told: Told) -> str:
+        """The words (58) that a firm was told beside a message of the last exchanges."""
+        return self._collector.wire(told).reason
+
     def take(self, exchange: Exchange) -> Taken:
         """The next exchange."""
         response = self._collector.take(exchange)

@@ -129,7 +129,7 @@ class ResponseFact:
     quote: QuoteFact | None  # the one that a hit names
     shown: str  # 117 as it was sent
     answer: str  # awarded, passed, refused, not found, rejected
-    reason: str = ""  # of a refusal, its name (58)
+    reason: str = ""  # of a refusal, its text (58)
 
 
 @dataclass

@@ -17,6 +17,7 @@ from .faults import Unreadable
 from .findings import Finding
 from .lines import decoded
 from .log import Log, Source
+from .noted import NOTES, firm_of, misnoted
 from .progress import quiet
 from .records import SOH, Day, Firm, Sent
 from .streams import (
@@ -65,6 +66,12 @@ class Files:
     def places(self, firm: str) -> Path:
         """The places of these, eight bytes each."""
         return self.folder / ("%s.places" % firm)
+
+    def notes(self, firm: str) -> Path:
+        """What its session tells a firm of the notes beside these, as lines that the program
+        prints; not there where its session is at fault.
+        """
+        return self.folder / ("%s.notes" % firm)
 
 
 @dataclass(frozen=True)
@@ -118,17 +125,19 @@ class SentJob(FindingsJob):
     firms: tuple[str, ...]
 
     def _findings(self, log: Log) -> Iterator[Finding]:
+        files, reasons = self.audited.files, self.audited.day.names_of_reasons
         for firm in self.firms:
-            keep(log, firm, self.audited.files)
+            keep(log, firm, files)
             if log.has_chain:
-                yield from check_wire(log, firm)
+                yield from check_wire(log, firm, reasons, files.notes(firm))
 
 
 class LiveJob(FindingsJob):
     """`live --marks` over the day, left as a file; the day may still be written meanwhile."""
 
     def _findings(self, log: Log) -> Iterator[Finding]:
-        files, arguments = self.audited.files, ["live", "--frames", "--marks"]
+        files = self.audited.files
+        arguments = ["live", "--frames", "--marks", *self.audited.day.notes_flag]
         run = self.audited.venue.to_file(arguments, Growing(files.day), files.given)
         self._check_answers(" ".join(arguments), Growing(files.day).lines())
         Growing(files.given).end()
@@ -162,12 +171,14 @@ class GivenJob(FindingsJob):
         with GivenReader(files, firms, self._places(log)) as reader:
             for lines in lines_in(Growing(files.given).blocks()):
                 reader.take(lines)
-            texts, places = reader.ended()
+            texts, places, notes = reader.ended()
         for firm in texts:
             lines_given = (line for _, line in self._given(log, firm))
             yield from held(firm, log.sent(firm), lines_given)
         for firm in [*texts, *(firm for firm in places if firm not in texts)]:
             yield from misplaced(firm, log.sent(firm), self._given(log, firm))
+        for firm in notes:
+            yield from misnoted(firm, lines_of(files.notes(firm)), self._noted(log, firm))
 
     def _places(self, log: Log) -> Iterator[int]:
         """The places of the day's lines."""
@@ -181,6 +192,14 @@ class GivenJob(FindingsJob):
                 if first_word(line) == firm:
                     yield place, line
 
+    def _noted(self, log: Log, firm: str) -> Iterator[tuple[int, bytes]]:
+        """What the venue noted beside one firm's messages: the entry's place, and the line."""
+        lines = lines_of(self.audited.files.given)
+        for place, messages in by_place(lines, self._places(log)):
+            for line in messages:
+                if line.startswith(NOTES) and firm_of(line) == firm:
+                    yield place, line
+
 
 class GivenReader(Closing):
     """Holds what `live --marks` gives against the files of what firms were sent."""
@@ -190,6 +209,8 @@ class GivenReader(Closing):
         self._place = next(places, -1)
         self._texts: dict[str, Followed] = {}
         self._places: dict[str, Followed] = {}
+        told = [firm for firm in firms if files.notes(firm).exists()]
+        self._notes = {firm: Followed(files.notes(firm)) for firm in told}
         for firm in firms:
             self._follow(firm)
 
@@ -205,6 +226,9 @@ class GivenReader(Closing):
             word = line[: line.find(b" ") + 1]
             if word in MARKS:
                 place = next(waiting, -1)
+                continue
+            if word in NOTES:
+                self._take_note(line)
                 continue
             texts, places = given[word]
             texts.append(line)
@@ -222,15 +246,26 @@ class GivenReader(Closing):
         self._texts[firm].take(b"\n".join([*lines, b""]))
         self._places[firm].take(places.tobytes())
 
-    def ended(self) -> tuple[list[str], list[str]]:
-        """The firms that were sent other messages, and those with messages of other entries."""
-        texts = [firm for firm, followed in self._texts.items() if not followed.is_same()]
-        places = [firm for firm, followed in self._places.items() if not followed.is_same()]
-        return texts, places
+    def _take_note(self, line: bytes) -> None:
+        """What is noted beside a message, of a firm whose session has no fault."""
+        followed = self._notes.get(firm_of(line))
+        if followed is not None:
+            followed.take(line + b"\n")
+
+    def ended(self) -> tuple[list[str], list[str], list[str]]:
+        """The firms that were sent other messages, those with messages of other entries, and those
+        whose session tells other notes.
+        """
+        kinds = self._texts, self._places, self._notes
+        texts, places, notes = (
+            [firm for firm, followed in kind.items() if not followed.is_same()] for kind in kinds
+        )
+        return texts, places, notes
 
     def close(self, failed: bool = False) -> None:
-        for followed in (*self._texts.values(), *self._places.values()):
-            followed.close()
+        for kind in (self._texts, self._places, self._notes):
+            for followed in kind.values():
+                followed.close()
 
 
 class DueJob(FindingsJob):

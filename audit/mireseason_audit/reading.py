@@ -43,6 +43,16 @@ GLYPHS = {
 }
 
 
+# What the names mean by which a hit or a pass is refused, in 58.
+HIT_REFUSALS = {
+    "NotOpen": "request not open",
+    "Deadline": "request past its deadline",
+    "Gone": "quote replaced or gone",
+    "Expired": "quote past its validity",
+    "Withdrawn": "quote withdrawn first",
+}
+
+
 class Words(NamedTuple):
     """What was said or told, by whom or to whom it stands beside."""
 
@@ -185,7 +195,8 @@ class Reader:
         if status == "9":
             return Words(Shape.REFUSED, "not found", detail=quote, refused=True)
         if status == "5":
-            reason = "refused: %s" % self.meaning(fields, 58)
+            name = text_of(fields, 58)
+            reason = "refused: %s" % HIT_REFUSALS.get(name, name)
             return Words(Shape.REFUSED, reason, detail=quote, quote=quote, refused=True)
         if response and status == "0":
             return Words(Shape.WON, "awarded", detail=quote, quote=quote)

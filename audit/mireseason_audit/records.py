@@ -4,7 +4,7 @@ import hashlib
 import re
 import tomllib
 from collections.abc import Iterable
-from dataclasses import dataclass
+from dataclasses import dataclass, replace
 from typing import Any, NamedTuple
 
 from .faults import Wrong
@@ -12,7 +12,11 @@ from .faults import Wrong
 SOH = b"\x01"
 DIVIDER = b"%%\n"
 VENUE = b"venue "  # since form 4
-HEAD = (b"version ", b"program ", b"configuration ")
+GATEWAY = b"gateway "  # where the gateway that began the day says what it is
+HEAD = (VENUE, b"version ", GATEWAY, b"program ", b"configuration ")
+REASON = b"reason "  # of a day with notes: a name, and the words for it
+REASON_LINE = re.compile(rb"reason ([A-Za-z]{1,40}) ([ -{}~]{1,100})")
+MOST_SHOWN = 60  # bytes of a line that is none
 NO_NAME = "-"  # of a venue that is the only one
 NAME = re.compile(r"[A-Z][A-Z0-9]{0,7}")  # of a firm
 
@@ -152,6 +156,21 @@ class Day:
     firms: tuple[Firm, ...]  # dealers, then investors, in the order of their rows
     date: str
     venue: str = ""  # its name at the gateway, where it is not the only one
+    gateway: str = ""  # the one that began the day, where it says so
+    # The names of reasons with their words; none on a day that gives no notes.
+    reasons: tuple[tuple[str, str], ...] = ()
+
+    @property
+    def notes_flag(self) -> tuple[str, ...]:
+        """The program's flag for the notes of a day that gives them: firms are told why they are
+        refused (58), and the names of trades (1003).
+        """
+        return ("--notes",) if self.reasons else ()
+
+    @property
+    def names_of_reasons(self) -> dict[bytes, bytes]:
+        """The names by their words."""
+        return {words.encode(): name.encode() for name, words in self.reasons}
 
     @property
     def dealers(self) -> tuple[Firm, ...]:
@@ -171,19 +190,38 @@ def day_of(line: bytes) -> Day:
     """Reads the line of entry 0."""
     values = []
     rest = line
-    for word in (VENUE, *HEAD) if line.startswith(VENUE) else HEAD:
+    for word in HEAD:
+        if word in (VENUE, GATEWAY) and not rest.startswith(word):
+            values.append("")
+            continue
         first, feed, rest = rest.partition(b"\n")
         if not feed or not first.startswith(word):
             raise Wrong("entry 0 has no line `%s`" % word.decode().strip())
         values.append(first[len(word) :].decode("utf-8", "replace"))
+    reasons, rest = reasons_of(rest)
     if not rest.startswith(DIVIDER):
         raise Wrong("entry 0 has no line `%%`")
     configuration = rest[len(DIVIDER) :]
-    *venue, version, program, digest = values
+    venue, version, gateway, program, digest = values
     if hashlib.sha256(configuration).hexdigest() != digest:
         raise Wrong("entry 0 was changed: its configuration has another SHA-256 than it says")
-    name = venue[0] if venue and venue[0] != NO_NAME else ""
-    return configured(version, program, configuration, name)
+    day = configured(version, program, configuration, "" if venue == NO_NAME else venue)
+    return replace(day, gateway=gateway, reasons=reasons)
+
+
+def reasons_of(text: bytes) -> tuple[tuple[tuple[str, str], ...], bytes]:
+    """The names of reasons with their words, and what stands behind them."""
+    reasons: list[tuple[str, str]] = []
+    while text.startswith(REASON):
+        line, feed, text = text.partition(b"\n")
+        found = REASON_LINE.fullmatch(line)
+        if not feed or not found:
+            raise Wrong("entry 0 has a line `reason` that is none: %r" % line[:MOST_SHOWN])
+        reasons.append((found[1].decode(), found[2].decode()))
+    names, words = zip(*reasons) if reasons else ((), ())
+    if len(set(names)) != len(names) or len(set(words)) != len(words):
+        raise Wrong("entry 0 has a reason twice")
+    return tuple(reasons), text
 
 
 def configured(version: str, program: str, configuration: bytes, venue: str = "") -> Day:

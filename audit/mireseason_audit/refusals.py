@@ -12,11 +12,11 @@ KINDS = {"R": "request", "S": "quote", "Z": "cancel", "AG": "decline"}
 
 
 class Refusal(NamedTuple):
-    """A refusal by its code, and by its name where the answer has one."""
+    """A refusal by its code, and by its text where the answer has one."""
 
     what: str  # request, quote, cancel, decline, hit, pass, message
     code: str  # as `300=8`: the tag that says why, and its value; `none` without an answer
-    name: str = ""  # Text (58)
+    name: str = ""  # Text (58): the words of a reason, or the name of a hit's or a pass's
 
     @property
     def words(self) -> str:

@@ -1,7 +1,7 @@
 """The requests of a day, each with what was done on it and who was told what."""
 
 from collections import defaultdict
-from collections.abc import Iterator, Mapping
+from collections.abc import Callable, Iterator, Mapping
 from dataclasses import dataclass, field
 from typing import NamedTuple
 
@@ -76,14 +76,27 @@ class Request:
         return self.side == "1"
 
 
+def no_reason(_: Told) -> str:
+    """Of a log that has none."""
+    return ""
+
+
 class Requests:
     """Takes the exchanges of a day in their order; answers the acts on each request."""
 
-    def __init__(self, reader: Reader, came_on: Mapping[str, CameOn] | None = None) -> None:
-        """came_on has the connections of each firm, of a log that says who connected."""
+    def __init__(
+        self,
+        reader: Reader,
+        came_on: Mapping[str, CameOn] | None = None,
+        reason_of: Callable[[Told], str] = no_reason,
+    ) -> None:
+        """came_on has the connections of each firm, of a log that says who connected; reason_of
+        gives the words (58) that a firm was told beside a message.
+        """
         self.all: list[Request] = []
         self._reader = reader
         self._came_on = came_on or {}
+        self._reason_of = reason_of
         self._names = Names()
 
     def take(self, exchange: Exchange) -> Iterator[tuple[Request, Act]]:
@@ -115,11 +128,17 @@ class Requests:
         self._names.open(exchange, request.key)
         return request
 
+    def words_of(self, told: Told) -> Words:
+        """A message of the venue; one that refuses, by the reason that its firm was told."""
+        words = self._reader.told(told.fields, told.firm.is_dealer)
+        # A refused hit or pass has its name there, whose meaning is told already.
+        reason = self._reason_of(told) if words.refused and not told.text(58) else ""
+        return words._replace(text="refused: %s" % reason) if reason else words
+
     def _act(self, exchange: Exchange, told: list[Told]) -> Act:
         came, reader = exchange.came, self._reader
         notes = tuple(
-            Note(one.firm.name, one.number, one.kind, reader.told(one.fields, one.firm.is_dealer))
-            for one in told
+            Note(one.firm.name, one.number, one.kind, self.words_of(one)) for one in told
         )
         said = reader.said(came.fields) if came else reader.unread(exchange.firm)
         entry = exchange.entry

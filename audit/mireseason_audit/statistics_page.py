@@ -193,7 +193,7 @@ def amounts(statistics: Statistics, group: Group) -> Grid:
 
 
 def refusals(statistics: Statistics, group: Group) -> Grid:
-    return Grid("Refusals", ["What", "Code", "Name (58)", "Count"], [
+    return Grid("Refusals", ["What", "Code", "Text (58)", "Count"], [
         [row.key, row.what, row.code, row.name, str(row.count)]
         for row in refusal_rows(statistics) if row.group is group
     ], texts=3)

@@ -137,7 +137,7 @@ REFUSALS: Table[RefusalRow] = Table(
         Column("what", "request, quote, cancel, decline, hit, pass or message",
                lambda row: row.what),
         Column("code", "tag and value", lambda row: row.code),
-        Column("name", "58, where the answer has one", lambda row: row.name),
+        Column("name", "Text (58), where the answer has it", lambda row: row.name),
         Column("count", "", lambda row: row.count),
     ),
 )

@@ -3,6 +3,7 @@ disk.
 """
 
 from collections import Counter
+from collections.abc import Callable
 from contextlib import closing
 from dataclasses import dataclass, field
 from pathlib import Path
@@ -13,14 +14,14 @@ from .confirmations import misnamed
 from .day_pass import DayPass
 from .day_tables import SessionRow
 from .dictionary import Dictionary
-from .exchanges import Exchange, exchanges
+from .exchanges import Exchange, Told, exchanges
 from .facts import AskedFact
 from .findings import Finding
 from .log import Source
 from .reading import Reader
 from .records import Day
 from .refusals import Refusal
-from .requests import Request, Requests
+from .requests import Request, Requests, no_reason
 from .statistics import Statistics, statistics_of
 
 NO_ANSWER = "no answer"
@@ -72,12 +73,17 @@ class Summarizer:
     """Takes the exchanges of a day."""
 
     def __init__(
-        self, day: Day, reader: Reader, book: Book, came_on: dict[str, CameOn] | None = None
+        self,
+        day: Day,
+        reader: Reader,
+        book: Book,
+        came_on: dict[str, CameOn] | None = None,
+        reason_of: Callable[[Told], str] = no_reason,
     ) -> None:
         self.summary = Summary(firms={firm.name: FirmCounts() for firm in day.firms})
         self.summary.asked = {firm.name: [] for firm in day.dealers}
         self._reader, self._book = reader, book
-        self._requests = Requests(reader, came_on)
+        self._requests = Requests(reader, came_on, reason_of)
         self.summary.requests = self._requests.all
 
     def take(self, exchange: Exchange, refusal: Refusal | None = None) -> None:
@@ -104,7 +110,7 @@ class Summarizer:
         counts = self.summary.firms[came.firm]
         counts.came += 1
         answers = exchange.answers()
-        words = [self._reader.told(one.fields, one.firm.is_dealer) for one in answers]
+        words = [self._requests.words_of(one) for one in answers]
         refused = next((one for one in words if one.refused), None)
         if answers and refused is None:
             return
@@ -132,8 +138,9 @@ class SummaryJob:
     def __call__(self) -> Summary:
         with closing(Book(self.book, write=True)) as book, self.source.open() as log:
             came_on = connections_of(log, self.day)
-            summarizer = Summarizer(self.day, Reader(self.dictionary), book, came_on)
             day_pass = DayPass(log, self.day)
+            reader = Reader(self.dictionary)
+            summarizer = Summarizer(self.day, reader, book, came_on, day_pass.reason_of)
             for exchange in exchanges(log, self.day):
                 summarizer.take(exchange, day_pass.take(exchange).refusal)
             book.finish()

@@ -3,12 +3,16 @@ gateway/README.md, read back.
 
 A message on the wire has the venue's number in ApplSeqNum (1181), first after the header, and
 its moment in TransactTime (60), whose place depends on the type; the rest of its body is the
-venue's, byte for byte.
+venue's, byte for byte. On a day that gives notes a message may have one field more, behind all
+others: Text (58) with the words of a reason, or TradeID (1003). Whether that is what the venue
+notes beside the message, the replay says.
 """
 
+import os
 import re
-from collections.abc import Callable, Iterator
-from typing import NamedTuple
+from collections.abc import Callable, Iterator, Mapping
+from pathlib import Path
+from typing import IO, NamedTuple
 
 from .findings import Finding
 from .frame import CHECKSUM_BYTES, fault_of, fields_of
@@ -20,6 +24,9 @@ REJECT = b"3"
 OWN = re.compile(rb"8=FIXT\.1\.1\x019=\d+\x0135=[0-5A]\x01")  # what a session sends of itself
 REFERS = b"\x0145="
 CARRIED = b"\x011181="
+WHY, TRADE = b"\x0158=", b"\x011003="
+TOLD = (WHY, TRADE)
+TRADE_FIELD = re.compile(rb"\x011003=[!-~]{1,40}")
 # The header of a message that carries one of the venue's: 35, 34, 49, 52, 56, and no other field.
 HEADER = re.compile(
     rb"8=FIXT\.1\.1\x019=\d+\x0135=([^\x01]*)\x0134=(\d+)\x0149=([^\x01]*)\x0152=[^\x01]*"
@@ -49,8 +56,10 @@ def parts_of(frame: bytes) -> Parts | None:
     return Parts(*found.groups()) if found else None
 
 
-def carried(parts: Parts, session_number: int | None) -> bytes:
-    """What stands from 1181 to the last field of the message that carries a frame of the venue."""
+def carried(parts: Parts, session_number: int | None, told: bytes = b"") -> bytes:
+    """What stands from 1181 to the last field of the message that carries a frame of the venue,
+    with a field that tells the firm what is noted beside it, if there is one.
+    """
     body = parts.body
     if parts.kind == REJECT and session_number is not None:
         body = with_number(body, session_number)
@@ -58,7 +67,18 @@ def carried(parts: Parts, session_number: int | None) -> bytes:
     at = body.find(before) if before else -1
     if at < 0:
         at = len(body)
-    return CARRIED + parts.number + body[:at] + b"\x0160=" + parts.moment + body[at:]
+    return CARRIED + parts.number + body[:at] + b"\x0160=" + parts.moment + body[at:] + told
+
+
+def told_in(body: bytes, parts: Parts) -> bytes:
+    """The field of what carries a frame of the venue that tells what is noted beside that, with an
+    SOH before it; empty where there is none.
+    """
+    for tag in TOLD:
+        _, found, rest = body.partition(tag)
+        if found and tag not in parts.body:
+            return tag + rest.partition(SOH)[0]
+    return b""
 
 
 def with_number(body: bytes, session_number: int) -> bytes:
@@ -94,15 +114,24 @@ def header_fault(data: bytes, number: int, firm: str, carries: bool) -> str | No
 class WireReader:
     """Holds the messages of one session against what the venue gave for the firm."""
 
-    def __init__(self, sent: Iterator[Sent], session_number: Callable[[int], int | None]) -> None:
+    def __init__(
+        self,
+        sent: Iterator[Sent],
+        session_number: Callable[[int], int | None],
+        reasons: Mapping[bytes, bytes] | None = None,
+    ) -> None:
+        """reasons has the names by their words, on a day that gives notes."""
         self._session_number = session_number  # of the message of an entry
+        self._reasons = reasons or {}
         self._waiting = sent
         self._expected = next(sent, None)
         self._number = 0
+        self.note = b""  # the line that the venue has to print beside the last message, or none
 
     def take(self, row: Outgoing) -> Finding | None:
         """What is wrong with the next message."""
         self._number += 1
+        self.note = b""
         if row.number != self._number:
             text = "its session has no message %d; %d comes"
             return Finding(row.firm, text % (self._number, row.number))
@@ -148,21 +177,49 @@ class WireReader:
         if header is None or header[1] != parts.kind:
             return False
         number = self._session_number(expected.place) if parts.kind == REJECT else None
-        return mark + rest[: -CHECKSUM_BYTES - 1] == carried(parts, number)
+        body = mark + rest[: -CHECKSUM_BYTES - 1]
+        if body == carried(parts, number):
+            return True
+        told = told_in(body, parts) if self._reasons else b""
+        self.note = self._note(told, expected)
+        return bool(self.note) and body == carried(parts, number, told)
+
+    def _note(self, told: bytes, expected: Sent) -> bytes:
+        """The note that a field tells; empty where it tells none."""
+        about = b"%b %d " % (expected.firm.encode(), expected.number)
+        if TRADE_FIELD.fullmatch(told):
+            return b"trade " + about + told.removeprefix(TRADE)
+        name = self._reasons.get(told.removeprefix(WHY), b"")
+        return b"why " + about + name if name else b""
 
 
-def check_wire(log: Log, firm: str) -> Iterator[Finding]:
-    """Holds a firm's session against what the venue gave for it; the first fault is told."""
+def check_wire(
+    log: Log, firm: str, reasons: Mapping[bytes, bytes] | None = None, notes: Path | None = None
+) -> Iterator[Finding]:
+    """Holds a firm's session against what the venue gave for it; the first fault is told. Where
+    there is none, the lines of the notes that it tells are left in a file.
+    """
 
     def session_number(place: int) -> int | None:
         return log.session_numbers([place]).get(place)
 
-    reader = WireReader(log.sent(firm), session_number)
-    for row in log.outgoing(firm):
+    reader = WireReader(log.sent(firm), session_number, reasons)
+    with (notes or Path(os.devnull)).open("wb") as file:
+        finding = first_fault(reader, log.outgoing(firm), file) or reader.rest(firm)
+    if finding is not None:
+        if notes is not None:
+            notes.unlink()
+        yield finding
+
+
+def first_fault(
+    reader: WireReader, rows: Iterator[Outgoing], file: IO[bytes]
+) -> Finding | None:
+    """Reads a session up to its first fault, and writes the notes that it tells."""
+    for row in rows:
         finding = reader.take(row)
         if finding is not None:
-            yield finding
-            return
-    left = reader.rest(firm)
-    if left is not None:
-        yield left
+            return finding
+        if reader.note:
+            file.write(reader.note + b"\n")
+    return None

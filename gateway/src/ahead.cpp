@@ -74,6 +74,8 @@ bool Ahead::settle_some(const std::string &firm, LogReader &log) {
                 "has {}",
                 firm, row.number, messages.front().frame, row.bytes));
         }
+        // Before another process of the venue begins, since that takes what waits here first.
+        comparison_.check_carrier(firm, row.number, messages.front().body);
         messages.pop_front();
     }
     changed_.notify_all();

@@ -2,6 +2,7 @@
 #ifndef GATEWAY_AHEAD_H
 #define GATEWAY_AHEAD_H
 
+#include "comparison.h"
 #include "database.h"
 #include "outlet.h"
 
@@ -18,8 +19,8 @@ namespace gateway {
 // all that follows. One thread takes, another settles and gives.
 class Ahead final : public Outlet {
   public:
-    // So many messages may wait for one firm.
-    explicit Ahead(std::size_t limit) : limit_(limit) {}
+    // So many messages may wait for one firm. What comes here, the comparison has called new.
+    Ahead(std::size_t limit, Comparison &comparison) : limit_(limit), comparison_(comparison) {}
 
     // Outlet. A message waits for room where the log lacks too many of its firm.
     void take(Delivery delivery) override;
@@ -30,7 +31,7 @@ class Ahead final : public Outlet {
     // Whether the venue waits: the log lacks more of a firm's messages than may wait.
     bool is_full();
     // Drops what the log has by now. Throws std::runtime_error that names the firm and the number
-    // where it has another message.
+    // where it has another message, or the session carried another.
     void settle(LogReader &log);
     // The log has ended, and what the venue gives for it has an end: nothing waits for room.
     void lift_limit();
@@ -44,6 +45,7 @@ class Ahead final : public Outlet {
     std::map<std::string, std::uint32_t> first_numbers();
 
     const std::size_t limit_;
+    Comparison &comparison_;
     std::mutex mutex_;
     std::condition_variable changed_;
     std::map<std::string, std::deque<Delivery>> waiting_;

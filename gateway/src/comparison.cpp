@@ -26,8 +26,8 @@ bool has_body(std::string_view message, std::string_view body) {
 } // namespace
 
 void Comparison::begin() {
-    const auto states = reader_.ask([](LogReader &log) { return log.states(); });
     const std::lock_guard lock(mutex_);
+    const auto states = reader_.ask([](LogReader &log) { return log.states(); });
     firms_.clear();
     for (const auto &[firm, state] : states) {
         firms_[firm].known = state.sent;
@@ -47,8 +47,14 @@ bool Comparison::is_new(const std::string &firm, std::uint32_t number, const std
         return true;
     }
     compare(firm, messages, frame);
-    compare_carrier(firm, messages, body);
+    compare_carrier(firm, messages, number, body);
     return false;
+}
+
+void Comparison::check_carrier(const std::string &firm, std::uint32_t number,
+                               const std::string &body) {
+    const std::lock_guard lock(mutex_);
+    compare_carrier(firm, firms_[firm], number, body);
 }
 
 void Comparison::compare(const std::string &firm, Messages &messages, const std::string &frame) {
@@ -71,18 +77,18 @@ void Comparison::compare(const std::string &firm, Messages &messages, const std:
 }
 
 // Each message of the venue went in one of the session, in their order.
-void Comparison::compare_carrier(const std::string &firm, Messages &messages,
+void Comparison::compare_carrier(const std::string &firm, Messages &messages, std::uint32_t number,
                                  const std::string &body) {
     const auto carrier = next_carrier(firm, messages);
-    if (!carrier || carrier->sent != messages.given) {
+    if (!carrier || carrier->sent != number) {
         throw std::runtime_error(fmt::format("the log lacks the message of {}'s session that "
                                              "carried message {}",
-                                             firm, messages.given));
+                                             firm, number));
     }
     if (!has_body(carrier->bytes, body)) {
         throw std::runtime_error(
             fmt::format("{}'s message {} is not what message {} of its session carried: {}", firm,
-                        messages.given, carrier->number, carrier->bytes));
+                        number, carrier->number, carrier->bytes));
     }
 }
 

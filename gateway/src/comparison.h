@@ -14,7 +14,7 @@
 
 namespace gateway {
 
-// Used by the thread that reads the venue; check_sent() by any.
+// Used by the thread that reads the venue; the checks by any.
 class Comparison {
   public:
     // Reads until the stop is asked for.
@@ -27,6 +27,9 @@ class Comparison {
     // the number where it is another than the log has, or went otherwise, or is not the next one.
     bool is_new(const std::string &firm, std::uint32_t number, const std::string &frame,
                 const std::string &body);
+    // Holds the next message that carried one of the venue's, of this number and with this body,
+    // against the log, which has it. As is_new() does for each that is not new.
+    void check_carrier(const std::string &firm, std::uint32_t number, const std::string &body);
     // Throws where the log has a message that the venue did not give, or that no message of the
     // session carried.
     void check_sent(const std::map<std::string, FirmState> &states);
@@ -41,7 +44,8 @@ class Comparison {
     };
 
     void compare(const std::string &firm, Messages &messages, const std::string &frame);
-    void compare_carrier(const std::string &firm, Messages &messages, const std::string &body);
+    void compare_carrier(const std::string &firm, Messages &messages, std::uint32_t number,
+                         const std::string &body);
     std::optional<Outgoing> next_carrier(const std::string &firm, Messages &messages);
 
     PatientReader reader_;

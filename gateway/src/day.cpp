@@ -1,6 +1,7 @@
 #include "day.h"
 
 #include "process.h"
+#include "reasons.h"
 #include "venue_trial.h"
 
 #include <chrono>
@@ -100,6 +101,26 @@ Entry begin_log(const Day &day, Database &database, LogGuard &guard,
     return first;
 }
 
+// The day's first entry, with this gateway's reasons where the venue's program gives notes.
+OpenedDay begin_day_of(Day day, const Config &config, Database &database, LogGuard &guard,
+                       std::optional<std::uint32_t> term, DayClock &clock,
+                       const std::shared_ptr<spdlog::logger> &events) {
+    if (try_configuration(config.command, config.configuration)) {
+        day.reasons = built_in_reasons();
+    }
+    const Entry first = begin_log(day, database, guard, term, clock);
+    events->info("log begun date={} program=\"{}\"", clock.date(), day.version);
+    return {first, first, std::move(day.reasons)};
+}
+
+// A day goes on as it began.
+void check_notes(const Day &begun, const Config &config) {
+    if (!begun.reasons.empty() && !try_configuration(config.command, config.configuration)) {
+        throw std::runtime_error("entry 0: the day gives reasons and the names of trades, and the "
+                                 "venue's program of now does not know --notes");
+    }
+}
+
 // Tells that the venue's program takes long, where it does.
 std::jthread watch_start(const std::shared_ptr<spdlog::logger> &events) {
     return std::jthread([events](const std::stop_token &stop) {
@@ -123,10 +144,7 @@ OpenedDay open_day(const Config &config, Database &database, LogGuard &guard,
     const auto reader = database.reader();
     const std::vector<Entry> found = reader->entries(0, 1);
     if (found.empty()) {
-        try_configuration(config.command, config.configuration);
-        const Entry first = begin_log(now, database, guard, term, clock);
-        events->info("log begun date={} program=\"{}\"", clock.date(), now.version);
-        return {first, first};
+        return begin_day_of(now, config, database, guard, term, clock, events);
     }
     const Entry &first = found.front();
     check_link(first, 0, Digest{});
@@ -144,10 +162,11 @@ OpenedDay open_day(const Config &config, Database &database, LogGuard &guard,
     if (begun.program != now.program) {
         events->warn("the venue's program is another than at the day's begin was=\"{}\" is=\"{}\"",
                      begun.version, now.version);
+        check_notes(begun, config);
     }
     const Entry last = reader->last_entry().value_or(first);
     events->info("log found date={} entries={}", clock.date(), last.place);
-    return {first, last};
+    return {first, last, begun.reasons};
 }
 
 } // namespace gateway

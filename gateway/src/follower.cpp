@@ -33,12 +33,17 @@ Follower::Follower(VenueDay &day, std::optional<std::uint32_t> term)
 }
 
 Follower::Follower(VenueDay &day, const OpenedDay &opened)
-    : day_(day), last_(opened.last), found_(last_.place), committed_(last_.place),
-      comparison_(*day.database, day.status.stopping()), ahead_(day.config.waiting_messages),
-      silence_(day.events, day.of_venue()),
-      venue_({day.config.command, day.config.configuration, day.config.venue_starts,
-              day.config.confined},
+    : day_(day), last_(opened.last), found_(last_.place), reasons_(opened.reasons),
+      committed_(last_.place), comparison_(*day.database, day.status.stopping()),
+      ahead_(day.config.waiting_messages, comparison_), silence_(day.events, day.of_venue()),
+      venue_({with_notes(day.config.command, !reasons_.empty()), day.config.configuration,
+              day.config.venue_starts, day.config.confined},
              *day.database, committed_, opened.first.hash, *this, day.metrics, day.events) {
+    if (reasons_.empty()) {
+        day_.events->warn("no reasons and no trade names{}: the day began with a program that does "
+                          "not know --notes",
+                          day_.of_venue());
+    }
     venue_.start();
 }
 
@@ -178,8 +183,11 @@ void Follower::venue_starts() {
 }
 
 void Follower::venue_gave(std::uint32_t place, std::uint32_t number, std::string name,
-                          std::string frame) {
+                          std::string frame, std::optional<VenueNote> note) {
     ForWire message = for_wire(frame, number);
+    if (note) {
+        add_told(message, told_by(*note, name, message.number, reasons_, day_.config.firms.date));
+    }
     if (!comparison_.is_new(name, message.number, frame, message.body)) {
         return;
     }

@@ -77,8 +77,8 @@ class Follower final : private VenueListener {
 
     // VenueListener
     void venue_starts() override;
-    void venue_gave(std::uint32_t place, std::uint32_t number, std::string firm,
-                    std::string frame) override;
+    void venue_gave(std::uint32_t place, std::uint32_t number, std::string firm, std::string frame,
+                    std::optional<VenueNote> note) override;
     void venue_answered(std::uint32_t place, std::optional<Moment> deadline) override;
     void venue_pauses() override;
     void venue_failed(const std::string &cause) override;
@@ -86,6 +86,7 @@ class Follower final : private VenueListener {
     VenueDay &day_;
     Entry last_;                // of the log, as far as it was read
     const std::uint32_t found_; // the last place when the venue was started
+    const Reasons reasons_;     // the day's; none where it gives none
     bool ready_ = false;        // it was answered
     Committed committed_;
     Comparison comparison_;

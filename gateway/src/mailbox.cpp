@@ -43,10 +43,11 @@ void Mailbox::put_now(Delivery delivery) {
 
 // The lock is held. The log may lack what was being handed over when the venue began again.
 bool Mailbox::was_handed_over(const Delivery &delivery) const {
-    if (delivery.number == last_number_ && delivery.frame != last_frame_) {
+    if (delivery.number == last_number_ &&
+        (delivery.frame != last_frame_ || delivery.body != last_body_)) {
         throw std::runtime_error(
             fmt::format("{}'s message {} is not what it was sent: the venue gives {}, and gave {}",
-                        delivery.firm, delivery.number, delivery.frame, last_frame_));
+                        delivery.firm, delivery.number, delivery.body, last_body_));
     }
     return delivery.number <= last_number_;
 }
@@ -88,6 +89,7 @@ bool Mailbox::hand_over(std::unique_lock<std::mutex> &lock, const Delivery &deli
     handing_over_ = true;
     const std::uint32_t number_before = std::exchange(last_number_, delivery.number);
     std::string frame_before = std::exchange(last_frame_, delivery.frame);
+    std::string body_before = std::exchange(last_body_, delivery.body);
     lock.unlock();
     bool done = false;
     std::string fault;
@@ -101,6 +103,7 @@ bool Mailbox::hand_over(std::unique_lock<std::mutex> &lock, const Delivery &deli
     if (!done) {
         last_number_ = number_before;
         last_frame_ = std::move(frame_before);
+        last_body_ = std::move(body_before);
     }
     broken_ = !fault.empty();
     went_.notify_all();

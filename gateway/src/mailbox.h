@@ -60,7 +60,8 @@ class Mailbox {
     std::condition_variable_any went_; // for whoever waits for room or for the end
     std::deque<Delivery> waiting_;
     std::uint32_t last_number_ = 0; // of what was handed over, or is
-    std::string last_frame_;        // that message
+    std::string last_frame_;        // that message, as the venue gave it
+    std::string last_body_;         // and as it goes to the firm
     bool handing_over_ = false;
     bool broken_ = false;
     std::jthread thread_;

@@ -42,6 +42,8 @@ std::string or_dash(const std::optional<std::uint32_t> &number) {
 }
 
 constexpr std::string_view end_of_head = "%%\n";
+constexpr std::string_view gateway_line = "gateway";
+constexpr std::string_view reason_line = "reason";
 
 // For a venue that is the only one.
 constexpr std::string_view no_name = "-";
@@ -136,9 +138,17 @@ void check_link(const Entry &entry, std::uint32_t place, const Digest &before) {
 }
 
 std::string line_of(const Day &day) {
-    return fmt::format("venue {}\nversion {}\nprogram {}\nconfiguration {}\n{}{}",
-                       day.venue.empty() ? no_name : day.venue, day.version, text_of(day.program),
-                       text_of(sha256(day.configuration)), end_of_head, day.configuration);
+    std::string line =
+        fmt::format("venue {}\nversion {}\n", day.venue.empty() ? no_name : day.venue, day.version);
+    if (!day.gateway.empty()) {
+        line += fmt::format("{} {}\n", gateway_line, day.gateway);
+    }
+    line += fmt::format("program {}\nconfiguration {}\n", text_of(day.program),
+                        text_of(sha256(day.configuration)));
+    for (const auto &[name, words] : day.reasons) {
+        line += fmt::format("{} {} {}\n", reason_line, name, words);
+    }
+    return line.append(end_of_head).append(day.configuration);
 }
 
 Day day_of(std::string_view line) {
@@ -148,8 +158,17 @@ Day day_of(std::string_view line) {
         day.venue.clear();
     }
     day.version = take_line(line, "version");
+    if (line.starts_with(gateway_line)) {
+        day.gateway = take_line(line, gateway_line);
+    }
     day.program = digest_of_day(take_line(line, "program"));
     const Digest configuration = digest_of_day(take_line(line, "configuration"));
+    while (line.starts_with(reason_line)) {
+        const std::string_view reason = take_line(line, reason_line);
+        const std::size_t end = reason.find(' ');
+        add_reason(day.reasons, reason.substr(0, end),
+                   end == std::string_view::npos ? "" : reason.substr(end + 1));
+    }
     if (!line.starts_with(end_of_head)) {
         throw std::runtime_error("entry 0 has no line `%%`");
     }

@@ -2,6 +2,8 @@
 #ifndef GATEWAY_RECORDS_H
 #define GATEWAY_RECORDS_H
 
+#include "reasons.h"
+
 #include <array>
 #include <cstdint>
 #include <optional>
@@ -118,9 +120,11 @@ void check_link(const Entry &entry, std::uint32_t place, const Digest &before);
 // The line of place 0.
 struct Day {
     std::string version;
+    std::string gateway{}; // that began it, empty where it does not say what it is
     Digest program{};
     std::string configuration;
     std::string venue; // its name, empty where it is the only one
+    Reasons reasons;   // none where the day gives neither reasons nor names of trades
 };
 
 std::string line_of(const Day &day);

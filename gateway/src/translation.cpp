@@ -114,4 +114,13 @@ ForWire for_wire(std::string_view frame, unsigned refers_to) {
     return message;
 }
 
+void add_told(ForWire &message, std::string_view field) {
+    const std::string tag = soh + std::string(field.substr(0, field.find('=') + 1));
+    if (message.body.find(tag) != std::string::npos) {
+        throw std::runtime_error(
+            fmt::format("the venue's message has what is noted beside it: {}", message.body));
+    }
+    message.body += field;
+}
+
 } // namespace gateway

@@ -40,6 +40,10 @@ struct ForWire {
 // venue's.
 ForWire for_wire(std::string_view frame, unsigned refers_to);
 
+// Puts a field, with its SOH, behind all others. Throws std::runtime_error where the message has a
+// field of that tag already.
+void add_told(ForWire &message, std::string_view field);
+
 } // namespace gateway
 
 #endif

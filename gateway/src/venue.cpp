@@ -112,6 +112,7 @@ std::string Venue::run_once(std::stop_token stop) {
         last_words_.clear();
     }
     answered_lines_ = 0;
+    last_given_.reset();
     starts_.push_back(std::chrono::steady_clock::now());
     metrics_.venue_started();
     Process process(settings_.confined ? confined(settings_.command) : settings_.command);
@@ -198,14 +199,41 @@ void Venue::read(Process &process) {
 }
 
 void Venue::take_line(std::string_view line) {
-    if (line.starts_with("done ") || line.starts_with("fault ")) {
-        take_mark(line);
+    if (is_venue_note(line)) {
+        take_note(line);
         return;
     }
+    give_last();
+    if (line.starts_with("done ") || line.starts_with("fault ")) {
+        take_mark(line);
+    } else {
+        take_message(line);
+    }
+}
+
+void Venue::take_message(std::string_view line) {
     std::string_view frame = line;
-    std::string firm(take_word(frame));
-    std::string bytes(frame);
-    std::replace(bytes.begin(), bytes.end(), '|', soh);
+    Given given;
+    given.firm = take_word(frame);
+    given.frame = frame;
+    std::replace(given.frame.begin(), given.frame.end(), '|', soh);
+    last_given_ = std::move(given);
+}
+
+void Venue::take_note(std::string_view line) {
+    if (!last_given_ || last_given_->note) {
+        throw std::runtime_error(fmt::format("the venue gave a note of no message: {}", line));
+    }
+    last_given_->note = read_venue_note(line);
+}
+
+// The message behind which something else comes.
+void Venue::give_last() {
+    if (!last_given_) {
+        return;
+    }
+    Given given = std::move(*last_given_);
+    last_given_.reset();
     Fed entry;
     {
         const std::lock_guard lock(mutex_);
@@ -214,9 +242,11 @@ void Venue::take_line(std::string_view line) {
         }
     }
     if (entry.place == 0) {
-        throw std::runtime_error(fmt::format("the venue gave a message for no entry: {}", line));
+        throw std::runtime_error(
+            fmt::format("the venue gave {} a message for no entry: {}", given.firm, given.frame));
     }
-    listener_.venue_gave(entry.place, entry.number, std::move(firm), std::move(bytes));
+    listener_.venue_gave(entry.place, entry.number, std::move(given.firm), std::move(given.frame),
+                         std::move(given.note));
 }
 
 void Venue::take_mark(std::string_view line) {

@@ -8,6 +8,7 @@
 #include "metrics.h"
 #include "moment.h"
 #include "process.h"
+#include "reasons.h"
 
 #include <atomic>
 #include <deque>
@@ -29,10 +30,10 @@ class VenueListener {
     // The process was started; it is fed the log from its beginning. Returns when all that it said
     // before is in the log.
     virtual void venue_starts() = 0;
-    // A message for a firm, given for the entry of this place. number is the entry's, that of the
-    // session, or 0. The frame has SOH.
+    // A message for a firm, given for the entry of this place, and what is noted beside it. number
+    // is the entry's, that of the session, or 0. The frame has SOH.
     virtual void venue_gave(std::uint32_t place, std::uint32_t number, std::string firm,
-                            std::string frame) = 0;
+                            std::string frame, std::optional<VenueNote> note) = 0;
     // All messages for this entry were given. deadline is the earliest of a request, if there is
     // one. Place 0: the configuration was read.
     virtual void venue_answered(std::uint32_t place, std::optional<Moment> deadline) = 0;
@@ -86,6 +87,13 @@ class Venue {
         std::chrono::steady_clock::time_point received;
     };
 
+    // A message for the entry that waits for its mark.
+    struct Given {
+        std::string firm;
+        std::string frame;
+        std::optional<VenueNote> note;
+    };
+
     void run(std::stop_token stop);
     // From the start of a process to its end; what is thrown is no matter of another start.
     std::string run_once(std::stop_token stop);
@@ -95,6 +103,9 @@ class Venue {
     std::exception_ptr read_all(Process &process);
     void read(Process &process);
     void take_line(std::string_view line);
+    void take_message(std::string_view line);
+    void take_note(std::string_view line);
+    void give_last();
     void take_mark(std::string_view line);
     std::optional<Fed> take_fed();
     void listen_to_errors(Process &process);
@@ -114,7 +125,10 @@ class Venue {
     std::string last_words_;
     Process *running_ = nullptr;
     bool ended_ = false;
-    std::size_t answered_lines_ = 0; // of the reading thread
+    // Of the reading thread: how many lines are answered, and the last message, behind which its
+    // note may come.
+    std::size_t answered_lines_ = 0;
+    std::optional<Given> last_given_;
 
     std::deque<std::chrono::steady_clock::time_point> starts_;
     std::jthread thread_;

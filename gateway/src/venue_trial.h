@@ -7,9 +7,10 @@
 
 namespace gateway {
 
-// Runs the program with the configuration and no message. Throws std::runtime_error with what the
-// program says where it does not take it, and where it can't be run or does not end in ten seconds.
-void try_configuration(const std::vector<std::string> &command, const std::string &configuration);
+// Runs the program with the configuration and no message. Whether it knows the flag for notes.
+// Throws std::runtime_error with what the program says where it does not take the configuration,
+// and where it can't be run or does not end in ten seconds.
+bool try_configuration(const std::vector<std::string> &command, const std::string &configuration);
 
 } // namespace gateway
 

@@ -102,6 +102,34 @@ void to_firms() {
                       "a Reject names the session's number");
 }
 
+// What is told beside a message stands behind all its fields, and never twice.
+void told_beside() {
+    const auto body = [](const std::string &frame, const std::string &field) {
+        ForWire message = for_wire(with_soh(frame), 5);
+        add_told(message, with_soh(field));
+        return with_bars(message.body);
+    };
+    const std::string refused = "8=FIXT.1.1|9=72|35=AI|49=VENUE|56=DLR1|34=5|"
+                                "52=20250314-09:01:05.000|117=a2|297=5|300=4|10=139|";
+    same<std::string>("1181=5|117=a2|60=20250314-09:01:05.000|297=5|300=4|58=too late|",
+                      body(refused, "58=too late|"), "a reason");
+    same<std::string>(
+        "1181=10|131=B|658=1|146=1|55=[N/A]|48=BONDC0000003|22=4|60=20250314-09:02:00.000|58=x|",
+        body("8=FIXT.1.1|9=102|35=AG|49=VENUE|56=INV1|34=10|52=20250314-09:02:00.000|131=B|658=1|"
+             "146=1|55=[N/A]|48=BONDC0000003|22=4|10=234|",
+             "58=x|"),
+        "a reason behind the group of a request");
+    bool is_refused = false;
+    try {
+        body("8=FIXT.1.1|9=93|35=AI|49=VENUE|56=INV1|34=8|52=20250314-09:00:50.000|693=h1|131=A|"
+             "117=Q2|297=5|300=4|58=Gone|10=076|",
+             "58=too late|");
+    } catch (const std::runtime_error &) {
+        is_refused = true;
+    }
+    check(is_refused, "a message is told two reasons");
+}
+
 void moments() {
     same<std::string>("09:05:00.007", text_of(Moment{32700007}), "a moment");
     check(moment_of("23:59:59.999") == Moment{Moment::last}, "the last moment");
@@ -122,6 +150,7 @@ int main(int count, char **words) {
         the_longest();
         cancel_of_one_that_is_gone();
         to_firms();
+        told_beside();
         moments();
     });
 }

@@ -26,7 +26,8 @@ class Listener final : public VenueListener {
     }
 
     void venue_starts() override {}
-    void venue_gave(std::uint32_t, std::uint32_t, std::string, std::string) override {}
+    void venue_gave(std::uint32_t, std::uint32_t, std::string, std::string,
+                    std::optional<VenueNote>) override {}
     void venue_answered(std::uint32_t, std::optional<Moment>) override {}
     void venue_pauses() override {}
     void venue_failed(const std::string &cause) override { failure_.set_value(cause); }
@@ -64,6 +65,10 @@ int main(int count, char **words) {
         const std::string file = std::filesystem::path(given[0]) / "venue_test.db";
         tried(file, "head -c 1000000 /dev/zero; exec sleep 200", "a line of more than 65536 bytes");
         tried(file, "exec sleep 200 >&-", "was ended by signal 9");
+        tried(file, "echo why DLR1 1 Closed; exec sleep 200", "a note of no message");
+        tried(file, "echo DLR1 8=x; echo why DLR1 1 Closed; echo trade DLR1 1 x; exec sleep 200",
+              "a note of no message");
+        tried(file, "echo DLR1 8=x; echo why DLR1 Closed; exec sleep 200", "a note of no form");
         tried(file, "sleep 200 >&- & echo last >&2; exit 3",
               "ended with status 3 again and again; its last words: last");
     });

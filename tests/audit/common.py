@@ -17,6 +17,7 @@ AUDIT = ROOT / "audit" / "mireseason-audit"
 STORED = HERE / "stored"
 DAY = STORED / "day.db"
 SQLITE = "file:%s?mode=ro"
+REMEMBERED = ("/usr/bin/python3", str(HERE / "remembered.py"))  # in front of a program's words
 
 
 
@@ -31,7 +32,7 @@ def venue_words() -> list[str]:
 
 def remembered() -> list[str]:
     """The same program, whose answers are kept by what it reads: see remembered.py."""
-    return ["/usr/bin/python3", str(HERE / "remembered.py"), *venue_words()]
+    return [*REMEMBERED, *venue_words()]
 
 
 @dataclass(frozen=True)

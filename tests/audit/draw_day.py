@@ -18,8 +18,9 @@ from collections.abc import Callable
 from dataclasses import dataclass, field
 from functools import partial
 from pathlib import Path
+from typing import NamedTuple
 
-from tests.audit.ledger import Fields, Ledger, fields_of, frame, time_text
+from tests.audit.ledger import TOLD, Fields, Ledger, fields_of, frame, time_text
 
 DATE = "20261125"
 OPENING, CLOSING = 8 * 3_600_000, 17 * 3_600_000
@@ -92,6 +93,20 @@ class Request:
     hits: int = 0
 
 
+class Given(NamedTuple):
+    """A message of the venue, and what is noted beside it: `why` or `trade`, and the name."""
+
+    firm: str
+    data: bytes
+    note: tuple[str, str] | None = None
+
+
+def has_notes(venue: list[str]) -> bool:
+    """Whether the program has the flag --notes: one that has not calls it a wrong argument."""
+    words = [*venue, "live", "--notes"]
+    return subprocess.run(words, input=b"", capture_output=True, check=False).returncode != 2
+
+
 class Market:
     """The venue, its firms and what is still to come."""
 
@@ -100,10 +115,10 @@ class Market:
     ) -> None:
         self.draw, self.noise, self.firms = random.Random(seed), noise, firms
         self.door = random.Random("door %d" % seed)  # its own: the day is the same without it
-        self.ledger = Ledger(path, DATE, configuration(firms), form=form)
-        self.venue = subprocess.Popen(
-            [*venue, "live", "--frames", "--marks"], stdin=subprocess.PIPE, stdout=subprocess.PIPE
-        )
+        notes = form > 3 and has_notes(venue)
+        self.ledger = Ledger(path, DATE, configuration(firms), form=form, notes=notes)
+        words = [*venue, "live", "--frames", "--marks", *(["--notes"] if notes else [])]
+        self.venue = subprocess.Popen(words, stdin=subprocess.PIPE, stdout=subprocess.PIPE)
         self.write(configuration(firms) + b"%%\n")
         self.coming: list[tuple[int, int, Callable[[int], None]]] = []
         self.order, self.names = itertools.count(), itertools.count(1)
@@ -119,17 +134,20 @@ class Market:
         self.venue.stdin.write(data)
         self.venue.stdin.flush()
 
-    def answers(self) -> list[tuple[str, bytes]]:
+    def answers(self) -> list[Given]:
         """What the venue gives for the last line."""
         assert self.venue.stdout is not None
-        messages: list[tuple[str, bytes]] = []
+        messages: list[Given] = []
         for line in self.venue.stdout:
             word, _, rest = line.decode().rstrip("\n").partition(" ")
             if word in ("done", "fault"):
                 times = rest.split(" ")[1:]
                 self.deadline = moment_of(times[0]) if word == "done" and times else None
                 return messages
-            messages.append((word, rest.replace("|", "\x01").encode()))
+            if word in TOLD:
+                messages[-1] = messages[-1]._replace(note=(word, rest.split(" ")[2]))
+            else:
+                messages.append(Given(word, rest.replace("|", "\x01").encode()))
         raise RuntimeError("the venue has ended")
 
     def say(self, firm: str, trader: str, kind: str, body: Fields, number: bool = True) -> None:
@@ -149,8 +167,8 @@ class Market:
         self.deliver(place, None)
 
     def deliver(self, place: int, answered: int | None) -> None:
-        for firm, data in self.answers():
-            self.ledger.given(firm, data, place, self.now, answered)
+        for firm, data, note in self.answers():
+            self.ledger.given(firm, data, place, self.now, answered, note)
             self.learn(firm, dict(fields_of(data)[2:-1]))
 
     # ------------------------------------------------------------ what firms learn

@@ -18,12 +18,20 @@ SCHEMA = ROOT / "gateway" / "schema.sql"
 VERSION = "rfq_venue 1.0.0"
 PROGRAM = hashlib.sha256(b"the program of a drawn day").hexdigest()
 PLACES_OF_TIME = {"S": "537", "AI": "297", "R": "453"}
+TABLE = ROOT / "fix" / "reasons.txt"
+TOLD = {"why": "58", "trade": "1003"}  # the fields that tell what is noted beside a message
 SECRET = hashlib.sha256(b"the secret of the gateways of drawn days").digest()
 KEY = Ed25519PrivateKey.from_private_bytes(hashlib.sha256(b"and what one signs with").digest())
 SEALED = 40  # entries from one seal to the next
 OLD_TABLES = "DROP TABLE seal; DROP TABLE checkpoint; UPDATE form SET number = 3;"
 
 Fields = list[tuple[str, str]]
+
+
+def reasons() -> dict[str, str]:
+    """The words for each name of a reason."""
+    lines = [line for line in TABLE.read_text().splitlines() if line and not line.startswith("#")]
+    return {name: words for name, _, words in (line.partition(" ") for line in lines)}
 
 
 def public_key() -> bytes:
@@ -81,6 +89,7 @@ class Ledger:
     before_event: bytes = bytes(32)
     clock_at: int = 0  # microseconds, the last that it said
     form: int = 4  # or 3, which has no seals
+    notes: bool = False  # the day gives reasons and the names of trades
     seals: int = 0
     checkpoints: int = 0
 
@@ -88,11 +97,13 @@ class Ledger:
         self.database = sqlite3.connect(self.path, isolation_level=None)
         self.database.executescript(SCHEMA.read_text() + (OLD_TABLES if self.form == 3 else ""))
         self.database.execute("BEGIN")
-        head = "version %s\nprogram %s\nconfiguration %s\n%%%%\n"
+        digest = hashlib.sha256(self.configuration).hexdigest()
+        head = "version %s\nprogram %s\nconfiguration %s\n" % (VERSION, PROGRAM, digest)
         if self.form > 3:
             head = "venue -\n" + head
-        digest = hashlib.sha256(self.configuration).hexdigest()
-        line = (head % (VERSION, PROGRAM, digest)).encode() + self.configuration
+        if self.notes:
+            head += "".join("reason %s %s\n" % reason for reason in sorted(reasons().items()))
+        line = head.encode() + b"%%\n" + self.configuration
         self.entry(time_text(28_800_000), None, None, line)
 
     def entry(
@@ -255,8 +266,11 @@ class Ledger:
     def clock(self, moment: int) -> int:
         return self.entry(time_text(moment), None, None, b"clock " + time_text(moment).encode())
 
-    def given(self, firm: str, data: bytes, place: int, moment: int, answered: int | None) -> None:
-        """A message of the venue, and the session's that carries it."""
+    def given(
+        self, firm: str, data: bytes, place: int, moment: int, answered: int | None,
+        note: tuple[str, str] | None = None,
+    ) -> None:
+        """A message of the venue, with what is noted beside it, and the session's that carries it."""
         session = self.sessions[firm]
         session.messages += 1
         row = (firm, session.messages, place, data)
@@ -270,6 +284,8 @@ class Ledger:
             body.append((tag, str(answered) if kind == "3" and tag == "45" else value))
         if "60" not in dict(body):
             body.append(("60", time))
+        if note is not None:
+            body.append((TOLD[note[0]], reasons().get(note[1], note[1])))
         self.session_message(firm, kind, moment + 1, body, session.messages)
 
     def close(self) -> None:

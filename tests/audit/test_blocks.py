@@ -56,7 +56,30 @@ class Given(unittest.TestCase):
         with GivenReader(self.files, list(FIRMS), itertools.count(1)) as reader:
             for lines in lines_in(cut(given, size)):
                 reader.take(lines)
+            texts, places, _ = reader.ended()
+            return texts, places
+
+    def noted(self, given: bytes, size: int) -> tuple[list[str], list[str], list[str]]:
+        """The same, and the firms whose sessions tell other notes than the venue gives."""
+        with GivenReader(self.files, list(FIRMS), itertools.count(1)) as reader:
+            for lines in lines_in(cut(given, size)):
+                reader.take(lines)
             return reader.ended()
+
+    def test_notes(self) -> None:
+        """What is noted is held against what the session tells, of a firm whose session has no
+        fault; and is no message.
+        """
+        notes = b"why ALPHA 2 Closed\ntrade ALPHA 3 20261125-FJORD-ALPHA-1\n"
+        first, second = notes.splitlines(keepends=True)
+        given = GIVEN + notes + b"why BRAVO 1 Closed\n"
+        for told, others in (
+            (notes, []), (first, ["ALPHA"]), (second, ["ALPHA"]), (second + first, ["ALPHA"]),
+            (notes + second, ["ALPHA"]), (notes.replace(b"2", b"4"), ["ALPHA"]), (b"", ["ALPHA"]),
+        ):
+            self.files.notes("ALPHA").write_bytes(told)
+            for size in SIZES:
+                self.assertEqual(self.noted(given, size), ([], [], others), told)
 
     def test_nothing_differs(self) -> None:
         for size in range(1, len(GIVEN) + 2):

@@ -218,6 +218,74 @@ class Sessions(unittest.TestCase):
             self.assertEqual(carries(data, 1, frame, "DLR1"), is_right, head)
 
 
+class Told(unittest.TestCase):
+    """What a message may have beside a frame, on a day that gives notes: one field behind all
+    others, with words of the day's table, or a name. The replay has the same note, or another.
+    """
+
+    REASONS = {b"too late": b"Lifted", b"the request has ended": b"Closed"}
+    REFUSED = (
+        "8=FIXT.1.1|9=72|35=AI|49=VENUE|56=DLR1|34=2|52=20250314-09:01:05.000|117=a2|297=5|300=4"
+        "|10=136|"
+    )
+    GONE = (
+        "8=FIXT.1.1|9=73|35=AI|49=VENUE|56=DLR1|34=2|52=20250314-09:00:50.000|297=5|300=4|58=Gone"
+        "|10=000|"
+    )
+    HEAD = "35=AI|34=1|49=VENUE|52=20250314-09:01:05.001|56=DLR1"
+
+    def note(self, frame: str, end: str, reasons: dict[bytes, bytes] | None = None) -> bytes | None:
+        """The note that a message tells which carries a frame and ends so; None where it is no
+        message that carries it.
+        """
+        parts = parts_of(soh(frame))
+        assert parts is not None
+        data = framed(fields_of(soh(self.HEAD) + carried(parts, None) + soh(end) + b"\x01"))
+        sent = Sent("DLR1", 2, 9, soh(frame))
+        known = self.REASONS if reasons is None else reasons
+        reader = WireReader(iter([sent]), lambda place: None, known)
+        return None if reader.take(Outgoing("DLR1", 1, 2, data)) else reader.note
+
+    def test_what_may_stand_there(self) -> None:
+        for frame, end, note in (
+            (self.REFUSED, "", b""),
+            (self.REFUSED, "|58=too late", b"why DLR1 2 Lifted"),
+            (self.REFUSED, "|58=the request has ended", b"why DLR1 2 Closed"),
+            (ACCEPTED, "|1003=20250314-INV1-DLR1-1", b"trade DLR1 2 20250314-INV1-DLR1-1"),
+            (ACCEPTED, "|1003=x", b"trade DLR1 2 x"),  # the replay has another
+            (self.GONE, "", b""),
+        ):
+            self.assertEqual(self.note(frame, end), note, end)
+
+    def test_what_may_not(self) -> None:
+        for frame, end in (
+            (self.REFUSED, "|58=Lifted"), (self.REFUSED, "|58="), (self.REFUSED, "|58=too late |"),
+            (self.REFUSED, "|58=too late|58=too late"), (self.REFUSED, "|58=too late|1003=x"),
+            (self.REFUSED, "|58=too late|1=x"), (self.REFUSED, "|1=x|58=too late"),
+            (self.GONE, "|58=too late"), (ACCEPTED, "|1=x"), (ACCEPTED, "|1003="),
+            (ACCEPTED, "|1003=x y"), (ACCEPTED, "|1003=x\ny"), (ACCEPTED, "|1003=" + "x" * 41),
+        ):
+            self.assertIsNone(self.note(frame, end), end)
+        for end in ("|58=too late", "|1003=20250314-INV1-DLR1-1"):
+            self.assertIsNone(self.note(self.REFUSED, end, {}), end)
+
+    def test_the_table_in_entry_0(self) -> None:
+        digest = hashlib.sha256(CONFIGURATION).hexdigest().encode()
+        head = b"venue -\nversion v\ngateway g 1\nprogram 00\nconfiguration " + digest + b"\n"
+        table = b"reason Closed the request has ended\nreason Lifted too late\n"
+        day = day_of(head + table + b"%%\n" + CONFIGURATION)
+        self.assertEqual(day.names_of_reasons, self.REASONS)
+        self.assertEqual((day.gateway, day.notes_flag), ("g 1", ("--notes",)))
+        self.assertEqual(day_of(head + b"%%\n" + CONFIGURATION).notes_flag, ())
+        for wrong in (
+            b"reason Closed\n", b"reason \n", b"reason A b\nreason A c\n", b"reason A|b\n",
+            b"reason A b\nreason B b\n", b"reason A \xff\n", b"reason A " + b"x" * 101 + b"\n",
+            b"reason A b", b"reason  b\n",
+        ):
+            text = head + wrong + b"%%\n" + CONFIGURATION
+            self.assertRaises(Wrong, day_of, text)
+
+
 class OwnMessages(unittest.TestCase):
     """What a session sends of itself carries nothing of the venue."""
 

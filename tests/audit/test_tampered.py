@@ -24,9 +24,11 @@ from mireseason_audit.main import parser_of
 from mireseason_audit.streams import Growing
 from mireseason_audit.venue import Run, Venue
 
-from tests.audit.common import IS_SHORT, Folder, audit, folder, keys, venue_words
-from tests.audit.tamper import KINDS, Tamperer
+from tests.audit.common import IS_SHORT, REMEMBERED, Folder, audit, folder, keys, venue_words
+from tests.audit.tamper import KINDS, Kind, Tamperer
 from tests.audit.tamper_door import DOOR_KINDS
+from tests.audit.tamper_told import TOLD_KINDS
+from tests.harness.options import SECOND
 
 CHANGES = 40 if IS_SHORT else 500
 SEED = int(os.environ.get("SEED", "1"))
@@ -81,6 +83,8 @@ class Sealed:
     """A short day of two dealers and an investor, with a message of each kind, and its seal."""
 
     place: Path
+    words: tuple[str, ...]  # of the venue's program
+    kinds: tuple[Kind, ...] = (*KINDS, *DOOR_KINDS, *TOLD_KINDS)  # of changes
 
     @property
     def log(self) -> Path:
@@ -90,7 +94,7 @@ class Sealed:
         """What `check --key` prints, and its status."""
         words = ["check", str(log), "--key", str(self.place / "public.pem"), "--jobs", "2"]
         parsed = parser_of().parse_args([*words, "--seal", str(self.place / "day.db.seal")])
-        venue = KeptVenue(tuple(venue_words()), self.place / "kept")
+        venue = KeptVenue(self.words, self.place / "kept")
         with folder() as name:
             place = Path(name)
             try:
@@ -107,7 +111,7 @@ class Sealed:
         about that: of a log that was changed nothing is made, and the status says so.
         """
         with folder() as name:
-            place, venue = Path(name), KeptVenue(tuple(venue_words()), self.place / "kept")
+            place, venue = Path(name), KeptVenue(self.words, self.place / "kept")
             command, *more = MAKING[number % len(MAKING)]
             out = [str(place / "out")] if command in ("export", "record") else []
             words = [command, str(log), *out, *more, "--jobs", "2", "--key"]
@@ -132,7 +136,7 @@ class Sealed:
         path = self.place / ("tampered-%d.db" % number)
         shutil.copyfile(self.log, path)
         log = Tamperer(path, random.Random("%d %d" % (SEED, number)))
-        change = log.change(KINDS + DOOR_KINDS)
+        change = log.change(list(self.kinds))
         rows, size = BLOCKS[number % len(BLOCKS)]
         with patch.object(sqlite_log, "ROWS_AT_A_TIME", rows), patch.object(streams, "BLOCK", size):
             status, text = self.check(path)
@@ -148,18 +152,26 @@ class Sealed:
 
 
 class Tampered(unittest.TestCase):
+    words: tuple[str, ...] = tuple(venue_words())
+    changes = CHANGES
     kept: Folder
     sealed: Sealed
 
     @classmethod
     def setUpClass(cls) -> None:
         cls.kept = folder()
-        cls.sealed = Sealed(Path(cls.kept.name))
-        draw_day(cls.sealed.log)
+        cls.sealed = cls.sealed_in(Path(cls.kept.name))
+        draw_day(cls.sealed.log, cls.words)
         private, _ = keys(cls.sealed.place)
         (cls.sealed.place / "kept").mkdir()
         (cls.sealed.place / "parties.toml").touch()
-        assert audit("seal", cls.sealed.log, "--key", private).status == 0
+        venue = [*REMEMBERED, *cls.words]
+        assert audit("seal", cls.sealed.log, "--key", private, venue=venue).status == 0
+
+    @classmethod
+    def sealed_in(cls, place: Path) -> Sealed:
+        """The day that is changed, and how."""
+        return Sealed(place, cls.words)
 
     @classmethod
     def tearDownClass(cls) -> None:
@@ -174,14 +186,27 @@ class Tampered(unittest.TestCase):
 
     def test_changes_that_are_drawn(self) -> None:
         with ProcessPoolExecutor(AT_ONCE, get_context("fork")) as pool:
-            missed = [text for text in pool.map(self.sealed.tampered, range(CHANGES)) if text]
+            missed = [text for text in pool.map(self.sealed.tampered, range(self.changes)) if text]
         some = "\n".join(missed[:5])
-        self.assertEqual(missed, [], "%d of %d:\n%s" % (len(missed), CHANGES, some))
+        self.assertEqual(missed, [], "%d of %d:\n%s" % (len(missed), self.changes, some))
 
 
-def draw_day(path: Path) -> None:
+class ToldOtherwise(Tampered):
+    """A day with reasons and names of trades, of the program that has the flag whichever is chosen:
+    what its firms were told beside the venue's messages is changed.
+    """
+
+    words = SECOND
+    changes = 9 if IS_SHORT else 60
+
+    @classmethod
+    def sealed_in(cls, place: Path) -> Sealed:
+        return Sealed(place, cls.words, tuple(TOLD_KINDS))
+
+
+def draw_day(path: Path, venue: tuple[str, ...]) -> None:
     words = ["/usr/bin/python3", "-m", "tests.audit.draw_day", str(path), "--requests", "7"]
-    words += ["--seed", "4", "--dealers", "2", "--investors", "1", "--", *venue_words()]
+    words += ["--seed", "4", "--dealers", "2", "--investors", "1", "--", *venue]
     subprocess.run(words, check=True)
 
 

@@ -3,7 +3,7 @@
 from collections.abc import Iterable, Iterator
 
 from tests.gateway.firm import SESSION_TAGS, VENUE_MOMENT, VENUE_NUMBER, Firm, Received
-from tests.gateway.ledger import Ledger, Mark, fields_of
+from tests.gateway.ledger import Ledger, Mark, Told, fields_of
 from tests.model.frames import read_frame, read_time
 
 MOST_LATE = 120_000  # milliseconds that a clock line may be late: the gateway may have been away, and its venue be fed again
@@ -36,15 +36,18 @@ def as_received(frame: bytes, numbers: list[int]) -> tuple[tuple[int, bytes], ..
     return tuple((tag, b"%d" % numbers[int(value) - 1]) if tag == REF_NUMBER else (tag, value) for tag, value in body)
 
 
-def is_well_placed(message: Received) -> bool:
-    """Whether 1181 is the first field after the header, and 60 stands where the dictionary has it."""
+def is_well_placed(message: Received, told: tuple[int, bytes] | None) -> bool:
+    """Whether 1181 is the first field after the header, 60 stands where the dictionary has it, and what is told beside it last."""
     tags = [tag for tag, _ in message.fields if tag not in SESSION_TAGS]
+    if told is not None and tags.pop() != told[0]:
+        return False
     behind = [*tags, None][tags.index(VENUE_MOMENT) + 1]
     return tags[0] == VENUE_NUMBER and behind == BEHIND_MOMENT.get(message.kind)
 
 
-def differences(firm: Firm, answers: list[bytes], ledger: Ledger) -> Iterator[str]:
-    """What is missing, different, or under two session numbers; nothing where all is as it has to be."""
+def differences(firm: Firm, answers: list[bytes], ledger: Ledger, told: Told) -> Iterator[str]:
+    """What is missing, different, or under two session numbers; nothing where all is as it has to be. told has the fields that
+    the firm is told beside the venue's messages."""
     numbers = used_numbers(ledger, firm.name)
     by_number: dict[int, Received] = {}
     for message in firm.received:
@@ -57,12 +60,12 @@ def differences(firm: Firm, answers: list[bytes], ledger: Ledger) -> Iterator[st
         if number not in by_number:
             yield "%s: %d is missing: %r" % (firm.name, number, frame)
             continue
-        message = by_number.pop(number)
-        if (message.kind, message.body) != (fields_of(frame)[0][1], as_received(frame, numbers)):
+        message, beside = by_number.pop(number), [told[number]] if number in told else []
+        if (message.kind, message.body) != (fields_of(frame)[0][1], (*as_received(frame, numbers), *beside)):
             yield "%s: %d is another: %r came, %r is the venue's" % (firm.name, number, message.raw, frame)
         elif message.value(VENUE_MOMENT) != dict(fields_of(frame))[52]:
             yield "%s: %d has another 60 than the venue's 52" % (firm.name, number)
-        elif not is_well_placed(message):
+        elif not is_well_placed(message, told.get(number)):
             yield "%s: %d has its 1181 or its 60 in another place: %r" % (firm.name, number, message.raw)
     for number, message in by_number.items():
         yield "%s: %d is none of the venue's: %r" % (firm.name, number, message.raw)

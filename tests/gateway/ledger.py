@@ -9,6 +9,10 @@ from typing import Any
 from tests.model.frames import SOH, read_frame
 
 
+TEXT, TRADE_ID = 58, 1003
+Told = dict[int, tuple[int, bytes]]  # by the venue's number of a message, the field that tells what is noted beside it
+
+
 @dataclass(frozen=True)
 class Entry:
     place: int
@@ -47,6 +51,13 @@ class Ledger:
     @property
     def configuration(self) -> bytes:
         return self.entries[0].line.split(b"%%\n", 1)[1]
+
+    @property
+    def reasons(self) -> dict[bytes, bytes]:
+        """The words for each name of a reason, as entry 0 has them; none on a day that gives no notes."""
+        head = self.entries[0].line.split(b"%%\n", 1)[0]
+        lines = [line.split(b" ", 2) for line in head.splitlines() if line.startswith(b"reason ")]
+        return {name: words for _, name, words in lines}
 
     def messages_of(self, firm: str) -> list[Entry]:
         """The messages that came from a firm's session."""
@@ -110,6 +121,20 @@ def answers(program: list[str], day: bytes) -> dict[str, list[bytes]]:
 def answers_to(program: list[str], day: bytes, firm: str) -> list[bytes]:
     """The frames that a program of the venue gives one firm over a day, by `replay --live FIRM`."""
     return by_firm(printed([*program, "replay", "--live", "--frames", firm], day)).get(firm, [])
+
+
+def told_over(program: list[str], ledger: Ledger) -> dict[str, Told]:
+    """What each firm has to be told beside its messages, by what a program of the venue notes over a day."""
+    found: dict[str, Told] = {}
+    if not ledger.reasons:
+        return found
+    for line in printed([*program, "replay", "--live", "--notes"], ledger.day()).splitlines():
+        kind, *words = line.split(b" ")
+        if kind in (b"why", b"trade"):
+            firm, number, name = words
+            field = (TEXT, ledger.reasons[name]) if kind == b"why" else (TRADE_ID, name)
+            found.setdefault(firm.decode(), {})[int(number)] = field
+    return found
 
 
 def by_firm(text: bytes) -> dict[str, list[bytes]]:

@@ -8,7 +8,7 @@ from pathlib import Path
 from tests.gateway.door import Door
 from tests.gateway.firm import Firm
 from tests.gateway.held import altered, clock_faults, count_of, differences, unkept, unlogged
-from tests.gateway.ledger import Ledger, answers, answers_to, marks
+from tests.gateway.ledger import Ledger, answers, answers_to, marks, told_over
 from tests.gateway.wait import LONG, until, within
 
 MODEL = [sys.executable, str(Path(__file__).resolve().parent.parent / "model" / "program.py")]
@@ -65,9 +65,10 @@ def faults(door: Door, firms: list[Firm], status: int, ledger: Ledger) -> Iterat
         yield "the gateway ended with status %d" % status
     if wanted != answers(MODEL, day):
         yield "the second implementation of the venue gives something else for the log"
+    told = told_over(MODEL, ledger)
     for firm in firms:
         firm.look()
-        yield from differences(firm, answers_to(program, day, firm.name), ledger)
+        yield from differences(firm, answers_to(program, day, firm.name), ledger, told.get(firm.name, {}))
         yield from unlogged(firm, ledger)
         yield from altered(firm, ledger)
     yield from unkept(ledger, wanted)

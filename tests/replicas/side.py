@@ -8,7 +8,7 @@ import tests.lab.gateway as parts_gateway
 from tests.gateway.door import venue_text
 from tests.gateway.firm import Firm, Identity, Places
 from tests.gateway.held import altered, clock_faults, count_of, differences, unkept, unlogged
-from tests.gateway.ledger import Ledger, answers, marks
+from tests.gateway.ledger import Ledger, answers, marks, told_over
 from tests.gateway.market import Act, Market
 from tests.gateway.wait import until, within
 
@@ -85,9 +85,10 @@ class Side:
         """What is wrong with what the firms have and with the log, once nothing comes any more."""
         ledger = self.read()
         wanted = answers(venue, ledger.day())
+        told = told_over(venue, ledger)
         for firm in self.firms:
             firm.look()
-            yield from differences(firm, wanted.get(firm.name, []), ledger)
+            yield from differences(firm, wanted.get(firm.name, []), ledger, told.get(firm.name, {}))
             yield from unlogged(firm, ledger)
             yield from altered(firm, ledger)
         yield from unkept(ledger, wanted)

@@ -1,0 +1,136 @@
+// What the venue notes beside its messages, and what of it a firm is told: the names of
+// docs/MARKET.md, the words of fix/reasons.txt, and nothing else.
+#include "check.h"
+#include "frame.h"
+#include "reasons.h"
+#include "records.h"
+
+namespace gateway::tests {
+
+namespace {
+
+constexpr const char *date = "20250314";
+constexpr std::uint32_t number = 7; // of DLR1's message
+
+const Reasons &two_reasons() {
+    static const Reasons reasons =
+        read_reasons("# two\n\nClosed the request has ended\nLifted too late\n");
+    return reasons;
+}
+
+std::string told(const std::string &line) {
+    return with_bars(told_by(read_venue_note(line), "DLR1", number, two_reasons(), date));
+}
+
+// What is told of a line, or why nothing is.
+std::string refusal_of(const std::string &line) {
+    try {
+        return told(line);
+    } catch (const std::runtime_error &fault) {
+        return fault.what();
+    }
+}
+
+void is_refused(const std::string &line, const std::string &words) {
+    const std::string refusal = refusal_of(line);
+    check(refusal.find(words) != std::string::npos, fmt::format("`{}`: {}", line, refusal));
+}
+
+void what_firms_are_told() {
+    same<std::string>("58=the request has ended|", told("why DLR1 7 Closed"), "a reason");
+    same<std::string>("58=too late|", told("why DLR1 7 Lifted"), "another");
+    same<std::string>("1003=20250314-INV1-DLR1-12|", told("trade DLR1 7 20250314-INV1-DLR1-12"),
+                      "a trade of a dealer");
+    same<std::string>("1003=20250314-DLR1-B-1|", told("trade DLR1 7 20250314-DLR1-B-1"),
+                      "a trade of an investor");
+}
+
+void what_firms_are_not_told() {
+    is_refused("why DLR2 7 Closed", "that is of DLR2's message 7");
+    is_refused("why DLR1 8 Closed", "that is of DLR1's message 8");
+    for (const char *name : {"closed", "Closed ", "Unknown", "",
+                             "Closed\x01"
+                             "58=x"}) {
+        is_refused(fmt::format("why DLR1 7 {}", name), "has no text");
+    }
+    for (const char *line : {"why", "why DLR1", "why DLR1 x Closed", "why DLR1 -7 Closed"}) {
+        is_refused(line, "no form");
+    }
+    for (const char *name : {"20250315-INV1-DLR1-1", "20250314-INV1-DLR2-1", "20250314-DLR1-DLR1-1",
+                             "20250314-INV1-DLR1-0", "20250314-INV1-DLR1-01", "20250314-INV1-DLR1-",
+                             "20250314-INV1-DLR1", "20250314-INV1-DLR1-1-1", "20250314-inv1-DLR1-1",
+                             "20250314-INV123456-DLR1-1", "20250314-INV1-DLR1-1234567890",
+                             "20250314--DLR1-1", "", "Closed",
+                             "20250314-INV1-DLR1-1\x01"
+                             "58=x",
+                             "20250314-INV1-DLR1-1 "}) {
+        is_refused(fmt::format("trade DLR1 7 {}", name), "is none of DLR1's");
+    }
+}
+
+void which_tables_are_none() {
+    const std::string longest(100, 'x');
+    same<std::size_t>(1, read_reasons("Name " + longest).size(), "the longest words");
+    for (const std::string &text :
+         {std::string("Closed"), std::string("Closed "), std::string(" Closed"),
+          "Name " + longest + "x", std::string("Closed a|b"), std::string("Closed a\tb"),
+          std::string("Closed a\x01"
+                      "b"),
+          std::string("Closed \xc3\xa9"), std::string("Na-me words"), std::string("A one\nA two"),
+          std::string("A one\nB one"), std::string(41, 'N') + " words"}) {
+        try {
+            read_reasons(text);
+        } catch (const std::runtime_error &) {
+            continue;
+        }
+        check(false, fmt::format("a table is taken: {}", text));
+    }
+}
+
+void entry_0_has_the_table() {
+    Day day;
+    day.version = "v";
+    day.configuration = "version = 1\n";
+    day.reasons = two_reasons();
+    const std::string line = line_of(day);
+    check(line.find("\nreason Closed the request has ended\nreason Lifted too late\n%%\nversion") !=
+              std::string::npos,
+          line);
+    check(day_of(line).reasons == two_reasons(), "entry 0 is read otherwise");
+    day.reasons.clear();
+    check(day_of(line_of(day)).reasons.empty(), "a day without notes has reasons");
+    for (const char *wrong : {"reason Closed", "reason ", "reason Closed a|b"}) {
+        std::string other = line;
+        other.replace(other.find("reason Lifted"), std::string("reason Lifted too late").size(),
+                      wrong);
+        try {
+            day_of(other);
+        } catch (const std::runtime_error &) {
+            continue;
+        }
+        check(false, fmt::format("entry 0 is taken with `{}`", wrong));
+    }
+}
+
+void the_flag() {
+    const std::vector<std::string> plain{"venue", "live", "--marks"};
+    const std::vector<std::string> noting{"venue", "live", "--marks", "--notes"};
+    check(with_notes(plain, true) == noting && with_notes(noting, true) == noting, "with notes");
+    check(with_notes(noting, false) == plain && with_notes(plain, false) == plain, "without");
+}
+
+} // namespace
+
+} // namespace gateway::tests
+
+int main(int count, char **words) {
+    using namespace gateway::tests;
+    return run_with(count, words, 0, 0, "reasons_test", [](std::span<char *>) {
+        what_firms_are_told();
+        what_firms_are_not_told();
+        which_tables_are_none();
+        entry_0_has_the_table();
+        check(!gateway::built_in_reasons().empty(), "the built-in table is empty");
+        the_flag();
+    });
+}
