@@ -10,59 +10,7 @@ namespace {
 
 using Words = std::map<std::string, std::string, std::less<>>;
 
-// The rules of MARKET.md by their names.
-const Words &request_rules() {
-    static const Words words{
-        {"DuplicateRequest", "the request's name was used before"},
-        {"UnknownBond", "the venue does not have this bond"},
-        {"QuantityExceeded", "the quantity is above your firm's limit for one request"},
-        {"NoDealer", "no dealer is named"},
-        {"UnknownDealer", "a dealer is named that the venue does not have"},
-        {"DealerTwice", "a dealer is named twice"},
-        {"TooManyDealers", "more than 8 dealers are named"},
-        {"DeadlinePassed", "the deadline had passed when the request came"},
-        {"RequestsUsedUp", "your firm's requests of the day are used up"},
-        {"TooManyOpen", "as many requests are open as your firm may have: pass one first"}};
-    return words;
-}
-
-const Words &quote_rules() {
-    static const Words words{
-        {"UnknownRequest", "no such request was shown to you"},
-        {"Declined", "you declined this request"},
-        {"Closed", "the request has ended"},
-        {"DeadlinePassed", "the request's deadline has come"},
-        {"OtherBond", "another bond than the request's"},
-        {"InvalidPrice", "the price is off the bond's grid, out of range, or of the wrong side"},
-        {"OtherQuantity", "another quantity than the request's"},
-        {"NotTradeable", "the quote is not a tradeable one"},
-        {"DuplicateQuote", "the quote's name was used before"},
-        {"ValidityPassed", "its validity was over when it came"},
-        {"QuotesUsedUp", "your firm's quotes of the day are used up"},
-        {"ExposureExceeded",
-         "your firm's exposure would be above its limit: withdraw another quote first"},
-        {"Lifted", "too late: your live quote was hit"}};
-    return words;
-}
-
-const Words &cancel_rules() {
-    static const Words words{{"UnknownCancelType", "the cancel is of an unknown type"},
-                             {"UnknownQuote", "the venue has no such quote of yours"},
-                             {"Withdrawn", "the quote was withdrawn or replaced before"},
-                             {"Closed", "too late: the request has ended"},
-                             {"Lifted", "too late: the quote was hit"},
-                             {"NothingToCancel", "there was no live quote"}};
-    return words;
-}
-
-const Words &decline_rules() {
-    static const Words words{{"UnknownRequest", "no such request was shown to you"},
-                             {"Declined", "you declined it before"},
-                             {"Closed", "too late: the request has ended"},
-                             {"LiveQuote", "a quote of yours is live: withdraw it first"}};
-    return words;
-}
-
+// The names by which a hit or a pass is refused.
 const Words &response_rules() {
     static const Words words{
         {"NotOpen", "the request has ended, or its dealers are still being shown it"},
@@ -73,14 +21,10 @@ const Words &response_rules() {
     return words;
 }
 
-// The words of the rule that Text (58) names; what the code means where it names none of them.
-std::string words_of(const Message &answer, const Words &rules, std::string_view by_code) {
-    const std::string &name = answer.get(tag::text);
-    const auto found = rules.find(name);
-    if (found != rules.end()) {
-        return found->second;
-    }
-    return std::string(by_code) + (name.empty() ? "" : " (" + name + ")");
+// The venue's words in Text (58); what the code means where it gives none.
+std::string words_of(const Message &answer, std::string_view by_code) {
+    const std::string &words = answer.get(tag::text);
+    return words.empty() ? std::string(by_code) : words;
 }
 
 std::string_view request_code(std::int64_t code) {
@@ -139,33 +83,34 @@ const std::map<std::int64_t, std::string_view> &session_reasons() {
 } // namespace
 
 std::string request_refusal(const Message &answer) {
-    return words_of(answer, request_rules(), request_code(answer.number(tag::request_reason)));
+    return words_of(answer, request_code(answer.number(tag::request_reason)));
 }
 
 std::string quote_refusal(const Message &answer) {
-    return words_of(answer, quote_rules(), quote_code(answer.number(tag::reject_reason)));
+    return words_of(answer, quote_code(answer.number(tag::reject_reason)));
 }
 
 std::string cancel_refusal(const Message &answer) {
     const bool is_unknown = answer.number(tag::status) == 9;
     const bool is_late = answer.number(tag::reject_reason) == 4;
-    return words_of(answer, cancel_rules(),
-                    is_unknown ? "the venue has no such quote of yours"
-                    : is_late  ? "too late: the quote was hit, or the request has ended"
-                               : "the quote was withdrawn or replaced before");
+    return words_of(answer, is_unknown ? "the venue has no such quote of yours"
+                            : is_late  ? "too late: the quote was hit, or the request has ended"
+                                       : "the quote was withdrawn or replaced before");
 }
 
 std::string decline_refusal(const Message &answer) {
-    return words_of(answer, decline_rules(),
-                    answer.number(tag::reject_reason) == 4
-                        ? "too late: the request has ended"
-                        : "a quote of yours is live, or you declined it before");
+    return words_of(answer, answer.number(tag::reject_reason) == 4
+                                ? "too late: the request has ended"
+                                : "a quote of yours is live, or you declined it before");
 }
 
 std::string response_refusal(const Message &answer) {
-    return words_of(answer, response_rules(),
-                    answer.number(tag::status) == 9 ? "the venue does not know it"
-                                                    : "the venue gives no reason");
+    const auto found = response_rules().find(answer.get(tag::text));
+    if (found != response_rules().end()) {
+        return found->second;
+    }
+    return words_of(answer, answer.number(tag::status) == 9 ? "the venue does not know it"
+                                                            : "the venue gives no reason");
 }
 
 std::string reject_words(const Message &reject) {

@@ -1,5 +1,5 @@
-// Why the venue refused something, in words: the name of its rule in Text (58) where it is given,
-// and otherwise what the code of its answer can mean.
+// Why the venue refused something, in words: those of Text (58) where they are given, and otherwise
+// what the code of its answer can mean.
 #ifndef DESK_WORDS_H
 #define DESK_WORDS_H
 
@@ -15,7 +15,7 @@ std::string request_refusal(const Message &answer);
 std::string quote_refusal(const Message &answer);
 std::string cancel_refusal(const Message &answer);
 std::string decline_refusal(const Message &answer);
-// To a hit or a pass; 58 always has the room's name for it.
+// To a hit or a pass; 58 has the room's name for it, whose words are the desk's.
 std::string response_refusal(const Message &answer);
 // A Reject (35=3): the field of 371 and the reason of 373.
 std::string reject_words(const Message &reject);

@@ -71,11 +71,10 @@ TEST_CASE_FIXTURE(Fixture,
     CHECK(day.usage().exposure == 2'000'000);
     CHECK(day.usage().accepted == 2);
     send(4, "35=S|131=R1|117=q3|133=99.25|");
-    receive("35=AI|131=R1|117=q3|297=5|300=3|58=ExposureExceeded|");
+    receive("35=AI|131=R1|117=q3|297=5|300=3|58=the exposure would be above its limit|");
     CHECK(shown("R1").live()->id == "q2");
     CHECK(shown("R1").quotes[2].state == Quote::refused);
-    CHECK(shown("R1").told->text == "Quote 99.25 refused: your firm's exposure would be above its "
-                                    "limit: withdraw another quote first");
+    CHECK(shown("R1").told->text == "Quote 99.25 refused: the exposure would be above its limit");
     CHECK(day.exposure_of("T3") == 2'000'000);
 }
 
@@ -175,9 +174,9 @@ TEST_CASE_FIXTURE(Fixture, "a decline, and one that is refused") {
     CHECK(shown("R1").is_declined);
     quote_live(3, "q1", "R2");
     send(4, "35=AG|131=R2|658=10|");
-    receive("35=AI|131=R2|297=5|300=99|58=LiveQuote|");
+    receive("35=AI|131=R2|297=5|300=99|58=a quote on the request is live|");
     CHECK_FALSE(shown("R2").is_declined);
-    CHECK(shown("R2").told->text == "Decline refused: a quote of yours is live: withdraw it first");
+    CHECK(shown("R2").told->text == "Decline refused: a quote on the request is live");
 }
 
 TEST_CASE_FIXTURE(Fixture, "a quote that the journal does not have is an alarm") {

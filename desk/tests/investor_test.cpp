@@ -143,15 +143,14 @@ TEST_CASE("a request that was never delivered is over, and open no more") {
     CHECK(day.usage().open == 0);
 }
 
-TEST_CASE("a refused request says why: by the rule's name, or by what its code can mean") {
+TEST_CASE("a refused request says why: in the venue's words, or by what its code can mean") {
     for (const auto &[more, words] :
          {std::pair("658=1|", "the venue does not have this bond"),
-          std::pair("658=3|58=TooManyOpen|",
-                    "as many requests are open as your firm may have: pass one first"),
+          std::pair("658=3|58=too many are open|", "too many are open"),
           std::pair("658=3|",
                     "a limit of your firm: the quantity, the day's requests, or how many are open"),
-          std::pair("658=99|58=NewRule|", "the list of dealers is at fault, or the request's name "
-                                          "was used before (NewRule)")}) {
+          std::pair("658=99|", "the list of dealers is at fault, or the request's name was used "
+                               "before")}) {
         InvestorDay day;
         day.apply(entry(Kind::sent, 1000, request));
         day.apply(entry(Kind::received, 1100,

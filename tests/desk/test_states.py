@@ -214,7 +214,7 @@ def test_each_refusal_of_the_venue_is_in_words(house: House) -> None:
     assert said.startswith("Quote 99 refused: ") and "exposure" in said, said
     investor.ask_for(["DLR2"], quantity=1, bond="BONDC0000003")
     said = refused(other, other.wait_shown(4), 99 * POINT + 1)
-    assert said.startswith("Quote 99.00390625 refused: the price is off the bond's grid"), said
+    assert said.startswith("Quote 99.00390625 refused: the price is ") and "off the bond's grid" in said, said
 
 
 def refused(view: View, request: str, price: int) -> str:
