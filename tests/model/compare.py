@@ -5,7 +5,8 @@ usage: compare.py [--notes] PROGRAM INPUTS [FIRST_SEED [PROCESSES]]
        compare.py --write SEED  writes the inputs of a seed to the working directory
 
 A seed has one or more inputs. The first that differs is written to the working directory, as SEED-N.in and its
-words, beside both answers; the status is then 1. With --notes each command that has that flag is given it.
+words, beside both answers; the status is then 1. With --notes the commands are those alone that have that flag, each
+with it, and INPUTS counts those of each of them: of `alone`, of `live` and of `replay --live`.
 """
 
 from __future__ import annotations

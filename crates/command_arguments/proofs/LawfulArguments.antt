@@ -69,24 +69,26 @@ pub record AreFound (flags : Flags) (rows : List Row) : Type 0 where
   pub frames : FlagIs (one_of (codes "frames") rows) flags.frames
   pub woven : FlagIs (one_of (codes "woven") rows) flags.woven
   pub marks : FlagIs (one_of (codes "marks") rows) flags.marks
+  pub notes : FlagIs (one_of (codes "notes") rows) flags.notes
   pub live : FlagIs (one_of (codes "live") rows) flags.live
   pub investor : FlagIs (one_of (codes "investor") rows) flags.investor
 
-abbrev these_flags : Bool → Bool → Bool → Bool → Bool → Flags
-these_flags frames woven marks live investor =
-    record { frames = frames; woven = woven; marks = marks; live = live; investor = investor }
+abbrev these_flags : Bool → Bool → Bool → Bool → Bool → Bool → Flags
+these_flags frames woven marks notes live investor =
+    record { frames = frames; woven = woven; marks = marks; notes = notes; live = live; investor = investor }
 
 same_flags : (words given_flags : List Text) (rows : List Row) (flags : Flags) → AreRead words given_flags rows → AreFound flags rows → flags ≡ given given_flags
 same_flags words given_flags rows flags read found =
     let frames = same_flag _ _ flags.frames (read.flag (codes "frames") refl) found.frames in
     let woven = same_flag _ _ flags.woven (read.flag (codes "woven") refl) found.woven in
     let marks = same_flag _ _ flags.marks (read.flag (codes "marks") refl) found.marks in
+    let notes = same_flag _ _ flags.notes (read.flag (codes "notes") refl) found.notes in
     let live = same_flag _ _ flags.live (read.flag (codes "live") refl) found.live in
     let investor = same_flag _ _ flags.investor (read.flag (codes "investor") refl) found.investor in
     let same = given given_flags in
-    ap₂ (λ f w. these_flags f w flags.marks flags.live flags.investor) frames woven
-    ∙ ap₂ (λ m l. these_flags same.frames same.woven m l flags.investor) marks live
-    ∙ ap (these_flags same.frames same.woven same.marks same.live) investor
+    ap₂ (λ f w. these_flags f w flags.marks flags.notes flags.live flags.investor) frames woven
+    ∙ ap₂ (λ m n. these_flags same.frames same.woven m n flags.live flags.investor) marks notes
+    ∙ ap₂ (these_flags same.frames same.woven same.marks same.notes) live investor
 
 -- each command of a table asks for what its name does
 abbrev AskByName : List Line → Type 0

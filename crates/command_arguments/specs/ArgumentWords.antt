@@ -52,6 +52,7 @@ given flags = record {
   frames = is_among (codes "--frames") flags;
   woven = is_among (codes "--woven") flags;
   marks = is_among (codes "--marks") flags;
+  notes = is_among (codes "--notes") flags;
   live = is_among (codes "--live") flags;
   investor = is_among (codes "--investor") flags;
 }

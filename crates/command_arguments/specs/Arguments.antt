@@ -13,7 +13,7 @@ use Rattle.clap.specs.declared.builder.action.ArgAction.TheVariants.{SetTrue}
 use Rattle.clap.specs.declared.error.kind.ErrorKind.{ErrorKind}
 use Rattle.clap.specs.declared.error.kind.ErrorKind.TheVariants as kind
 use Rattle.venue_text.specs.KeptDays as kept_days
-use Rattle.venue_text.specs.KeptDays.{dues, messages}
+use Rattle.venue_text.specs.KeptDays.{dues, messages, noted}
 use Rattle.investor_texts.specs.SoughtDays as sought_days
 use Rattle.investor_texts.specs.SoughtDays.{Sought, Whom, of_firms, of_investor, the_dealer}
 use Rattle.investor_texts.specs.SoughtDays.{the_investor}
@@ -30,8 +30,9 @@ use Rattle.command_arguments.specs.ArgumentWords.{Words, no_word, one_or_none, o
 
 -- What a command asks for.
 pub data Command : Type 0 where
-  -- the messages of the dealer whose due text is read, as whole frames or as lines of fields
-  alone : Bool → Command
+  -- the messages of the firm whose due text is read, as whole frames or as lines of fields, and with
+  -- the second flag behind each what its desk notes beside it
+  alone : Bool → Bool → Command
   -- all firms' messages of a day, or those of the firm with this name
   replay : Option Text → Bool → Command
   -- the messages, the due text or the blotter of a day that comes line by line, as `live` takes it
@@ -72,6 +73,9 @@ woven_flag = codes "woven"
 abbrev pub marks_flag : Text
 marks_flag = codes "marks"
 
+abbrev pub notes_flag : Text
+notes_flag = codes "notes"
+
 abbrev pub live_flag : Text
 live_flag = codes "live"
 
@@ -81,8 +85,9 @@ investor_flag = codes "investor"
 -- a replay, a due text, a comparison and a blotter, by the flags
 abbrev pub replay_by : Option Text → Flags → Command
 replay_by argument flags =
-    if flags.live then kept (of_firms (messages argument flags.frames))
-    else replay argument flags.frames
+    if flags.notes then kept (of_firms (noted argument flags.frames))
+    else (if flags.live then kept (of_firms (messages argument flags.frames))
+    else replay argument flags.frames)
 
 abbrev pub due_by : Option Text → Flags → Command
 due_by dealer flags = if flags.live then kept (of_firms (dues dealer)) else due dealer
@@ -111,15 +116,17 @@ blotter_by firm flags =
 
 -- the form that the flags ask for
 abbrev pub form_by : Flags → LiveForm
-form_by flags = record { frames = flags.frames; marks = flags.marks }
+form_by flags =
+    record { frames = flags.frames; marks = flags.marks; notes = flags.notes }
 
 abbrev pub line : Text → List Text → Words → (Option Text → Flags → Command) → Line
 line name flags words asks = record { name = name; flags = flags; words = words; asks = asks }
 
 abbrev pub commands : List Line
 commands =
-    line (codes "alone") (frames_flag ∷ []) no_word (λ argument flags. alone flags.frames)
-    ∷ line (codes "replay") (frames_flag ∷ live_flag ∷ []) one_or_none replay_by
+    line (codes "alone") (frames_flag ∷ notes_flag ∷ []) no_word
+    (λ argument flags. alone flags.frames flags.notes)
+    ∷ line (codes "replay") (frames_flag ∷ live_flag ∷ notes_flag ∷ []) one_or_none replay_by
     ∷ line (codes "day") (frames_flag ∷ woven_flag ∷ []) no_word
     (λ argument flags. day flags.frames flags.woven)
     ∷ line (codes "due") (live_flag ∷ investor_flag ∷ []) one_word
@@ -129,7 +136,7 @@ commands =
     (λ argument flags. compare_by (unwrap_or argument []) flags)
     ∷ line (codes "blotter") (live_flag ∷ []) one_word
     (λ argument flags. blotter_by (unwrap_or argument []) flags)
-    ∷ line (codes "live") (frames_flag ∷ marks_flag ∷ []) no_word
+    ∷ line (codes "live") (frames_flag ∷ marks_flag ∷ notes_flag ∷ []) no_word
     (λ argument flags. live (form_by flags))
     ∷ []
 
@@ -146,14 +153,14 @@ asked_by words flags l =
 -- The command that arguments ask for, where they are those of one. No arguments at all mean
 -- `alone`.
 abbrev pub command_of : List Text → Option Command
-command_of [] = Some (alone false)
+command_of [] = Some (alone false false)
 command_of (name ∷ rest) =
     option_and_then (asked_by (plain_in rest) (flags_in rest)) (line_of name commands)
 
 -- a command by its name, the argument that was found for it, and the flags that were
 abbrev pub named_command : Text → Option Text → Flags → Command
 named_command name firm flags =
-    if bytes_eq name (codes "alone") then alone flags.frames
+    if bytes_eq name (codes "alone") then alone flags.frames flags.notes
     else (if bytes_eq name (codes "replay") then replay_by firm flags
     else (if bytes_eq name (codes "day") then day flags.frames flags.woven
     else (if bytes_eq name (codes "live") then live (form_by flags)
@@ -164,7 +171,7 @@ named_command name firm flags =
 
 -- the command of the code's type
 abbrev pub meant : VenueCommand → Command
-meant (rust.Alone frames) = alone frames
+meant (rust.Alone frames notes) = alone frames notes
 meant (rust.Replay firm frames) = replay (option_map (λ argument. argument.now) firm) frames
 meant (rust.Kept sought) = kept (sought_days.meant sought)
 meant (rust.Day frames woven) = day frames woven

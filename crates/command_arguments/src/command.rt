@@ -20,6 +20,8 @@ pub enum VenueCommand<'a> {
     Alone {
         /// Each message is printed as its whole frame.
         frames: bool,
+        /// Behind each message stands what its desk notes beside it.
+        notes: bool,
     },
     /// All firms' messages of a day.
     Replay {
@@ -92,6 +94,8 @@ pub(crate) struct Flags {
     pub(crate) woven: bool,
     /// `--marks`: behind the messages of a line stands its mark.
     pub(crate) marks: bool,
+    /// `--notes`: behind each message stands what its desk notes beside it.
+    pub(crate) notes: bool,
     /// `--live`: the day is taken as `live` takes it.
     pub(crate) live: bool,
     /// `--investor`: the argument names an investor.
@@ -111,17 +115,22 @@ pub fn read_command<'a, S: AsStr>(
 {
     let matches = venue_command(alloc)?.try_get_matches_from(arguments)?;
     let Some((name, words)) = matches.subcommand() else {
-        return Ok(VenueCommand::Alone { frames: false });
+        return Ok(VenueCommand::Alone {
+            frames: false,
+            notes: false,
+        });
     };
     let frames = words.get_flag("frames");
     let woven = words.get_flag("woven");
     let marks = words.get_flag("marks");
+    let notes = words.get_flag("notes");
     let live = words.get_flag("live");
     let investor = words.get_flag("investor");
     let flags = Flags {
         frames,
         woven,
         marks,
+        notes,
         live,
         investor,
     };
@@ -137,6 +146,7 @@ fn command_named<'a>(name: &str, firm: Option<&'a str>, flags: Flags) -> VenueCo
     if name == "alone" {
         return VenueCommand::Alone {
             frames: flags.frames,
+            notes: flags.notes,
         };
     }
     if name == "replay" {
@@ -228,6 +238,10 @@ fn replay_by<'a>(firm: Option<&'a str>, flags: Flags) -> VenueCommand<'a>
     ensures { spec.meant result ≡ spec.replay_by
         (option_map (λ argument. argument.now) firm.entry) flags }
 {
+    if flags.notes {
+        let wanted = Wanted::Noted(argument_bytes(firm), flags.frames);
+        return VenueCommand::Kept(Sought::Firms(wanted));
+    }
     if flags.live {
         let wanted = Wanted::Messages(argument_bytes(firm), flags.frames);
         return VenueCommand::Kept(Sought::Firms(wanted));
@@ -245,6 +259,7 @@ fn form_by(flags: Flags) -> LiveForm
     LiveForm {
         frames: flags.frames,
         marks: flags.marks,
+        notes: flags.notes,
     }
 }
 

@@ -33,6 +33,9 @@ pub(crate) const WOVEN: &str =
 pub(crate) const MARKS: &str =
     "Prints behind the messages of each line of steps a mark, `done K` or `fault K NAME`";
 
+pub(crate) const NOTES: &str =
+    "Prints behind each message why it refuses, or the name of the trade that it tells of";
+
 pub(crate) const LINE_BY_LINE: &str =
     "Takes the day as `live` does: each step with its turns, and no line `turn`";
 

@@ -1,7 +1,7 @@
 //! The table of the commands, as clap is told of them.
 use crate::help::{
     ALONE, BLOTTER, COMPARE, DEALER, DUE, DUES, FIRM, FRAMES, INVESTOR, LINE_BY_LINE, LIVE, MARKS,
-    REPLAY, THREADED, WOVEN,
+    NOTES, REPLAY, THREADED, WOVEN,
 };
 use crate::inputs::{BLOTTER_DAY, DAY, DAYS, DUE_DAY, DUE_TEXT, DUES_DAY, LIVE_DAY, THREADS};
 
@@ -57,6 +57,11 @@ const WITH_MARKS: FlagLine = FlagLine {
     help: MARKS,
 };
 
+const WITH_NOTES: FlagLine = FlagLine {
+    name: "notes",
+    help: NOTES,
+};
+
 const OF_INVESTOR: FlagLine = FlagLine {
     name: "investor",
     help: INVESTOR,
@@ -86,14 +91,14 @@ pub(crate) const COMMANDS: [CommandLine; 8] = [
         name: "alone",
         about: ALONE,
         input: DUE_TEXT,
-        flags: &[WITH_FRAMES],
+        flags: &[WITH_FRAMES, WITH_NOTES],
         argument: None,
     },
     CommandLine {
         name: "replay",
         about: REPLAY,
         input: DAY,
-        flags: &[WITH_FRAMES, WITH_LIVE],
+        flags: &[WITH_FRAMES, WITH_LIVE, WITH_NOTES],
         argument: Some(OF_ANY_FIRM),
     },
     CommandLine {
@@ -135,7 +140,7 @@ pub(crate) const COMMANDS: [CommandLine; 8] = [
         name: "live",
         about: LIVE,
         input: LIVE_DAY,
-        flags: &[WITH_FRAMES, WITH_MARKS],
+        flags: &[WITH_FRAMES, WITH_MARKS, WITH_NOTES],
         argument: None,
     },
 ];

@@ -5,7 +5,8 @@ use Rattle.std.proofs.lemmas.Bool.Decides.{nat_tests}
 use Rattle.input_lines.specs.declared.faults.ProgramFault.{ProgramFault}
 use Rattle.input_lines.specs.declared.faults.ProgramFault.TheVariants.{Input}
 use Rattle.input_lines.specs.declared.lines.TheConstants.{MOST_INPUT}
-use Rattle.investor_texts.specs.AloneCommand.{IsPrinted, IsPrintedBy, fault_by, first_fault}
+use Rattle.investor_texts.specs.AloneCommand.{IsNoted, IsNotedBy, IsPrinted, IsPrintedBy}
+use Rattle.investor_texts.specs.AloneCommand.{fault_by, first_fault}
 use Rattle.investor_texts.specs.InvestorText.{is_investors}
 
 pub printed_by : (b with_frames : Bool) (input text : List ℕ) → length input ≤ MOST_INPUT
@@ -14,6 +15,14 @@ pub printed_by : (b with_frames : Bool) (input text : List ℕ) → length input
 printed_by b with_frames input text fits is printed = record {
   fits = fits;
   printed = subst (λ (test : Bool). IsPrintedBy test with_frames input text) (sym is) printed;
+}
+
+-- the same with what is noted
+pub noted_by : (b with_frames : Bool) (input text : List ℕ) → length input ≤ MOST_INPUT
+    → is_investors input ≡ b → IsNotedBy b with_frames input text → IsNoted with_frames input text
+noted_by b with_frames input text fits is printed = record {
+  fits = fits;
+  printed = subst (λ (test : Bool). IsNotedBy test with_frames input text) (sym is) printed;
 }
 
 pub fault_is : (b : Bool) (input : List ℕ) (found : Option ProgramFault)

@@ -5,10 +5,12 @@ use Rattle.venue_rows.specs.Rows.{investor_values}
 use Rattle.input_lines.specs.declared.faults.ProgramFault.{ProgramFault}
 use Rattle.input_lines.specs.declared.faults.ProgramFault.TheVariants.{Input}
 use Rattle.input_lines.specs.declared.lines.TheConstants.{MOST_INPUT}
+use Rattle.investor_views.specs.NoteView.{note_view}
 use Rattle.investor_views.specs.InvestorView.{SeenMarket, investor_view}
 use Rattle.investor_views.specs.declared.dues.InvestorDue.{InvestorDue}
 use Rattle.venue_text.specs.AloneText as dealers
 use Rattle.venue_text.specs.MessageLines.{messages_text}
+use Rattle.venue_text.specs.NotedText.{investor_noted_text}
 use Rattle.investor_texts.specs.InvestorText.{Spelled, investor_text_of, is_investors}
 
 -- What an investor's due text spells, as what it sees and what is due to it.
@@ -37,6 +39,22 @@ IsPrintedBy false with_frames input text = dealers.IsPrinted with_frames input t
 pub record IsPrinted (with_frames : Bool) (input text : List ℕ) : Type 0 where
   pub fits : length input ≤ MOST_INPUT
   pub printed : IsPrintedBy (is_investors input) with_frames input text
+
+-- The same of `alone --notes`: behind each message stands the line of what the desk notes beside it.
+pub record IsInvestorsNoted (with_frames : Bool) (input text : List ℕ) : Type 0 where
+  pub seen : SeenMarket
+  pub dues : List InvestorDue
+  pub spelled : investor_text_of input ≡ Ok (spelled_by seen dues)
+  pub printed : text ≡ investor_noted_text with_frames seen.date seen.row.name
+      (note_view seen dues) (investor_view seen dues)
+
+abbrev pub IsNotedBy : Bool → Bool → List ℕ → List ℕ → Type 0
+IsNotedBy true with_frames input text = IsInvestorsNoted with_frames input text
+IsNotedBy false with_frames input text = dealers.IsNoted with_frames input text
+
+pub record IsNoted (with_frames : Bool) (input text : List ℕ) : Type 0 where
+  pub fits : length input ≤ MOST_INPUT
+  pub printed : IsNotedBy (is_investors input) with_frames input text
 
 -- the fault of what was read, if it has one
 abbrev pub fault_of_reading : Result Spelled ProgramFault → Option ProgramFault

@@ -15,7 +15,7 @@ use Rattle.investor_texts.specs.SoughtDays.{AskedFor, Sought, Whom, asked_in, as
 use Rattle.investor_texts.specs.SoughtDays.{of_investor, sought_of, firms}
 use Rattle.investor_texts.specs.DueCommand.{where_investor}
 use Rattle.venue_text.specs.KeptDays as kept_days
-use Rattle.venue_text.specs.KeptDays.{Wanted, dues, messages}
+use Rattle.venue_text.specs.KeptDays.{Wanted, dues, messages, noted}
 use Rattle.venue_text.specs.LiveInput.{are_divided, configuration_in}
 use Rattle.input_lines.specs.ResultSteps.{◌>>=◌}
 use Rattle.input_lines.specs.StepLines.{asked, dealer_named, firm_named}
@@ -76,6 +76,14 @@ firms_alone (messages (Some name) frames) config fault e = go (firm_named config
   where
     go : (found : Option ℕ)
         → fault_if (((asked found >>= (λ n. Ok (Some n))) >>= (λ only. Ok (asked_for.Messages only frames))) >>= (λ only. Ok (firms only))) ≡ Some fault
+        → fault ≡ Firm
+    go None e = cc
+    go (Some n) e = cc
+firms_alone (noted None frames) config fault e = cc
+firms_alone (noted (Some name) frames) config fault e = go (firm_named config name) e
+  where
+    go : (found : Option ℕ)
+        → fault_if (((asked found >>= (λ n. Ok (Some n))) >>= (λ only. Ok (asked_for.Noted only frames))) >>= (λ only. Ok (firms only))) ≡ Some fault
         → fault ≡ Firm
     go None e = cc
     go (Some n) e = cc

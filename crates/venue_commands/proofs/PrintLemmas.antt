@@ -23,7 +23,7 @@ all_read all bytes read fits = sym (append-nil bytes) ∙ ap (λ rest. bytes ++ 
 -- an input that is too long is at fault by that, for each command
 long_fault : (command : Command) (input : List ℕ) (fault : ProgramFault) → nat_lt MOST_INPUT (length input) ≡ true → IsFaultOf command input fault
     → Input ≡ fault
-long_fault (alone with_frames) input fault long is = let same : Some Input ≡ Some fault = rw long at is in cc
+long_fault (alone with_frames with_notes) input fault long is = let same : Some Input ≡ Some fault = rw long at is in cc
 long_fault (replay firm with_frames) input fault long is = let same : Err Input ≡ Err fault = rw long at is in cc
 long_fault (day with_frames woven) input fault long (inl is) = let same : Err Input ≡ Err fault = rw long at is in cc
 long_fault (day with_frames woven) input fault long (inr (inl unkept)) = let same = unkept.spelled in cc (rw long at same)
@@ -39,7 +39,7 @@ long_fault (blotter firm) input fault long is = let same : Err Input ≡ Err fau
 
 too_long : (command : Command) (input bytes : List ℕ) (fault : ProgramFault) → nat_lt MOST_INPUT (length input) ≡ true → IsFaultOf command bytes fault
     → IsFaultOf command input Input
-too_long (alone with_frames) input bytes fault long is = rw long refl
+too_long (alone with_frames with_notes) input bytes fault long is = rw long refl
 too_long (replay firm with_frames) input bytes fault long is = rw long refl
 too_long (day with_frames woven) input bytes fault long is = inl (rw long refl)
 too_long (live form) input bytes fault long is = absurd is
@@ -53,7 +53,8 @@ too_long (blotter firm) input bytes fault long is = rw long refl
 
 -- and it has no text
 no_text : (command : Command) (input text : List ℕ) → nat_lt MOST_INPUT (length input) ≡ true → IsTextOf command input text → ⊥
-no_text (alone with_frames) input text long is = let fits = is.fits in grind (arith, nat_tests)
+no_text (alone with_frames false) input text long is = let fits = is.fits in grind (arith, nat_tests)
+no_text (alone with_frames true) input text long is = let fits = is.fits in grind (arith, nat_tests)
 no_text (replay firm with_frames) input text long is = let same = is.spelled in cc (rw long at same)
 no_text (day with_frames woven) input text long is = let same = is.recorded.spelled in cc (rw long at same)
 no_text (live form) input text long is = absurd is

@@ -1,10 +1,10 @@
 -- How a run of the program ends.
-use Rattle.std.specs.Prelude.{◌≡◌, ◌<◌, ◌⊎◌, ℕ, true, List, [], length}
+use Rattle.std.specs.Prelude.{◌≡◌, ◌<◌, ◌⊎◌, ℕ, Bool, true, false, List, [], length}
 use Rattle.std.specs.Prelude.{Option, Some, None, Result, Ok, Err, unwrap_or}
 use Rattle.std.specs.Option.{IfSome}
 use Rattle.clap.specs.Kinds.{Kinds}
 use Rattle.clap.specs.Walk.{Text}
-use Rattle.investor_texts.specs.AloneCommand.{IsPrinted, first_fault}
+use Rattle.investor_texts.specs.AloneCommand.{IsNoted, IsPrinted, first_fault}
 use Rattle.investor_texts.specs.CompareCommand as investors_compare
 use Rattle.investor_texts.specs.DueCommand as investors_due
 use Rattle.investor_texts.specs.DueCommand.{investor_by}
@@ -16,7 +16,7 @@ use Rattle.venue_text.specs.CompareText.{IsCompared}
 use Rattle.venue_text.specs.DueCommand.{IsDueText}
 use Rattle.input_lines.specs.Faults.{fault_line, told_line}
 use Rattle.venue_text.specs.KeptDays as kept_days
-use Rattle.venue_text.specs.KeptDays.{Wanted, dues, messages}
+use Rattle.venue_text.specs.KeptDays.{Wanted, dues, messages, noted}
 use Rattle.venue_text.specs.ReplayText.{IsReplayed}
 use Rattle.input_lines.specs.declared.faults.ProgramFault.{ProgramFault}
 use Rattle.input_lines.specs.declared.faults.ProgramFault.TheVariants.{Read, Memory, Write}
@@ -33,7 +33,7 @@ use Rattle.venue_commands.specs.declared.process.ArgumentFault.TheVariants as ar
 
 -- whether a command takes a day line by line, and what it prints then
 abbrev pub line_form : Command → Option LineForm
-line_form (alone with_frames) = None
+line_form (alone with_frames with_notes) = None
 line_form (replay firm with_frames) = None
 line_form (day with_frames woven) = None
 line_form (live form) = Some (answered form)
@@ -45,9 +45,15 @@ line_form (investor_compare name) = None
 line_form (compared whom) = Some (compared_for whom)
 line_form (blotter firm) = None
 
+-- What `alone` prints, without and with what is noted.
+abbrev pub IsAlone : Bool → Bool → List ℕ → List ℕ → Type 0
+IsAlone with_frames false input text = IsPrinted with_frames input text
+IsAlone with_frames true input text = IsNoted with_frames input text
+
 -- What a command prints for an input.
 abbrev pub IsTextOf : Command → List ℕ → List ℕ → Type 0
-IsTextOf (alone with_frames) input text = IsPrinted with_frames input text
+IsTextOf (alone with_frames with_notes) input text =
+    IsAlone with_frames with_notes input text
 IsTextOf (replay firm with_frames) input text = IsReplayed firm with_frames input text
 IsTextOf (day with_frames woven) input text = IsDay with_frames woven input text
 IsTextOf (live form) input text = ⊥  -- it is taken line by line
@@ -61,7 +67,7 @@ IsTextOf (blotter firm) input text = IsBlotter firm input text
 
 -- the first fault of an input, for a command
 abbrev pub IsFaultOf : Command → List ℕ → ProgramFault → Type 0
-IsFaultOf (alone with_frames) input fault = first_fault input ≡ Some fault
+IsFaultOf (alone with_frames with_notes) input fault = first_fault input ≡ Some fault
 IsFaultOf (replay firm with_frames) input fault = one_day (firms_by firm) input ≡ Err fault
 IsFaultOf (day with_frames woven) input fault = IsDayFault woven input fault
 IsFaultOf (live form) input fault = ⊥  -- it tells line by line
@@ -76,6 +82,7 @@ IsFaultOf (blotter firm) input fault = one_day (firm_by firm) input ≡ Err faul
 -- the argument in what is asked for at the end of a day
 abbrev pub word_in : Wanted → List ℕ
 word_in (messages name frames) = unwrap_or name []
+word_in (noted name frames) = unwrap_or name []
 word_in (dues dealer) = unwrap_or dealer []
 word_in (kept_days.blotter firm) = firm
 
@@ -90,7 +97,7 @@ word_of_whom (the_investor name) = name
 
 -- the argument of a command that names a firm; it is told where no firm has that name
 abbrev pub word_of : Command → List ℕ
-word_of (alone with_frames) = []
+word_of (alone with_frames with_notes) = []
 word_of (replay None with_frames) = []
 word_of (replay (Some firm) with_frames) = firm
 word_of (day with_frames woven) = []

@@ -36,7 +36,10 @@ pub fn run_program<H: Threads + Wait + Sync, S: AsStr, R: Read, W: Write, E: Wri
     }) }
 {
     if arguments.is_empty() {
-        let command = VenueCommand::Alone { frames: false };
+        let command = VenueCommand::Alone {
+            frames: false,
+            notes: false,
+        };
         return run_command(rt, alloc, &command, input, out, err);
     }
     match read_command(alloc, arguments) {

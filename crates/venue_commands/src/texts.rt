@@ -1,6 +1,7 @@
 //! What each command prints.
-ghost use Rattle.std.specs.Prelude.{◌≡◌, ◌≢◌, None, option_map, IfOk, IfErr};
+ghost use Rattle.std.specs.Prelude.{◌≡◌, ◌≢◌, Some, None, option_map, IfOk, IfErr};
 ghost use Rattle.command_arguments.specs.Arguments.{meant};
+ghost use Rattle.investor_texts.specs.AloneCommand.{first_fault};
 ghost use Rattle.investor_texts.specs.SoughtDays as sought_days;
 ghost use Rattle.live_runs.specs.LineForms.{meant_form};
 ghost use Rattle.venue_commands.specs.Runs as spec;
@@ -11,7 +12,10 @@ ghost use Rattle.venue_text.specs.KeptDays as kept;
 use crate::days::day_text;
 use command_arguments::{VenueCommand, argument_bytes};
 use input_lines::ProgramFault;
-use investor_texts::{Sought, Whom, alone_command_text, investor_compare_text, investor_due_text};
+use investor_texts::{
+    Sought, Whom, alone_command_text, investor_compare_text, investor_due_text,
+    noted_alone_command_text,
+};
 use live_runs::LineForm;
 use std::alloc::Global;
 use std::marker::Sync;
@@ -36,8 +40,8 @@ pub(crate) fn command_text<H: Threads + Wait + Sync>(
     ensures unwritten { IfErr result (λ fault. fault ≢ ProgramFault.Write) }
 {
     match command {
-        VenueCommand::Alone { frames } => {
-            let text = alone_command_text(alloc, *frames, input.as_slice())?;
+        VenueCommand::Alone { frames, notes } => {
+            let text = alone_by(alloc, *frames, *notes, input.as_slice())?;
             one_block(alloc, text)
         }
         VenueCommand::Replay { firm, frames } => {
@@ -70,6 +74,25 @@ pub(crate) fn command_text<H: Threads + Wait + Sync>(
             one_block(alloc, text)
         }
     }
+}
+
+/// What `alone` prints, with or without what is noted.
+fn alone_by(
+    alloc: Global,
+    with_frames: bool,
+    with_notes: bool,
+    input: &[u8],
+) -> Result<Vec<u8>, ProgramFault>
+    ensures ok { IfOk result (λ text.
+        spec.IsAlone with_frames with_notes input.now text.items) }
+    ensures err { IfErr result (λ fault.
+        fault ≢ ProgramFault.Memory → first_fault input.now ≡ Some fault) }
+    ensures unwritten { IfErr result (λ fault. fault ≢ ProgramFault.Write) }
+{
+    if with_notes {
+        return noted_alone_command_text(alloc, with_frames, input);
+    }
+    alone_command_text(alloc, with_frames, input)
 }
 
 /// What `day` prints, as a long text.
@@ -126,6 +149,7 @@ fn wanted_argument<'a>(wanted: Wanted<'a>) -> &'a [u8]
 {
     match wanted {
         Wanted::Messages(firm, _) => firm.unwrap_or(b""),
+        Wanted::Noted(firm, _) => firm.unwrap_or(b""),
         Wanted::Due(dealer) => dealer.unwrap_or(b""),
         Wanted::Blotter(firm) => firm,
     }

@@ -123,7 +123,7 @@ input_part frames config firm lines =
 same_number : (n firm : ℕ) → (n == firm) ≡ true → n ≡ firm
 same_number n firm test = grind (arith, nat_tests)
 
-own_line : (frames : Bool) (config : Configuration) (firm : ℕ) (name : List ℕ)
+pub own_line : (frames : Bool) (config : Configuration) (firm : ℕ) (name : List ℕ)
     → slice_get (firm_names config) firm ≡ Some name → (sent : Sent) → sent.0 ≡ firm
     → sent_line frames config sent ≡ line_of frames name sent.1
 own_line frames config firm name named sent is =
@@ -200,7 +200,7 @@ module _ (config : Configuration) (name : List ℕ) (firm : ℕ)
 
 -- Of a dealer.
 
-name_at : (rows : List DealerRow) (others : List (List ℕ)) (n : ℕ) (row : DealerRow)
+pub name_at : (rows : List DealerRow) (others : List (List ℕ)) (n : ℕ) (row : DealerRow)
     → slice_get rows n ≡ Some row
     → slice_get (map (λ (row : DealerRow). row.name) rows ++ others) n ≡ Some row.name
 name_at [] others n row is = cc

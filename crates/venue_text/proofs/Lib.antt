@@ -10,6 +10,7 @@ pub mod KeptLemmas
 pub mod LiveGrowth
 pub mod LiveInputLemmas
 pub mod LiveLemmas
+pub mod NotedLemmas
 pub mod ReadBackItems
 pub mod ReadBackLists
 pub mod ReadBackParts

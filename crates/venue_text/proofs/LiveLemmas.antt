@@ -1,7 +1,7 @@
 -- A day that goes on: what its lines bring and what is printed for them.
 use Rattle.std.proofs.Common.{◌≡◌, ◌<◌, ℕ, ◌+◌, Bool, List, [], ◌∷◌, ◌++◌, take, drop, length}
 use Rattle.std.proofs.Common.{get_or, sym, ap, ap₂, subst, refl, ◌∙◌, Result, Ok, Err, true, false}
-use Rattle.std.proofs.Common.{Option, Some, None, inl, inr}
+use Rattle.std.proofs.Common.{Option, Some, None, inl, inr, cond}
 use Rattle.std.proofs.Math.Seq.{drop-append_seam}
 use Rattle.std.proofs.lemmas.Bool.{cases_Bool}
 use Rattle.std.specs.Option.{option_to_list}
@@ -18,7 +18,7 @@ use Rattle.input_lines.specs.Lines.{is_skipped}
 use Rattle.venue_text.specs.LiveAnswers.{AreTold, Gives, Goes, Sends}
 use Rattle.venue_text.specs.LiveLines.{Taken, done_mark, fault_in, gained_messages, line_fault}
 use Rattle.venue_text.specs.LiveLines.{line_text, live_steps_of, live_text, read_text, sent_line}
-use Rattle.venue_text.specs.LiveLines.{sent_text, told_text, with_any_line, with_read}
+use Rattle.venue_text.specs.LiveLines.{sent_text, told_lines, told_text, with_any_line, with_read}
 use Rattle.input_lines.specs.StepLines.{Heard, Read, sweeps_at, venue_rooms}
 use Rattle.input_lines.specs.declared.faults.ProgramFault.{ProgramFault}
 use Rattle.venue_text.specs.declared.live_form.LiveForm.{LiveForm}
@@ -199,6 +199,14 @@ tells_refused form config taken k line before after what messages fault goes spo
 
 -- What was told of a line, as it is printed.
 
+-- where nothing was sent, neither form has a line
+abbrev nothing : List ℕ
+nothing = []
+
+nothing_told : (notes : Bool) → cond notes nothing nothing ≡ nothing
+nothing_told true = refl
+nothing_told false = refl
+
 module _ (form : LiveForm) (config : Configuration) (taken : Taken) (k : ℕ) (line : List ℕ)
     (messages : List Sent) where
   read_told : (read : Read)
@@ -207,7 +215,7 @@ module _ (form : LiveForm) (config : Configuration) (taken : Taken) (k : ℕ) (l
       → told_text form config (with_read taken read).steps k messages (fault_in read)
       ≡ read_text form config taken k read
   read_told (Ok read) told =
-      ap (λ (l : List Sent). sent_text form.frames config l
+      ap (λ (l : List Sent). told_lines form config (taken.steps ++ read.0) l
       ++ done_mark form config (taken.steps ++ read.0) k)
       (behind_is (live_messages config taken.steps) messages
       (gained_messages config taken.steps read.0) (live_messages config (taken.steps ++ read.0)) told
@@ -228,8 +236,10 @@ module _ (form : LiveForm) (config : Configuration) (taken : Taken) (k : ℕ) (l
             (sym (append-nil front)) in
             ap₂ (λ (t : Taken) (f : Option ProgramFault). told_text form config t.steps k messages f)
             same (fault_skipped (values_of config) taken k line skipped)
-            ∙ ap (λ (l : List Sent). sent_text form.frames config l
+            ∙ ap (λ (l : List Sent). told_lines form config taken.steps l
             ++ done_mark form config taken.steps k) empty
+            ∙ ap (λ (t : List ℕ). t ++ done_mark form config taken.steps k)
+            (nothing_told form.notes)
             ∙ sym (text_skipped config taken k line form skipped))
         | inr spoken ↦
             (let read = live_steps_of (values_of config) taken.heard k line in

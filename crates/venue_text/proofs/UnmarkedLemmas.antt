@@ -48,9 +48,9 @@ any_lines config taken k (line ∷ lines) =
         ∙ later then
         ∙ ap (λ (l : Lines). fold (with_line config) taken l) (sym some)
 
--- without marks
+-- without marks and notes
 abbrev unmarked : Bool → LiveForm
-unmarked frames = record { frames = frames; marks = false }
+unmarked frames = record { frames = frames; marks = false; notes = false }
 
 module _ (frames : Bool) (config : Configuration) where
   read_unmarked : (taken : Taken) (k : ℕ) (read : Read)

@@ -4,9 +4,11 @@ use Rattle.std.specs.Prelude.{Result, Ok, Err, if◌then◌else◌}
 use Rattle.venue_rows.specs.Rows.{dealer_values}
 use Rattle.venue_rows.specs.declared.dealer_rows.DealerRow.{DealerRow}
 use Rattle.step_replay.specs.DealerView.{dealer_view}
+use Rattle.step_replay.specs.NoteViews.{dealer_note_view}
 use Rattle.step_replay.specs.declared.dues.Due.{Due}
 use Rattle.input_lines.specs.DueText.{Spelled, due_text_of}
 use Rattle.venue_text.specs.MessageLines.{messages_text}
+use Rattle.venue_text.specs.NotedText.{dealer_noted_text}
 use Rattle.input_lines.specs.declared.lines.TheConstants.{MOST_INPUT}
 use Rattle.input_lines.specs.declared.faults.ProgramFault.{ProgramFault}
 use Rattle.input_lines.specs.declared.faults.ProgramFault.TheVariants.{Input}
@@ -31,3 +33,15 @@ pub record IsPrinted (with_frames : Bool) (input text : List ℕ) : Type 0 where
   pub spelled : due_text_of input
       ≡ Ok (record { date = date; row = dealer_values row; dues = dues })
   pub printed : text ≡ messages_text with_frames row.name (dealer_view date row dues)
+
+-- What `alone --notes` prints for an input: the same, and behind each message the line of what the
+-- desk notes beside it.
+pub record IsNoted (with_frames : Bool) (input text : List ℕ) : Type 0 where
+  pub date : List ℕ
+  pub row : DealerRow
+  pub dues : List Due
+  pub fits : length input ≤ MOST_INPUT
+  pub spelled : due_text_of input
+      ≡ Ok (record { date = date; row = dealer_values row; dues = dues })
+  pub printed : text ≡ dealer_noted_text with_frames date row.name
+      (dealer_note_view date row dues) (dealer_view date row dues)

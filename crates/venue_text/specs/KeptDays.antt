@@ -11,6 +11,7 @@ use Rattle.venue_text.specs.BlotterCommand as blotters
 use Rattle.venue_text.specs.DueCommand.{due_texts}
 use Rattle.venue_text.specs.LiveAnswers.{Goes}
 use Rattle.venue_text.specs.LiveLines.{Taken, nothing_taken, with_any_line}
+use Rattle.venue_text.specs.LiveNotes.{noted_days_text}
 use Rattle.venue_text.specs.ReplayText.{days_text, named_days}
 use Rattle.input_lines.specs.ResultSteps.{◌>>=◌}
 use Rattle.input_lines.specs.VenueParts.{venue_of}
@@ -25,6 +26,8 @@ use Rattle.venue_text.specs.declared.kept_days.Wanted.TheVariants as rust
 pub data Wanted : Type 0 where
   -- the messages of all firms, or of the firm with this name, as whole frames or as lines of fields
   messages : Option (List ℕ) → Bool → Wanted
+  -- the same messages, each with the line of what its desk notes beside it
+  noted : Option (List ℕ) → Bool → Wanted
   -- the due text of all dealers, or of the dealer with this name
   dues : Option (List ℕ) → Wanted
   -- the blotter of the firm with this name
@@ -32,6 +35,7 @@ pub data Wanted : Type 0 where
 
 abbrev pub meant : RustWanted → Wanted
 meant (rust.Messages name frames) = messages (option_map (λ text. text.now) name) frames
+meant (rust.Noted name frames) = noted (option_map (λ text. text.now) name) frames
 meant (rust.Due name) = dues (option_map (λ text. text.now) name)
 meant (rust.Blotter name) = blotter name.now
 
@@ -40,6 +44,9 @@ abbrev pub asked_in : Wanted → ConfigValues → Result Asked ProgramFault
 asked_in (messages name frames) config = do
   only ← firms_by name config
   Ok (asked.Messages only frames)
+asked_in (noted name frames) config = do
+  only ← firms_by name config
+  Ok (asked.Noted only frames)
 asked_in (dues name) config = do
   only ← dealers_by name config
   Ok (asked.Due only)
@@ -58,6 +65,8 @@ asked_venue wanted text = do
 abbrev pub text_of_asked : Configuration → List Step → Asked → List ℕ
 text_of_asked config steps (asked.Messages only frames) =
     days_text frames only (named_days config (firm_days config (live_trail config steps).facts))
+text_of_asked config steps (asked.Noted only frames) =
+    noted_days_text frames config (live_trail config steps) only
 text_of_asked config steps (asked.Due only) = due_texts only config (live_trail config steps)
 text_of_asked config steps (asked.Blotter firm) =
     blotters.blotter_of (slice_get (firm_days config (live_trail config steps).facts) firm)

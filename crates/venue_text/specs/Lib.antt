@@ -12,7 +12,9 @@ pub mod KeptDays
 pub mod LiveAnswers
 pub mod LiveInput
 pub mod LiveLines
+pub mod LiveNotes
 pub mod MessageLines
+pub mod NotedText
 pub mod ReadBack
 pub mod RecordText
 pub mod ReplayText

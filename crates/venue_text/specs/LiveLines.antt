@@ -10,6 +10,7 @@ use Rattle.step_replay.specs.Deadlines.{next_deadline}
 use Rattle.step_replay.specs.LiveDays.{Sent, live_messages, live_trail}
 use Rattle.step_replay.specs.declared.steps.Step.{Step}
 use Rattle.input_lines.specs.Lines.{first_part, is_skipped}
+use Rattle.venue_text.specs.LiveNotes.{noted_all}
 use Rattle.venue_text.specs.MessageLines.{line_of}
 use Rattle.input_lines.specs.StepLines.{Heard, Read, names_of_firms, nothing_heard, steps_of_line}
 use Rattle.input_lines.specs.declared.faults.ProgramFault.{ProgramFault}
@@ -75,6 +76,13 @@ sent_line with_frames config sent =
 abbrev pub sent_text : Bool → Configuration → List Sent → List ℕ
 sent_text with_frames config sent = flat_map (sent_line with_frames config) sent
 
+-- the same of messages that are sent in the last of these steps, and behind each the line of what
+-- its desk notes beside it, in a form that has notes
+abbrev pub told_lines : LiveForm → Configuration → List Step → List Sent → List ℕ
+told_lines form config steps sent =
+    if form.notes then noted_all form.frames config (live_trail config steps) sent
+    else sent_text form.frames config sent
+
 -- all messages of a day so far
 abbrev pub live_text : Bool → Configuration → List Step → List ℕ
 live_text with_frames config steps = sent_text with_frames config (live_messages config steps)
@@ -128,7 +136,7 @@ fault_mark form k fault = mark_of form (refused_line k fault)
 -- by what it spells: the messages that its steps bring and then its mark, or the mark of its fault
 abbrev pub read_text : LiveForm → Configuration → Taken → ℕ → Read → List ℕ
 read_text form config taken k (Ok read) =
-    sent_text form.frames config (gained_messages config taken.steps read.0)
+    told_lines form config (taken.steps ++ read.0) (gained_messages config taken.steps read.0)
     ++ done_mark form config (taken.steps ++ read.0) k
 read_text form config taken k (Err fault) = fault_mark form k fault
 
@@ -142,5 +150,5 @@ line_text form config taken k line =
 abbrev pub told_text : LiveForm → Configuration → List Step → ℕ → List Sent → Option ProgramFault
     → List ℕ
 told_text form config steps k messages None =
-    sent_text form.frames config messages ++ done_mark form config steps k
+    told_lines form config steps messages ++ done_mark form config steps k
 told_text form config steps k messages (Some fault) = fault_mark form k fault

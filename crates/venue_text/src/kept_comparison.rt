@@ -41,6 +41,7 @@ fn dealer_of(asked: Asked) -> u16
     match asked {
         Asked::Due(dealer) => dealer.unwrap_or(0),
         Asked::Messages(_, _) => 0,
+        Asked::Noted(_, _) => 0,
         Asked::Blotter(_) => 0,
     }
 }

@@ -15,6 +15,7 @@ use crate::day_arguments::{asked_dealers, asked_firms};
 use crate::due_command::push_due_text;
 use crate::live_form::LiveForm;
 use crate::live_lines::LiveDay;
+use crate::live_notes::noted_days_text;
 use crate::replay_command::days_text;
 use fix_fields::Memory;
 use input_lines::{ProgramFault, asked_firm};
@@ -26,6 +27,8 @@ use venue_rows::VenueConfig;
 pub enum Wanted<'a> {
     /// The messages of all firms, or of the firm with this name, as whole frames or as lines.
     Messages(Option<&'a [u8]>, bool),
+    /// The same messages, each with the line of what its desk notes beside it.
+    Noted(Option<&'a [u8]>, bool),
     /// What was due to each dealer, or to the dealer with this name, as due text.
     Due(Option<&'a [u8]>),
     /// The blotter of the firm with this name.
@@ -37,6 +40,8 @@ pub enum Wanted<'a> {
 pub(crate) enum Asked {
     /// The messages of all firms or of one, as whole frames or as lines.
     Messages(Option<u16>, bool),
+    /// The same messages, each with the line of what its desk notes beside it.
+    Noted(Option<u16>, bool),
     /// What was due to each dealer, or to one.
     Due(Option<u16>),
     /// The blotter of a firm.
@@ -63,6 +68,7 @@ impl KeptDay {
         let form = LiveForm {
             frames: false,
             marks: false,
+            notes: false,
         };
         let day = LiveDay::open(alloc, form, text)?;
         let asked = asked_of(&day.config, wanted)?;
@@ -96,6 +102,10 @@ impl KeptDay {
                 let text = messages_of(alloc, self.day, only, frames)?;
                 Ok(text)
             }
+            Asked::Noted(only, frames) => {
+                let text = noted_days_text(alloc, frames, &self.day, only)?;
+                Ok(text)
+            }
             Asked::Due(only) => {
                 let text = texts_of_dues(alloc, &self.day, only)?;
                 Ok(text)
@@ -117,6 +127,10 @@ fn asked_of(config: &VenueConfig, wanted: Wanted<'_>) -> Result<Asked, ProgramFa
         Wanted::Messages(name, frames) => {
             let only = asked_firms(config, name)?;
             Ok(Asked::Messages(only, frames))
+        }
+        Wanted::Noted(name, frames) => {
+            let only = asked_firms(config, name)?;
+            Ok(Asked::Noted(only, frames))
         }
         Wanted::Due(name) => {
             let only = asked_dealers(config, name)?;

@@ -7,4 +7,6 @@ pub struct LiveForm {
     pub frames: bool,
     /// Whether a mark stands behind the messages of each line of steps.
     pub marks: bool,
+    /// Whether behind a message stands what its firm's desk noted beside it.
+    pub notes: bool,
 }

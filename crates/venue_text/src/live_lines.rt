@@ -13,6 +13,7 @@ ghost use Rattle.input_lines.specs.VenueParts.{venue_of};
 
 use crate::live_form::LiveForm;
 use crate::live_marks::{fault_mark, push_done_mark};
+use crate::live_notes::push_noted;
 use crate::message_lines::{Pushed, push_sent_line};
 use crate::replay_command::firm_name;
 use fix_fields::{Memory, Moment};
@@ -107,8 +108,9 @@ impl LiveDay {
         })
     }
 
-    /// The same, and the messages are printed, a line each, and behind them the line's mark where
-    /// the form has marks; of a line at fault its mark alone.
+    /// The same, and the messages are printed, a line each, with the line of what its desk notes
+    /// beside it where the form has notes, and behind them the line's mark where it has marks; of a
+    /// line at fault its mark alone.
     pub fn output(&mut self, alloc: Global, line: usize, text: &[u8]) -> Result<LineOutput, Memory>
         ensures { IfOk result (λ output. (form : LiveForm) (config : Configuration)
             (taken : Taken) → spec.Goes form config taken self.old
@@ -130,8 +132,7 @@ impl LiveDay {
     {
         let Some(fault) = &told.fault else {
             let mut text = Vec::with_capacity(alloc, USUAL_ANSWER)?;
-            let messages = told.messages.as_slice();
-            push_sent(&mut text, self.form.frames, &self.config, messages)?;
+            push_told(&mut text, self, told.messages.as_slice())?;
             push_done_mark(&mut text, self.form, line, self.venue.next_deadline())?;
             return Ok(LineOutput { text, fault: None });
         };
@@ -241,7 +242,12 @@ fn taken_all(alloc: Global, config: &VenueConfig, venue: &mut LiveVenue, steps: 
 }
 
 /// Puts the line of a message behind a text.
-fn push_one(text: &mut Vec<u8>, with_frames: bool, config: &VenueConfig, sent: &SentTo) -> Pushed
+pub(crate) fn push_one(
+    text: &mut Vec<u8>,
+    with_frames: bool,
+    config: &VenueConfig,
+    sent: &SentTo,
+) -> Pushed
     ensures { OnOk result (text.new.items
         ≡ text.old.items ++ lines.sent_line with_frames config.now sent.now) }
 {
@@ -260,5 +266,19 @@ fn push_sent(text: &mut Vec<u8>, with_frames: bool, config: &VenueConfig, sent: 
     for message in sent {
         push_one(text, with_frames, config, message)?;
     }
+    Ok(())
+}
+
+/// Puts the lines of what was told of a line behind a text.
+fn push_told(text: &mut Vec<u8>, day: &LiveDay, told: &[SentTo]) -> Pushed
+    ensures { OnOk result ((steps : List Step) → IsAt day.now.config steps day.now.venue
+        → text.new.items ≡ text.old.items
+        ++ lines.told_lines day.now.form day.now.config steps told.now) }
+{
+    if day.form.notes {
+        push_noted(text, day, told)?;
+        return Ok(());
+    }
+    push_sent(text, day.form.frames, &day.config, told)?;
     Ok(())
 }

@@ -51,7 +51,12 @@ pub(crate) fn push_messages(
 }
 
 /// The line of a message, in one form or the other.
-fn push_line(text: &mut Vec<u8>, with_frames: bool, firm: &Name, message: &SentMessage) -> Pushed
+pub(crate) fn push_line(
+    text: &mut Vec<u8>,
+    with_frames: bool,
+    firm: &Name,
+    message: &SentMessage,
+) -> Pushed
     ensures { OnOk result (text.new.items
         ≡ text.old.items ++ spec.line_of with_frames firm.now message.now) }
 {

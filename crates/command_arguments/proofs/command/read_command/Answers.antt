@@ -60,13 +60,14 @@ returns-clause-ok g c =
     let found = found_of c.in-Some.words.now in
     let name_is = c.in-Some.ensures.name ∙ names_alike _ ∙ ap (option_map (λ (p : Text × List Row). p.0)) met in
     let rows_are = c.in-Some.ensures.rows ∙ ap (option_map (λ (p : Text × List Row). p.1)) met in
-    let flags : Flags = record { frames = c.get_flag-frames.result; woven = c.get_flag-woven.result; marks = c.get_flag-marks.result; live = c.get_flag-live.result; investor = c.get_flag-investor.result } in
+    let flags : Flags = record { frames = c.get_flag-frames.result; woven = c.get_flag-woven.result; marks = c.get_flag-marks.result; notes = c.get_flag-notes.result; live = c.get_flag-live.result; investor = c.get_flag-investor.result } in
     let asked = arguments_read g.S.AsStr.text c.args.arguments.now c.requires none (c.in-Some.name.now, rows_of found)
     (found_both (subcommand_of venue_app words) c.in-Some.name.now (rows_of found) name_is rows_are) flags
     (record {
       frames = flag_is found (codes "frames") c.get_flag-frames.result c.get_flag-frames.ensures.none c.get_flag-frames.ensures.value c.get_flag-frames.ensures.other;
       woven = flag_is found (codes "woven") c.get_flag-woven.result c.get_flag-woven.ensures.none c.get_flag-woven.ensures.value c.get_flag-woven.ensures.other;
       marks = flag_is found (codes "marks") c.get_flag-marks.result c.get_flag-marks.ensures.none c.get_flag-marks.ensures.value c.get_flag-marks.ensures.other;
+      notes = flag_is found (codes "notes") c.get_flag-notes.result c.get_flag-notes.ensures.none c.get_flag-notes.ensures.value c.get_flag-notes.ensures.other;
       live = flag_is found (codes "live") c.get_flag-live.result c.get_flag-live.ensures.none c.get_flag-live.ensures.value c.get_flag-live.ensures.other;
       investor = flag_is found (codes "investor") c.get_flag-investor.result c.get_flag-investor.ensures.none c.get_flag-investor.ensures.value c.get_flag-investor.ensures.other;
     }) in

@@ -15,3 +15,8 @@ pub returns-in_ok-text-in-Blotter : goal.returns-in_ok-text-in-Blotter
 returns-in_ok-text-in-Blotter c config wanted taken keeps =
     text_kept wanted config taken c.args.self _ c.in_ok-text-in-Blotter.text.items c.in-Blotter.is
     c.in_ok-text-in-Blotter.ensures keeps
+
+pub returns-in_ok-text-in-Noted : goal.returns-in_ok-text-in-Noted
+returns-in_ok-text-in-Noted c config wanted taken keeps =
+    text_kept wanted config taken c.args.self _ c.in_ok-text-in-Noted.text.items c.in-Noted.is
+    c.in_ok-text-in-Noted.ensures keeps
