@@ -38,7 +38,7 @@ pub enum What {
 
 /// What stands at the front of bytes.
 #[derive(Clone, Copy, Debug, PartialEq, Eq)]
-pub(crate) enum Front {
+pub enum Front {
     /// What may begin a message.
     Begun,
     /// What begins none.

@@ -11,6 +11,9 @@
 //! The state is numbers. What is kept under them is the caller's to keep, and to hand back as it was
 //! kept. The definitions are in `specs/`: `Cuts`, `Heard`, `Outcomes`, `Logons`, `Rows`, `Sending`,
 //! `Steps`, `Visits` and `Written`.
+//!
+//! What a message says ([`Heard`] and its parts), [`Asked`], [`Front`] and [`Live`] are named here for
+//! the laws of `session_laws`: no caller needs them.
 #![tactic(auto)]
 
 mod accepting;
@@ -40,11 +43,13 @@ mod words;
 mod writing;
 
 pub use bodies::{Body, MOST_KEPT};
-pub use cuts::{Found, What, next_message};
+pub use cuts::{Found, Front, What, next_message};
 pub use heard::{Logon, is_logout, question};
+pub use messages::{Heard, Incoming, Kind, Origin, Reading, Terms, TestId};
 pub use orders::{Order, ordered};
+pub use requests::Asked;
 pub use sending::{hands, wants};
-pub use state::{Clock, Day, Line, Phase, Session, Waiting};
+pub use state::{Clock, Day, Line, Live, Phase, Session, Waiting};
 pub use steps::{came, given, gone, new_session, tick};
 pub use texts::{Names, Text};
 pub use turns::{Ending, Fault, Notice, Said, Stored, Turn, Want, Way, Why, Word};

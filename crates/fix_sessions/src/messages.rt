@@ -19,7 +19,7 @@ pub enum Reading {
 
 /// What a TestRequest asks for.
 #[derive(Debug, Drop)]
-pub(crate) enum TestId<'a> {
+pub enum TestId<'a> {
     /// TestReqID (112) is missing.
     Missing,
     /// It has more than 1,024 bytes.
@@ -33,26 +33,26 @@ pub(crate) enum TestId<'a> {
 
 /// What a Logon asks for.
 #[derive(Clone, Copy, Debug, PartialEq, Eq)]
-pub(crate) struct Terms {
+pub struct Terms {
     /// MsgSeqNum (34).
-    pub(crate) number: u64,
+    pub number: u64,
     /// SendingTime (52).
-    pub(crate) sent: Reading,
+    pub sent: Reading,
     /// EncryptMethod (98) is 0.
-    pub(crate) is_plain: bool,
+    pub is_plain: bool,
     /// DefaultApplVerID (1137) is 9.
-    pub(crate) is_fix50: bool,
+    pub is_fix50: bool,
     /// HeartBtInt (108).
-    pub(crate) seconds: Reading,
+    pub seconds: Reading,
     /// ResetSeqNumFlag (141) is Y.
-    pub(crate) resets: bool,
+    pub resets: bool,
     /// NextExpectedMsgSeqNum (789).
-    pub(crate) expects: Reading,
+    pub expects: Reading,
 }
 
 /// What a message says beside its header.
 #[derive(Debug, Drop)]
-pub(crate) enum Kind<'a> {
+pub enum Kind<'a> {
     /// Logon (35=A).
     Logon,
     /// Heartbeat (35=0).
@@ -92,37 +92,37 @@ pub(crate) enum Kind<'a> {
 
 /// What a Reject names of a message.
 #[derive(Debug, Drop)]
-pub(crate) struct Origin<'a> {
+pub struct Origin<'a> {
     /// MsgSeqNum (34), where it is there once and a number from 1 on.
-    pub(crate) number: Option<u64>,
+    pub number: Option<u64>,
     /// MsgType (35).
-    pub(crate) msg_type: Option<Text<'a>>,
+    pub msg_type: Option<Text<'a>>,
 }
 
 /// A message that came, as a session sees it.
 #[derive(Debug, Drop)]
-pub(crate) struct Incoming<'a> {
+pub struct Incoming<'a> {
     /// BeginString (8), where it is not FIXT.1.1.
-    pub(crate) version: Option<Text<'a>>,
+    pub version: Option<Text<'a>>,
     /// What a Reject names of it.
-    pub(crate) origin: Origin<'a>,
+    pub origin: Origin<'a>,
     /// The tag of SenderCompID (49) or TargetCompID (56), where it is another's.
-    pub(crate) stranger: Option<u64>,
+    pub stranger: Option<u64>,
     /// PossDupFlag (43) is Y.
-    pub(crate) is_repeat: bool,
+    pub is_repeat: bool,
     /// SendingTime (52).
-    pub(crate) sent: Reading,
+    pub sent: Reading,
     /// OrigSendingTime (122).
-    pub(crate) first_sent: Reading,
+    pub first_sent: Reading,
     /// What is wrong with its form.
-    pub(crate) flaw: Option<Fault>,
+    pub flaw: Option<Fault>,
     /// What it says.
-    pub(crate) kind: Kind<'a>,
+    pub kind: Kind<'a>,
 }
 
 /// What came.
 #[derive(Debug, Drop)]
-pub(crate) enum Heard<'a> {
+pub enum Heard<'a> {
     /// No message: it is garbled.
     Garbled,
     /// The first bytes of a message that is too long.

@@ -8,7 +8,7 @@ use crate::turns::Fault;
 
 /// What a ResendRequest asks for.
 #[derive(Clone, Copy, Debug, PartialEq, Eq)]
-pub(crate) enum Asked {
+pub enum Asked {
     /// These numbers.
     Numbers {
         /// The first.

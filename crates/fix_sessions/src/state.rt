@@ -161,13 +161,13 @@ pub struct Session {
 
 /// A session in which the firm is logged on.
 #[derive(Clone, Copy, Debug, PartialEq, Eq)]
-pub(crate) struct Live {
+pub struct Live {
     /// What is kept.
-    pub(crate) day: Day,
+    pub day: Day,
     /// The connection by which the firm is logged on.
-    pub(crate) line: Line,
+    pub line: Line,
     /// A connection that waits to have the session.
-    pub(crate) waiting: Option<Waiting>,
+    pub waiting: Option<Waiting>,
 }
 
 /// The time at which an event comes.

@@ -1,0 +1,10 @@
+mod Choices
+mod LogonDays
+mod LogonTurns
+mod Restarts
+mod TakenDays
+mod TakenLogons
+mod TakenRows
+mod TurnLogons
+mod TurnRows
+mod TurnSent

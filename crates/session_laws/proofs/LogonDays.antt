@@ -1,0 +1,260 @@
+-- Nothing without a Logon, after every list of events.
+use Rattle.std.proofs.Common.{◌≡◌, ℕ, ◌+◌, ◌-◌, ◌<◌, ◌≤◌, Bool, true, false, ◌==◌, ◌&&◌, ◌||◌, not, nat_lt, nat_le, List, [], ◌∷◌, ◌++◌, ◌⊎◌, inl, inr, Option, Some, None, is_some, refl, sym, ap, subst, ◌∙◌, arith, if◌then◌else◌}
+use Rattle.std.proofs.Common.{eq-eqb}
+use Rattle.std.proofs.lemmas.Bool.{and_parts, false≢true}
+use Rattle.std.proofs.lemmas.Bool.Decides.{nat_tests}
+use Rattle.fix_fields.specs.Frame.{Field}
+use Rattle.fix_sessions.specs.Heard.{heard_of, logon_of, is_logout}
+use Rattle.fix_sessions.specs.Outcomes.{stays, disconnects, says, answers, rejects_now, rejects, parts, leaves, logs_out, reject_and_logout, rejects_and_logs_out, reject_of, counted, counted_if, moved_to, is_clear, may_log_out, live, free, holder, is_free, is_spent, are_bounded, quiet, ended}
+use Rattle.fix_sessions.specs.Logons.{refuses, refused, refusal_day, is_safe, too_low, accepts, accepted_day, accepted_line, answer_number, has_one, expected_by, has_gap, is_ahead, may_reset, judged_ahead, judged_number, judged_reset, judged, judged_by, waits_for, probed, first_by, came_first, value_or_zero, is_heartbeat, is_in_time, is_off, is_today, without}
+use Rattle.fix_sessions.specs.Rows.{heard_at, highest_left, asked_of, requested, requested_as, resets_to, missing_noted, above, is_after_sent, repeated_below, below, is_test_of, settled_by, tested, tests, fills, takes, by_kind, by_form, by_times, repeated, sent_once, expected_message, by_number, by_names, if_numbered, reset_in, unless_reset, foreign, by_version, came_on, came_long, at, again_from}
+use Rattle.fix_sessions.specs.Sending.{is_resending, requests, fill_end, before_kept, is_answer, is_reject, fills_gap, again_of, again_to, fresh_of, passed, hands_on, hands_by, hands, given_on, keeps_one}
+use Rattle.session_laws.specs.Days.{Event, turn, after, is_reset, without_resets, is_order_to_reset}
+use Rattle.session_laws.specs.Days.{Came, Gone, Given, Handed, Tick, Ordered}
+use Rattle.session_laws.specs.Kept.{Entry, entry_of, entered, Within}
+use Rattle.session_laws.specs.Logons.{sends, leaves_of, is_leaving, IsLogon, IsLoggedOn, CameOn, keeps}
+use Rattle.session_laws.specs.Sent.{is_new, is_own_word, new_of, news, all_news, front_by, front}
+use Rattle.session_laws.proofs.Choices.{choice}
+use Rattle.fix_sessions.specs.Steps.{came_as, is_expected, last_counted, came_leaving_as, came_leaving, came_by, came, freed_of, has, gone, waits_away, given_by, given, tests_firm, requests_missing, due, made_due, still_settling, is_over, is_dead, tick_on, tick_by, decided, is_decided, tick_waiting, tick, logged_out, logged_out_by, ordered, ordered_by, ordered_day, resets}
+use Rattle.fix_sessions.specs.declared.state.TheConstants.{LOGOUT_WAIT}
+use Rattle.fix_sessions.specs.declared.state.Clock.{Clock}
+use Rattle.fix_sessions.specs.declared.state.Day.{Day}
+use Rattle.fix_sessions.specs.declared.state.Line.{Line}
+use Rattle.fix_sessions.specs.declared.state.Live.{Live}
+use Rattle.fix_sessions.specs.declared.state.Phase.{Phase}
+use Rattle.fix_sessions.specs.declared.state.Phase.TheVariants as phase
+use Rattle.fix_sessions.specs.declared.state.Session.{Session}
+use Rattle.fix_sessions.specs.declared.state.Waiting.{Waiting}
+use Rattle.fix_sessions.specs.declared.messages.Heard.{Heard}
+use Rattle.fix_sessions.specs.declared.messages.Heard.TheVariants as heard
+use Rattle.fix_sessions.specs.declared.messages.Incoming.{Incoming}
+use Rattle.fix_sessions.specs.declared.messages.Origin.{Origin}
+use Rattle.fix_sessions.specs.declared.messages.Kind.{Kind}
+use Rattle.fix_sessions.specs.declared.messages.Kind.TheVariants as kind
+use Rattle.fix_sessions.specs.declared.messages.Reading.{Reading}
+use Rattle.fix_sessions.specs.declared.messages.Reading.TheVariants as reading
+use Rattle.fix_sessions.specs.declared.messages.Terms.{Terms}
+use Rattle.fix_sessions.specs.declared.messages.TestId.{TestId}
+use Rattle.fix_sessions.specs.declared.messages.TestId.TheVariants as test_id
+use Rattle.fix_sessions.specs.declared.requests.Asked.{Asked}
+use Rattle.fix_sessions.specs.declared.requests.Asked.TheVariants as asked
+use Rattle.fix_sessions.specs.declared.orders.Order.{Order}
+use Rattle.fix_sessions.specs.declared.orders.Order.TheVariants as order
+use Rattle.fix_sessions.specs.declared.texts.Names.{Names}
+use Rattle.fix_sessions.specs.declared.turns.Fault.{Fault}
+use Rattle.fix_sessions.specs.declared.turns.Notice.{Notice}
+use Rattle.fix_sessions.specs.declared.turns.Notice.TheVariants as notice
+use Rattle.fix_sessions.specs.declared.turns.Said.{Said}
+use Rattle.fix_sessions.specs.declared.turns.Stored.{Stored}
+use Rattle.fix_sessions.specs.declared.turns.Turn.{Turn}
+use Rattle.fix_sessions.specs.declared.turns.Way.TheVariants as way
+use Rattle.fix_sessions.specs.declared.turns.Why.{Why}
+use Rattle.fix_sessions.specs.declared.turns.Why.TheVariants as why
+use Rattle.fix_sessions.specs.declared.turns.Word.{Word}
+use Rattle.fix_sessions.specs.declared.turns.Word.TheVariants as word
+use Rattle.session_laws.proofs.LogonTurns.{event_mine}
+use Rattle.session_laws.proofs.TakenRows.{Ups}
+use Rattle.session_laws.proofs.TakenLogons.{first_up}
+use Rattle.session_laws.proofs.TakenDays.{given_up, gone_up, hands_up, leaving_up, ordered_up, tick_up}
+use Rattle.session_laws.proofs.TurnLogons.{first_cases}
+
+both : (a b : Bool) → a ≡ true → b ≡ true → (a && b) ≡ true
+both a b p q = ap (λ x. x && b) p ∙ q
+
+-- who has the session had it before these events and keeps it, or is logged on by one of them
+kept_or_logged : (names : Names) (s : Session) (events : List Event) (k : ℕ)
+    → has (after names s events).phase k ≡ true
+    → ((has s.phase k ≡ true) × (keeps names s k events ≡ true)) ⊎ IsLoggedOn names s events k
+kept_or_logged names s [] k h = inl (h, refl)
+kept_or_logged names s (e ∷ es) k h =
+    let t = turn names s e in
+    elim (kept_or_logged names t.session es k h) [
+      | inr logged ↦ inr (record {
+        before = e ∷ logged.before;
+        logon = logged.logon;
+        behind = logged.behind;
+        text = ap (λ rest. e ∷ rest) logged.text;
+        is_logon = logged.is_logon;
+        stood = logged.stood;
+      })
+      | inl had ↦ (elim ((event_mine names s e).whose k had.0) [
+        | inl here ↦ inl (here, both _ _ had.0 had.1)
+        | inr logon ↦ inr (record {
+          before = [];
+          logon = e;
+          behind = es;
+          text = refl;
+          is_logon = logon;
+          stood = both _ _ had.0 had.1;
+        })
+      ])
+    ]
+
+logged_on : (names : Names) (s : Session) (events : List Event) (k : ℕ) → s.phase ≡ phase.Away
+    → has (after names s events).phase k ≡ true → IsLoggedOn names s events k
+logged_on names s events k away h =
+    elim (kept_or_logged names s events k h) [
+      | inl had ↦ absurd (false≢true (ap (λ p. has p k) (sym away) ∙ had.0))
+      | inr logged ↦ logged
+    ]
+
+pub sent_by_logon : (names : Names) (s : Session) (events : List Event) (e : Event)
+    → s.phase ≡ phase.Away → sends (turn names (after names s events) e) ≡ true
+    → IsLoggedOn names s events (turn names (after names s events) e).connection
+    ⊎ IsLogon names (turn names (after names s events) e).connection e
+sent_by_logon names s events e away sent =
+    elim ((event_mine names (after names s events) e).sent sent) [
+      | inl here ↦ inl (logged_on names s events _ away here)
+      | inr logon ↦ inr logon
+    ]
+
+-- What the venue is given.
+
+pub record Taking (s : Session) (e : Event) : Type 0 where
+  pub connection : ℕ
+  pub here : has s.phase connection ≡ true
+  pub came : CameOn connection e
+
+none_some : (x : Option ℕ) (n : ℕ) → x ≡ None → x ≡ Some n → ⊥
+none_some x n none some = false≢true (ap is_some (sym none) ∙ ap is_some some)
+
+not_up : (s : Session) (e : Event) (t : Turn) (n : ℕ) (d : Day) → Ups d t → t.takes ≡ Some n
+    → Taking s e
+not_up s e t n d up some = absurd (none_some t.takes n up.nothing some)
+
+taking_by : (names : Names) (s : Session) (connection : ℕ) (clock : Clock) (bytes : List ℕ)
+    (is_known : Bool) (n : ℕ) (p : Phase) → s.phase ≡ p
+    → (came_by names s connection clock bytes is_known p).takes ≡ Some n
+    → Taking s (Came connection clock bytes is_known)
+taking_by names s connection clock bytes is_known n phase.Away is =
+    λ some. not_up s _ _ n s.day (first_up names s connection clock bytes is_known) some
+taking_by names s connection clock bytes is_known n (phase.On line) is =
+    choice (λ (t : Turn). t.takes ≡ Some n → Taking s (Came connection clock bytes is_known))
+    (line.connection == connection) _ _
+    (λ h some. record {
+      connection = connection;
+      here = ap (λ p. has p connection) is ∙ h;
+      came = record { clock = clock; bytes = bytes; is_known = is_known; came = refl };
+    })
+    (λ h some. not_up s _ _ n s.day (first_up names s connection clock bytes is_known) some)
+taking_by names s connection clock bytes is_known n (phase.Leaving last since) is =
+    choice (λ (t : Turn). t.takes ≡ Some n → Taking s (Came connection clock bytes is_known))
+    (last == connection) _ _
+    (λ h some. not_up s _ _ n s.day (leaving_up names s connection bytes) some)
+    (λ h some. not_up s _ _ n s.day (first_up names s connection clock bytes is_known) some)
+
+came_taking : (names : Names) (s : Session) (connection : ℕ) (clock : Clock) (bytes : List ℕ)
+    (is_known : Bool) (n : ℕ)
+    → (came names s connection clock bytes is_known).takes ≡ Some n
+    → Taking s (Came connection clock bytes is_known)
+unfolding came
+came_taking names s connection clock bytes is_known n =
+    choice (λ (t : Turn). t.takes ≡ Some n → Taking s (Came connection clock bytes is_known))
+    (is_spent s) _ _
+    (λ h some. absurd (false≢true (ap is_some some)))
+    (λ h. taking_by names s connection clock bytes is_known n s.phase refl)
+
+resets_nothing : (s : Session) → (resets s).takes ≡ None
+resets_nothing s = choice (λ (t : Turn). t.takes ≡ None) (is_free s.phase) _ _ (λ h. refl) (λ h. refl)
+
+ordered_nothing : (s : Session) (clock : Clock) (o : Order) → (ordered s clock o).takes ≡ None
+unfolding ordered
+ordered_nothing s clock order.Open = (ordered_up s clock order.Open refl).nothing
+ordered_nothing s clock order.Close = (ordered_up s clock order.Close refl).nothing
+ordered_nothing s clock order.Suspend = (ordered_up s clock order.Suspend refl).nothing
+ordered_nothing s clock order.Release = (ordered_up s clock order.Release refl).nothing
+ordered_nothing s clock (order.Reset copies) =
+    resets_nothing (record s { day = ordered_day s.day clock (order.Reset copies) })
+
+taking : (names : Names) (s : Session) (e : Event) (n : ℕ) → (turn names s e).takes ≡ Some n
+    → Taking s e
+taking names s (Came connection clock bytes is_known) n some =
+    came_taking names s connection clock bytes is_known n some
+taking names s (Gone connection) n some = not_up s _ _ n s.day (gone_up s connection) some
+taking names s (Given moment body) n some = not_up s _ _ n s.day (given_up s moment body) some
+taking names s (Handed moment next_kept stored) n some =
+    not_up s _ _ n s.day (hands_up s moment next_kept stored) some
+taking names s (Tick moment) n some = not_up s _ _ n s.day (tick_up s moment) some
+taking names s (Ordered clock o) n some = absurd (none_some _ n (ordered_nothing s clock o) some)
+
+pub taken_by_logon : (names : Names) (s : Session) (events : List Event) (e : Event) (number : ℕ)
+    → s.phase ≡ phase.Away → (turn names (after names s events) e).takes ≡ Some number
+    → (connection : ℕ) × IsLoggedOn names s events connection × CameOn connection e
+taken_by_logon names s events e number away some =
+    let takes = taking names (after names s events) e number some in
+    (takes.connection, logged_on names s events takes.connection away takes.here, takes.came)
+
+-- What moves the expected number.
+
+still : (d e : Day) → d.expected ≡ e.expected → (d.expected == e.expected) ≡ false → ⊥
+still d e same moved = false≢true (sym moved ∙ eq-eqb d.expected e.expected same)
+
+freed_expected : (s : Session) (connection : ℕ) → (freed_of s connection).day.expected ≡ s.day.expected
+freed_expected s connection =
+    choice (λ (t : Session). t.day.expected ≡ s.day.expected) (has s.phase connection) _ _ (λ h. refl) (λ h. refl)
+
+first_moved : (names : Names) (s : Session) (connection : ℕ) (clock : Clock) (bytes : List ℕ)
+    (is_known : Bool)
+    → ((came_first names s connection clock bytes is_known).session.day.expected == s.day.expected) ≡ false
+    → (has s.phase connection ≡ true) ⊎ IsLogon names connection (Came connection clock bytes is_known)
+first_moved names s connection clock bytes is_known moved =
+    elim (first_cases s connection clock is_known (logon_of names bytes)) [
+      | inl nothing ↦ absurd (still (came_first names s connection clock bytes is_known).session.day s.day
+          (ap (λ (x : Session). x.day.expected) nothing.is) moved)
+      | inr known ↦ inr (record {
+        clock = clock;
+        bytes = bytes;
+        came = ap (λ b. Came connection clock bytes b) known.0;
+        logon = known.1;
+      })
+    ]
+
+moved_by : (names : Names) (s : Session) (connection : ℕ) (clock : Clock) (bytes : List ℕ)
+    (is_known : Bool) (p : Phase) → s.phase ≡ p
+    → ((came_by names s connection clock bytes is_known p).session.day.expected == s.day.expected) ≡ false
+    → (has s.phase connection ≡ true) ⊎ IsLogon names connection (Came connection clock bytes is_known)
+moved_by names s connection clock bytes is_known phase.Away is =
+    λ moved. first_moved names s connection clock bytes is_known moved
+moved_by names s connection clock bytes is_known (phase.On line) is =
+    choice (λ (t : Turn). (t.session.day.expected == s.day.expected) ≡ false
+    → (has s.phase connection ≡ true) ⊎ IsLogon names connection (Came connection clock bytes is_known))
+    (line.connection == connection) _ _
+    (λ h moved. inl (ap (λ p. has p connection) is ∙ h))
+    (λ h moved. first_moved names s connection clock bytes is_known moved)
+moved_by names s connection clock bytes is_known (phase.Leaving last since) is =
+    choice (λ (t : Turn). (t.session.day.expected == s.day.expected) ≡ false
+    → (has s.phase connection ≡ true) ⊎ IsLogon names connection (Came connection clock bytes is_known))
+    (last == connection) _ _
+    (λ h moved. inl (ap (λ p. has p connection) is ∙ h))
+    (λ h moved. first_moved names s connection clock bytes is_known moved)
+
+came_moved : (names : Names) (s : Session) (connection : ℕ) (clock : Clock) (bytes : List ℕ)
+    (is_known : Bool)
+    → ((came names s connection clock bytes is_known).session.day.expected == s.day.expected) ≡ false
+    → (has s.phase connection ≡ true) ⊎ IsLogon names connection (Came connection clock bytes is_known)
+unfolding came
+came_moved names s connection clock bytes is_known =
+    choice (λ (t : Turn). (t.session.day.expected == s.day.expected) ≡ false
+    → (has s.phase connection ≡ true) ⊎ IsLogon names connection (Came connection clock bytes is_known))
+    (is_spent s) _ _
+    (λ h moved. absurd (still (freed_of s connection).day s.day (freed_expected s connection) moved))
+    (λ h. moved_by names s connection clock bytes is_known s.phase refl)
+
+on_this : (names : Names) (s : Session) (e : Event) (connection : ℕ) → CameOn connection e
+    → ((turn names s e).session.day.expected == s.day.expected) ≡ false
+    → (has s.phase connection ≡ true) ⊎ IsLogon names connection e
+on_this names s e connection on =
+    subst (λ x. ((turn names s x).session.day.expected == s.day.expected) ≡ false
+    → (has s.phase connection ≡ true) ⊎ IsLogon names connection x) (sym on.came)
+    (came_moved names s connection on.clock on.bytes on.is_known)
+
+pub moved_by_logon : (names : Names) (s : Session) (events : List Event) (e : Event) (connection : ℕ)
+    → s.phase ≡ phase.Away → CameOn connection e
+    → ((turn names (after names s events) e).session.day.expected
+    == (after names s events).day.expected) ≡ false
+    → IsLoggedOn names s events connection ⊎ IsLogon names connection e
+moved_by_logon names s events e connection away on moved =
+    elim (on_this names (after names s events) e connection on moved) [
+      | inl here ↦ inl (logged_on names s events connection away here)
+      | inr logon ↦ inr logon
+    ]

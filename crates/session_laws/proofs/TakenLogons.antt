@@ -1,0 +1,158 @@
+-- The same of the first message of a connection.
+use Rattle.std.proofs.Common.{◌≡◌, ℕ, ◌+◌, ◌-◌, ◌<◌, ◌≤◌, Bool, true, false, ◌==◌, ◌&&◌, ◌||◌, not, nat_lt, nat_le, List, [], ◌∷◌, ◌++◌, ◌⊎◌, inl, inr, Option, Some, None, refl, sym, ap, subst, ◌∙◌, arith, if◌then◌else◌}
+use Rattle.std.proofs.lemmas.Bool.{false≢true}
+use Rattle.std.proofs.lemmas.Bool.Decides.{nat_tests}
+use Rattle.fix_fields.specs.Frame.{Field}
+use Rattle.fix_sessions.specs.Heard.{heard_of, logon_of, is_logout}
+use Rattle.fix_sessions.specs.Outcomes.{stays, disconnects, says, answers, rejects_now, rejects, parts, leaves, logs_out, reject_and_logout, rejects_and_logs_out, reject_of, counted, counted_if, moved_to, is_clear, may_log_out, live, free, holder, is_spent, quiet, ended}
+use Rattle.fix_sessions.specs.Logons.{refuses, refused, refusal_day, is_safe, too_low, accepts, accepted_day, answer_number, expected_by, has_gap, is_ahead, may_reset, judged_ahead, judged_number, judged_reset, judged, judged_by, waits_for, first_by, came_first, value_or_zero, is_heartbeat, is_in_time, is_off, is_today, without}
+use Rattle.fix_sessions.specs.Rows.{heard_at, highest_left, asked_of, requested, requested_as, resets_to, missing_noted, above, is_after_sent, repeated_below, below, is_test_of, tested, tests, fills, takes, by_kind, by_form, by_times, repeated, sent_once, expected_message, by_number, by_names, if_numbered, reset_in, unless_reset, foreign, by_version, came_on, came_long, at}
+use Rattle.fix_sessions.specs.Sending.{is_resending, requests, fill_end, is_answer, is_reject, fills_gap, again_of, fresh_of, hands_on, hands_by, hands, given_on}
+use Rattle.session_laws.specs.Days.{Event, turn, after, is_reset, without_resets, is_order_to_reset}
+use Rattle.session_laws.specs.Days.{Came, Gone, Given, Handed, Tick, Ordered}
+use Rattle.session_laws.specs.Numbers.{Rises, taken, listed}
+use Rattle.fix_sessions.specs.Steps.{came_as, is_expected, last_counted, came_leaving_as, came_leaving, came_by, came, freed_of, has, gone, waits_away, given_by, given, tests_firm, due, made_due, still_settling, is_over, is_dead, tick_on, tick_by, decided, is_decided, tick_waiting, tick, logged_out, logged_out_by, ordered, ordered_by, ordered_day}
+use Rattle.fix_sessions.specs.declared.state.TheConstants.{LOGOUT_WAIT}
+use Rattle.fix_sessions.specs.declared.state.Clock.{Clock}
+use Rattle.fix_sessions.specs.declared.state.Day.{Day}
+use Rattle.fix_sessions.specs.declared.state.Line.{Line}
+use Rattle.fix_sessions.specs.declared.state.Live.{Live}
+use Rattle.fix_sessions.specs.declared.state.Phase.{Phase}
+use Rattle.fix_sessions.specs.declared.state.Phase.TheVariants as phase
+use Rattle.fix_sessions.specs.declared.state.Session.{Session}
+use Rattle.fix_sessions.specs.declared.state.Waiting.{Waiting}
+use Rattle.fix_sessions.specs.declared.messages.Heard.{Heard}
+use Rattle.fix_sessions.specs.declared.messages.Heard.TheVariants as heard
+use Rattle.fix_sessions.specs.declared.messages.Incoming.{Incoming}
+use Rattle.fix_sessions.specs.declared.messages.Origin.{Origin}
+use Rattle.fix_sessions.specs.declared.messages.Kind.{Kind}
+use Rattle.fix_sessions.specs.declared.messages.Kind.TheVariants as kind
+use Rattle.fix_sessions.specs.declared.messages.Reading.{Reading}
+use Rattle.fix_sessions.specs.declared.messages.Reading.TheVariants as reading
+use Rattle.fix_sessions.specs.declared.messages.Terms.{Terms}
+use Rattle.fix_sessions.specs.declared.messages.TestId.{TestId}
+use Rattle.fix_sessions.specs.declared.messages.TestId.TheVariants as test_id
+use Rattle.fix_sessions.specs.declared.requests.Asked.{Asked}
+use Rattle.fix_sessions.specs.declared.requests.Asked.TheVariants as asked
+use Rattle.fix_sessions.specs.declared.orders.Order.{Order}
+use Rattle.fix_sessions.specs.declared.orders.Order.TheVariants as order
+use Rattle.fix_sessions.specs.declared.texts.Names.{Names}
+use Rattle.fix_sessions.specs.declared.turns.Fault.{Fault}
+use Rattle.fix_sessions.specs.declared.turns.Notice.{Notice}
+use Rattle.fix_sessions.specs.declared.turns.Notice.TheVariants as notice
+use Rattle.fix_sessions.specs.declared.turns.Stored.{Stored}
+use Rattle.fix_sessions.specs.declared.turns.Turn.{Turn}
+use Rattle.fix_sessions.specs.declared.turns.Why.{Why}
+use Rattle.fix_sessions.specs.declared.turns.Why.TheVariants as why
+use Rattle.fix_sessions.specs.declared.turns.Word.{Word}
+use Rattle.fix_sessions.specs.declared.turns.Word.TheVariants as word
+use Rattle.session_laws.proofs.Choices.{choice}
+use Rattle.session_laws.proofs.TakenRows.{Grows, Ups, Takes, Turns, same, same_grows, more_grows, onto, twice}
+
+-- The first message of a connection.
+
+refusal_same : (d : Day) → Grows d (refusal_day d)
+refusal_same d = choice (λ (e : Day). Grows d e) d.is_one_free _ _ (λ h. same_grows d _ refl refl) (λ h. same_grows d _ refl refl)
+
+refuses_up : (s : Session) (connection : ℕ) (terms : Terms) (y : Why) (told : Notice) → Ups s.day (refuses s connection terms y told)
+refuses_up s connection terms y told =
+    choice (Ups s.day) (is_safe s.day terms) _ _ (λ h. record { nothing = refl; grows = refusal_same s.day }) (λ h. same s.day _ refl refl refl)
+
+refused_up : (s : Session) (connection : ℕ) (terms : Terms) (y : Why) → Ups s.day (refused s connection terms y)
+refused_up s connection terms y = refuses_up s connection terms y (notice.Refused y)
+
+too_low_up : (s : Session) (connection : ℕ) (terms : Terms) → Ups s.day (too_low s connection terms)
+too_low_up s connection terms =
+    let low = why.TooLow s.day.expected in
+    choice (Ups s.day) (nat_lt s.day.last_logon (value_or_zero terms.sent)) _ _
+    (λ h. let r = refuses_up (record s { day = record s.day { is_locked = true } }) connection terms low notice.LostStore in
+    record {
+      nothing = r.nothing;
+      grows = record { up = r.grows.up; one = r.grows.one; was = r.grows.was };
+    })
+    (λ h. refused_up s connection terms low)
+
+-- numbers are reset only while the venue was given nothing
+abbrev MayReset : Day → Terms → Type 0
+MayReset d terms = terms.resets ≡ true → d.was_taken ≡ false
+
+before_up : (d : Day) (terms : Terms) → MayReset d terms → d.was_taken ≡ true → expected_by d terms ≡ d.expected
+before_up d terms may was =
+    choice (λ (n : ℕ). n ≡ d.expected) terms.resets _ _ (λ h. absurd (false≢true (sym (may h) ∙ was))) (λ h. refl)
+
+before_one : (d : Day) (terms : Terms) → 1 ≤ d.expected → 1 ≤ expected_by d terms
+before_one d terms one = choice (λ (n : ℕ). 1 ≤ n) terms.resets _ _ (λ h. omega arith) (λ h. one)
+
+accepted_grows : (d : Day) (terms : Terms) → MayReset d terms → Grows d (accepted_day d terms)
+accepted_grows d terms may = record {
+  up = λ was. (let before = before_up d terms may was in
+      choice (λ (n : ℕ). d.expected ≤ n) (has_gap d terms) _ _ (λ h. omega (arith, before)) (λ h. omega (arith, before)));
+  one = λ one. (let before = before_one d terms one in
+      choice (λ (n : ℕ). 1 ≤ n) (has_gap d terms) _ _ (λ h. before) (λ h. omega (arith, before)));
+  was = refl;
+}
+
+accepts_up : (s : Session) (connection now : ℕ) (terms : Terms) → MayReset s.day terms → Ups s.day (accepts s connection now terms)
+accepts_up s connection now terms may = record { nothing = refl; grows = accepted_grows s.day terms may }
+
+ahead_up : (s : Session) (connection now : ℕ) (terms : Terms) → MayReset s.day terms → Ups s.day (judged_ahead s connection now terms)
+ahead_up s connection now terms may =
+    choice (Ups s.day) (is_ahead terms.expects (answer_number s.day terms)) _ _
+    (λ h. refused_up s connection terms why.Ahead) (λ h. accepts_up s connection now terms may)
+
+judged_number_up : (s : Session) (connection now : ℕ) (terms : Terms) → MayReset s.day terms → Ups s.day (judged_number s connection now terms)
+judged_number_up s connection now terms may =
+    choice (Ups s.day) s.day.is_locked _ _ (λ h. refused_up s connection terms why.Lost)
+    (λ h. choice (Ups s.day) (s.day.is_reset && not terms.resets && not (terms.number == 1)) _ _
+    (λ h. refused_up s connection terms why.Begin)
+    (λ h. choice (Ups s.day) (nat_lt terms.number (expected_by s.day terms)) _ _
+    (λ h. too_low_up s connection terms) (λ h. ahead_up s connection now terms may)))
+
+-- a Logon with 141=Y that is not refused for it finds nothing given
+may_is : (resets first may : Bool) → (resets && not (first && may)) ≡ false → resets ≡ true → may ≡ true
+may_is true true true h e = refl
+may_is true true false h e = absurd (false≢true (sym h))
+may_is true false may h e = absurd (false≢true (sym h))
+may_is false first may h e = absurd (false≢true e)
+
+not_taken : (was known : Bool) → (not was && not known) ≡ true → was ≡ false
+not_taken true known h = absurd (false≢true h)
+not_taken false known h = refl
+
+reset_up : (s : Session) (connection now : ℕ) (terms : Terms) → Ups s.day (judged_reset s connection now terms)
+reset_up s connection now terms =
+    choice (Ups s.day) (terms.resets && not ((terms.number == 1) && may_reset s.day)) _ _
+    (λ h. refused_up s connection terms why.Reset)
+    (λ h. judged_number_up s connection now terms
+    (λ e. not_taken s.day.was_taken (nat_lt 0 s.day.first_given && nat_le s.day.first_given s.day.had)
+    (may_is terms.resets (terms.number == 1) (may_reset s.day) h e)))
+
+judged_up : (s : Session) (connection : ℕ) (clock : Clock) (terms : Terms) → Ups s.day (judged s connection clock terms)
+judged_up s connection clock terms =
+    choice (Ups s.day) (not s.day.is_open) _ _ (λ h. refused_up s connection terms why.Closed)
+    (λ h. choice (Ups s.day) s.day.is_suspended _ _ (λ h. refused_up s connection terms why.Suspended)
+    (λ h. choice (Ups s.day) (not terms.is_plain) _ _ (λ h. refused_up s connection terms why.Encrypted)
+    (λ h. choice (Ups s.day) (not terms.is_fix50) _ _ (λ h. refused_up s connection terms why.Version)
+    (λ h. choice (Ups s.day) (not (is_heartbeat terms.seconds)) _ _ (λ h. refused_up s connection terms why.Heartbeat)
+    (λ h. choice (Ups s.day) (not (is_in_time clock terms.sent)) _ _ (λ h. refused_up s connection terms why.Clock)
+    (λ h. reset_up s connection clock.moment terms))))))
+
+waits_up : (s : Session) (connection now : ℕ) (waiting : Option Waiting) → Ups s.day (waits_for s connection now waiting)
+waits_up s connection now None = same s.day _ refl refl refl
+waits_up s connection now (Some waiting) =
+    choice (Ups s.day) (waiting.connection == connection) _ _ (λ h. same s.day _ refl refl refl) (λ h. same s.day _ refl refl refl)
+
+judged_by_up : (s : Session) (connection : ℕ) (clock : Clock) (terms : Terms) (p : Phase) → Ups s.day (judged_by s connection clock terms p)
+judged_by_up s connection clock terms phase.Away =
+    judged_up (record s { waiting = without connection s.waiting }) connection clock terms
+judged_by_up s connection clock terms (phase.On line) = waits_up s connection clock.moment s.waiting
+judged_by_up s connection clock terms (phase.Leaving last since) = waits_up s connection clock.moment s.waiting
+
+first_by_up : (s : Session) (connection : ℕ) (clock : Clock) (is_known : Bool) (terms : Option Terms) → Ups s.day (first_by s connection clock is_known terms)
+first_by_up s connection clock is_known None = same s.day _ refl refl refl
+first_by_up s connection clock is_known (Some terms) =
+    choice (Ups s.day) is_known _ _ (λ h. judged_by_up s connection clock terms s.phase) (λ h. same s.day _ refl refl refl)
+
+pub first_up : (names : Names) (s : Session) (connection : ℕ) (clock : Clock) (bytes : List ℕ) (is_known : Bool)
+    → Ups s.day (came_first names s connection clock bytes is_known)
+first_up names s connection clock bytes is_known = first_by_up s connection clock is_known (logon_of names bytes)

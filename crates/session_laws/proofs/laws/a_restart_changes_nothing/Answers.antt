@@ -1,0 +1,11 @@
+use Rattle.session_laws.proofs.Restarts.{one_gone, same_from_then_on, two_gone}
+use Rattle.session_laws.proofs.laws.a_restart_changes_nothing.Goals as goal
+
+pub returns-clause-one : goal.returns-clause-one
+returns-clause-one c = one_gone
+
+pub returns-clause-two : goal.returns-clause-two
+returns-clause-two c = two_gone
+
+pub returns-clause-from_then_on : goal.returns-clause-from_then_on
+returns-clause-from_then_on c = same_from_then_on

@@ -1,0 +1,31 @@
+-- The numbers of what the venue is given, and how the expected number moves.
+use Rattle.std.specs.Prelude.{◌≡◌, ℕ, ◌+◌, ◌≤◌, Bool, true, false, List, [], ◌∷◌, ◌++◌, Option, Some, None, is_some, ◌⊎◌}
+use Rattle.fix_sessions.specs.Cuts.{body_of}
+use Rattle.fix_sessions.specs.Fields.{fields_in}
+use Rattle.fix_sessions.specs.Heard.{heard_of, logon_of, number_once}
+use Rattle.fix_sessions.specs.declared.messages.Heard.TheVariants as heard
+use Rattle.fix_sessions.specs.declared.messages.Incoming.{Incoming}
+use Rattle.fix_sessions.specs.declared.messages.Kind.{Kind}
+use Rattle.fix_sessions.specs.declared.messages.Kind.TheVariants as kind
+use Rattle.fix_sessions.specs.declared.messages.Reading.TheVariants as reading
+use Rattle.fix_sessions.specs.declared.state.Clock.{Clock}
+use Rattle.fix_sessions.specs.declared.state.Session.{Session}
+use Rattle.fix_sessions.specs.declared.texts.Names.{Names}
+use Rattle.fix_sessions.specs.declared.turns.Ending.TheVariants as ending
+use Rattle.fix_sessions.specs.declared.turns.Turn.{Turn}
+use Rattle.session_laws.specs.Days.{Event, turn, Came}
+
+-- a number, where there is one
+abbrev pub listed : Option ℕ → List ℕ
+listed None = []
+listed (Some n) = n ∷ []
+
+-- the numbers of what the venue is given
+abbrev pub taken : Names → Session → List Event → List ℕ
+taken names s [] = []
+taken names s (e ∷ es) = listed (turn names s e).takes ++ taken names (turn names s e).session es
+
+-- each number is at least this one, and above those before it
+abbrev pub Rises : ℕ → List ℕ → Type 0
+Rises low [] = Unit {0}
+Rises low (n ∷ ns) = (low ≤ n) × Rises (n + 1) ns

@@ -1,0 +1,17 @@
+//! Laws of a firm's session, over every list of events: each is a public function that does nothing,
+//! and its contract is the law.
+//!
+//! - [`nothing_without_a_logon`]: what a stranger sends reaches nobody, and moves nothing.
+//! - [`each_message_is_taken_once`]: the numbers of what the venue is given rise.
+//! - [`a_restart_changes_nothing`], [`a_message_is_given_again_as_it_was`]: a session that is made of
+//!   what was kept goes on as the first one would have.
+//!
+//! Each event names its connection and is one message. No code stands on this crate.
+#![tactic(auto)]
+
+mod laws;
+
+pub use laws::{
+    a_message_is_given_again_as_it_was, a_restart_changes_nothing, each_message_is_taken_once,
+    nothing_without_a_logon,
+};
