@@ -1,0 +1,1 @@
+"""The proved session and a stock engine, in one process."""

@@ -1,0 +1,88 @@
+// The venue's side of the lines: a proved session, the connections of its firm, and what is kept.
+// It decides nothing: it moves bytes, keeps what a turn keeps, and hands back what the session asks
+// for.
+#ifndef SESSIONS_VENUE_H
+#define SESSIONS_VENUE_H
+
+#include "machine.h"
+
+#include <map>
+#include <string>
+
+namespace sessions {
+
+// Whoever carries the venue's bytes, and sees what it does.
+class Carrier {
+  public:
+    virtual ~Carrier() = default;
+    virtual void send(int connection, const std::string &bytes) = 0;
+    virtual void close(int connection) = 0;
+    // A message of the firm is the venue's.
+    virtual void taken(const std::string &frame) = 0;
+    // A message of the firm was rejected; it was counted or not.
+    virtual void rejected(const std::string &frame, bool is_counted) = 0;
+    // What was rejected has no Reject any more that bears its number.
+    virtual void rejects_dropped() = 0;
+    virtual void note(const std::string &text) = 0;
+};
+
+class Venue {
+  public:
+    explicit Venue(Carrier &carrier) : carrier_(carrier) {}
+
+    // A connection begins, brings bytes, is gone.
+    void opened(int connection);
+    void bytes(int connection, const std::string &bytes);
+    void gone(int connection);
+
+    // The venue gives a message.
+    void give(const std::string &body);
+    // One message of what is to leave; false where nothing is.
+    bool flow();
+    void tick();
+    // The process ends and starts: what is not kept is gone.
+    void restart();
+
+    void open();
+    void suspend();
+    void release();
+    // An operator's reset: what the firm is not known to have gets new numbers.
+    void reset();
+
+    bool is_on() const { return machine_.state().phase == 1; }
+    bool is_settled() const { return is_on() && machine_.state().line.is_settled; }
+    bool is_idle() const;
+    bool is_suspended() const { return machine_.state().day.is_suspended; }
+    bool is_open() const { return machine_.state().day.is_open; }
+    const SessionState &state() const { return machine_.state(); }
+
+  private:
+    struct Connection {
+        std::string stream;
+        std::uint32_t since = 0;
+        bool has_spoken = false;
+        bool parts = false;
+        std::string logon;
+        bool is_known = false;
+    };
+
+    void drain(int connection);
+    void message(int connection, const std::string &bytes);
+    void came(int connection, const std::string &bytes, bool is_known);
+    void act(const Turn &turn, bool is_own);
+    void keep(const Turn &turn, bool is_own);
+    void drop_rejects();
+    void end(int connection);
+    // A connection that waited has its Logon judged once the session is free.
+    void admit();
+    bool waits(int connection) const;
+
+    Carrier &carrier_;
+    Machine machine_;
+    std::map<int, Connection> connections_;
+    std::map<std::uint64_t, Kept> kept_;
+};
+
+} // namespace sessions
+
+#endif
