@@ -2,6 +2,7 @@
 fix/reasons.txt, and docs/CONNECTING.md, which has them for firms."""
 
 import re
+import shutil
 import subprocess
 from collections.abc import Iterator
 from dataclasses import replace
@@ -9,11 +10,12 @@ from pathlib import Path
 
 import pytest
 
-from tests.gateway.door import Programs, today
+from tests.gateway.door import Door, Programs, today
 from tests.gateway.firm import Firm, Received
+from tests.gateway.ledger import PostgresLog
 from tests.gateway.market import BOND, Fields, moment_in
 from tests.gateway.midnight import wait_for_room
-from tests.gateway.stage import Stage, Tools, check
+from tests.gateway.stage import DEALER, INVESTOR, OTHER, Stage, Tools, check
 from tests.gateway.wait import LONG, until
 from tests.gateway.wire import Wire
 from tests.harness.options import ROOT, SECOND
@@ -340,11 +342,65 @@ def test_what_is_told_comes_again(stage: Stage) -> None:
     stage.whole()
 
 
-# ------------------------------------------------------------ days with notes, and days without
+# ------------------------------------------------------------ two gateways
 
 
 def refused_cancel(stage: Stage) -> Received:
     return answered(stage, stage.dealer, "Z", [(298, b"4")])
+
+
+@pytest.fixture
+def followed(noting: Tools, place: Path, postgres_database: str, request: pytest.FixtureRequest) -> Iterator[tuple[Stage, Door]]:
+    """A stage on a log in PostgreSQL, and a second gateway of it, which its firms know too and nobody has started."""
+    wait_for_room(request.node.name)
+    log = PostgresLog(postgres_database, "day")
+    made, folder = Stage(noting, place, log), place / "second"
+    folder.mkdir()
+    first, second = made.door, Door(noting.programs, folder, [DEALER, OTHER], [INVESTOR], limits=made.limits, postgres=log)
+    for firm in made.firms:
+        firm.more |= {"SocketConnectHost1": "127.0.0.1", "SocketConnectPort1": str(second.port)}
+    yield made, second
+    made.close()
+    for door in (first, second):
+        door.close()
+
+
+def follow(stage: Stage, second: Door) -> None:
+    """The second gateway follows the first."""
+    shutil.copytree(stage.door.keys, second.keys)
+    second.write()
+    second.start()
+    until("the second one stands by", LONG, lambda: "stands by" in second.last_words())
+
+
+def test_another_gateway_tells_the_same(followed: tuple[Stage, Door]) -> None:
+    """One that follows takes over, and goes on with the words and the count of the day."""
+    stage, second = followed
+    stage.open(*stage.firms)
+    follow(stage, second)
+    trade_told(stage, 1)
+    stage.door.kill()
+    second.wait_open()
+    stage.door = second
+    all_on(stage)
+    trade_told(stage, 2)
+    check(refused_cancel(stage).value(58) == table()["NothingToCancel"], "another gateway tells another reason")
+    stage.whole()
+
+
+def test_one_that_follows_finds_another_reason(followed: tuple[Stage, Door], noting: Tools) -> None:
+    """The venue of the one that follows gives the same message, and notes another reason beside it: it ends, and the first goes on."""
+    stage, second = followed
+    second.programs = behind(RENAMING, second.folder, noting).programs
+    stage.open(stage.dealer)
+    follow(stage, second)
+    answered(stage, stage.dealer, "Z", [(298, b"5"), (117, b"as-Closed")])
+    check(second.wait_end() == 1, "it goes on")
+    check("is not what message" in second.last_words(), second.last_words())
+    check(refused_cancel(stage).value(58) == table()["NothingToCancel"], "the first does not go on")
+
+
+# ------------------------------------------------------------ days with notes, and days without
 
 
 def test_a_program_without_the_flag(noting: Tools, place: Path) -> None:
