@@ -2,9 +2,12 @@ mod Choices
 mod LogonDays
 mod LogonTurns
 mod Restarts
+mod SentDays
+mod SentTurns
 mod TakenDays
 mod TakenLogons
 mod TakenRows
 mod TurnLogons
+mod TurnOutcomes
 mod TurnRows
 mod TurnSent

@@ -1,63 +1,40 @@
 -- Nothing without a Logon: of each event whose the session is then, and on whose connection something
 -- leaves.
-use Rattle.std.proofs.Common.{◌≡◌, ℕ, ◌+◌, ◌-◌, ◌<◌, ◌≤◌, Bool, true, false, ◌==◌, ◌&&◌, ◌||◌, not, nat_lt, nat_le, List, [], ◌∷◌, ◌++◌, ◌⊎◌, inl, inr, Option, Some, None, is_some, refl, sym, ap, subst, ◌∙◌, arith, if◌then◌else◌}
+use Rattle.std.proofs.Common.{◌≡◌, ℕ, ◌-◌, ◌≤◌, Bool, true, false, ◌==◌, ◌&&◌, ◌||◌, not, nat_lt, nat_le, List, ◌⊎◌, inl, inr, Option, Some, None, refl, sym, ap, subst, ◌∙◌, arith}
 use Rattle.std.proofs.Common.{eq-eqb}
 use Rattle.std.proofs.lemmas.Bool.{and_parts, false≢true}
 use Rattle.std.proofs.lemmas.Bool.Decides.{nat_tests}
 use Rattle.fix_fields.specs.Frame.{Field}
 use Rattle.fix_sessions.specs.Heard.{heard_of, logon_of, is_logout}
-use Rattle.fix_sessions.specs.Outcomes.{stays, disconnects, says, answers, rejects_now, rejects, parts, leaves, logs_out, reject_and_logout, rejects_and_logs_out, reject_of, counted, counted_if, moved_to, is_clear, may_log_out, live, free, holder, is_free, is_spent, are_bounded, quiet, ended}
-use Rattle.fix_sessions.specs.Logons.{refuses, refused, refusal_day, is_safe, too_low, accepts, accepted_day, accepted_line, answer_number, has_one, expected_by, has_gap, is_ahead, may_reset, judged_ahead, judged_number, judged_reset, judged, judged_by, waits_for, probed, first_by, came_first, value_or_zero, is_heartbeat, is_in_time, is_off, is_today, without}
-use Rattle.fix_sessions.specs.Rows.{heard_at, highest_left, asked_of, requested, requested_as, resets_to, missing_noted, above, is_after_sent, repeated_below, below, is_test_of, settled_by, tested, tests, fills, takes, by_kind, by_form, by_times, repeated, sent_once, expected_message, by_number, by_names, if_numbered, reset_in, unless_reset, foreign, by_version, came_on, came_long, at, again_from}
-use Rattle.fix_sessions.specs.Sending.{is_resending, requests, fill_end, before_kept, is_answer, is_reject, fills_gap, again_of, again_to, fresh_of, passed, hands_on, hands_by, hands, given_on, keeps_one}
-use Rattle.session_laws.specs.Days.{Event, turn, after, is_reset, without_resets, is_order_to_reset}
+use Rattle.fix_sessions.specs.Outcomes.{parts, live, is_free, is_spent, are_bounded}
+use Rattle.fix_sessions.specs.Logons.{came_first}
+use Rattle.fix_sessions.specs.Sending.{hands_on, hands_by, hands, given_on}
+use Rattle.session_laws.specs.Days.{Event, turn}
 use Rattle.session_laws.specs.Days.{Came, Gone, Given, Handed, Tick, Ordered}
-use Rattle.session_laws.specs.Kept.{Entry, entry_of, entered, Within}
-use Rattle.session_laws.specs.Logons.{sends, leaves_of, is_leaving, IsLogon, IsLoggedOn, CameOn, keeps}
-use Rattle.session_laws.specs.Sent.{is_new, is_own_word, new_of, news, all_news, front_by, front}
+use Rattle.session_laws.specs.Logons.{sends, IsLogon}
 use Rattle.session_laws.proofs.Choices.{choice}
-use Rattle.fix_sessions.specs.Steps.{came_as, is_expected, last_counted, came_leaving_as, came_leaving, came_by, came, freed_of, has, gone, waits_away, given_by, given, tests_firm, requests_missing, due, made_due, still_settling, is_over, is_dead, tick_on, tick_by, decided, is_decided, tick_waiting, tick, logged_out, logged_out_by, ordered, ordered_by, ordered_day, resets}
+use Rattle.fix_sessions.specs.Steps.{came_as, came_leaving_as, came_leaving, came_by, came, freed_of, has, gone, given_by, given, tick_on, tick_by, decided, is_decided, tick_waiting, tick, logged_out, logged_out_by, ordered, ordered_day, resets}
 use Rattle.fix_sessions.specs.declared.state.TheConstants.{LAST_NUMBER, LOGOUT_WAIT}
 use Rattle.fix_sessions.specs.declared.state.Clock.{Clock}
-use Rattle.fix_sessions.specs.declared.state.Day.{Day}
 use Rattle.fix_sessions.specs.declared.state.Line.{Line}
-use Rattle.fix_sessions.specs.declared.state.Live.{Live}
 use Rattle.fix_sessions.specs.declared.state.Phase.{Phase}
 use Rattle.fix_sessions.specs.declared.state.Phase.TheVariants as phase
 use Rattle.fix_sessions.specs.declared.state.Session.{Session}
 use Rattle.fix_sessions.specs.declared.state.Waiting.{Waiting}
 use Rattle.fix_sessions.specs.declared.messages.Heard.{Heard}
 use Rattle.fix_sessions.specs.declared.messages.Heard.TheVariants as heard
-use Rattle.fix_sessions.specs.declared.messages.Incoming.{Incoming}
-use Rattle.fix_sessions.specs.declared.messages.Origin.{Origin}
-use Rattle.fix_sessions.specs.declared.messages.Kind.{Kind}
-use Rattle.fix_sessions.specs.declared.messages.Kind.TheVariants as kind
-use Rattle.fix_sessions.specs.declared.messages.Reading.{Reading}
-use Rattle.fix_sessions.specs.declared.messages.Reading.TheVariants as reading
-use Rattle.fix_sessions.specs.declared.messages.Terms.{Terms}
-use Rattle.fix_sessions.specs.declared.messages.TestId.{TestId}
-use Rattle.fix_sessions.specs.declared.messages.TestId.TheVariants as test_id
-use Rattle.fix_sessions.specs.declared.requests.Asked.{Asked}
-use Rattle.fix_sessions.specs.declared.requests.Asked.TheVariants as asked
 use Rattle.fix_sessions.specs.declared.orders.Order.{Order}
 use Rattle.fix_sessions.specs.declared.orders.Order.TheVariants as order
 use Rattle.fix_sessions.specs.declared.texts.Names.{Names}
-use Rattle.fix_sessions.specs.declared.turns.Fault.{Fault}
-use Rattle.fix_sessions.specs.declared.turns.Notice.{Notice}
-use Rattle.fix_sessions.specs.declared.turns.Notice.TheVariants as notice
-use Rattle.fix_sessions.specs.declared.turns.Said.{Said}
 use Rattle.fix_sessions.specs.declared.turns.Stored.{Stored}
 use Rattle.fix_sessions.specs.declared.turns.Turn.{Turn}
-use Rattle.fix_sessions.specs.declared.turns.Way.TheVariants as way
 use Rattle.fix_sessions.specs.declared.turns.Why.{Why}
 use Rattle.fix_sessions.specs.declared.turns.Why.TheVariants as why
-use Rattle.fix_sessions.specs.declared.turns.Word.{Word}
 use Rattle.fix_sessions.specs.declared.turns.Word.TheVariants as word
-use Rattle.session_laws.proofs.TurnRows.{Does, IsOf, came_as_does, parts_does}
-use Rattle.session_laws.proofs.TurnLogons.{First, Nothing, first_by_first, first_cases}
+use Rattle.session_laws.proofs.TurnOutcomes.{Does, IsOf, parts_does}
+use Rattle.session_laws.proofs.TurnRows.{came_as_does}
+use Rattle.session_laws.proofs.TurnLogons.{first_by_first, first_cases}
 use Rattle.session_laws.proofs.TurnSent.{given_on_does, hands_on_does, tick_on_does}
-use Rattle.session_laws.proofs.TakenRows.{Takes, Turns, Ups, live_turns}
-use Rattle.session_laws.proofs.TakenLogons.{first_up}
 
 -- What leaves in a turn leaves on the connection that had the session, or the event is a Logon; and
 -- who has the session then had it, or the event is its Logon.

@@ -1,12 +1,12 @@
 -- What a session is once its connections are gone, and what a start gives again.
-use Rattle.std.proofs.Common.{◌≡◌, ℕ, Bool, true, false, ◌==◌, ◌||◌, ◌&&◌, not, nat_lt, List, Option, Some, None, ap, refl, sym, ◌∙◌, if◌then◌else◌}
+use Rattle.std.proofs.Common.{◌≡◌, ℕ, Bool, true, false, ◌||◌, ◌&&◌, not, nat_lt, List, Option, Some, None, ap, refl, sym, ◌∙◌, if◌then◌else◌}
 use Rattle.std.proofs.Common.{eq-eqb}
 use Rattle.std.proofs.lemmas.Bool.{false≢true}
 use Rattle.fix_fields.specs.Frame.{Field}
 use Rattle.fix_sessions.specs.Logons.{without}
 use Rattle.fix_sessions.specs.Outcomes.{are_bounded, free, is_clear, is_spent, live}
 use Rattle.fix_sessions.specs.Sending.{given_on, is_reject, keeps_one}
-use Rattle.fix_sessions.specs.Steps.{freed_of, given, given_by, gone, has}
+use Rattle.fix_sessions.specs.Steps.{given, given_by, gone, has}
 use Rattle.fix_sessions.specs.declared.state.Day.{Day}
 use Rattle.fix_sessions.specs.declared.state.Live.{Live}
 use Rattle.fix_sessions.specs.declared.state.Phase.{Phase}
@@ -16,10 +16,9 @@ use Rattle.fix_sessions.specs.declared.state.Waiting.{Waiting}
 use Rattle.fix_sessions.specs.declared.state.TheConstants.{LAST_NUMBER}
 use Rattle.fix_sessions.specs.declared.texts.Names.{Names}
 use Rattle.fix_sessions.specs.declared.turns.Turn.{Turn}
-use Rattle.fix_sessions.specs.declared.turns.Word.TheVariants as word
 use Rattle.session_laws.proofs.Choices.{choice}
 use Rattle.session_laws.specs.Days.{Event, turns}
-use Rattle.session_laws.specs.Kept.{Entry, entered}
+use Rattle.session_laws.specs.Kept.{entered}
 use Rattle.session_laws.specs.Restarts.{restarted}
 
 -- The connection that has the session is gone.

@@ -1,26 +1,13 @@
 -- Each message once: what a turn does to the expected number, and what it gives the venue.
-use Rattle.std.proofs.Common.{◌≡◌, ℕ, ◌+◌, ◌-◌, ◌<◌, ◌≤◌, Bool, true, false, ◌==◌, ◌&&◌, ◌||◌, not, nat_lt, nat_le, List, [], ◌∷◌, ◌++◌, ◌⊎◌, inl, inr, Option, Some, None, refl, sym, ap, subst, ◌∙◌, arith, if◌then◌else◌}
-use Rattle.std.proofs.lemmas.Bool.{false≢true}
+use Rattle.std.proofs.Common.{◌≡◌, ℕ, ◌+◌, ◌≤◌, true, false, ◌==◌, ◌&&◌, ◌||◌, not, nat_lt, List, ◌⊎◌, inl, inr, Option, Some, None, refl, ◌∙◌, arith}
 use Rattle.std.proofs.lemmas.Bool.Decides.{nat_tests}
-use Rattle.fix_fields.specs.Frame.{Field}
-use Rattle.fix_sessions.specs.Heard.{heard_of, logon_of, is_logout}
-use Rattle.fix_sessions.specs.Outcomes.{stays, disconnects, says, answers, rejects_now, rejects, parts, leaves, logs_out, reject_and_logout, rejects_and_logs_out, reject_of, counted, counted_if, moved_to, is_clear, may_log_out, live, free, holder, is_spent, quiet, ended}
-use Rattle.fix_sessions.specs.Logons.{refuses, refused, refusal_day, is_safe, too_low, accepts, accepted_day, answer_number, expected_by, has_gap, is_ahead, may_reset, judged_ahead, judged_number, judged_reset, judged, judged_by, waits_for, first_by, came_first, value_or_zero, is_heartbeat, is_in_time, is_off, is_today, without}
-use Rattle.fix_sessions.specs.Rows.{heard_at, highest_left, asked_of, requested, requested_as, resets_to, missing_noted, above, is_after_sent, repeated_below, below, is_test_of, tested, tests, fills, takes, by_kind, by_form, by_times, repeated, sent_once, expected_message, by_number, by_names, if_numbered, reset_in, unless_reset, foreign, by_version, came_on, came_long, at}
-use Rattle.fix_sessions.specs.Sending.{is_resending, requests, fill_end, is_answer, is_reject, fills_gap, again_of, fresh_of, hands_on, hands_by, hands, given_on}
-use Rattle.session_laws.specs.Days.{Event, turn, after, is_reset, without_resets, is_order_to_reset}
-use Rattle.session_laws.specs.Days.{Came, Gone, Given, Handed, Tick, Ordered}
-use Rattle.session_laws.specs.Numbers.{Rises, taken, listed}
-use Rattle.fix_sessions.specs.Steps.{came_as, is_expected, last_counted, came_leaving_as, came_leaving, came_by, came, freed_of, has, gone, waits_away, given_by, given, tests_firm, due, made_due, still_settling, is_over, is_dead, tick_on, tick_by, decided, is_decided, tick_waiting, tick, logged_out, logged_out_by, ordered, ordered_by, ordered_day}
-use Rattle.fix_sessions.specs.declared.state.TheConstants.{LOGOUT_WAIT}
+use Rattle.fix_sessions.specs.Outcomes.{stays, disconnects, says, answers, rejects_now, rejects, parts, leaves, logs_out, reject_and_logout, rejects_and_logs_out, reject_of, counted, counted_if, is_clear, may_log_out}
+use Rattle.fix_sessions.specs.Logons.{is_off, is_today}
+use Rattle.fix_sessions.specs.Rows.{heard_at, highest_left, asked_of, requested, requested_as, resets_to, missing_noted, above, is_after_sent, repeated_below, below, is_test_of, tested, tests, fills, by_kind, by_form, by_times, repeated, sent_once, expected_message, by_number, by_names, if_numbered, reset_in, unless_reset, by_version, at}
+use Rattle.fix_sessions.specs.Steps.{came_as}
 use Rattle.fix_sessions.specs.declared.state.Clock.{Clock}
 use Rattle.fix_sessions.specs.declared.state.Day.{Day}
-use Rattle.fix_sessions.specs.declared.state.Line.{Line}
 use Rattle.fix_sessions.specs.declared.state.Live.{Live}
-use Rattle.fix_sessions.specs.declared.state.Phase.{Phase}
-use Rattle.fix_sessions.specs.declared.state.Phase.TheVariants as phase
-use Rattle.fix_sessions.specs.declared.state.Session.{Session}
-use Rattle.fix_sessions.specs.declared.state.Waiting.{Waiting}
 use Rattle.fix_sessions.specs.declared.messages.Heard.{Heard}
 use Rattle.fix_sessions.specs.declared.messages.Heard.TheVariants as heard
 use Rattle.fix_sessions.specs.declared.messages.Incoming.{Incoming}
@@ -29,18 +16,11 @@ use Rattle.fix_sessions.specs.declared.messages.Kind.{Kind}
 use Rattle.fix_sessions.specs.declared.messages.Kind.TheVariants as kind
 use Rattle.fix_sessions.specs.declared.messages.Reading.{Reading}
 use Rattle.fix_sessions.specs.declared.messages.Reading.TheVariants as reading
-use Rattle.fix_sessions.specs.declared.messages.Terms.{Terms}
 use Rattle.fix_sessions.specs.declared.messages.TestId.{TestId}
 use Rattle.fix_sessions.specs.declared.messages.TestId.TheVariants as test_id
 use Rattle.fix_sessions.specs.declared.requests.Asked.{Asked}
 use Rattle.fix_sessions.specs.declared.requests.Asked.TheVariants as asked
-use Rattle.fix_sessions.specs.declared.orders.Order.{Order}
-use Rattle.fix_sessions.specs.declared.orders.Order.TheVariants as order
-use Rattle.fix_sessions.specs.declared.texts.Names.{Names}
 use Rattle.fix_sessions.specs.declared.turns.Fault.{Fault}
-use Rattle.fix_sessions.specs.declared.turns.Notice.{Notice}
-use Rattle.fix_sessions.specs.declared.turns.Notice.TheVariants as notice
-use Rattle.fix_sessions.specs.declared.turns.Stored.{Stored}
 use Rattle.fix_sessions.specs.declared.turns.Turn.{Turn}
 use Rattle.fix_sessions.specs.declared.turns.Why.{Why}
 use Rattle.fix_sessions.specs.declared.turns.Why.TheVariants as why

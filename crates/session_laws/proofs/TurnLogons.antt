@@ -1,59 +1,28 @@
 -- What the first message of a connection does: whose the session is then, which numbers it uses, and
 -- what leaves.
-use Rattle.std.proofs.Common.{◌≡◌, ℕ, ◌+◌, ◌-◌, ◌<◌, ◌≤◌, Bool, true, false, ◌==◌, ◌&&◌, ◌||◌, not, nat_lt, nat_le, List, [], ◌∷◌, ◌++◌, ◌⊎◌, inl, inr, Option, Some, None, is_some, refl, sym, ap, subst, ◌∙◌, arith, if◌then◌else◌}
-use Rattle.std.proofs.Common.{eq-eqb}
-use Rattle.std.proofs.lemmas.Bool.{and_parts, false≢true}
+use Rattle.std.proofs.Common.{◌≡◌, ℕ, ◌+◌, ◌≤◌, Bool, true, false, ◌==◌, ◌&&◌, not, nat_lt, ◌⊎◌, inl, inr, Option, Some, None, is_some, refl, sym, ◌∙◌, arith}
 use Rattle.std.proofs.lemmas.Bool.Decides.{nat_tests}
-use Rattle.fix_fields.specs.Frame.{Field}
-use Rattle.fix_sessions.specs.Heard.{heard_of, logon_of, is_logout}
-use Rattle.fix_sessions.specs.Outcomes.{stays, disconnects, says, answers, rejects_now, rejects, parts, leaves, logs_out, reject_and_logout, rejects_and_logs_out, reject_of, counted, counted_if, moved_to, is_clear, may_log_out, live, free, holder, is_free, is_spent, are_bounded, quiet, ended}
-use Rattle.fix_sessions.specs.Logons.{refuses, refused, refusal_day, is_safe, too_low, accepts, accepted_day, accepted_line, answer_number, has_one, expected_by, has_gap, is_ahead, may_reset, judged_ahead, judged_number, judged_reset, judged, judged_by, waits_for, probed, first_by, came_first, value_or_zero, is_heartbeat, is_in_time, is_off, is_today, without}
-use Rattle.fix_sessions.specs.Rows.{heard_at, highest_left, asked_of, requested, requested_as, resets_to, missing_noted, above, is_after_sent, repeated_below, below, is_test_of, settled_by, tested, tests, fills, takes, by_kind, by_form, by_times, repeated, sent_once, expected_message, by_number, by_names, if_numbered, reset_in, unless_reset, foreign, by_version, came_on, came_long, at, again_from}
-use Rattle.fix_sessions.specs.Sending.{is_resending, requests, fill_end, before_kept, is_answer, is_reject, fills_gap, again_of, again_to, fresh_of, passed, hands_on, hands_by, hands, given_on, keeps_one}
-use Rattle.session_laws.specs.Days.{Event, turn, after, is_reset, without_resets, is_order_to_reset}
-use Rattle.session_laws.specs.Days.{Came, Gone, Given, Handed, Tick, Ordered}
-use Rattle.session_laws.specs.Kept.{Entry, entry_of, entered, Within}
-use Rattle.session_laws.specs.Logons.{sends, leaves_of, is_leaving, IsLogon, IsLoggedOn, CameOn, keeps}
-use Rattle.session_laws.specs.Sent.{is_new, is_own_word, new_of, news, all_news, front_by, front}
+use Rattle.fix_sessions.specs.Outcomes.{quiet, ended}
+use Rattle.fix_sessions.specs.Logons.{refuses, refused, refusal_day, is_safe, too_low, accepts, accepted_day, answer_number, has_one, expected_by, is_ahead, may_reset, judged_ahead, judged_number, judged_reset, judged, judged_by, waits_for, probed, first_by, value_or_zero, is_heartbeat, is_in_time, without}
+use Rattle.fix_sessions.specs.Rows.{below}
+use Rattle.session_laws.specs.Kept.{entered, Within}
+use Rattle.session_laws.specs.Logons.{sends}
+use Rattle.session_laws.specs.Sent.{news, front_by, front}
 use Rattle.session_laws.proofs.Choices.{choice}
-use Rattle.fix_sessions.specs.Steps.{came_as, is_expected, last_counted, came_leaving_as, came_leaving, came_by, came, freed_of, has, gone, waits_away, given_by, given, tests_firm, requests_missing, due, made_due, still_settling, is_over, is_dead, tick_on, tick_by, decided, is_decided, tick_waiting, tick, logged_out, logged_out_by, ordered, ordered_by, ordered_day, resets}
-use Rattle.fix_sessions.specs.declared.state.TheConstants.{LOGOUT_WAIT}
+use Rattle.fix_sessions.specs.Steps.{has}
 use Rattle.fix_sessions.specs.declared.state.Clock.{Clock}
 use Rattle.fix_sessions.specs.declared.state.Day.{Day}
-use Rattle.fix_sessions.specs.declared.state.Line.{Line}
-use Rattle.fix_sessions.specs.declared.state.Live.{Live}
 use Rattle.fix_sessions.specs.declared.state.Phase.{Phase}
 use Rattle.fix_sessions.specs.declared.state.Phase.TheVariants as phase
 use Rattle.fix_sessions.specs.declared.state.Session.{Session}
 use Rattle.fix_sessions.specs.declared.state.Waiting.{Waiting}
-use Rattle.fix_sessions.specs.declared.messages.Heard.{Heard}
-use Rattle.fix_sessions.specs.declared.messages.Heard.TheVariants as heard
-use Rattle.fix_sessions.specs.declared.messages.Incoming.{Incoming}
-use Rattle.fix_sessions.specs.declared.messages.Origin.{Origin}
-use Rattle.fix_sessions.specs.declared.messages.Kind.{Kind}
-use Rattle.fix_sessions.specs.declared.messages.Kind.TheVariants as kind
-use Rattle.fix_sessions.specs.declared.messages.Reading.{Reading}
-use Rattle.fix_sessions.specs.declared.messages.Reading.TheVariants as reading
 use Rattle.fix_sessions.specs.declared.messages.Terms.{Terms}
-use Rattle.fix_sessions.specs.declared.messages.TestId.{TestId}
-use Rattle.fix_sessions.specs.declared.messages.TestId.TheVariants as test_id
-use Rattle.fix_sessions.specs.declared.requests.Asked.{Asked}
-use Rattle.fix_sessions.specs.declared.requests.Asked.TheVariants as asked
-use Rattle.fix_sessions.specs.declared.orders.Order.{Order}
-use Rattle.fix_sessions.specs.declared.orders.Order.TheVariants as order
-use Rattle.fix_sessions.specs.declared.texts.Names.{Names}
-use Rattle.fix_sessions.specs.declared.turns.Fault.{Fault}
 use Rattle.fix_sessions.specs.declared.turns.Notice.{Notice}
 use Rattle.fix_sessions.specs.declared.turns.Notice.TheVariants as notice
-use Rattle.fix_sessions.specs.declared.turns.Said.{Said}
-use Rattle.fix_sessions.specs.declared.turns.Stored.{Stored}
 use Rattle.fix_sessions.specs.declared.turns.Turn.{Turn}
-use Rattle.fix_sessions.specs.declared.turns.Way.TheVariants as way
 use Rattle.fix_sessions.specs.declared.turns.Why.{Why}
 use Rattle.fix_sessions.specs.declared.turns.Why.TheVariants as why
-use Rattle.fix_sessions.specs.declared.turns.Word.{Word}
-use Rattle.fix_sessions.specs.declared.turns.Word.TheVariants as word
-use Rattle.session_laws.proofs.TurnRows.{no_news}
+use Rattle.session_laws.proofs.TurnOutcomes.{OwnTurn}
 
 -- The next number goes on, where the session stays whose it is.
 pub front_up : (low high : ℕ) (p : Phase) → low ≤ high → front_by low p ≤ front_by high p
@@ -76,6 +45,7 @@ pub record First (s : Session) (connection : ℕ) (t : Turn) : Type 0 where
   pub kept : Within s.day.next t.session.day.next (entered t.first)
   pub new : front s ≤ s.day.next → Within (front s) (front t.session) (news t)
   pub sound : front s ≤ s.day.next → front t.session ≤ t.session.day.next
+  pub own : OwnTurn t
 
 -- nothing happens, or the connection ends
 pub quiet_first : (s : Session) (connection : ℕ) → First s connection (quiet s connection)
@@ -86,6 +56,7 @@ quiet_first s connection = record {
   kept = omega arith;
   new = λ h. omega arith;
   sound = λ h. h;
+  own = (tt, tt);
 }
 
 pub ended_first : (s : Session) (connection : ℕ) (told : Option Notice)
@@ -97,6 +68,7 @@ ended_first s connection told = record {
   kept = omega arith;
   new = λ h. omega arith;
   sound = λ h. h;
+  own = (tt, tt);
 }
 
 -- a Logout that refuses
@@ -118,6 +90,7 @@ refuses_first s connection terms y told =
       kept = refusal_up s.day;
       new = λ h. front_up s.day.next (refusal_day s.day).next s.phase (refusal_up s.day);
       sound = λ h. front_below s.day.next (refusal_day s.day).next s.phase (refusal_up s.day) h;
+      own = (refl, tt);
     })
     (λ h. ended_first s connection (Some told))
 
@@ -131,7 +104,7 @@ too_low_first s connection terms =
     let low = why.TooLow s.day.expected in
     choice (First s connection) (nat_lt s.day.last_logon (value_or_zero terms.sent)) _ _
     (λ h. let r = refuses_first (record s { day = record s.day { is_locked = true } }) connection terms low notice.LostStore in
-    record { on = r.on; whose = r.whose; most = r.most; kept = r.kept; new = r.new; sound = r.sound })
+    record { on = r.on; whose = r.whose; most = r.most; kept = r.kept; new = r.new; sound = r.sound; own = r.own })
     (λ h. refused_first s connection terms low)
 
 accepted_up : (d : Day) (terms : Terms) → d.next ≤ (accepted_day d terms).next
@@ -154,6 +127,7 @@ accepts_first s connection now terms = record {
   kept = accepted_up s.day terms;
   new = λ h. (let up = accepted_up s.day terms in omega (arith, h, up));
   sound = λ h. omega arith;
+  own = (refl, tt);
 }
 
 ahead_first : (s : Session) (connection now : ℕ) (terms : Terms)
@@ -208,6 +182,7 @@ waits_first s connection now None = record {
   kept = omega arith;
   new = λ h. (let same = probed_front s.day.next s.phase in omega (arith, same));
   sound = λ h. (let same = probed_front s.day.next s.phase in omega (arith, same, h));
+  own = (tt, tt);
 }
 waits_first s connection now (Some waiting) =
     choice (First s connection) (waiting.connection == connection) _ _
@@ -217,7 +192,7 @@ judged_by_first : (s : Session) (connection : ℕ) (clock : Clock) (terms : Term
     → First s connection (judged_by s connection clock terms p)
 judged_by_first s connection clock terms phase.Away =
     let r = judged_first (record s { waiting = without connection s.waiting }) connection clock terms in
-    record { on = r.on; whose = r.whose; most = r.most; kept = r.kept; new = r.new; sound = r.sound }
+    record { on = r.on; whose = r.whose; most = r.most; kept = r.kept; new = r.new; sound = r.sound; own = r.own }
 judged_by_first s connection clock terms (phase.On line) = waits_first s connection clock.moment s.waiting
 judged_by_first s connection clock terms (phase.Leaving last since) = waits_first s connection clock.moment s.waiting
 

@@ -1,31 +1,18 @@
--- What a turn does by which the firm is logged on: whose the session stays, which numbers it uses, and
--- what leaves.
-use Rattle.std.proofs.Common.{◌≡◌, ℕ, ◌+◌, ◌-◌, ◌<◌, ◌≤◌, Bool, true, false, ◌==◌, ◌&&◌, ◌||◌, not, nat_lt, nat_le, List, [], ◌∷◌, ◌++◌, ◌⊎◌, inl, inr, Option, Some, None, is_some, refl, sym, ap, subst, ◌∙◌, arith, if◌then◌else◌}
-use Rattle.std.proofs.Common.{eq-eqb}
-use Rattle.std.proofs.lemmas.Bool.{and_parts, false≢true}
-use Rattle.std.proofs.lemmas.Bool.Decides.{nat_tests}
-use Rattle.fix_fields.specs.Frame.{Field}
-use Rattle.fix_sessions.specs.Heard.{heard_of, logon_of, is_logout}
-use Rattle.fix_sessions.specs.Outcomes.{stays, disconnects, says, answers, rejects_now, rejects, parts, leaves, logs_out, reject_and_logout, rejects_and_logs_out, reject_of, counted, counted_if, moved_to, is_clear, may_log_out, live, free, holder, is_free, is_spent, are_bounded, quiet, ended}
-use Rattle.fix_sessions.specs.Logons.{refuses, refused, refusal_day, is_safe, too_low, accepts, accepted_day, accepted_line, answer_number, has_one, expected_by, has_gap, is_ahead, may_reset, judged_ahead, judged_number, judged_reset, judged, judged_by, waits_for, probed, first_by, came_first, value_or_zero, is_heartbeat, is_in_time, is_off, is_today, without}
-use Rattle.fix_sessions.specs.Rows.{heard_at, highest_left, asked_of, requested, requested_as, resets_to, missing_noted, above, is_after_sent, repeated_below, below, is_test_of, settled_by, tested, tests, fills, takes, by_kind, by_form, by_times, repeated, sent_once, expected_message, by_number, by_names, if_numbered, reset_in, unless_reset, foreign, by_version, came_on, came_long, at, again_from}
-use Rattle.fix_sessions.specs.Sending.{is_resending, requests, fill_end, before_kept, is_answer, is_reject, fills_gap, again_of, again_to, fresh_of, passed, hands_on, hands_by, hands, given_on, keeps_one}
-use Rattle.session_laws.specs.Days.{Event, turn, after, is_reset, without_resets, is_order_to_reset}
-use Rattle.session_laws.specs.Days.{Came, Gone, Given, Handed, Tick, Ordered}
-use Rattle.session_laws.specs.Kept.{Entry, entry_of, entered, Within}
-use Rattle.session_laws.specs.Logons.{sends, leaves_of, is_leaving, IsLogon, IsLoggedOn, CameOn, keeps}
-use Rattle.session_laws.specs.Sent.{is_new, is_own_word, new_of, news, all_news, front_by, front}
+-- The same of each row of the tables.
+use Rattle.std.proofs.Common.{◌≡◌, ℕ, ◌+◌, ◌≤◌, Bool, true, false, ◌==◌, ◌&&◌, ◌||◌, not, nat_lt, nat_le, List, [], ◌∷◌, ◌++◌, Option, Some, None, refl, sym, subst, arith, if◌then◌else◌}
+use Rattle.std.proofs.lemmas.Bool.{false≢true}
+use Rattle.fix_sessions.specs.Outcomes.{stays, disconnects, says, answers, rejects_now, rejects, parts, leaves, logs_out, reject_and_logout, rejects_and_logs_out, reject_of, counted, counted_if, moved_to, is_clear, may_log_out}
+use Rattle.fix_sessions.specs.Logons.{is_off, is_today}
+use Rattle.fix_sessions.specs.Rows.{heard_at, highest_left, asked_of, requested, requested_as, resets_to, missing_noted, above, is_after_sent, repeated_below, below, is_test_of, settled_by, tested, tests, fills, takes, by_kind, by_form, by_times, repeated, sent_once, expected_message, by_number, by_names, if_numbered, reset_in, unless_reset, by_version, at, again_from}
+use Rattle.session_laws.specs.Kept.{Entry, entered, Within}
+use Rattle.session_laws.specs.Sent.{is_new, is_own_word, news, front}
 use Rattle.session_laws.proofs.Choices.{choice}
-use Rattle.fix_sessions.specs.Steps.{came_as, is_expected, last_counted, came_leaving_as, came_leaving, came_by, came, freed_of, has, gone, waits_away, given_by, given, tests_firm, requests_missing, due, made_due, still_settling, is_over, is_dead, tick_on, tick_by, decided, is_decided, tick_waiting, tick, logged_out, logged_out_by, ordered, ordered_by, ordered_day, resets}
-use Rattle.fix_sessions.specs.declared.state.TheConstants.{LOGOUT_WAIT}
+use Rattle.fix_sessions.specs.Steps.{came_as, resets}
 use Rattle.fix_sessions.specs.declared.state.Clock.{Clock}
-use Rattle.fix_sessions.specs.declared.state.Day.{Day}
 use Rattle.fix_sessions.specs.declared.state.Line.{Line}
 use Rattle.fix_sessions.specs.declared.state.Live.{Live}
 use Rattle.fix_sessions.specs.declared.state.Phase.{Phase}
 use Rattle.fix_sessions.specs.declared.state.Phase.TheVariants as phase
-use Rattle.fix_sessions.specs.declared.state.Session.{Session}
-use Rattle.fix_sessions.specs.declared.state.Waiting.{Waiting}
 use Rattle.fix_sessions.specs.declared.messages.Heard.{Heard}
 use Rattle.fix_sessions.specs.declared.messages.Heard.TheVariants as heard
 use Rattle.fix_sessions.specs.declared.messages.Incoming.{Incoming}
@@ -34,236 +21,20 @@ use Rattle.fix_sessions.specs.declared.messages.Kind.{Kind}
 use Rattle.fix_sessions.specs.declared.messages.Kind.TheVariants as kind
 use Rattle.fix_sessions.specs.declared.messages.Reading.{Reading}
 use Rattle.fix_sessions.specs.declared.messages.Reading.TheVariants as reading
-use Rattle.fix_sessions.specs.declared.messages.Terms.{Terms}
 use Rattle.fix_sessions.specs.declared.messages.TestId.{TestId}
 use Rattle.fix_sessions.specs.declared.messages.TestId.TheVariants as test_id
 use Rattle.fix_sessions.specs.declared.requests.Asked.{Asked}
 use Rattle.fix_sessions.specs.declared.requests.Asked.TheVariants as asked
-use Rattle.fix_sessions.specs.declared.orders.Order.{Order}
-use Rattle.fix_sessions.specs.declared.orders.Order.TheVariants as order
-use Rattle.fix_sessions.specs.declared.texts.Names.{Names}
 use Rattle.fix_sessions.specs.declared.turns.Fault.{Fault}
 use Rattle.fix_sessions.specs.declared.turns.Notice.{Notice}
 use Rattle.fix_sessions.specs.declared.turns.Notice.TheVariants as notice
 use Rattle.fix_sessions.specs.declared.turns.Said.{Said}
-use Rattle.fix_sessions.specs.declared.turns.Stored.{Stored}
 use Rattle.fix_sessions.specs.declared.turns.Turn.{Turn}
-use Rattle.fix_sessions.specs.declared.turns.Way.TheVariants as way
 use Rattle.fix_sessions.specs.declared.turns.Why.{Why}
 use Rattle.fix_sessions.specs.declared.turns.Why.TheVariants as why
 use Rattle.fix_sessions.specs.declared.turns.Word.{Word}
 use Rattle.fix_sessions.specs.declared.turns.Word.TheVariants as word
-
--- whose a session may be: this connection's, or no one's
-abbrev pub IsOf : ℕ → Phase → Type 0
-IsOf connection phase.Away = Unit {0}
-IsOf connection (phase.On line) = line.connection ≡ connection
-IsOf connection (phase.Leaving last since) = last ≡ connection
-
--- a word of the session's own
-abbrev pub IsOwn : Word → Type 0
-IsOwn w = is_own_word w ≡ true
-
-abbrev pub OwnSaid : Option Said → Type 0
-OwnSaid None = Unit {0}
-OwnSaid (Some said) = IsOwn said.word
-
-abbrev pub OwnTurn : Turn → Type 0
-OwnTurn t = OwnSaid t.first × OwnSaid t.second
-
--- A turn of this connection, where the next number and the first one that has not left are these.
-pub record Does (is_own : Bool) (connection next fresh : ℕ) (t : Turn) : Type 0 where
-  pub on : t.connection ≡ connection
-  pub whose : IsOf connection t.session.phase
-  pub most : t.session.day.next ≤ next + 2
-  pub kept : Within next t.session.day.next (entered t.first)
-  pub new : fresh ≤ next → Within fresh (front t.session) (news t)
-  pub sound : fresh ≤ next → front t.session ≤ t.session.day.next
-  pub own : is_own ≡ true → OwnTurn t
-
--- one that says nothing but what is the session's own
-abbrev pub DoesOf : Live → Turn → Type 0
-DoesOf a t = Does true a.line.connection a.day.next a.line.fresh t
-
--- or any
-abbrev pub AnyOf : Live → Turn → Type 0
-AnyOf a t = Does false a.line.connection a.day.next a.line.fresh t
-
-pub any_does : (a : Live) (t : Turn) → DoesOf a t → AnyOf a t
-any_does a t does = record {
-  on = does.on;
-  whose = does.whose;
-  most = does.most;
-  kept = does.kept;
-  new = does.new;
-  sound = does.sound;
-  own = λ o. absurd (false≢true o);
-}
-
--- a word of the session's own is not new
-not_new : (w : Word) → IsOwn w → is_new w ≡ false
-not_new (word.Logon seconds resets expects) own = refl
-not_new word.Heartbeat own = refl
-not_new (word.Answer id) own = refl
-not_new (word.TestRequest id) own = refl
-not_new (word.ResendRequest first) own = refl
-not_new (word.Reject number kind fault) own = refl
-not_new (word.Fill next) own = refl
-not_new (word.Logout why) own = refl
-not_new (word.Foreign version) own = refl
-not_new (word.Kept body is_copy) own = absurd (false≢true own)
-not_new (word.Again body is_copy first) own = refl
-
-pub no_news : (number : ℕ) (w : Word) (low high : ℕ) → is_new w ≡ false → low ≤ high
-    → (e : Entry) → Within low high ((if is_new w then e ∷ [] else []) ++ [])
-no_news number w low high own less e =
-    subst (λ b. Within low high ((if b then e ∷ [] else []) ++ [])) (sym own) less
-
--- Outcomes.
-
-pub stays_does : (a : Live) → DoesOf a (stays a)
-stays_does a = record {
-  on = refl;
-  whose = refl;
-  most = omega arith;
-  kept = omega arith;
-  new = λ h. omega arith;
-  sound = λ h. h;
-  own = λ o. (tt, tt);
-}
-
-pub disconnects_does : (a : Live) → DoesOf a (disconnects a)
-disconnects_does a = record {
-  on = refl;
-  whose = tt;
-  most = omega arith;
-  kept = omega arith;
-  new = λ h. h;
-  sound = λ h. omega arith;
-  own = λ o. (tt, tt);
-}
-
-pub says_does : (a : Live) (now : ℕ) (w : Word) → IsOwn w → DoesOf a (says a now w)
-says_does a now w own = record {
-  on = refl;
-  whose = refl;
-  most = omega arith;
-  kept = omega arith;
-  new = λ h. no_news a.day.next w a.line.fresh (a.day.next + 1) (not_new w own) (omega (arith, h)) _;
-  sound = λ h. omega arith;
-  own = λ o. (own, tt);
-}
-
-answers_does : (a : Live) (now : ℕ) (w : Word) → IsOwn w → DoesOf a (answers a now w)
-answers_does a now w own =
-    choice (DoesOf a) (is_clear a) _ _ (λ h. says_does a now w own)
-    (λ h. record {
-      on = refl;
-      whose = refl;
-      most = omega arith;
-      kept = (omega arith, omega arith);
-      new = λ h. omega arith;
-      sound = λ h. omega (arith, h);
-      own = λ o. (own, tt);
-    })
-
-rejects_now_does : (a : Live) (now : ℕ) (w : Word) → IsOwn w → DoesOf a (rejects_now a now w)
-rejects_now_does a now w own =
-    choice (DoesOf a) (is_clear a && a.line.is_settled) _ _
-    (λ h. record {
-      on = refl;
-      whose = refl;
-      most = omega arith;
-      kept = (omega arith, omega arith);
-      new = λ h. no_news a.day.next w a.line.fresh (a.day.next + 1) (not_new w own) (omega (arith, h)) _;
-      sound = λ h. omega arith;
-      own = λ o. (own, tt);
-    })
-    (λ h. record {
-      on = refl;
-      whose = refl;
-      most = omega arith;
-      kept = (omega arith, omega arith);
-      new = λ h. omega arith;
-      sound = λ h. omega (arith, h);
-      own = λ o. (own, tt);
-    })
-
-pub parts_does : (a : Live) (now : ℕ) (w : Word) → IsOwn w → DoesOf a (parts a now w)
-parts_does a now w own =
-    choice (DoesOf a) (may_log_out a) _ _
-    (λ h. record {
-      on = refl;
-      whose = refl;
-      most = omega arith;
-      kept = omega arith;
-      new = λ h. no_news a.day.next w a.line.fresh (a.day.next + 1) (not_new w own) (omega (arith, h)) _;
-      sound = λ h. omega arith;
-      own = λ o. (own, tt);
-    })
-    (λ h. disconnects_does a)
-
-pub leaves_does : (a : Live) (y : Why) → DoesOf a (leaves a y)
-leaves_does a y =
-    choice (DoesOf a) (may_log_out a) _ _
-    (λ h. record {
-      on = refl;
-      whose = tt;
-      most = omega arith;
-      kept = omega arith;
-      new = λ h. omega (arith, h);
-      sound = λ h. omega arith;
-      own = λ o. (refl, tt);
-    })
-    (λ h. disconnects_does a)
-
-both_does : (a : Live) (now : ℕ) (w : Word) (y : Why) → IsOwn w
-    → DoesOf a (reject_and_logout a now w y)
-both_does a now w y own =
-    choice (DoesOf a) (not a.line.is_settled) _ _ (λ h. rejects_now_does a now w own)
-    (λ h. choice (DoesOf a) (is_clear a) _ _
-    (λ h. record {
-      on = refl;
-      whose = refl;
-      most = omega arith;
-      kept = (omega arith, omega arith);
-      new = λ h. no_news a.day.next w a.line.fresh (a.day.next + 1 + 1) (not_new w own) (omega (arith, h)) _;
-      sound = λ h. omega arith;
-      own = λ o. (own, refl);
-    })
-    (λ h. record {
-      on = refl;
-      whose = tt;
-      most = omega arith;
-      kept = (omega arith, omega arith);
-      new = λ h. omega (arith, h);
-      sound = λ h. omega arith;
-      own = λ o. (own, tt);
-    }))
-
--- what is counted changes none of these numbers
-from_counted : (a : Live) (now : ℕ) (number : Option ℕ) (t : Turn)
-    → DoesOf (counted_if a now number) t → DoesOf a t
-from_counted a now None t = λ d. d
-from_counted a now (Some number) t =
-    choice (λ (b : Live). DoesOf b t → DoesOf a t) (number == a.day.expected) _ _ (λ h d. d) (λ h d. d)
-
-rejects_does : (a : Live) (now : ℕ) (m : Origin) (fault : Fault) → DoesOf a (rejects a now m fault)
-rejects_does a now m fault =
-    from_counted a now m.number _ (rejects_now_does (counted_if a now m.number) now (reject_of m fault) refl)
-
-logs_out_does : (a : Live) (now : ℕ) (number : Option ℕ) (w : Word) → IsOwn w
-    → DoesOf a (logs_out a now number w)
-logs_out_does a now number w own =
-    from_counted a now number _ (parts_does (counted_if a now number) now w own)
-
-both_counted_does : (a : Live) (now : ℕ) (m : Origin) (fault : Fault) (y : Why)
-    → DoesOf a (rejects_and_logs_out a now m fault y)
-both_counted_does a now m fault y =
-    from_counted a now m.number _
-    (both_does (counted_if a now m.number) now (reject_of m fault) y refl)
-
--- Rows.
+use Rattle.session_laws.proofs.TurnOutcomes.{DoesOf, stays_does, answers_does, parts_does, leaves_does, from_counted, rejects_does, logs_out_does, both_counted_does}
 
 -- what is asked for changes neither
 asked_does : (a : Live) (first last : ℕ) → DoesOf a (stays (record a { line = again_from a.line first last }))

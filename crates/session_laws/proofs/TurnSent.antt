@@ -1,59 +1,22 @@
 -- What the other events of a firm that is logged on do: the venue gives a message, what is kept is
 -- handed in, time passes.
-use Rattle.std.proofs.Common.{◌≡◌, ℕ, ◌+◌, ◌-◌, ◌<◌, ◌≤◌, Bool, true, false, ◌==◌, ◌&&◌, ◌||◌, not, nat_lt, nat_le, List, [], ◌∷◌, ◌++◌, ◌⊎◌, inl, inr, Option, Some, None, is_some, refl, sym, ap, subst, ◌∙◌, arith, if◌then◌else◌}
-use Rattle.std.proofs.Common.{eq-eqb}
-use Rattle.std.proofs.lemmas.Bool.{and_parts, false≢true}
+use Rattle.std.proofs.Common.{◌≡◌, ℕ, ◌+◌, ◌-◌, ◌<◌, ◌≤◌, Bool, true, false, ◌&&◌, ◌||◌, not, nat_lt, nat_le, List, Option, Some, None, refl, arith}
+use Rattle.std.proofs.lemmas.Bool.{false≢true}
 use Rattle.std.proofs.lemmas.Bool.Decides.{nat_tests}
 use Rattle.fix_fields.specs.Frame.{Field}
-use Rattle.fix_sessions.specs.Heard.{heard_of, logon_of, is_logout}
-use Rattle.fix_sessions.specs.Outcomes.{stays, disconnects, says, answers, rejects_now, rejects, parts, leaves, logs_out, reject_and_logout, rejects_and_logs_out, reject_of, counted, counted_if, moved_to, is_clear, may_log_out, live, free, holder, is_free, is_spent, are_bounded, quiet, ended}
-use Rattle.fix_sessions.specs.Logons.{refuses, refused, refusal_day, is_safe, too_low, accepts, accepted_day, accepted_line, answer_number, has_one, expected_by, has_gap, is_ahead, may_reset, judged_ahead, judged_number, judged_reset, judged, judged_by, waits_for, probed, first_by, came_first, value_or_zero, is_heartbeat, is_in_time, is_off, is_today, without}
-use Rattle.fix_sessions.specs.Rows.{heard_at, highest_left, asked_of, requested, requested_as, resets_to, missing_noted, above, is_after_sent, repeated_below, below, is_test_of, settled_by, tested, tests, fills, takes, by_kind, by_form, by_times, repeated, sent_once, expected_message, by_number, by_names, if_numbered, reset_in, unless_reset, foreign, by_version, came_on, came_long, at, again_from}
-use Rattle.fix_sessions.specs.Sending.{is_resending, requests, fill_end, before_kept, is_answer, is_reject, fills_gap, again_of, again_to, fresh_of, passed, hands_on, hands_by, hands, given_on, keeps_one}
-use Rattle.session_laws.specs.Days.{Event, turn, after, is_reset, without_resets, is_order_to_reset}
-use Rattle.session_laws.specs.Days.{Came, Gone, Given, Handed, Tick, Ordered}
-use Rattle.session_laws.specs.Kept.{Entry, entry_of, entered, Within}
-use Rattle.session_laws.specs.Logons.{sends, leaves_of, is_leaving, IsLogon, IsLoggedOn, CameOn, keeps}
-use Rattle.session_laws.specs.Sent.{is_new, is_own_word, new_of, news, all_news, front_by, front}
+use Rattle.fix_sessions.specs.Outcomes.{stays, is_clear}
+use Rattle.fix_sessions.specs.Sending.{is_resending, requests, fill_end, before_kept, is_answer, is_reject, fills_gap, again_of, again_to, fresh_of, hands_on, given_on}
+use Rattle.session_laws.specs.Sent.{is_new}
 use Rattle.session_laws.proofs.Choices.{choice}
-use Rattle.fix_sessions.specs.Steps.{came_as, is_expected, last_counted, came_leaving_as, came_leaving, came_by, came, freed_of, has, gone, waits_away, given_by, given, tests_firm, requests_missing, due, made_due, still_settling, is_over, is_dead, tick_on, tick_by, decided, is_decided, tick_waiting, tick, logged_out, logged_out_by, ordered, ordered_by, ordered_day, resets}
-use Rattle.fix_sessions.specs.declared.state.TheConstants.{LOGOUT_WAIT}
-use Rattle.fix_sessions.specs.declared.state.Clock.{Clock}
-use Rattle.fix_sessions.specs.declared.state.Day.{Day}
+use Rattle.fix_sessions.specs.Steps.{tests_firm, requests_missing, due, made_due, still_settling, is_over, is_dead, tick_on}
 use Rattle.fix_sessions.specs.declared.state.Line.{Line}
 use Rattle.fix_sessions.specs.declared.state.Live.{Live}
-use Rattle.fix_sessions.specs.declared.state.Phase.{Phase}
-use Rattle.fix_sessions.specs.declared.state.Phase.TheVariants as phase
-use Rattle.fix_sessions.specs.declared.state.Session.{Session}
-use Rattle.fix_sessions.specs.declared.state.Waiting.{Waiting}
-use Rattle.fix_sessions.specs.declared.messages.Heard.{Heard}
-use Rattle.fix_sessions.specs.declared.messages.Heard.TheVariants as heard
-use Rattle.fix_sessions.specs.declared.messages.Incoming.{Incoming}
-use Rattle.fix_sessions.specs.declared.messages.Origin.{Origin}
-use Rattle.fix_sessions.specs.declared.messages.Kind.{Kind}
-use Rattle.fix_sessions.specs.declared.messages.Kind.TheVariants as kind
-use Rattle.fix_sessions.specs.declared.messages.Reading.{Reading}
-use Rattle.fix_sessions.specs.declared.messages.Reading.TheVariants as reading
-use Rattle.fix_sessions.specs.declared.messages.Terms.{Terms}
-use Rattle.fix_sessions.specs.declared.messages.TestId.{TestId}
-use Rattle.fix_sessions.specs.declared.messages.TestId.TheVariants as test_id
-use Rattle.fix_sessions.specs.declared.requests.Asked.{Asked}
-use Rattle.fix_sessions.specs.declared.requests.Asked.TheVariants as asked
-use Rattle.fix_sessions.specs.declared.orders.Order.{Order}
-use Rattle.fix_sessions.specs.declared.orders.Order.TheVariants as order
-use Rattle.fix_sessions.specs.declared.texts.Names.{Names}
-use Rattle.fix_sessions.specs.declared.turns.Fault.{Fault}
-use Rattle.fix_sessions.specs.declared.turns.Notice.{Notice}
-use Rattle.fix_sessions.specs.declared.turns.Notice.TheVariants as notice
-use Rattle.fix_sessions.specs.declared.turns.Said.{Said}
 use Rattle.fix_sessions.specs.declared.turns.Stored.{Stored}
-use Rattle.fix_sessions.specs.declared.turns.Turn.{Turn}
 use Rattle.fix_sessions.specs.declared.turns.Way.TheVariants as way
-use Rattle.fix_sessions.specs.declared.turns.Why.{Why}
 use Rattle.fix_sessions.specs.declared.turns.Why.TheVariants as why
 use Rattle.fix_sessions.specs.declared.turns.Word.{Word}
 use Rattle.fix_sessions.specs.declared.turns.Word.TheVariants as word
-use Rattle.session_laws.proofs.TurnRows.{AnyOf, Does, DoesOf, any_does, disconnects_does, leaves_does, no_news, parts_does, says_does, stays_does}
+use Rattle.session_laws.proofs.TurnOutcomes.{AnyOf, DoesOf, any_does, disconnects_does, leaves_does, no_news, says_does, stays_does}
 
 -- The venue gives a message.
 

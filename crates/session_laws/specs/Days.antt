@@ -1,6 +1,6 @@
 -- A day of a session: what comes to it, one event after the other, and what each does. The laws speak
 -- of this.
-use Rattle.std.specs.Prelude.{ℕ, Bool, true, false, ◌&&◌, not, List, [], ◌∷◌, Option, Some, None}
+use Rattle.std.specs.Prelude.{ℕ, Bool, true, false, ◌&&◌, not, List, [], ◌∷◌, Option}
 use Rattle.fix_fields.specs.Frame.{Field}
 use Rattle.fix_sessions.specs.Sending.{hands}
 use Rattle.fix_sessions.specs.Steps.{came, given, gone, tick, ordered}

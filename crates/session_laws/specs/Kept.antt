@@ -1,6 +1,6 @@
 -- What is kept of a session's messages, by number: those of the venue, the session's Rejects, and
 -- answers to TestRequests that wait.
-use Rattle.std.specs.Prelude.{◌≡◌, ℕ, ◌+◌, ◌≤◌, ◌<◌, Bool, true, false, not, List, [], ◌∷◌, ◌++◌, filter, Option, Some, None, codes, ◌⊎◌, if◌then◌else◌}
+use Rattle.std.specs.Prelude.{◌≡◌, ℕ, ◌+◌, ◌≤◌, ◌<◌, Bool, true, false, List, [], ◌∷◌, ◌++◌, Option, Some, None, codes, ◌⊎◌, if◌then◌else◌}
 use Rattle.fix_fields.specs.Frame.{Field}
 use Rattle.fix_sessions.specs.Sending.{wants}
 use Rattle.fix_sessions.specs.Texts.{has_text}
@@ -16,7 +16,7 @@ use Rattle.fix_sessions.specs.declared.turns.Way.{Way}
 use Rattle.fix_sessions.specs.declared.turns.Way.TheVariants as way
 use Rattle.fix_sessions.specs.declared.turns.Word.{Word}
 use Rattle.fix_sessions.specs.declared.turns.Word.TheVariants as word
-use Rattle.session_laws.specs.Days.{Event, turn, Came, Gone, Given, Handed, Tick, Ordered}
+use Rattle.session_laws.specs.Days.{Event, turn, Handed}
 
 -- a message that is kept under a number: MsgType (35), and what stands behind the header
 pub record Entry : Type 0 where
@@ -49,3 +49,54 @@ entered (Some said) = if is_kept said.way then entry_of said ∷ [] else []
 abbrev pub Within : ℕ → ℕ → List Entry → Type 0
 Within low high [] = low ≤ high
 Within low high (e ∷ es) = (low ≤ e.number) × Within (e.number + 1) high es
+
+-- What is kept after a turn. A Logon that resets numbers drops the session's Rejects.
+
+abbrev pub without_rejects : List Entry → List Entry
+without_rejects [] = []
+without_rejects (e ∷ es) = if e.is_reject then without_rejects es else e ∷ without_rejects es
+
+abbrev pub still_kept : Turn → List Entry → List Entry
+still_kept t kept = if t.drops_rejects then without_rejects kept else kept
+
+abbrev pub kept_after : List Entry → Turn → List Entry
+kept_after kept t = still_kept t kept ++ entered t.first
+
+-- and after these events
+abbrev pub all_kept : Names → Session → List Entry → List Event → List Entry
+all_kept names s kept [] = kept
+all_kept names s kept (e ∷ es) =
+    let t = turn names s e in
+    all_kept names t.session (kept_after kept t) es
+
+-- What is kept is handed back as it was kept: under the number that the session asks for, that
+-- message; or nothing, where nothing is kept from that number on before the next that is named.
+
+-- a message that is kept under a number
+abbrev pub IsKept : ℕ → List Field → List Entry → Type 0
+IsKept number body [] = ⊥
+IsKept number body (e ∷ es) = ((number ≡ e.number) × (body ≡ e.body)) ⊎ IsKept number body es
+
+-- an answer to a TestRequest is kept until it leaves, and is not sent again
+abbrev pub is_answer_body : List Field → Bool
+is_answer_body body = has_text 35 (codes "0") body
+
+-- from one number on, before another, nothing is kept that is sent again
+abbrev pub IsFree : ℕ → ℕ → List Entry → Type 0
+IsFree from to [] = Unit {0}
+IsFree from to (e ∷ es) =
+    ((e.number < from) ⊎ ((to ≤ e.number) ⊎ (is_answer_body e.body ≡ true))) × IsFree from to es
+
+abbrev pub IsAnswered : ℕ → List Entry → ℕ → Option Stored → Type 0
+IsAnswered number kept next_kept None = (number < next_kept) × IsFree number next_kept kept
+IsAnswered number kept next_kept (Some stored) =
+    IsKept number (kept_fields (word.Kept stored.body stored.is_copy)) kept
+
+abbrev pub IsWanted : Want → List Entry → ℕ → Option Stored → Type 0
+IsWanted (want.Again number) kept next_kept stored = IsAnswered number kept next_kept stored
+IsWanted (want.Fresh number) kept next_kept stored = IsAnswered number kept next_kept stored
+IsWanted other kept next_kept stored = Unit {0}
+
+abbrev pub IsHanded : List Entry → Session → Event → Type 0
+IsHanded kept s (Handed moment next_kept stored) = IsWanted (wants s) kept next_kept stored
+IsHanded kept s other = Unit {0}

@@ -1,6 +1,6 @@
 -- Who is logged on: a Logon of the firm with right credentials came, and its connection has the
 -- session since.
-use Rattle.std.specs.Prelude.{◌≡◌, ℕ, Bool, true, false, ◌&&◌, ◌||◌, List, [], ◌∷◌, ◌++◌, Option, Some, None, is_some, ◌⊎◌}
+use Rattle.std.specs.Prelude.{◌≡◌, ℕ, Bool, true, false, ◌&&◌, ◌||◌, List, [], ◌∷◌, ◌++◌, Option, Some, None, is_some}
 use Rattle.fix_sessions.specs.Heard.{logon_of}
 use Rattle.fix_sessions.specs.Steps.{has}
 use Rattle.fix_sessions.specs.declared.state.Clock.{Clock}

@@ -1,19 +1,8 @@
 -- The numbers of what the venue is given, and how the expected number moves.
-use Rattle.std.specs.Prelude.{◌≡◌, ℕ, ◌+◌, ◌≤◌, Bool, true, false, List, [], ◌∷◌, ◌++◌, Option, Some, None, is_some, ◌⊎◌}
-use Rattle.fix_sessions.specs.Cuts.{body_of}
-use Rattle.fix_sessions.specs.Fields.{fields_in}
-use Rattle.fix_sessions.specs.Heard.{heard_of, logon_of, number_once}
-use Rattle.fix_sessions.specs.declared.messages.Heard.TheVariants as heard
-use Rattle.fix_sessions.specs.declared.messages.Incoming.{Incoming}
-use Rattle.fix_sessions.specs.declared.messages.Kind.{Kind}
-use Rattle.fix_sessions.specs.declared.messages.Kind.TheVariants as kind
-use Rattle.fix_sessions.specs.declared.messages.Reading.TheVariants as reading
-use Rattle.fix_sessions.specs.declared.state.Clock.{Clock}
+use Rattle.std.specs.Prelude.{ℕ, ◌+◌, ◌≤◌, List, [], ◌∷◌, ◌++◌, Option, Some, None}
 use Rattle.fix_sessions.specs.declared.state.Session.{Session}
 use Rattle.fix_sessions.specs.declared.texts.Names.{Names}
-use Rattle.fix_sessions.specs.declared.turns.Ending.TheVariants as ending
-use Rattle.fix_sessions.specs.declared.turns.Turn.{Turn}
-use Rattle.session_laws.specs.Days.{Event, turn, Came}
+use Rattle.session_laws.specs.Days.{Event, turn}
 
 -- a number, where there is one
 abbrev pub listed : Option ℕ → List ℕ

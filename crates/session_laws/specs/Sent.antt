@@ -1,5 +1,5 @@
 -- What leaves.
-use Rattle.std.specs.Prelude.{◌≡◌, ℕ, Bool, true, false, List, [], ◌∷◌, ◌++◌, Option, Some, None, if◌then◌else◌}
+use Rattle.std.specs.Prelude.{◌≤◌, ◌+◌, ℕ, Bool, true, false, List, [], ◌∷◌, ◌++◌, Option, Some, None, if◌then◌else◌}
 use Rattle.fix_sessions.specs.declared.state.Phase.{Phase}
 use Rattle.fix_sessions.specs.declared.state.Phase.TheVariants as phase
 use Rattle.fix_sessions.specs.declared.state.Session.{Session}
@@ -9,7 +9,8 @@ use Rattle.fix_sessions.specs.declared.turns.Turn.{Turn}
 use Rattle.fix_sessions.specs.declared.turns.Word.{Word}
 use Rattle.fix_sessions.specs.declared.turns.Word.TheVariants as word
 use Rattle.session_laws.specs.Days.{Event, turn}
-use Rattle.session_laws.specs.Kept.{Entry, entry_of}
+use Rattle.fix_sessions.specs.Written.{kept_fields}
+use Rattle.session_laws.specs.Kept.{Entry, IsFree, IsKept, entry_of}
 use Rattle.session_laws.specs.Logons.{is_leaving}
 
 -- what is kept and leaves without 43
@@ -44,3 +45,22 @@ front_by next (phase.Leaving connection since) = next
 
 abbrev pub front : Session → ℕ
 front s = front_by s.day.next s.phase
+
+-- numbers of entries rise, from one on
+abbrev pub Ascends : ℕ → List Entry → Type 0
+Ascends low [] = Unit {0}
+Ascends low (e ∷ es) = (low ≤ e.number) × Ascends (e.number + 1) es
+
+-- A message that leaves is kept under its number, or is the session's own; a gap fill covers no number
+-- under which something is kept that is sent again.
+
+abbrev pub IsRight : ℕ → Word → List Entry → Type 0
+IsRight number (word.Kept body is_copy) kept = IsKept number (kept_fields (word.Kept body is_copy)) kept
+IsRight number (word.Again body is_copy first) kept =
+    IsKept number (kept_fields (word.Again body is_copy first)) kept
+IsRight number (word.Fill to) kept = IsFree number to kept
+IsRight number other kept = Unit {0}
+
+abbrev pub AreRight : Option Said → List Entry → Type 0
+AreRight None kept = Unit {0}
+AreRight (Some said) kept = IsRight said.number said.word kept

@@ -7,11 +7,12 @@ ghost use Rattle.fix_sessions.specs.declared.state.Phase.TheVariants as phase;
 ghost use Rattle.fix_sessions.specs.declared.state.Session.{Session};
 ghost use Rattle.fix_sessions.specs.declared.state.Waiting.{Waiting};
 ghost use Rattle.fix_sessions.specs.declared.texts.Names.{Names};
-ghost use Rattle.session_laws.specs.Days.{Event, after, turn, turns, without_resets};
-ghost use Rattle.session_laws.specs.Kept.{entered};
+ghost use Rattle.session_laws.specs.Days.{Event, after, is_reset, turn, turns, without_resets};
+ghost use Rattle.session_laws.specs.Kept.{Entry, IsHanded, Within, all_kept, entered, kept_after};
 ghost use Rattle.session_laws.specs.Logons.{CameOn, IsLoggedOn, IsLogon, sends};
 ghost use Rattle.session_laws.specs.Numbers.{Rises, taken};
 ghost use Rattle.session_laws.specs.Restarts.{restarted};
+ghost use Rattle.session_laws.specs.Sent.{AreRight, Ascends, all_news};
 
 /// A law: nothing without a Logon. From a session that no connection has, after every list of
 /// events: a message leaves on a connection only if a Logon of the firm with right credentials came
@@ -43,6 +44,28 @@ pub fn each_message_is_taken_once()
         → without_resets events ≡ true
         → 1 ≤ s.day.expected
         → Rises (if s.day.was_taken then s.day.expected else 1) (taken names s events) }
+{}
+
+/// A law: what leaves. Between two resets by an operator what is kept for the firm leaves without 43
+/// under numbers that rise, so in the order in which it was kept, and each at most once; and it is kept
+/// under numbers that rise. Whatever leaves is kept under its number, with 43 or without, or is a
+/// message of the session's own; and a gap fill covers no number under which a message of the venue or
+/// a Reject is kept. The premise is that what is kept is handed back as it was kept. It does nothing.
+pub fn what_leaves_was_given()
+    ensures in_order { (names : Names) (s : Session) (events : List Event)
+        → s.phase ≡ phase.Away
+        → without_resets events ≡ true
+        → Ascends s.day.next (all_news names s events) }
+    ensures kept { (names : Names) (s : Session) (kept : List Entry) (events : List Event)
+        → without_resets events ≡ true
+        → Within 0 s.day.next kept
+        → Within 0 (after names s events).day.next (all_kept names s kept events) }
+    ensures right { (names : Names) (s : Session) (kept : List Entry) (e : Event)
+        → is_reset e ≡ false
+        → Within 0 s.day.next kept
+        → IsHanded kept s e
+        → AreRight (turn names s e).first (kept_after kept (turn names s e))
+        × AreRight (turn names s e).second (kept_after kept (turn names s e)) }
 {}
 
 /// A law: a restart and a failover change nothing. A session that is made of what was kept of its day

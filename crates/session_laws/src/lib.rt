@@ -3,6 +3,7 @@
 //!
 //! - [`nothing_without_a_logon`]: what a stranger sends reaches nobody, and moves nothing.
 //! - [`each_message_is_taken_once`]: the numbers of what the venue is given rise.
+//! - [`what_leaves_was_given`]: what is kept leaves in its order, and a gap fill covers none of it.
 //! - [`a_restart_changes_nothing`], [`a_message_is_given_again_as_it_was`]: a session that is made of
 //!   what was kept goes on as the first one would have.
 //!
@@ -13,5 +14,5 @@ mod laws;
 
 pub use laws::{
     a_message_is_given_again_as_it_was, a_restart_changes_nothing, each_message_is_taken_once,
-    nothing_without_a_logon,
+    nothing_without_a_logon, what_leaves_was_given,
 };
