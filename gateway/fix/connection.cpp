@@ -87,6 +87,11 @@ bool Connection::send(const std::string &bytes) {
     return true;
 }
 
+std::size_t Connection::waiting() const {
+    const std::lock_guard<std::mutex> lock(mutex_);
+    return unwritten_;
+}
+
 void Connection::finish(const std::string &why) {
     {
         const std::lock_guard<std::mutex> lock(mutex_);

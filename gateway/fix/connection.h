@@ -41,6 +41,7 @@ class Connection final : public Line {
     void rest_until(Clock::time_point moment) override;
     void wake() override;
     ConnectionFacts facts() const override;
+    std::size_t waiting() const override;
     void is_judged() override { slot_.judges(); }
 
     // Logs its firm out where that came with a certificate that this server does not take. Any

@@ -148,6 +148,7 @@ class Engine::Parts {
 
     void add(const std::vector<SessionStart> &starts) { sessions_.add(starts); }
     const Sessions &sessions() const { return sessions_; }
+    EngineEvents &events() const { return events_; }
 
     void renew(const EngineSettings &settings) {
         std::shared_ptr<const TlsServer> renewed = tls_of(settings);
@@ -318,10 +319,19 @@ void Engine::listen() {
 
 void Engine::deliver(const Delivery &delivery) {
     parts_->sessions().deliver(delivery);
+    parts_->events().delivered(delivery);
 }
 
 bool Engine::deliver_at_once(const Delivery &delivery) {
-    return parts_->sessions().of(delivery.session).deliver_at_once(delivery);
+    if (!parts_->sessions().of(delivery.session).deliver_at_once(delivery)) {
+        return false;
+    }
+    parts_->events().delivered(delivery);
+    return true;
+}
+
+std::size_t Engine::waiting_bytes(const std::string &session) const {
+    return parts_->sessions().of(session).waiting_bytes();
 }
 
 std::chrono::steady_clock::time_point Engine::settles_until(const std::string &session) const {

@@ -18,11 +18,12 @@ struct WireMessage; // wire/message.h
 struct Delivery {
     std::string session; // its name
     std::string firm;
-    std::uint32_t number = 0; // the venue's
-    std::uint32_t place = 0;  // of the entry that it answers
-    std::string frame;        // the venue's
-    std::string type;         // 35
-    std::string body;         // all that stands after the header on the wire
+    std::uint32_t number = 0;                      // the venue's
+    std::uint32_t place = 0;                       // of the entry that it answers
+    std::string frame;                             // the venue's
+    std::string type;                              // 35
+    std::string body;                              // all that stands after the header on the wire
+    std::chrono::steady_clock::time_point given{}; // when the venue gave it
 };
 
 // A connection, as the log tells of it.
@@ -152,6 +153,8 @@ class EngineEvents {
     virtual void refused(const std::string &what, const std::string &text) = 0;
     virtual void dropped(const std::string &what, const std::string &text) = 0;
     virtual void session_event(const std::string &firm, const std::string &text) = 0;
+    // A message of the venue is in its session's store, and left for the firm if that is there.
+    virtual void delivered(const Delivery & /*delivery*/) {}
 };
 
 struct EngineSettings {
@@ -203,6 +206,8 @@ class Engine {
     // firm may be filling a gap, and messages had better wait. Until when at the latest; a moment
     // that has passed where it does not.
     std::chrono::steady_clock::time_point settles_until(const std::string &session) const;
+    // Bytes that the firm has not taken yet.
+    std::size_t waiting_bytes(const std::string &session) const;
     // Ends the firm's connection, if there is one. Does not wait for anything.
     void disconnect(const std::string &session);
     // Logs the firm out, if it is there, for this reason. Does not wait for it.

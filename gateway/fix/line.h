@@ -32,6 +32,8 @@ class Line {
     virtual void wake() = 0;
 
     virtual ConnectionFacts facts() const = 0;
+    // Bytes that the peer has not taken yet. Any thread may call it.
+    virtual std::size_t waiting() const { return 0; }
     // A whole Logon has come, and is being judged.
     virtual void is_judged() {}
 };

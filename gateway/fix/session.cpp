@@ -62,6 +62,11 @@ void FirmSession::shut() {
     }
 }
 
+std::size_t FirmSession::waiting_bytes() const {
+    const std::lock_guard<std::mutex> lock(mutex_);
+    return line_ == nullptr ? 0 : line_->waiting();
+}
+
 void FirmSession::log_out(const std::string &reason) {
     const std::lock_guard<std::mutex> lock(mutex_);
     farewell_ = reason;

@@ -64,6 +64,8 @@ class FirmSession final : private FIX::Application, private FIX::Log, private FI
     std::chrono::steady_clock::time_point settles_until() const { return settled_at_; }
     // Ends the connection, if there is one.
     void shut();
+    // Bytes that the firm has not taken yet.
+    std::size_t waiting_bytes() const;
     // Logs out, at the next tick; whoever comes before that, too.
     void log_out(const std::string &reason);
     // The same of the connection that it has, if there is one.

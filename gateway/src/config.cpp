@@ -60,6 +60,7 @@ class ConfigReader {
         read_venue();
         read_days();
         read_log();
+        read_copies();
         read_seal();
         read_sessions();
         read_tls();
@@ -89,8 +90,8 @@ class ConfigReader {
     }
 
   private:
-    static constexpr std::array<std::string_view, 9> sections = {
-        "venue", "day", "log", "seal", "fix", "tls", "limits", "metrics", "events"};
+    static constexpr std::array<std::string_view, 10> sections = {
+        "venue", "day", "log", "copies", "seal", "fix", "tls", "limits", "metrics", "events"};
     static constexpr std::array<std::string_view, 4> levels = {"debug", "info", "warning", "error"};
 
     Section section(std::string_view name) const {
@@ -170,10 +171,15 @@ class ConfigReader {
 
     // With the day's date and the venue's name: each venue has a log of its own.
     std::string filled(std::string text) const {
+        text = of_venue(std::move(text));
         const std::size_t at = text.find("{date}");
         if (at != std::string::npos) {
             text.replace(at, 6, config_.firms.date);
         }
+        return text;
+    }
+
+    std::string of_venue(std::string text) const {
         const std::size_t venue = text.find("{venue}");
         if (venue != std::string::npos) {
             text.replace(venue, 7, config_.venue);
@@ -196,9 +202,27 @@ class ConfigReader {
         }
         if (!file.empty()) {
             config_.sqlite = log.beside(filled(file));
+            config_.log_files = log.beside(of_venue(file));
             check_private(config_.sqlite);
         } else {
             config_.schema = filled(schema);
+        }
+    }
+
+    void read_copies() {
+        Section copies = section("copies");
+        config_.copies = copies.path("folder");
+        if (copies.has("keep")) {
+            config_.keep = copies.number("keep", 1, 1, 36500);
+        }
+        copies.end();
+        if (copies.stands() && config_.copies.empty()) {
+            copies.fail_at("folder", "is missing");
+        }
+        const bool has_date =
+            config_.log_files.filename().string().find("{date}") != std::string::npos;
+        if (copies.stands() && !has_date) {
+            fail(path_, "[copies] is for logs of SQLite, with {date} in the file's name");
         }
     }
 

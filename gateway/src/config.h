@@ -14,6 +14,7 @@
 #include <filesystem>
 #include <map>
 #include <memory>
+#include <optional>
 #include <string>
 #include <string_view>
 #include <vector>
@@ -44,7 +45,8 @@ struct Config {
     std::string configuration; // the venue's, byte for byte, with a line feed at its end
     VenueFirms firms;
 
-    std::filesystem::path sqlite; // empty where the next two name the log
+    std::filesystem::path sqlite;    // empty where the next two name the log
+    std::filesystem::path log_files; // the same, with `{date}` in the place of the day's
     std::string postgres;
     std::string schema;
     std::string name;               // of this gateway, for those who look who speaks
@@ -52,6 +54,9 @@ struct Config {
 
     std::shared_ptr<const SealKeys> keys; // of the log's seals and signatures
     std::filesystem::path checkpoints;    // the folder in which the last signature is kept
+
+    std::filesystem::path copies;    // the folder that ended days are copied to; empty for none
+    std::optional<std::size_t> keep; // days whose log stays though it is copied; all where unset
 
     EngineSettings engine;
     std::map<std::string, Credentials> credentials;

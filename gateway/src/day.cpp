@@ -3,6 +3,7 @@
 #include "process.h"
 #include "reasons.h"
 #include "venue_trial.h"
+#include "version.h"
 
 #include <chrono>
 #include <condition_variable>
@@ -79,6 +80,7 @@ Day day_now(const Config &config) {
     day.program = sha256(read_program(config.program));
     day.configuration = config.configuration;
     day.venue = config.venue;
+    day.gateway = version_text();
     return day;
 }
 

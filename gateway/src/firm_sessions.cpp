@@ -57,6 +57,7 @@ void FirmSessions::open_firms(const States &states) {
                 .try_emplace(name, day_.config.rates, std::uint64_t{1024} * found.kibibytes,
                              own.day_bytes > 0 ? own.day_bytes : day_.config.day_bytes)
                 .first->second;
+        firm.metrics = &day_.metrics.firm(day_.config.venue, name);
         firm.cancel_on_disconnect = own.cancel_on_disconnect;
         firm.found = found;
         firm.entries = found.entries;
@@ -199,6 +200,7 @@ void FirmSessions::logged_on(const std::string &name) {
     log_.put_logged_on(name, true);
     day_.metrics.logged_on();
     Firm &firm = firm_of(name);
+    firm.metrics->logged_on(true);
     const std::lock_guard lock(firm.mutex);
     const std::string words = firm.connection ? " " + words_of(*firm.connection) : "";
     day_.events->info("logged on firm={}{}{}", name, day_.of_venue(), words);
@@ -206,6 +208,7 @@ void FirmSessions::logged_on(const std::string &name) {
 
 void FirmSessions::logged_off(const std::string &firm) {
     day_.metrics.logged_off();
+    firm_of(firm).metrics->logged_on(false);
     day_.events->info("logged off firm={}{}", firm, day_.of_venue());
     try {
         cancel_all_of(firm, firm_of(firm));
@@ -243,10 +246,17 @@ int FirmSessions::received(const std::string &name, const WireMessage &message,
     const Log::Came came{message.number, receipt.connection, firm.last_receipt};
     const std::string &bytes = std::get<std::string>(frame);
     log_.append_message(name, came, bytes, Log::Committer::caller);
+    firm.metrics->came(message.value(35), message.value(694));
     firm.bytes.add(bytes_of_line(name, bytes));
     ++firm.entries;
     firm.last_number = message.number;
     return 0;
+}
+
+void FirmSessions::count_waiting(const Engine &engine) {
+    for (auto &[name, firm] : firms_) {
+        firm.metrics->waits(engine.waiting_bytes(session_name(day_.config.venue, name)));
+    }
 }
 
 bool FirmSessions::may_begin_business(const std::string &name, Firm &firm) {
@@ -274,6 +284,7 @@ std::uint64_t FirmSessions::store_outgoing(const std::string &firm, std::uint32_
         row.sent = delivery->number;
         carried = Sent{firm, delivery->number, delivery->place, delivery->frame};
         day_.metrics.delivered();
+        firm_of(firm).metrics->was_given(*delivery);
     }
     return log_.put(std::move(row), std::move(carried));
 }

@@ -41,6 +41,8 @@ class FirmSessions final : private SessionHost {
     void end_lost(const std::vector<ConnectionEvent> &connections);
 
     ConnectionRows &rows() { return rows_; }
+    // Counts what waits for each firm; to be called each second.
+    void count_waiting(const Engine &engine);
 
     // Other credentials from now on, with the limits in them. Returns the firms whose sessions are
     // to end.
@@ -55,6 +57,7 @@ class FirmSessions final : private SessionHost {
         FirmRate rate;
         DayBytes bytes; // of its lines in the log
         std::atomic<bool> told_of_bytes{false};
+        FirmMetrics *metrics = nullptr;
         FirmState found; // as the log had it at the start
 
         std::mutex mutex;                 // of what follows

@@ -39,6 +39,7 @@ Follower::Follower(VenueDay &day, const OpenedDay &opened)
       venue_({with_notes(day.config.command, !reasons_.empty()), day.config.configuration,
               day.config.venue_starts, day.config.confined},
              *day.database, committed_, opened.first.hash, *this, day.metrics, day.events) {
+    day_.metrics.venue_is(day_.config.venue, day_of(opened.first.line).version);
     if (reasons_.empty()) {
         day_.events->warn("no reasons and no trade names{}: the day began with a program that does "
                           "not know --notes",
@@ -88,6 +89,7 @@ bool Follower::may_take_over() {
 void Follower::tell_if_ready() {
     if (!ready_ && answers_.wait(found_, 0ms, day_.status.stopping())) {
         ready_ = true;
+        day_.status.is_now(Phase::stands_by);
         day_.events->info("stands by{} entries={}", day_.of_venue(), last_.place);
     }
 }
@@ -184,6 +186,7 @@ void Follower::venue_starts() {
 
 void Follower::venue_gave(std::uint32_t place, std::uint32_t number, std::string name,
                           std::string frame, std::optional<VenueNote> note) {
+    day_.open_requests.was_given(name, frame);
     ForWire message = for_wire(frame, number);
     if (note) {
         add_told(message, told_by(*note, name, message.number, reasons_, day_.config.firms.date));
@@ -199,6 +202,7 @@ void Follower::venue_gave(std::uint32_t place, std::uint32_t number, std::string
     delivery.frame = std::move(frame);
     delivery.type = std::move(message.type);
     delivery.body = std::move(message.body);
+    delivery.given = std::chrono::steady_clock::now();
     outlet_.load()->take(std::move(delivery));
 }
 

@@ -1,6 +1,7 @@
 #include "gateway.h"
 
 #include "begin_day.h"
+#include "certificate_end.h"
 
 #include <future>
 
@@ -76,7 +77,9 @@ void Gateway::listen() {
         return;
     }
     engine_.listen();
+    status_.is_now(Phase::ready);
     const EngineSettings &settings = configs_.front().engine;
+    count_certificates(settings);
     events_->info("ready address={}:{} tls={} firms={}", settings.address, settings.port,
                   !settings.certificate.empty(), engine_.sessions());
 }
@@ -89,6 +92,7 @@ void Gateway::renew() {
             read.push_back(read_access(path_, config));
         }
         engine_.renew(read.front().engine);
+        count_certificates(read.front().engine);
         for (std::size_t at = 0; at < speakers_.size(); ++at) {
             speakers_[at]->renew(read[at].credentials);
         }
@@ -96,6 +100,23 @@ void Gateway::renew() {
     } catch (const std::exception &fault) {
         events_->error("credentials and certificates stay as they were cause=\"{}\"", fault.what());
     }
+}
+
+void Gateway::count_certificates(const EngineSettings &settings) {
+    for (const std::string &file : {settings.certificate, settings.authorities}) {
+        if (const auto end = file.empty() ? std::nullopt : end_of_certificates(file)) {
+            metrics_.certificate_ends(file, *end);
+        }
+    }
+}
+
+std::vector<OpenRequests::Open> Gateway::open_requests() const {
+    std::vector<OpenRequests::Open> all;
+    for (const auto &day : days_) {
+        const auto some = day->open_requests.all();
+        all.insert(all.end(), some.begin(), some.end());
+    }
+    return all;
 }
 
 void Gateway::ask_to_stop(const std::string &why) {
@@ -119,6 +140,7 @@ std::optional<std::string> Gateway::run(std::optional<SystemSeconds> ends) {
     if (const auto failure = status_.failure()) {
         return failure;
     }
+    status_.is_now(Phase::ends);
     events_->info("stop cause=\"{}\"", status_.why());
     engine_.stop(status_.why());
     engine_events_.tell_last_rest();

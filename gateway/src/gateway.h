@@ -49,6 +49,11 @@ class Gateway final {
     // sessions out, lets the venue answer what came, and commits. Returns the cause of a failure,
     // or nothing.
     std::optional<std::string> run(std::optional<SystemSeconds> ends = std::nullopt);
+    // What it does now, and the part that has been silent longest; of any thread.
+    Phase phase() const { return status_.phase(); }
+    std::optional<Pulse::Silent> silent() { return status_.pulse().longest(); }
+    // Requests that are open now, of all venues; of any thread.
+    std::vector<OpenRequests::Open> open_requests() const;
     // Of the process, after run().
     int exit_status() { return status_.exit_status(); }
 
@@ -57,6 +62,7 @@ class Gateway final {
     std::unique_ptr<Speaker> follow_one(std::size_t at);
     void listen();
     void renew();
+    void count_certificates(const EngineSettings &settings);
 
     const std::filesystem::path path_;
     const std::vector<Config> configs_;

@@ -163,6 +163,11 @@ std::optional<std::chrono::steady_clock::time_point> Log::commits_since() {
     return writing_ && failure_.empty() ? std::optional(writing_since_) : std::nullopt;
 }
 
+std::chrono::steady_clock::duration Log::since_commit() {
+    const std::lock_guard lock(mutex_);
+    return std::chrono::steady_clock::now() - committed_at_;
+}
+
 std::string Log::failure() {
     const std::lock_guard lock(mutex_);
     return failure_;
@@ -268,6 +273,7 @@ void Log::commit_some(std::unique_lock<std::mutex> &lock, bool all) {
     const auto last = hand_on(filling);
     lock.lock();
     writing_ = false;
+    committed_at_ = std::chrono::steady_clock::now();
     committed_end_ = chain_.end();
     committed_place_ = last.value_or(committed_place_);
     committed_ += filling.is_whole ? 1 : 0;

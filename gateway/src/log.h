@@ -116,6 +116,9 @@ class Log {
     std::uint32_t last_place();
     // How many messages wait now, for the end of a hold or for room.
     std::size_t waiting();
+    // How long ago something was committed last, or the log was opened. The Notary has something
+    // committed every five seconds.
+    std::chrono::steady_clock::duration since_commit();
     // When the commit of now began; nothing where none is waited for.
     std::optional<std::chrono::steady_clock::time_point> commits_since();
 
@@ -189,6 +192,7 @@ class Log {
     std::optional<ExactMoment> held_from_;
     bool writing_ = false; // some thread has the writer
     std::chrono::steady_clock::time_point writing_since_;
+    std::chrono::steady_clock::time_point committed_at_ = std::chrono::steady_clock::now();
     Ticket filling_ticket_ = 1;
     Ticket committed_ = 0;
     std::string failure_;

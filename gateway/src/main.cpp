@@ -9,6 +9,7 @@
 #include "service.h"
 #include "start_check.h"
 #include "venue_rules.h"
+#include "version.h"
 
 #include <csignal>
 #include <iostream>
@@ -35,7 +36,8 @@ constexpr const char *usage = R"(usage: mireseason-gateway CONFIG
        mireseason-gateway --version
 )";
 
-constexpr const char *version = "mireseason-gateway 1.0.0";
+// Of the events, for the page.
+constexpr std::size_t kept_events = 40;
 
 int print_hash() {
     std::string password;
@@ -63,9 +65,13 @@ class OneLine final : public spdlog::custom_flag_formatter {
     }
 };
 
-std::shared_ptr<spdlog::logger> make_events(const std::string &level) {
-    auto sink = std::make_shared<spdlog::sinks::stderr_sink_mt>();
-    auto events = std::make_shared<spdlog::logger>("gateway", std::move(sink));
+std::shared_ptr<spdlog::logger> make_events(const std::string &level,
+                                            std::shared_ptr<gateway::RecentEvents> recent = {}) {
+    std::vector<spdlog::sink_ptr> sinks = {std::make_shared<spdlog::sinks::stderr_sink_mt>()};
+    if (recent) {
+        sinks.push_back(std::move(recent));
+    }
+    auto events = std::make_shared<spdlog::logger>("gateway", sinks.begin(), sinks.end());
     events->set_level(spdlog::level::from_str(level));
     auto form = std::make_unique<spdlog::pattern_formatter>(spdlog::pattern_time_type::utc);
     form->add_flag<OneLine>('*').set_pattern("%Y-%m-%dT%H:%M:%S.%eZ %l %*");
@@ -128,9 +134,12 @@ int serve(const std::string &path) {
     // take over.
     gateway::check_settings(configs.front().engine);
     gateway::make_files_private();
-    const auto events = make_events(configs.front().event_level);
+    gateway::SupervisorSocket supervisor;
+    const auto recent = std::make_shared<gateway::RecentEvents>(kept_events);
+    const auto events = make_events(configs.front().event_level, recent);
     const Signals signals;
-    gateway::Service service(path, std::move(files), std::move(configs), events);
+    gateway::Service service(path, std::move(files), std::move(configs), events, recent,
+                             std::move(supervisor));
     const std::jthread watching = signals.watch(service);
     return service.run();
 }
@@ -157,7 +166,7 @@ int main(int count, char **words) {
     const std::vector<std::string> arguments(words + 1, words + count);
     try {
         if (arguments == std::vector<std::string>{"--version"}) {
-            std::cout << version << '\n';
+            std::cout << gateway::version_text() << '\n';
             return 0;
         }
         if (arguments == std::vector<std::string>{"--hash"}) {

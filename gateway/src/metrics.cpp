@@ -1,13 +1,15 @@
 #include "metrics.h"
 
-#include <stdexcept>
+#include "version.h"
 
-#include <fmt/format.h>
+#include <map>
+#include <mutex>
+
 #include <prometheus/counter.h>
-#include <prometheus/exposer.h>
 #include <prometheus/gauge.h>
 #include <prometheus/histogram.h>
 #include <prometheus/registry.h>
+#include <prometheus/text_serializer.h>
 
 namespace gateway {
 
@@ -32,6 +34,20 @@ Histogram &seconds(Registry &registry, const char *name, const char *help) {
                                         0.02,   0.05,   0.1,    0.2,   0.5,   1.0};
     return prometheus::BuildHistogram().Name(name).Help(help).Register(registry).Add(
         {}, Histogram::BucketBoundaries(std::begin(bounds), std::end(bounds)));
+}
+
+// A label that tells one venue of several from the others.
+std::map<std::string, std::string> of_venue(const std::string &venue) {
+    return venue.empty() ? std::map<std::string, std::string>{}
+                         : std::map<std::string, std::string>{{"venue", venue}};
+}
+
+Family<Gauge> &gauges(Registry &registry, const char *name, const char *help) {
+    return prometheus::BuildGauge().Name(name).Help(help).Register(registry);
+}
+
+double in_seconds(std::chrono::sys_seconds moment) {
+    return static_cast<double>(moment.time_since_epoch().count());
 }
 
 double in_seconds(Metrics::Duration duration) {
@@ -75,28 +91,111 @@ struct Metrics::Parts {
     Gauge &speaking = gauge(*registry, "mireseason_speaks", "logs that this gateway writes");
     Gauge &faulty = gauge(*registry, "mireseason_next_configuration_faulty",
                           "1 where the next day can't open with the files as they are");
+    Gauge &ready = gauge(*registry, "mireseason_ready", "1 while firms may log on");
+    Gauge &healthy = gauge(*registry, "mireseason_healthy",
+                           "1 while every part that does the work shows that it does");
+    Gauge &opens = gauge(*registry, "mireseason_day_opens_timestamp_seconds",
+                         "when the trading day opens, the next one while none goes on");
+    Gauge &ends =
+        gauge(*registry, "mireseason_day_ends_timestamp_seconds", "when that trading day ends");
+    Gauge &uncopied = gauge(*registry, "mireseason_days_without_copy",
+                            "days that have ended and are not at the place of copies");
+    Family<Gauge> &certificates =
+        gauges(*registry, "mireseason_certificate_expiry_timestamp_seconds",
+               "when a certificate ends that the gateway shows or asks for");
+    Family<Gauge> &unanswered = gauges(*registry, "mireseason_venue_backlog_entries",
+                                       "entries of the log that the venue has not answered");
+    Family<Gauge> &waiting = gauges(*registry, "mireseason_log_backlog_messages",
+                                    "messages of firms that wait for room in the log");
+    Family<Gauge> &build =
+        gauges(*registry, "mireseason_build_info", "1; the version and commit of the gateway");
+    Family<Gauge> &program =
+        gauges(*registry, "mireseason_venue_info", "1; what the venue's program says that it is");
+    FirmFamilies firm_families{*registry};
+    mutable std::mutex firms_mutex;
+    std::map<std::pair<std::string, std::string>, FirmMetrics> firms;
+    Histogram &handed_over = seconds(*registry, "mireseason_handed_over_seconds",
+                                     "a message's time from the venue to the firm's socket");
     Histogram &commit = seconds(*registry, "mireseason_commit_seconds", "a transaction of the log");
     Histogram &logged =
         seconds(*registry, "mireseason_logged_seconds", "a message's receipt to its commit");
     Histogram &answered =
         seconds(*registry, "mireseason_answered_seconds", "a message's receipt to its answer");
-    std::unique_ptr<prometheus::Exposer> exposer;
 };
 
-Metrics::Metrics(unsigned short port) : parts_(std::make_unique<Parts>()) {
-    if (port == 0) {
-        return;
+Metrics::Metrics() : parts_(std::make_unique<Parts>()) {
+    parts_->build.Add({{"version", version_text()}}).Set(1);
+}
+
+FirmMetrics &Metrics::firm(const std::string &venue, const std::string &firm) {
+    const std::lock_guard lock(parts_->firms_mutex);
+    return parts_->firms.try_emplace({venue, firm}, parts_->firm_families, venue, firm)
+        .first->second;
+}
+
+std::vector<const FirmMetrics *> Metrics::firms() const {
+    const std::lock_guard lock(parts_->firms_mutex);
+    std::vector<const FirmMetrics *> all;
+    for (const auto &[name, firm] : parts_->firms) {
+        all.push_back(&firm);
     }
-    const std::string address = fmt::format("127.0.0.1:{}", port);
-    try {
-        parts_->exposer = std::make_unique<prometheus::Exposer>(address, 1);
-    } catch (const std::exception &fault) {
-        throw std::runtime_error(fmt::format("metrics at {}: {}", address, fault.what()));
-    }
-    parts_->exposer->RegisterCollectable(parts_->registry);
+    return all;
+}
+
+void Metrics::backlog(const std::string &venue, std::size_t unanswered, std::size_t waiting) {
+    parts_->unanswered.Add(of_venue(venue)).Set(static_cast<double>(unanswered));
+    parts_->waiting.Add(of_venue(venue)).Set(static_cast<double>(waiting));
+}
+
+std::vector<Queue> Metrics::queues() const {
+    std::vector<Queue> all;
+    const auto add = [&all](Family<Gauge> &family, const char *what) {
+        for (const prometheus::MetricFamily &each : family.Collect()) {
+            for (const prometheus::ClientMetric &metric : each.metric) {
+                const std::string venue =
+                    metric.label.empty() ? "" : " of " + metric.label.front().value;
+                all.push_back({what + venue, metric.gauge.value});
+            }
+        }
+    };
+    add(parts_->unanswered, "entries that the venue has not answered");
+    add(parts_->waiting, "messages that wait for the log");
+    return all;
+}
+
+void Metrics::venue_is(const std::string &venue, const std::string &version) {
+    auto labels = of_venue(venue);
+    labels["version"] = version;
+    parts_->program.Add(labels).Set(1);
+}
+
+void Metrics::is_now(bool ready, bool healthy) {
+    parts_->ready.Set(ready ? 1 : 0);
+    parts_->healthy.Set(healthy ? 1 : 0);
+}
+
+void Metrics::day_is(std::chrono::sys_seconds opens, std::chrono::sys_seconds ends) {
+    parts_->opens.Set(in_seconds(opens));
+    parts_->ends.Set(in_seconds(ends));
+}
+
+void Metrics::days_without_copy(std::size_t days) {
+    parts_->uncopied.Set(static_cast<double>(days));
+}
+
+void Metrics::certificate_ends(const std::string &file, std::chrono::sys_seconds moment) {
+    parts_->certificates.Add({{"file", file}}).Set(in_seconds(moment));
+}
+
+void Metrics::handed_over(Duration since_given) {
+    parts_->handed_over.Observe(in_seconds(since_given));
 }
 
 Metrics::~Metrics() = default;
+
+std::string Metrics::text() const {
+    return prometheus::TextSerializer().Serialize(parts_->registry->Collect());
+}
 
 void Metrics::committed(std::size_t entries, std::size_t messages, Duration took) {
     parts_->commits.Increment();

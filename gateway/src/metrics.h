@@ -1,11 +1,15 @@
-// Counters and latencies, served as Prometheus reads them.
+// Counters and latencies, told as Prometheus reads them.
 #ifndef GATEWAY_METRICS_H
 #define GATEWAY_METRICS_H
+
+#include "firm_metrics.h"
+#include "queue.h"
 
 #include <chrono>
 #include <cstddef>
 #include <memory>
 #include <string>
+#include <vector>
 
 namespace gateway {
 
@@ -14,8 +18,7 @@ class Metrics {
   public:
     using Duration = std::chrono::steady_clock::duration;
 
-    // Serves at a port of 127.0.0.1; at none where the port is 0.
-    explicit Metrics(unsigned short port);
+    Metrics();
     ~Metrics();
     Metrics(const Metrics &) = delete;
     Metrics &operator=(const Metrics &) = delete;
@@ -27,6 +30,8 @@ class Metrics {
     void answered(Duration since_receipt);
     // A message of the venue that was handed to a firm's session.
     void delivered();
+    // The same, once it left for the firm: so long after the venue gave it.
+    void handed_over(Duration since_given);
     // A connection that was taken, and one that ended.
     void connected();
     void disconnected();
@@ -45,6 +50,27 @@ class Metrics {
     void speaks_no_more();
     // Whether the files, as they are, are a configuration that the next day can open with.
     void next_configuration_is_right(bool is_right);
+
+    // What one firm's session counts; the same from day to day. `venue` is empty where there is
+    // one.
+    FirmMetrics &firm(const std::string &venue, const std::string &firm);
+    std::vector<const FirmMetrics *> firms() const;
+    // Entries of the log that the venue has not answered, and messages that wait for the log.
+    void backlog(const std::string &venue, std::size_t unanswered, std::size_t waiting);
+    std::vector<Queue> queues() const;
+    // What the venue's program says that it is.
+    void venue_is(const std::string &venue, const std::string &version);
+    // Whether firms may log on now, and whether every part that does the work shows that it does.
+    void is_now(bool ready, bool healthy);
+    // The trading day that goes on, or the next one.
+    void day_is(std::chrono::sys_seconds opens, std::chrono::sys_seconds ends);
+    // Days that have ended and are not at the place of copies.
+    void days_without_copy(std::size_t days);
+    // When a certificate ends that the gateway shows or asks for.
+    void certificate_ends(const std::string &file, std::chrono::sys_seconds moment);
+
+    // All of them, as Prometheus' text.
+    std::string text() const;
 
   private:
     struct Parts;

@@ -95,6 +95,10 @@ void OperatorEvents::session_event(const std::string &firm, const std::string &t
     events_->debug("session firm={} text=\"{}\"", firm, text);
 }
 
+void OperatorEvents::delivered(const Delivery &delivery) {
+    metrics_.handed_over(std::chrono::steady_clock::now() - delivery.given);
+}
+
 void OperatorEvents::tell_rest() {
     tell(lines_.rest());
 }

@@ -41,6 +41,7 @@ class OperatorEvents final : public EngineEvents {
     void refused(const std::string &what, const std::string &text) override;
     void dropped(const std::string &what, const std::string &text) override;
     void session_event(const std::string &firm, const std::string &text) override;
+    void delivered(const Delivery &delivery) override;
 
   private:
     void tell(const std::vector<Limiter::Rest> &rest);

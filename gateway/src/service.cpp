@@ -1,5 +1,9 @@
 #include "service.h"
 
+#include "day_copies.h"
+
+#include "version.h"
+
 #include <thread>
 #include <utility>
 
@@ -23,12 +27,77 @@ std::string text_of(SystemSeconds moment) {
     return fmt::format("{:%Y-%m-%dT%H:%M:%SZ}", fmt::gmtime(moment.time_since_epoch().count()));
 }
 
+// From midnight to midnight in UTC.
+TradingDay whole_day_of(const std::string &date) {
+    const auto number = [&date](std::size_t at, std::size_t size) {
+        return static_cast<unsigned>(std::stoul(date.substr(at, size)));
+    };
+    const std::chrono::sys_days day = std::chrono::year(static_cast<int>(number(0, 4))) /
+                                      std::chrono::month(number(4, 2)) /
+                                      std::chrono::day(number(6, 2));
+    return {date, day, day + std::chrono::days(1)};
+}
+
 } // namespace
 
 Service::Service(std::filesystem::path path, ConfigFiles files, std::vector<Config> configs,
-                 std::shared_ptr<spdlog::logger> events)
-    : path_(std::move(path)), first_(std::move(configs)), metrics_(first_.front().metrics_port),
-      events_(std::move(events)), next_(path_, std::move(files), metrics_, events_) {}
+                 std::shared_ptr<spdlog::logger> events, std::shared_ptr<RecentEvents> recent,
+                 SupervisorSocket supervisor)
+    : path_(std::move(path)), first_(std::move(configs)), events_(std::move(events)),
+      recent_(std::move(recent)), next_(path_, std::move(files), metrics_, events_),
+      monitor_(first_.front().metrics_port, sources()),
+      supervised_(std::move(supervisor), [this] { return condition(); }) {}
+
+MonitorSources Service::sources() {
+    MonitorSources sources;
+    sources.condition = [this] { return condition(); };
+    sources.metrics = [this] {
+        const Condition now = condition();
+        metrics_.is_now(now.phase == Phase::ready, !now.fault());
+        return metrics_.text();
+    };
+    sources.page = [this] { return html_of(overview()); };
+    return sources;
+}
+
+Condition Service::condition() {
+    const std::lock_guard lock(mutex_);
+    Condition now;
+    now.day = day_;
+    now.phase = between_;
+    if (gateway_ != nullptr) {
+        now.phase = gateway_->phase();
+        now.silent = gateway_->silent();
+    }
+    return now;
+}
+
+Overview Service::overview() {
+    Overview seen;
+    seen.condition = condition();
+    seen.version = version_text();
+    seen.events = recent_->last_formatted();
+    seen.queues = metrics_.queues();
+    for (const FirmMetrics *firm : metrics_.firms()) {
+        seen.firms.push_back(firm->counts());
+    }
+    const std::lock_guard lock(mutex_);
+    if (gateway_ != nullptr) {
+        seen.requests = gateway_->open_requests();
+    }
+    return seen;
+}
+
+void Service::is_now(Phase phase) {
+    const std::lock_guard lock(mutex_);
+    between_ = phase;
+}
+
+void Service::show(const TradingDay &day) {
+    metrics_.day_is(day.opens, day.ends);
+    const std::lock_guard lock(mutex_);
+    day_ = fmt::format("{}, {} to {}", day.date, text_of(day.opens), text_of(day.ends));
+}
 
 void Service::ask_to_stop(const std::string &why) {
     const std::lock_guard lock(mutex_);
@@ -49,13 +118,19 @@ void Service::ask_to_renew() {
 }
 
 int Service::run() {
-    return first_.front().firms.has_own_date ? run_day(first_, std::nullopt) : run_days();
+    if (!first_.front().firms.has_own_date) {
+        return run_days();
+    }
+    show(whole_day_of(first_.front().firms.date));
+    return run_day(first_, std::nullopt);
 }
 
 int Service::run_days() {
     const std::jthread watching([this](const std::stop_token &stop) { watch_files(stop); });
     while (!stopping_.stop_requested()) {
         const TradingDay day = next_day(now());
+        show(day);
+        copy_days(day.date);
         if (!wait_for(day)) {
             break;
         }
@@ -68,19 +143,43 @@ int Service::run_days() {
     return 0;
 }
 
+// Beside the day that opens next, which does not wait for it.
+void Service::copy_days(const std::string &before) {
+    copying_ =
+        std::jthread([this, before](const std::stop_token &stop) { make_copies(before, stop); });
+}
+
+void Service::make_copies(const std::string &before, const std::stop_token &stop) {
+    try {
+        std::size_t missing = 0;
+        for (const Config &config : next_.in_force(before)) {
+            missing += config.copies.empty() ? 0 : DayCopies(config, events_).make(before, stop);
+        }
+        metrics_.days_without_copy(missing);
+    } catch (const std::exception &fault) {
+        events_->error("days are not copied cause=\"{}\"", fault.what());
+    }
+}
+
+// Other threads see the gateway from here to its end, however that comes.
+Service::Shown::Shown(Service &service, Gateway &gateway) : service_(service) {
+    const std::lock_guard lock(service_.mutex_);
+    service_.gateway_ = &gateway;
+    if (service_.stopping_.stop_requested()) {
+        gateway.ask_to_stop(service_.why_);
+    }
+}
+
+Service::Shown::~Shown() {
+    const std::lock_guard lock(service_.mutex_);
+    service_.gateway_ = nullptr;
+}
+
 int Service::run_day(std::vector<Config> configs, std::optional<SystemSeconds> ends) {
     Gateway gateway(path_, std::move(configs), metrics_, events_);
-    {
-        const std::lock_guard lock(mutex_);
-        gateway_ = &gateway;
-        if (stopping_.stop_requested()) {
-            gateway.ask_to_stop(why_);
-        }
-    }
+    const Shown shown(*this, gateway);
     gateway.start();
     gateway.run(ends);
-    const std::lock_guard lock(mutex_);
-    gateway_ = nullptr;
     return gateway.exit_status();
 }
 
@@ -93,12 +192,14 @@ TradingDay Service::next_day(SystemSeconds now) {
 bool Service::wait_for(const TradingDay &day) {
     if (now() < day.opens) {
         events_->info("closed until={} date={}", text_of(day.opens), day.date);
+        is_now(Phase::closed);
     }
     while (now() < day.opens) {
         if (wait_a_second()) {
             return false;
         }
     }
+    is_now(Phase::opens);
     return !stopping_.stop_requested();
 }
 

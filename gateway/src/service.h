@@ -2,9 +2,13 @@
 #ifndef GATEWAY_SERVICE_H
 #define GATEWAY_SERVICE_H
 
+#include "condition.h"
 #include "gateway.h"
 #include "metrics.h"
+#include "monitor.h"
 #include "next_configuration.h"
+#include "overview.h"
+#include "supervised.h"
 #include "trading_days.h"
 
 #include <condition_variable>
@@ -14,10 +18,15 @@
 #include <optional>
 #include <stop_token>
 #include <string>
+#include <thread>
 
 #include <spdlog/logger.h>
+#include <spdlog/sinks/ringbuffer_sink.h>
 
 namespace gateway {
+
+// The last events, for the page.
+using RecentEvents = spdlog::sinks::ringbuffer_sink_mt;
 
 // Opens a gateway for each trading day and ends it with that day. Where a venue's configuration has
 // a date of its own, there is that day alone.
@@ -25,7 +34,8 @@ class Service final {
   public:
     // `files` were read from the path, and give these configurations.
     Service(std::filesystem::path path, ConfigFiles files, std::vector<Config> configs,
-            std::shared_ptr<spdlog::logger> events);
+            std::shared_ptr<spdlog::logger> events, std::shared_ptr<RecentEvents> recent,
+            SupervisorSocket supervisor);
 
     // Ends the day that goes on, and opens no other; of any thread.
     void ask_to_stop(const std::string &why);
@@ -36,24 +46,51 @@ class Service final {
     // Until it is asked to stop, or a day fails. Returns the status of the process.
     int run();
 
+    // How it is; of any thread.
+    Condition condition();
+
   private:
+    // Lets other threads see the gateway of the day as long as it lives.
+    class Shown {
+      public:
+        Shown(Service &service, Gateway &gateway);
+        ~Shown();
+        Shown(const Shown &) = delete;
+        Shown &operator=(const Shown &) = delete;
+
+      private:
+        Service &service_;
+    };
+
     int run_days();
     int run_day(std::vector<Config> configs, std::optional<SystemSeconds> ends);
     TradingDay next_day(SystemSeconds now);
     bool wait_for(const TradingDay &day);
     void watch_files(const std::stop_token &stop);
     bool wait_a_second();
+    void copy_days(const std::string &before);
+    void make_copies(const std::string &before, const std::stop_token &stop);
+    MonitorSources sources();
+    Overview overview();
+    void show(const TradingDay &day);
+    void is_now(Phase phase);
 
     const std::filesystem::path path_;
     const std::vector<Config> first_;
     Metrics metrics_;
     std::shared_ptr<spdlog::logger> events_;
+    std::shared_ptr<RecentEvents> recent_;
     NextConfiguration next_;
     std::stop_source stopping_;
     std::mutex mutex_;
     std::condition_variable changed_;
     std::string why_;
-    Gateway *gateway_ = nullptr; // of the day that goes on
+    Gateway *gateway_ = nullptr;   // of the day that goes on
+    std::string day_;              // of today, or the next one
+    Phase between_ = Phase::opens; // what it does where there is no gateway
+    std::jthread copying_;         // of the service's own thread
+    Monitor monitor_;
+    Supervised supervised_;
 };
 
 } // namespace gateway

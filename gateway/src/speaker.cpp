@@ -1,5 +1,6 @@
 #include "speaker.h"
 
+#include <algorithm>
 #include <chrono>
 #include <exception>
 #include <utility>
@@ -91,12 +92,22 @@ void Speaker::look() {
     day_.look_at_clock();
     try {
         // Of what is committed: a log that does not answer is no silence of the venue.
-        follower_->look_at_venue(follower_->committed().last_place());
+        const auto silent = follower_->look_at_venue(follower_->committed().last_place());
+        day_.status.pulse().put("the venue" + day_.of_venue(), silent);
     } catch (const std::exception &fault) {
         day_.status.fail(fault.what());
     }
     stall_.look(log_.commits_since());
+    day_.status.pulse().put("the log" + day_.of_venue(), log_.since_commit());
     sessions_.rows().put_rest();
+    count();
+}
+
+void Speaker::count() {
+    const std::uint32_t last = log_.last_place();
+    const std::uint32_t answered = follower_->answers().last_place().value_or(0);
+    day_.metrics.backlog(day_.config.venue, last - std::min(answered, last), log_.waiting());
+    sessions_.count_waiting(engine_);
 }
 
 void Speaker::renew(const std::map<std::string, Credentials> &credentials) {

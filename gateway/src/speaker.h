@@ -53,6 +53,8 @@ class Speaker final {
     void put_stranger(const ConnectionFacts &facts, const std::string &why);
 
   private:
+    void count();
+
     Speaker(VenueDay &day, std::unique_ptr<Follower> follower, const Follower::End &end,
             Log::Start start, Engine &engine);
 

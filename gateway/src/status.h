@@ -1,7 +1,11 @@
-// Whether the gateway goes on.
+// Whether the gateway goes on, and how far it is.
 #ifndef GATEWAY_STATUS_H
 #define GATEWAY_STATUS_H
 
+#include "condition.h"
+#include "pulse.h"
+
+#include <atomic>
 #include <chrono>
 #include <condition_variable>
 #include <memory>
@@ -32,12 +36,20 @@ class Status {
     // Of the process: 0 without a failure.
     int exit_status();
 
+    // What the gateway does now; of any thread.
+    void is_now(Phase phase) { phase_ = phase; }
+    Phase phase() const { return phase_; }
+    // Where the parts that do the work show that they do.
+    Pulse &pulse() { return pulse_; }
+
     // Asked to stop, or failed.
     std::stop_token stopping() const { return stopping_.get_token(); }
     std::stop_token failed() const { return failed_.get_token(); }
 
   private:
     std::shared_ptr<spdlog::logger> events_;
+    std::atomic<Phase> phase_{Phase::opens};
+    Pulse pulse_;
     std::stop_source stopping_;
     std::stop_source failed_;
 

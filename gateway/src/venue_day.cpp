@@ -55,6 +55,7 @@ void VenueDay::tell_if_clock_was_set() {
 }
 
 void VenueDay::look_at_clock() {
+    status.pulse().put("the gateway" + of_venue());
     tell_if_clock_was_set();
     switch (clock.day()) {
     case DayClock::Day::goes_on:

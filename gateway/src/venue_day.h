@@ -8,6 +8,7 @@
 #include "log_guard.h"
 #include "metrics.h"
 #include "moment.h"
+#include "open_requests.h"
 #include "operator_events.h"
 #include "status.h"
 
@@ -41,6 +42,7 @@ struct VenueDay {
     Status &status;
     const std::shared_ptr<spdlog::logger> events;
     OperatorEvents &told;
+    OpenRequests open_requests;
     DayClock clock;
     LogGuard guard;
     const std::unique_ptr<Database> database;

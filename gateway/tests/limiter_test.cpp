@@ -104,7 +104,7 @@ void lines() {
     auto events = std::make_shared<spdlog::logger>(
         "test", std::make_shared<spdlog::sinks::ostream_sink_mt>(written));
     events->set_pattern("%Y-%m-%dT%H:%M:%S.%eZ %l %v");
-    Metrics metrics(0);
+    Metrics metrics;
     OperatorEvents told(metrics, events);
     unsigned strangers = 0;
     told.tell_strangers_to([&](const ConnectionFacts &, const std::string &) { ++strangers; });

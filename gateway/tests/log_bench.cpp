@@ -27,7 +27,7 @@ class BenchLog {
   public:
     BenchLog(const std::string &connection, unsigned number)
         : schema_(fmt::format("log_bench_{}_{}", ::getpid(), number)), connection_(connection),
-          clock_(today()), metrics_(0), committed_(0),
+          clock_(today()), committed_(0),
           database_(open_postgres({connection, schema_, "log_bench"})) {
         Log::Start start;
         start.term = database_->take_over().value();

@@ -45,7 +45,7 @@ struct DayThatGoesOn {
     const Log::Start start;
     const std::uint32_t last;
     DayClock clock{today()};
-    Metrics metrics{0};
+    Metrics metrics;
     Committed committed{last};
     Log log;
 };

@@ -116,7 +116,7 @@ void check_rows(LogReader &reader) {
 
 void many_threads(Database &database) {
     DayClock clock(today());
-    Metrics metrics(0);
+    Metrics metrics;
     Log::Start start;
     start.last = begin_day(database);
     start.term = start.last.term;
@@ -209,7 +209,7 @@ void no_memory(Database &database) {
 void a_commit_that_fails() {
     FailingDatabase database(1);
     DayClock clock(today());
-    Metrics metrics(0);
+    Metrics metrics;
     std::string told;
     {
         Committed committed(0);
@@ -238,7 +238,7 @@ void a_commit_that_fails() {
 void a_commit_that_fails_at_its_caller() {
     FailingDatabase database(0);
     DayClock clock(today());
-    Metrics metrics(0);
+    Metrics metrics;
     std::string told;
     {
         Committed committed(0);

@@ -91,7 +91,7 @@ void write_some(Database &database, LogGuard &guard, std::uint32_t term, std::ui
     start.seals = guard.seals();
     const std::uint32_t last = start.last.place;
     DayClock clock{today()};
-    Metrics metrics{0};
+    Metrics metrics;
     Committed committed{last};
     Log log(database, committed, clock, metrics, std::move(start),
             [](const std::string &cause) { std::cerr << cause << '\n'; });
@@ -402,7 +402,7 @@ void in_time(const fs::path &folder) {
     begin.sealer = guard.sealer();
     begin.seals = guard.seals();
     DayClock clock{today()};
-    Metrics metrics{0};
+    Metrics metrics;
     Committed committed{begin.last.place};
     Log log(*database, committed, clock, metrics, std::move(begin), [](const std::string &) {});
     const auto notary = guard.notary(log);

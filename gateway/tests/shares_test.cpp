@@ -130,7 +130,7 @@ struct GatedLog {
 
     GatedDatabase database;
     DayClock clock{today()};
-    Metrics metrics{0};
+    Metrics metrics;
     Committed committed{0};
     Log::Start start;
     std::unique_ptr<Log> log;

@@ -60,7 +60,7 @@ struct DayWithADeadline {
 
     MemoryDatabase database;
     DayClock clock{today()};
-    Metrics metrics{0};
+    Metrics metrics;
     Committed committed{0};
     Answers answers;
     Log log{database, committed,    clock,

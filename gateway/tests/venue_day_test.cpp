@@ -113,7 +113,7 @@ bool is_stored(const Config &config) {
 void given_again_before_sessions(const std::filesystem::path &folder) {
     const Config config = config_of(folder);
     put_message(config);
-    Metrics metrics(0);
+    Metrics metrics;
     const auto events = std::make_shared<spdlog::logger>("none");
     Status status(events);
     OperatorEvents told(metrics, events);

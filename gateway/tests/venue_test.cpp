@@ -40,7 +40,7 @@ class Listener final : public VenueListener {
 std::string failure_of(const std::string &file, const std::string &script) {
     const auto database = open_sqlite(file);
     Committed committed(0);
-    Metrics metrics(0);
+    Metrics metrics;
     Listener listener;
     Venue venue({{"sh", "-c", script}, "version = 1\n", 1}, *database, committed, Digest{},
                 listener, metrics, std::make_shared<spdlog::logger>("none"));

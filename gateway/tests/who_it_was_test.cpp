@@ -69,7 +69,7 @@ struct OpenedDay {
     }
 
     const Config config;
-    Metrics metrics{0};
+    Metrics metrics;
     std::shared_ptr<spdlog::logger> events = std::make_shared<spdlog::logger>("none");
     Status status{events};
     OperatorEvents told{metrics, events};

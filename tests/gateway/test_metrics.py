@@ -6,9 +6,22 @@ from tests.gateway.wire import Wire
 
 COUNTERS = ("commits", "entries", "sent", "delivered", "connections", "logons", "venue_starts")
 GAUGES = ("connections", "sessions", "speaks", "next_configuration_faulty")
-HISTOGRAMS = ("commit", "logged", "answered")
+HISTOGRAMS = ("commit", "logged", "answered", "handed_over")
 BY_REASON = ("refused", "dropped")
-IN_OTHER_FILES = {  # tests/limits: test_clock.py, test_renewal.py
+IN_OTHER_FILES = {  # tests/limits: test_clock.py, test_renewal.py; tests/operating: test_service.py, test_monitoring.py
+    *("mireseason_firm_%s_total" % name for name in ("messages", "requests", "quotes", "hits", "refusals")),
+    "mireseason_firm_logged_on",
+    "mireseason_firm_waiting_bytes",
+    "mireseason_ready",
+    "mireseason_healthy",
+    "mireseason_day_opens_timestamp_seconds",
+    "mireseason_day_ends_timestamp_seconds",
+    "mireseason_certificate_expiry_timestamp_seconds",
+    "mireseason_venue_backlog_entries",
+    "mireseason_log_backlog_messages",
+    "mireseason_build_info",
+    "mireseason_days_without_copy",
+    "mireseason_venue_info",
     "mireseason_clock_steps_total",
     "mireseason_clock_synchronised",
     "mireseason_clock_greatest_error_seconds",
@@ -131,4 +144,5 @@ def test_no_metric_is_unknown(stage: Stage) -> None:
     until("a refusal is counted", LONG, lambda: any("refused_total" in name for name in stage.counters()))
     found = {name.split("{")[0] for name in stage.counters() if name.startswith("mireseason_")}
     assert found - NAMES == set()
-    assert NAMES - found <= {"mireseason_dropped_total", "mireseason_wrong_passwords_total"}  # there was none
+    none = {"mireseason_dropped_total", "mireseason_wrong_passwords_total", "mireseason_certificate_expiry_timestamp_seconds"}
+    assert NAMES - found <= none  # there was none

@@ -1,0 +1,192 @@
+#include "day_copies.h"
+
+#include "checkpoint_file.h"
+#include "database.h"
+#include "file_copy.h"
+#include "log_places.h"
+#include "private_file.h"
+#include "records.h"
+#include "venue_rules.h"
+
+#include <algorithm>
+#include <chrono>
+#include <condition_variable>
+#include <map>
+#include <mutex>
+#include <stdexcept>
+
+#include <fmt/format.h>
+
+namespace gateway {
+
+namespace {
+
+namespace fs = std::filesystem;
+
+constexpr std::string_view date_mark = "{date}";
+constexpr const char *sums_name = "SHA256SUMS";
+
+// Names of files with their SHA-256, as sha256sum writes and checks them.
+using Sums = std::map<std::string, Digest>;
+
+std::string lines_of(const Sums &sums) {
+    std::string text;
+    for (const auto &[name, digest] : sums) {
+        text += fmt::format("{}  {}\n", text_of(digest), name);
+    }
+    return text;
+}
+
+bool has_sum(std::string_view sums, const Digest &digest, const std::string &name) {
+    return sums.find(fmt::format("{}  {}\n", text_of(digest), name)) != std::string_view::npos;
+}
+
+// Where somebody reads the log while its day is copied: so often it is tried again, with a second
+// between.
+constexpr int most_tries = 600;
+
+Day read_day(const fs::path &log) {
+    const auto database = open_sqlite(log.string());
+    const std::vector<Entry> first = database->reader()->entries(0, 1);
+    if (first.empty()) {
+        throw std::runtime_error("it has no entry 0");
+    }
+    return day_of(first.front().line);
+}
+
+// Whoever closes a database as the last one puts what stands in its WAL into the file, and removes
+// the WAL: then the file is whole.
+bool is_whole(const fs::path &log) {
+    return !fs::exists(log.string() + "-wal");
+}
+
+void wait_a_second(const std::stop_token &stop) {
+    std::mutex mutex;
+    std::condition_variable_any changed;
+    std::unique_lock lock(mutex);
+    changed.wait_for(lock, stop, std::chrono::seconds(1), [] { return false; });
+}
+
+// The day's own row, from a log that is whole when it returns.
+Day day_of_whole(const fs::path &log, const std::stop_token &stop) {
+    Day day = read_day(log);
+    for (int tries = 1; !is_whole(log); ++tries) {
+        if (tries == most_tries || stop.stop_requested()) {
+            throw std::runtime_error("somebody has it open");
+        }
+        wait_a_second(stop);
+        day = read_day(log);
+    }
+    return day;
+}
+
+} // namespace
+
+fs::path DayCopies::log_of(std::string_view date) const {
+    std::string name = config_.log_files.filename();
+    name.replace(name.find(date_mark), date_mark.size(), date);
+    return config_.log_files.parent_path() / name;
+}
+
+fs::path DayCopies::copy_of(std::string_view date) const {
+    return config_.copies /
+           (config_.venue.empty() ? std::string(date) : fmt::format("{}-{}", date, config_.venue));
+}
+
+fs::path DayCopies::checkpoint_of(std::string_view date) const {
+    return CheckpointFile(config_.checkpoints,
+                          Sealer({config_.venue, std::string(date), {}}, config_.keys))
+        .path();
+}
+
+// In their order.
+std::vector<std::string> DayCopies::ended_days(std::string_view before) const {
+    const std::string pattern = config_.log_files.filename();
+    const std::size_t at = pattern.find(date_mark);
+    std::vector<std::string> days;
+    for (const fs::directory_entry &each :
+         fs::directory_iterator(config_.log_files.parent_path())) {
+        const std::string name = each.path().filename();
+        const std::string date = name.size() > at ? name.substr(at, 8) : "";
+        if (is_date(date) && date < before && each.path() == log_of(date)) {
+            days.push_back(date);
+        }
+    }
+    std::ranges::sort(days);
+    return days;
+}
+
+std::size_t DayCopies::make(std::string_view before, const std::stop_token &stop) {
+    const std::vector<std::string> days = ended_days(before);
+    std::size_t missing = 0;
+    for (const std::string &date : days) {
+        missing += fs::exists(copy_of(date)) || try_copy(date, stop) ? 0 : 1;
+    }
+    const std::size_t old = days.size() - std::min(days.size(), config_.keep.value_or(days.size()));
+    for (std::size_t at = 0; at < old && !stop.stop_requested(); ++at) {
+        try_remove(days[at], stop);
+    }
+    return missing;
+}
+
+bool DayCopies::try_copy(const std::string &date, const std::stop_token &stop) {
+    try {
+        copy(date, stop);
+        events_->info("day copied date={} to={}", date, copy_of(date).string());
+        return true;
+    } catch (const std::exception &fault) {
+        events_->error("day is not copied date={} cause=\"{}\"", date, fault.what());
+        return false;
+    }
+}
+
+void DayCopies::copy(const std::string &date, const std::stop_token &stop) {
+    const fs::path log = log_of(date);
+    const Day day = day_of_whole(log, stop);
+    // The place itself is never made: what is mounted there may be gone.
+    const fs::path part = copy_of(date).string() + ".part";
+    fs::remove_all(part);
+    fs::create_directory(part);
+    Sums sums;
+    const auto put = [&](const fs::path &file, const std::string &name, unsigned mode) {
+        sums[name] = copy_file_checked(file, part / name, mode, stop);
+    };
+    put(log, log.filename(), 0440);
+    write_new(part / "venue.toml", day.configuration, 0440);
+    sums["venue.toml"] = sha256(day.configuration);
+    if (const fs::path kept = checkpoint_of(date); fs::exists(kept)) {
+        put(kept, kept.filename(), 0440);
+    }
+    if (fs::exists(config_.program) && sha256_of_file(config_.program, stop) == day.program) {
+        put(config_.program, config_.program.filename(), 0550);
+    } else {
+        events_->warn("day is copied without its program date={} program=\"{}\"", date,
+                      day.version);
+    }
+    write_new(part / sums_name, lines_of(sums), 0440);
+    synchronise_folder(part);
+    fs::rename(part, copy_of(date));
+    synchronise_folder(config_.copies);
+}
+
+// The copy is read anew, so that one which was lost or changed meanwhile takes nothing with it.
+void DayCopies::try_remove(const std::string &date, const std::stop_token &stop) {
+    const fs::path log = log_of(date);
+    const std::string name = log.filename();
+    try {
+        const Digest own = sha256_of_file(log, stop);
+        const std::string sums = read_public(copy_of(date) / sums_name);
+        if (!has_sum(sums, own, name) || sha256_of_file(copy_of(date) / name, stop) != own) {
+            throw std::runtime_error("its copy is another");
+        }
+        fs::remove(log);
+        fs::remove(log.string() + ".lock");
+        fs::remove(checkpoint_of(date));
+        synchronise_folder(log.parent_path());
+        events_->info("log removed date={} copy={}", date, copy_of(date).string());
+    } catch (const std::exception &fault) {
+        events_->error("log is not removed date={} cause=\"{}\"", date, fault.what());
+    }
+}
+
+} // namespace gateway

@@ -1,0 +1,131 @@
+#include "firm_metrics.h"
+
+#include "engine.h"
+
+#include <map>
+#include <utility>
+
+#include <prometheus/counter.h>
+#include <prometheus/gauge.h>
+#include <prometheus/registry.h>
+
+namespace gateway {
+
+namespace {
+
+using prometheus::Counter;
+using prometheus::Family;
+using prometheus::Gauge;
+using prometheus::Registry;
+
+Family<Counter> &counters(Registry &registry, const char *name, const char *help) {
+    return prometheus::BuildCounter().Name(name).Help(help).Register(registry);
+}
+
+Family<Gauge> &gauges(Registry &registry, const char *name, const char *help) {
+    return prometheus::BuildGauge().Name(name).Help(help).Register(registry);
+}
+
+std::map<std::string, std::string> labels_of(const std::string &venue, const std::string &firm) {
+    std::map<std::string, std::string> labels = {{"firm", firm}};
+    if (!venue.empty()) {
+        labels["venue"] = venue;
+    }
+    return labels;
+}
+
+// Fields `TAG=VALUE`, each with SOH behind it.
+bool has_field(std::string_view body, std::string_view field) {
+    for (std::size_t at = body.find(field); at != std::string_view::npos;
+         at = body.find(field, at + 1)) {
+        const std::size_t end = at + field.size();
+        if ((at == 0 || body[at - 1] == '\x01') && end < body.size() && body[end] == '\x01') {
+            return true;
+        }
+    }
+    return false;
+}
+
+} // namespace
+
+struct FirmFamilies::Parts {
+    Family<Gauge> &logged_on;
+    Family<Gauge> &waiting_bytes;
+    Family<Counter> &messages;
+    Family<Counter> &requests;
+    Family<Counter> &quotes;
+    Family<Counter> &hits;
+    Family<Counter> &refusals;
+};
+
+FirmFamilies::FirmFamilies(Registry &registry)
+    : parts_(new Parts{
+          gauges(registry, "mireseason_firm_logged_on", "1 while the firm is logged on"),
+          gauges(registry, "mireseason_firm_waiting_bytes",
+                 "bytes that the firm has not taken yet"),
+          counters(registry, "mireseason_firm_messages_total", "messages of the firm in the log"),
+          counters(registry, "mireseason_firm_requests_total", "of these its requests (35=R)"),
+          counters(registry, "mireseason_firm_quotes_total", "of these its quotes (35=S)"),
+          counters(registry, "mireseason_firm_hits_total", "of these its hits (35=AJ, 694=1)"),
+          counters(registry, "mireseason_firm_refusals_total",
+                   "messages of the venue that refuse one of the firm's"),
+      }) {}
+
+FirmFamilies::~FirmFamilies() = default;
+
+FirmMetrics::FirmMetrics(FirmFamilies &families, std::string venue, std::string firm)
+    : venue_(std::move(venue)), firm_(std::move(firm)),
+      logged_on_(families.parts_->logged_on.Add(labels_of(venue_, firm_))),
+      waiting_bytes_(families.parts_->waiting_bytes.Add(labels_of(venue_, firm_))),
+      messages_(families.parts_->messages.Add(labels_of(venue_, firm_))),
+      requests_(families.parts_->requests.Add(labels_of(venue_, firm_))),
+      quotes_(families.parts_->quotes.Add(labels_of(venue_, firm_))),
+      hits_(families.parts_->hits.Add(labels_of(venue_, firm_))),
+      refusals_(families.parts_->refusals.Add(labels_of(venue_, firm_))) {}
+
+void FirmMetrics::logged_on(bool is_on) {
+    logged_on_.Set(is_on ? 1 : 0);
+    if (!is_on) {
+        waiting_bytes_.Set(0);
+    }
+}
+
+void FirmMetrics::came(std::string_view type, std::string_view response_type) {
+    messages_.Increment();
+    if (type == "R") {
+        requests_.Increment();
+    } else if (type == "S") {
+        quotes_.Increment();
+    } else if (type == "AJ" && response_type == "1") {
+        hits_.Increment();
+    }
+}
+
+void FirmMetrics::was_given(const Delivery &delivery) {
+    if (refuses(delivery)) {
+        refusals_.Increment();
+    }
+}
+
+void FirmMetrics::waits(std::size_t bytes) {
+    waiting_bytes_.Set(static_cast<double>(bytes));
+}
+
+FirmMetrics::Counts FirmMetrics::counts() const {
+    return {venue_,
+            firm_,
+            logged_on_.Value() > 0,
+            messages_.Value(),
+            requests_.Value(),
+            quotes_.Value(),
+            hits_.Value(),
+            refusals_.Value(),
+            waiting_bytes_.Value()};
+}
+
+bool refuses(const Delivery &delivery) {
+    return delivery.type == "3" || delivery.type == "AG" ||
+           (delivery.type == "AI" && has_field(delivery.body, "297=5"));
+}
+
+} // namespace gateway

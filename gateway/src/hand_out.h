@@ -1,0 +1,17 @@
+// What a firm may know of the venue's configuration.
+#ifndef GATEWAY_HAND_OUT_H
+#define GATEWAY_HAND_OUT_H
+
+#include <string>
+
+namespace gateway {
+
+// As a file that a desk reads: the bonds, the dealers' names, and the firm's own row with its
+// limits; nothing of what another firm may do, and of no investor but the firm itself that there is
+// one. `configuration` is the venue's, and right. Throws std::runtime_error where it has no such
+// firm.
+std::string hand_out(const std::string &configuration, const std::string &firm);
+
+} // namespace gateway
+
+#endif

@@ -1,0 +1,35 @@
+// The socket at which systemd hears how a service is: sd_notify(3).
+#ifndef GATEWAY_SUPERVISOR_SOCKET_H
+#define GATEWAY_SUPERVISOR_SOCKET_H
+
+#include "descriptor.h"
+
+#include <chrono>
+#include <optional>
+#include <string>
+#include <string_view>
+
+namespace gateway {
+
+// Takes what systemd has put into the environment out of it, so that the venue's process and others
+// can't speak for the service. Where nobody listens, nothing is sent.
+class SupervisorSocket {
+  public:
+    // Throws std::runtime_error where NOTIFY_SOCKET names no socket that can be had.
+    SupervisorSocket();
+
+    bool is_there() const { return socket_.has_value(); }
+    // Lines `KEY=VALUE`. A datagram that systemd does not take is lost: the next one says it again.
+    void send(std::string_view lines) const;
+    // After so long without WATCHDOG=1 systemd ends the service; nothing where it does not watch.
+    std::optional<std::chrono::microseconds> watchdog() const { return watchdog_; }
+
+  private:
+    std::optional<Descriptor> socket_;
+    std::string address_; // the bytes of a sockaddr_un
+    std::optional<std::chrono::microseconds> watchdog_;
+};
+
+} // namespace gateway
+
+#endif

@@ -1,0 +1,193 @@
+// What an operator is shown and told: open requests, refusals that are counted, how the service is,
+// and what a firm is handed out.
+#include "check.h"
+#include "condition.h"
+#include "engine.h"
+#include "firm_metrics.h"
+#include "hand_out.h"
+#include "open_requests.h"
+#include "overview.h"
+
+#include <exception>
+#include <iostream>
+#include <stdexcept>
+
+#include <toml++/toml.h>
+
+namespace gateway::tests {
+
+namespace {
+
+using namespace std::chrono_literals;
+
+// A frame with bars in the place of SOH.
+std::string frame(std::string text) {
+    for (char &c : text) {
+        c = c == '|' ? '\x01' : c;
+    }
+    return text;
+}
+
+std::string report(const std::string &fields) {
+    return frame("8=FIXT.1.1|9=99|35=AI|49=VENUE|56=INV1|34=7|52=20250314-09:30:00.125|" + fields +
+                 "10=000|");
+}
+
+// By docs/FORMATS.md, "Written messages", to an investor.
+void requests_open_and_end() {
+    OpenRequests open;
+    const auto given = [&open](const std::string &fields) {
+        open.was_given("INV1", report(fields));
+        return open.all().size();
+    };
+    check(given("131=A1|297=0|") == 1, "an accepted request is open");
+    check(open.all()[0].firm == "INV1" && open.all()[0].request == "A1" &&
+              open.all()[0].accepted == "09:30:00.125",
+          "it is told by its name, and when it was accepted");
+    check(given("131=A2|297=0|") == 2, "a second one");
+    check(given("131=A1|117=Q4|297=17|") == 2, "a quote that is gone ends no request");
+    check(given("131=A1|297=11|453=1|448=DLR1|447=D|452=35|") == 2, "nor does a dealer's decline");
+    check(given("693=h1|131=A1|117=Q5|297=5|300=4|58=Withdrawn|") == 2,
+          "nor a hit that is refused");
+    check(given("693=h1|117=Q9|297=9|") == 2, "nor a hit of no quote");
+    check(given("693=h2|131=A1|117=Q5|297=0|") == 1, "a hit ends it");
+    check(given("693=p1|131=A2|297=11|") == 0, "a pass ends it");
+    check(given("131=A3|297=0|") == 1 && given("131=A3|297=7|") == 0, "it expires");
+    check(given("131=A3|297=0|") == 1 && given("131=A3|297=0|") == 1,
+          "what is given again is the same");
+    open.was_given("INV2", report("131=A3|297=0|"));
+    check(open.all().size() == 2, "of two investors each has a request of that name");
+}
+
+Delivery delivery(std::string type, std::string body) {
+    Delivery made;
+    made.type = std::move(type);
+    made.body = frame(std::move(body));
+    return made;
+}
+
+void refusals_are_told_apart() {
+    check(refuses(delivery("3", "45=4|371=50|373=5|")), "a Reject");
+    check(refuses(delivery("AG", "131=A1|658=99|")), "a refused request");
+    check(refuses(delivery("AI", "131=R1|117=a|297=5|300=99|")), "a refused quote");
+    check(refuses(delivery("AI", "297=5|")), "in the first field");
+    check(!refuses(delivery("AI", "131=R1|117=a|297=0|")), "an accepted quote");
+    check(!refuses(delivery("AI", "117=297=5|297=0|")), "a value that looks like the field");
+    check(!refuses(delivery("AI", "117=a|1297=5|297=17|")), "a longer tag, and a longer value");
+    check(!refuses(delivery("AJ", "693=N1|297=5|")), "another message");
+}
+
+void conditions_say_what_is_wrong() {
+    Condition now{Phase::ready, "20261127", Pulse::Silent{"the venue", 14s}};
+    check(!now.fault() && now.words() == "ready: 20261127", "14 seconds are none");
+    now.silent->time = 15s;
+    check(now.words() == "the venue has not worked for 15 s (ready: 20261127)", now.words());
+    check(now.has_started() && !Condition{Phase::opens, "", {}}.has_started() &&
+              !Condition{Phase::ends, "", {}}.has_started() &&
+              Condition{Phase::closed, "", {}}.has_started() &&
+              Condition{Phase::stands_by, "", {}}.has_started(),
+          "it has started where it waits, stands by, or is ready");
+    Pulse pulse;
+    check(!pulse.longest(), "nobody has said anything");
+    pulse.put("the log");
+    pulse.put("the venue", 20s);
+    check(pulse.longest()->part == "the venue" && pulse.longest()->time >= 20s, "the longest");
+    pulse.put("the venue");
+    check(pulse.longest()->time < 20s, "it works again");
+}
+
+void pages_show_text_as_text() {
+    Overview seen;
+    seen.condition = {Phase::ready, "<b>day</b>", {}};
+    seen.events = {"refused text=\"<script>alert('x')</script> & more\""};
+    seen.requests = {{"INV1", "<img src=x>", "09:30:00.125"}};
+    const std::string page = html_of(seen);
+    for (const char *element : {"<b>", "<script>", "<img"}) {
+        check(page.find(element) == std::string::npos, element);
+    }
+    check(page.find("&lt;script&gt;alert(&#39;x&#39;)&lt;/script&gt; &amp; more") !=
+              std::string::npos,
+          "an event stands there as it is");
+    seen.requests.assign(250, {"INV1", "A", "09:30:00.125"});
+    const std::string long_page = html_of(seen);
+    check(long_page.find("Open requests: 250") != std::string::npos, "all are counted");
+    check(long_page.size() < 20000, "and a hundred are shown");
+}
+
+constexpr const char *venue_text = R"(
+version = 2
+date = "20250314"
+[[bond]]
+id = "BONDA0000001"
+grid = 128
+name = "Treasury 4 % 2034"
+[[dealer]]
+name = "DLR1"
+traders = ["T1", "T7"]
+quotes = 4096
+exposure = 250000000
+[[dealer]]
+name = "DLR2"
+traders = ["T2"]
+quotes = 10
+exposure = 777000000
+[[investor]]
+name = "INV1"
+traders = ["T8"]
+requests = 256
+open = 16
+quantity = 5000000
+[[investor]]
+name = "INV2"
+traders = ["T9"]
+requests = 31
+open = 3
+quantity = 888000000
+)";
+
+void hand_outs_tell_a_firm_its_own() {
+    const toml::table dealer = toml::parse(hand_out(venue_text, "DLR1"));
+    check(dealer["bond"][0]["id"] == "BONDA0000001" && dealer["bond"][0]["grid"] == 128 &&
+              dealer["bond"][0]["name"] == "Treasury 4 % 2034" && dealer["version"] == 2,
+          "the bonds");
+    check(dealer["dealer"][0]["exposure"] == 250000000 && dealer["dealer"][0]["traders"][1] == "T7",
+          "its own row");
+    check(dealer["dealer"][1]["name"] == "DLR2", "the other dealer's name");
+    const std::string text = hand_out(venue_text, "DLR1");
+    for (const char *secret : {"777000000", "T2", "INV1", "INV2", "888000000", "T9"}) {
+        check(text.find(secret) == std::string::npos, std::string("a dealer is told ") + secret);
+    }
+    const std::string investor = hand_out(venue_text, "INV1");
+    check(toml::parse(investor)["investor"][0]["quantity"] == 5000000, "an investor's own row");
+    for (const char *secret : {"777000000", "250000000", "T1", "INV2", "888000000"}) {
+        check(investor.find(secret) == std::string::npos,
+              std::string("an investor is told ") + secret);
+    }
+    bool refused = false;
+    try {
+        hand_out(venue_text, "NOBODY");
+    } catch (const std::runtime_error &fault) {
+        refused = fault.what() == std::string("the venue has no firm NOBODY");
+    }
+    check(refused, "a firm that there is not");
+}
+
+} // namespace
+
+} // namespace gateway::tests
+
+int main() {
+    using namespace gateway::tests;
+    try {
+        requests_open_and_end();
+        refusals_are_told_apart();
+        conditions_say_what_is_wrong();
+        pages_show_text_as_text();
+        hand_outs_tell_a_firm_its_own();
+    } catch (const std::exception &fault) {
+        std::cerr << fault.what() << '\n';
+        return 1;
+    }
+    std::cout << "passed\n";
+    return 0;
+}

@@ -1,0 +1,25 @@
+# Writes OUT, the source that says which version and commit a build is of. It is written anew only
+# where that changed, so that a build without a change compiles nothing.
+#   cmake -DTOP=.. -DOUT=.. -P version.cmake
+file(STRINGS ${TOP}/VERSION version LIMIT_COUNT 1)
+if(EXISTS ${TOP}/COMMIT)
+    # A tree without its history.
+    file(STRINGS ${TOP}/COMMIT commit LIMIT_COUNT 1)
+else()
+    execute_process(COMMAND git -C ${TOP} describe --always --abbrev=12 --match=no-tag --dirty=+
+        OUTPUT_VARIABLE commit OUTPUT_STRIP_TRAILING_WHITESPACE ERROR_QUIET)
+endif()
+if(NOT commit)
+    set(commit unknown)
+endif()
+set(text "#include \"version.h\"
+
+namespace gateway {
+
+std::string version_text() {
+    return \"mireseason-gateway ${version} (${commit})\";
+}
+
+} // namespace gateway
+")
+file(CONFIGURE OUTPUT ${OUT} CONTENT "${text}" @ONLY)

@@ -1,0 +1,180 @@
+"""The gateway as a service: what systemd hears of it, and what /health and /ready say."""
+
+import os
+import signal
+import socket
+import urllib.error
+import urllib.request
+from collections.abc import Iterator
+from contextlib import contextmanager
+from dataclasses import dataclass, field
+from datetime import datetime, timedelta, timezone
+from http.client import HTTPConnection
+from pathlib import Path
+
+import pytest
+
+from tests.gateway.door import Door
+from tests.gateway.stage import Stage
+from tests.gateway.wait import LONG, until
+from tests.operating.test_configuration import VENUE
+
+SILENCE = 15  # seconds after which a part that does not work is told of (gateway/README.md)
+
+
+@dataclass
+class Systemd:
+    """What a service says at the socket that systemd gives it."""
+
+    place: Path
+    ears: socket.socket = field(init=False)
+    heard: list[str] = field(default_factory=list)
+
+    def __post_init__(self) -> None:
+        self.ears = socket.socket(socket.AF_UNIX, socket.SOCK_DGRAM)
+        self.ears.bind(str(self.place))
+        self.ears.setblocking(False)
+
+    def listen(self) -> list[str]:
+        while True:
+            try:
+                self.heard += self.ears.recv(4096).decode().splitlines()
+            except BlockingIOError:
+                return self.heard
+
+    def count(self, line: str) -> int:
+        return self.listen().count(line)
+
+    def says(self, start: str) -> bool:
+        return any(line.startswith(start) for line in self.listen())
+
+
+@pytest.fixture
+def systemd(place: Path) -> Iterator[Systemd]:
+    listening = Systemd(place / "notify")
+    yield listening
+    listening.ears.close()
+
+
+def watched(stage: Stage, systemd: Systemd, seconds: int) -> None:
+    """The gateway's next start is one of a unit with Type=notify and WatchdogSec=seconds."""
+    stage.door.environment |= {"NOTIFY_SOCKET": str(systemd.place), "WATCHDOG_USEC": str(seconds * 1_000_000)}
+
+
+def asked(door: Door, path: str) -> tuple[int, str]:
+    """The status and the line of an answer."""
+    try:
+        with urllib.request.urlopen("http://127.0.0.1:%d%s" % (door.metrics, path), timeout=LONG) as answer:
+            return answer.status, answer.read().decode()
+    except urllib.error.HTTPError as answer:
+        return answer.code, answer.read().decode()
+
+
+@contextmanager
+def hanging_venue(stage: Stage) -> Iterator[None]:
+    """The venue's process stands still, and has a message to answer."""
+    venues = stage.door.venues()
+    assert venues, "there is no venue"
+    for pid in venues:
+        os.kill(pid, signal.SIGSTOP)
+    try:
+        stage.say(stage.dealer, "Z", [(298, b"5"), (117, b"none")])
+        yield
+    finally:
+        for pid in venues:
+            os.kill(pid, signal.SIGCONT)
+
+
+def test_systemd_is_told(stage: Stage, systemd: Systemd) -> None:
+    """Ready once firms may log on, and not before; its state in words; alive again and again; and its end."""
+    watched(stage, systemd, 4)
+    stage.door.write()
+    stage.door.start()
+    until("it is ready", LONG, lambda: systemd.says("READY=1"))
+    assert stage.door.is_open(), "READY=1 came before the gateway took connections"
+    before = systemd.heard[: systemd.heard.index("READY=1")]
+    assert "WATCHDOG=1" not in before
+    until("its state is told", LONG, lambda: systemd.says("STATUS=ready: "))
+    alive = systemd.count("WATCHDOG=1")
+    until("it is alive again and again", LONG, lambda: systemd.count("WATCHDOG=1") >= alive + 3)
+    assert stage.door.stop() == 0
+    assert systemd.says("STOPPING=1")
+    assert systemd.count("READY=1") == 1
+
+
+def test_the_venue_does_not_speak_for_the_service(stage: Stage, systemd: Systemd) -> None:
+    """Its process knows nothing of the socket."""
+    watched(stage, systemd, 60)
+    stage.open()
+    found = stage.door.venues()
+    assert found
+    for pid in found:
+        assert b"NOTIFY_SOCKET" not in Path("/proc/%d/environ" % pid).read_bytes()
+
+
+def test_the_watchdog_sees_a_venue_that_hangs(stage: Stage, systemd: Systemd) -> None:
+    """As long as it answers nothing the gateway gives no sign of life; and then again."""
+    stage.limits["venue_seconds"] = 600
+    watched(stage, systemd, 8)
+    stage.open(stage.dealer)
+    with hanging_venue(stage):
+        until("it is told", LONG, lambda: "venue does not answer" in stage.door.told.read_text(errors="replace"))
+        alive = systemd.count("WATCHDOG=1")
+        until("/health says it", LONG, lambda: asked(stage.door, "/health")[0] == 503)
+        assert systemd.count("WATCHDOG=1") == alive
+        status, line = asked(stage.door, "/health")
+        assert status == 503 and line.startswith("the venue has not worked for "), line
+        assert asked(stage.door, "/ready")[0] == 503
+        assert stage.counters()["mireseason_healthy"] == 0
+    until("it is healthy again", LONG, lambda: asked(stage.door, "/health")[0] == 200)
+    until("it is alive again", LONG, lambda: systemd.count("WATCHDOG=1") > alive)
+
+
+def test_a_day_that_has_not_opened(stage: Stage, systemd: Systemd) -> None:
+    """The service has started and is well, and nobody may log on: /ready says when they may."""
+    tomorrow = datetime.now(timezone.utc) + timedelta(days=1)
+    days = '[day]\nweekdays = ["%s"]\n' % tomorrow.strftime("%a")
+    (stage.folder / "venue.toml").write_text(VENUE)
+    watched(stage, systemd, 60)
+    stage.door.write()
+    file = stage.folder / "gateway.toml"
+    file.write_text(file.read_text() + days)
+    stage.door.start()
+    until("it has started", LONG, lambda: systemd.says("READY=1"))
+    words = "closed: %s, %sT00:00:00Z to " % (tomorrow.strftime("%Y%m%d"), tomorrow.strftime("%Y-%m-%d"))
+    until("its state is told", LONG, lambda: systemd.says("STATUS=" + words))
+    assert asked(stage.door, "/health")[0] == 200
+    status, line = asked(stage.door, "/ready")
+    assert status == 503 and line.startswith(words), line
+    assert stage.counters()["mireseason_ready"] == 0
+    opens = tomorrow.replace(hour=0, minute=0, second=0, microsecond=0).timestamp()
+    assert stage.counters()["mireseason_day_opens_timestamp_seconds"] == opens
+    assert not stage.door.is_open()
+    assert stage.door.stop() == 0
+
+
+def test_ready(stage: Stage) -> None:
+    stage.open()
+    assert asked(stage.door, "/health")[0] == 200
+    status, line = asked(stage.door, "/ready")
+    assert status == 200 and line.startswith("ready: "), line
+    assert stage.counters()["mireseason_ready"] == 1
+    assert stage.counters()["mireseason_healthy"] == 1
+
+
+def test_who_may_ask(stage: Stage) -> None:
+    """Pages of other sites, which a browser on this machine may show, read nothing; and nobody changes anything."""
+    stage.open()
+    for method, path, host, expected in (
+        ("GET", "/", "evil.example", 403),
+        ("GET", "/metrics", "evil.example:%d" % stage.door.metrics, 403),
+        ("GET", "/", "127.0.0.1:%d" % stage.door.metrics, 200),
+        ("POST", "/", "127.0.0.1:%d" % stage.door.metrics, 403),
+        ("GET", "/../gateway.toml", "127.0.0.1:%d" % stage.door.metrics, 404),
+    ):
+        line = HTTPConnection("127.0.0.1", stage.door.metrics, timeout=LONG)
+        line.request(method, path, headers={"Host": host})
+        answer = line.getresponse()
+        assert answer.status == expected, (method, path, host)
+        assert answer.getheader("X-Frame-Options") == "DENY"
+        line.close()
