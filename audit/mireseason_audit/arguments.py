@@ -21,7 +21,8 @@ from .venue import Venue
 from .work import processors
 
 ROOT = Path(__file__).resolve().parent.parent.parent
-VENUE = ROOT / "crates" / "rfq_venue" / "out" / "rfq_venue"
+BUILT = ROOT / "crates" / "rfq_venue" / "out" / "rfq_venue"
+VENUE = BUILT if (ROOT / "crates").exists() else Path("/usr/bin/rfq_venue")  # as packages install it
 DICTIONARY = ROOT / "fix" / "MIRESEASON.xml"
 AT_ONCE = processors() + 1  # a process that waits for the disk leaves its processor
 ADDRESSES = ("postgres://", "postgresql://")

@@ -22,6 +22,7 @@ from .faults import Unreadable, Wrong
 from .frame import printable
 from .log import Source
 from .seal import check_key, sealed, write_seal
+from .version import PrintVersion
 from .work import SIGNALS
 
 PACKAGES = {"markupsafe": "python3-jinja2"}  # others are called by their module
@@ -34,6 +35,7 @@ EPILOG = (
 def parser_of() -> argparse.ArgumentParser:
     text = "What firms were really sent on a day, checked and shown."
     parser = Parser(prog="mireseason-audit", description=text, epilog=EPILOG)
+    parser.add_argument("--version", action=PrintVersion)
     commands = Commands(parser)
     text = "holds what was sent, and the record, against the venue"
     with_seal(commands.add("check", text, do_check))
