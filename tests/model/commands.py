@@ -137,7 +137,7 @@ def desk_alone(part: Part) -> Desk:
 
 
 def do_replay(streams: Streams, frames: bool, live: bool, notes: bool, word: bytes | None = None) -> Iterable[bytes]:
-    venue, firm = a_day(streams, live, word)
+    venue, firm = a_day(streams, live or notes, word)
     desks = venue.desks if firm is None else [venue.desks[firm]]
     return [line for desk in desks for line in desk_lines(desk, frames, notes)]
 

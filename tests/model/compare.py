@@ -48,6 +48,13 @@ def inputs(seed: int) -> list[Input]:
     return draw.choice(kinds)(draw)
 
 
+def noted_inputs(seed: int) -> list[tuple[list[str], bytes]]:
+    """The same of the commands that have --notes, each with it; about as many of each."""
+    draw = Draw(seed)
+    kinds = [noted_day] * 6 + [due_list] * 3 + [investor_list] * 2 + [made_up] * 2 + [spoilt] * 2 + [streams]
+    return [(with_notes(words), data) for words, data in draw.choice(kinds)(draw) if has_notes(words)]
+
+
 def joined(*parts: bytes) -> bytes:
     return b"\n%%\n".join(parts)
 
@@ -95,6 +102,14 @@ def a_day(draw: Draw) -> list[Input]:
     if draw.chance(0.3):
         found += [(words, without_turns(draw, data)) for words in audits(draw, day)]
     return found
+
+
+def noted_day(draw: Draw) -> list[tuple[list[str], bytes]]:
+    """A day as `live` answers it, and as `replay --live` prints it of all firms and of one."""
+    day = Day(draw)
+    data = ended(draw, joined(head(day), without_turns(draw, day.text())))
+    after = [["replay", "--live"], ["replay", firm_word(draw, day), "--live"], ["replay", "--live", "--frames"]]
+    return [(live_words(draw), data), (draw.choice(after), data)]
 
 
 def live_words(draw: Draw) -> list[str]:
@@ -224,6 +239,9 @@ def rarely(draw: Draw) -> list[Input]:
 
 # ---------------------------------------------------------------- both answers
 
+NOTED_COMMANDS = ("alone", "live", "replay --live")  # those that have --notes
+NOTED = "with --notes: "  # before the command in the count behind a run
+
 
 def model_answer(words: list[str], data: bytes) -> tuple[int, bytes, bytes]:
     out, err = io.BytesIO(), io.BytesIO()
@@ -264,11 +282,19 @@ def kinds_of(words: list[str], answer: tuple[int, bytes, bytes]) -> collections.
     return kinds
 
 
+def has_notes(words: list[str]) -> bool:
+    """Whether the command of the words has the flag --notes."""
+    return not words or words[0] in ("alone", "live") or (words[0] == "replay" and "--live" in words)
+
+
 def with_notes(words: list[str]) -> list[str]:
-    """The words with --notes, where their command has that flag."""
-    words = words or ["alone"]
-    has_it = words[0] in ("alone", "live") or (words[0] == "replay" and "--live" in words)
-    return [*words, "--notes"] if has_it else words
+    """The words with --notes."""
+    return [*(words or ["alone"]), "--notes"]
+
+
+def noted_command(words: list[str]) -> str:
+    """Which of the commands that have --notes the words are."""
+    return "replay --live" if words[0] == "replay" else words[0]
 
 
 def noted_kind(line: bytes) -> str:
@@ -282,10 +308,11 @@ def compared(work: tuple[list[str], int, bool]) -> tuple[int, Difference | str |
     program, seed, notes = work
     count, kinds = 0, collections.Counter[str]()
     try:
-        for number, (words, data) in enumerate(inputs(seed), 1):
-            words = with_notes(words) if notes else words
+        for number, (words, data) in enumerate(noted_inputs(seed) if notes else inputs(seed), 1):
             mine, count = model_answer(words, data), count + 1
             kinds += kinds_of(words, mine)
+            if notes:
+                kinds[NOTED + noted_command(words)] += 1
             other = program_answer(program, words, data)
             if mine != other and b"config: Toml\n" in (mine[2], other[2]):
                 kinds["TOML that one reader takes and the other not: seed %d, input %d" % (seed, number)] += 1
@@ -335,10 +362,11 @@ def main() -> None:
                 print("%d inputs, up to seed %d" % (total + count, seed), file=sys.stderr, flush=True)
             total += count
             kinds += found
+            done = min(kinds[NOTED + command] for command in NOTED_COMMANDS) if notes else total
             if difference:
                 pool.terminate()
                 sys.exit(report(seed, difference) + "\n%d inputs, seeds %d to %d" % (total, first, seed))
-            if total >= wanted:
+            if done >= wanted:
                 pool.terminate()
                 break
     for kind, count in sorted(kinds.items()):

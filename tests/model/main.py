@@ -1,7 +1,7 @@
 #!/usr/bin/env python3
 """A second implementation of the venue's program, written from its rules alone.
 
-usage: program.py [alone [--frames] [--notes]] | replay [FIRM] [--frames] [--live [--notes]] | due DEALER [--live]
+usage: program.py [alone [--frames] [--notes]] | replay [FIRM] [--frames] [--live] [--notes] | due DEALER [--live]
                   | due --investor INVESTOR [--live] | dues [--live] | compare DEALER [--live]
                   | compare --investor INVESTOR [--live] | blotter FIRM [--live]
                   | live [--frames] [--marks] [--notes]
@@ -24,19 +24,17 @@ class Usage(Exception):
 
 @dataclass(frozen=True)
 class Command:
-    """What does it (None for `live`), its flags, the fewest and the most words behind it, and a flag that another one
-    has to stand beside."""
+    """What does it (None for `live`), its flags, and the fewest and the most words behind it."""
 
     act: Callable[..., Iterable[bytes]] | None
     flags: tuple[str, ...]
     fewest: int
     most: int
-    beside: tuple[str, str] | None = None
 
 
 COMMANDS = {
     "alone": Command(do_alone, ("--frames", "--notes"), 0, 0),
-    "replay": Command(do_replay, ("--frames", "--live", "--notes"), 0, 1, ("--notes", "--live")),
+    "replay": Command(do_replay, ("--frames", "--live", "--notes"), 0, 1),
     "due": Command(do_due, ("--live", "--investor"), 1, 1),
     "dues": Command(do_dues, ("--live",), 0, 0),
     "compare": Command(do_compare, ("--live", "--investor"), 1, 1),
@@ -57,8 +55,6 @@ def read_arguments(words: list[str]) -> tuple[Command | None, list[bool], list[b
     command = COMMANDS[name]
     flags, words = [word for word in rest if word.startswith("-")], [word for word in rest if not word.startswith("-")]
     if any(flag not in command.flags for flag in flags) or len(set(flags)) < len(flags):
-        raise Usage
-    if command.beside is not None and command.beside[0] in flags and command.beside[1] not in flags:
         raise Usage
     if not command.fewest <= len(words) <= command.most:
         raise Usage

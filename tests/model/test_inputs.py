@@ -12,6 +12,7 @@ from tests.model.compare import (
     inputs,
     joined,
     model_answer,
+    noted_inputs,
     program_answer,
     report,
     same,
@@ -39,7 +40,7 @@ def test_inputs_of_a_seed(
     notes = has_notes and drawn % 2 == 0
     seed, difference, count, _ = compared((first_program, drawn, notes))
     assert difference is None, report(seed, difference)
-    assert count > 0 or not inputs(drawn)  # the list of a dealer or investor of a day that has none
+    assert count > 0 or not (noted_inputs(drawn) if notes else inputs(drawn))  # the list of a dealer or investor of a day that has none
 
 
 @st.composite

@@ -1,6 +1,6 @@
 """What `--notes` prints: each name of a reason, and the names of trades, by cases and on drawn days.
 
-The second implementation alone has the flag so far. The cases of `notes.cases` are of any program that has it.
+The cases of `notes.cases` are of any program that has the flag; the gate has them too, as `commands-notes.cases`.
 """
 
 from __future__ import annotations
@@ -81,6 +81,7 @@ def test_a_case(case: Case, frames: list[str]) -> None:
 def test_a_case_after_its_day(case: Case) -> None:
     """`replay --live --notes` prints the same lines, firm by firm."""
     noted = printed(["replay", "--live", "--notes"], case.data)
+    assert noted == printed(["replay", "--notes"], case.data)
     assert sorted(line.decode() for line in noted if is_note(line)) == sorted(case.notes)
 
 
@@ -123,6 +124,6 @@ def test_both_sides_name_a_trade_alike(seed: int) -> None:
     assert trades > 0
 
 
-@pytest.mark.parametrize("words", [["replay", "--notes"], ["due", "DLR1", "--notes"], ["live", "--notes", "--notes"]])
+@pytest.mark.parametrize("words", [["due", "DLR1", "--notes"], ["live", "--notes", "--notes"]])
 def test_wrong_arguments(words: list[str]) -> None:
     assert model_answer(words, b"")[:2] == (2, b"")

@@ -96,6 +96,7 @@ impl<'h, H: Threads + Wait + Sync> Commands<'h, H> {
             "told" => self.told(call),
             "each" => self.program(call.alloc).each(call),
             "same" => self.program(call.alloc).same(call),
+            "noted" => self.program(call.alloc).noted(call),
             _ => self.inputs.take(call),
         }
     }

@@ -2,7 +2,7 @@
 ghost use Rattle.std.specs.Prelude.{◌<◌, IfOk};
 
 use crate::in_row::InRow;
-use crate::runs::{Ended, Paces, Program, words_of};
+use crate::runs::{Ended, Paces, Program, is_note, words_of};
 use crate::streams::Pace;
 use case_lines::{Call, CaseFault, Words};
 use std::alloc::Global;
@@ -145,6 +145,23 @@ impl<'a, H: Threads + Wait + Sync> Program<'a, H> {
         Ok(is_same)
     }
 
+    /// `noted ARGUMENTS`: how a run with `--notes` behind these ended, each line that tells what is
+    /// noted, and whether all else is what a run without that flag prints.
+    pub(crate) fn noted(&self, call: &mut Call<'_>) -> Result<(), CaseFault> {
+        let mut words = words_of(call.alloc, call.words.rest())?;
+        let plain = self.ran(words.as_slice(), Paces::whole());
+        words.push("--notes")?;
+        let noted = self.ran(words.as_slice(), Paces::whole());
+        noted.tell(&mut call.answer)?;
+        noted.show_notes(&mut call.answer)?;
+        let rest = without_notes(self.alloc, noted.out.as_slice())?;
+        push_same(
+            &mut call.answer,
+            "rest",
+            rest.as_slice() == plain.out.as_slice(),
+        )
+    }
+
     /// Runs a command over an input, with `--frames` or without.
     fn ran_in_form(
         &self,
@@ -187,6 +204,17 @@ fn without_turns(alloc: Global, input: &[u8]) -> Result<Vec<u8>, CaseFault> {
     let mut lines = Vec::new(alloc);
     for line in input.split_inclusive(|byte| *byte == b'\n') {
         if !line.starts_with(b"turn ") {
+            lines.extend_from_slice(line)?;
+        }
+    }
+    Ok(lines)
+}
+
+/// The lines of a text but those that tell what is noted.
+fn without_notes(alloc: Global, text: &[u8]) -> Result<Vec<u8>, CaseFault> {
+    let mut lines = Vec::new(alloc);
+    for line in text.split_inclusive(|byte| *byte == b'\n') {
+        if !is_note(line) {
             lines.extend_from_slice(line)?;
         }
     }

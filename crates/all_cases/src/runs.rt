@@ -121,6 +121,21 @@ impl Ended {
         writeln!(answer, ".. {between}")?;
         push_lines(answer, "", end)
     }
+
+    /// Each line of standard output that tells what is noted beside a message.
+    pub(crate) fn show_notes(&self, answer: &mut String) -> Result<(), CaseFault> {
+        for line in self.out.split_inclusive(|byte| *byte == b'\n') {
+            if is_note(line) {
+                push_line(answer, line)?;
+            }
+        }
+        Ok(())
+    }
+}
+
+/// Whether a line tells what is noted beside a message. No firm has a name in small letters.
+pub(crate) fn is_note(line: &[u8]) -> bool {
+    line.starts_with(b"why ") || line.starts_with(b"trade ")
 }
 
 /// Appends the first lines of a text.

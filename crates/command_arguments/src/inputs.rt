@@ -93,9 +93,9 @@ Each firm has 1 to 16 traders. There are at most 1024 bonds, 64 dealers and 64 i
 Each message is printed as FIRM MSGSEQNUM TIME TYPE BODY, or with --frames as FIRM FRAME: those of
 each dealer, in the order of the configuration, and then those of each investor.
 
-With --live each step is followed by the turns that leave no duty, as `live` does them, and a line
-`turn` is of no form. A line of steps at fault is told on standard error, as `line K: form`, and
-skipped; the input has no limit but those of `live`.
+With --live or --notes each step is followed by the turns that leave no duty, as `live` does them,
+and a line `turn` is of no form. A line of steps at fault is told on standard error, as `line K:
+form`, and skipped; the input has no limit but those of `live`.
 
 Example:
   version = 2
