@@ -1,7 +1,7 @@
 -- What was read, printed and told where a command prints one text.
 use Rattle.std.proofs.lemmas.Bool.{cases_Bool}
 use Rattle.std.proofs.Common.{◌≡◌, ◌≢◌, ℕ, ◌-◌, ◌<◌, ◌≤◌, List, ◌++◌, length, sym, ap, ◌∙◌, subst, refl, arith, Option, Some, None}
-use Rattle.std.proofs.Common.{true, nat_lt, inl, inr, Result, Ok, Err, ◌⊎◌}
+use Rattle.std.proofs.Common.{true, false, nat_lt, inl, inr, Result, Ok, Err, ◌⊎◌}
 use Rattle.std.proofs.lemmas.List.{append-nil, length-append}
 use Rattle.input_lines.specs.declared.lines.TheConstants.{MOST_INPUT}
 use Rattle.command_arguments.specs.Arguments.{Command, alone, blotter, compare, compared, day, due}
