@@ -12,17 +12,22 @@ use Rattle.recorded_days.specs.declared.actions.Inbound.{Inbound}
 use Rattle.recorded_days.specs.declared.actions.Sweep.{Sweep}
 use Rattle.session_worker.specs.AnsweredResponses.{first_unanswered}
 use Rattle.session_worker.specs.DayActions.{EventsAreOfActions}
-use Rattle.session_worker.specs.DayChecks.{DayRoom, first_unswept, first_untold}
+use Rattle.session_worker.specs.DayChecks.{DayRoom, first_unswept, first_untold, room_shown}
 use Rattle.session_worker.specs.KeptDays.{DealersKeep, DealersStand, InvestorKeeps, InvestorsKeep}
 use Rattle.session_worker.specs.KeptDays.{KeepsDay, RoomsStand, names_of, rooms_in, rooms_of}
-use Rattle.session_worker.specs.KeptDays.{rooms_of_venue, without_rooms}
+use Rattle.session_worker.specs.KeptDays.{requests_of, rooms_of_venue, without_rooms}
 use Rattle.session_worker.specs.RelayedQuotes.{first_unrelayed}
 use Rattle.session_worker.specs.ShownRequests.{first_unshown}
+use Rattle.session_worker.specs.declared.notices.Notice.{Notice}
+use Rattle.session_worker.proofs.ActionWalks.{walks_are_right}
 use Rattle.session_worker.proofs.AnswerLemmas.{unanswered_like}
 use Rattle.session_worker.proofs.AwardLemmas.{awards_stand}
 use Rattle.session_worker.proofs.KeepLemmas.{dealers_later, keeps_alike}
+use Rattle.session_worker.proofs.PromiseLemmas.{each_shown, each_told}
 use Rattle.session_worker.proofs.RelayLemmas.{unrelayed_like}
 use Rattle.session_worker.proofs.RoomNames.{each_like, inboxes_like}
+use Rattle.session_worker.proofs.RoomPromises.{each_answered, each_relayed, each_swept}
+use Rattle.session_worker.proofs.RoomsApart.{rooms_apart}
 
 -- the messages that came from dealers and from investors
 abbrev pub dealer_inboxes : List DealerLists → List (List Inbound)
@@ -82,12 +87,16 @@ module _ (config : Configuration) (inboxes : List (List Inbound)) (sweeps : List
   same_rooms = sym joined.rooms_in_whole
       ∙ ap (λ n. rooms_of n whole) (sym joined.dealers_are)
 
+  -- they have the names of the venue's rooms
+  named : names_of (rooms_in day_of) ≡ rooms_of_venue config
+  named = subst (λ own. names_of own ≡ rooms_of_venue config) same_rooms joined.rooms_are
+
   pub day_is_kept : KeepsDay config inboxes sweeps day_of
   day_is_kept = record {
     dealers_are = joined.dealers_are;
     investors_are = sym (length-map whole without_rooms) ∙ ap length joined.alike
         ∙ length-map bare without_rooms ∙ joined.investors_are;
-    rooms_are = subst (λ own. names_of own ≡ rooms_of_venue config) same_rooms joined.rooms_are;
+    rooms_are = named;
     inboxes_are = map-append (λ (firm : FirmLists). firm.inbox) (map of_dealer dealers)
         (map of_investor whole)
         ∙ ap (λ first. first ++ map (λ (firm : FirmLists). firm.inbox) (map of_investor whole))
@@ -100,17 +109,24 @@ module _ (config : Configuration) (inboxes : List (List Inbound)) (sweeps : List
         each_like (λ k. InvestorKeeps config (length config.dealers + k))
         (λ k. keeps_alike config (length config.dealers + k)) whole bare joined.alike
         joined.investors_keep;
-    told = subst (λ own. first_untold own dealers ≡ None) same_rooms joined.told;
-    swept = subst (λ own. first_unswept sweeps own ≡ None) same_rooms joined.swept;
-    shown = subst (λ own. first_unshown own dealers ≡ None) same_rooms joined.shown;
-    relayed = ap (λ n. first_unrelayed config n whole (rooms_in day_of)) joined.dealers_are
+    told = each_told (rooms_in day_of)
+        (rooms_apart (λ (notice : Notice). notice.room) (length config.dealers)
+        (requests_of config.investors) (rooms_in day_of) named) 0 dealers
+        (subst (λ own. first_untold own dealers ≡ None) same_rooms joined.told);
+    swept = each_swept sweeps (rooms_in day_of)
+        (subst (λ own. first_unswept sweeps own ≡ None) same_rooms joined.swept);
+    shown = each_shown (rooms_in day_of)
+        (rooms_apart room_shown (length config.dealers) (requests_of config.investors)
+        (rooms_in day_of) named) 0 dealers
+        (subst (λ own. first_unshown own dealers ≡ None) same_rooms joined.shown);
+    relayed = each_relayed config (length dealers) whole (rooms_in day_of) (ap (λ n. first_unrelayed config n whole (rooms_in day_of)) joined.dealers_are
         ∙ unrelayed_like config (length config.dealers) whole bare (rooms_in day_of) joined.alike
         ∙ subst (λ own. first_unrelayed config (length config.dealers) bare own ≡ None) same_rooms
-        joined.relayed;
-    answered = ap (λ n. first_unanswered n whole (rooms_in day_of)) joined.dealers_are
+        joined.relayed);
+    answered = each_answered (length dealers) whole (rooms_in day_of) (ap (λ n. first_unanswered n whole (rooms_in day_of)) joined.dealers_are
         ∙ unanswered_like (length config.dealers) whole bare (rooms_in day_of) joined.alike
         ∙ subst (λ own. first_unanswered (length config.dealers) bare own ≡ None) same_rooms
-        joined.answered;
+        joined.answered);
     answers_agree = record {
       log = later;
       legal = joined.legal;
@@ -119,5 +135,5 @@ module _ (config : Configuration) (inboxes : List (List Inbound)) (sweeps : List
       awards = awards_stand later (rooms_in day_of)
           (subst (RoomsStand later) same_rooms joined.rooms_stand);
     };
-    of_actions = joined.of_actions;
+    of_actions = walks_are_right day_of joined.of_actions;
   }

@@ -1,5 +1,5 @@
 -- Which firm a fault names, and of what it is true.
-use Rattle.std.proofs.Common.{◌≡◌, ◌≢◌, ◌⊎◌, inl, inr, refl, ◌∙◌, sym, ap, subst, ℕ, suc, ◌+◌, ◌<◌}
+use Rattle.std.proofs.Common.{◌≡◌, ◌≢◌, ◌⊎◌, inl, inr, sym, ap, subst, ℕ, ◌+◌, ◌<◌}
 use Rattle.std.proofs.Common.{◌≤◌, min, List, length, Result, Ok, Err, IfErr, IsErrAnd, IsOk, arith}
 use Rattle.std.proofs.lemmas.Bool.{cases_lt, false≢true}
 use Rattle.venue_rows.specs.Rows.{Configuration}

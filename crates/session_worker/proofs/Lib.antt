@@ -1,4 +1,5 @@
 pub mod ActionLemmas
+pub mod ActionWalks
 pub mod AnswerLemmas
 pub mod ArrivalLemmas
 pub mod AwardLemmas
@@ -14,10 +15,14 @@ pub mod KeepLemmas
 pub mod LeftLemmas
 pub mod LockLemmas
 pub mod MovedLists
+pub mod OnceLemmas
 pub mod OutputLemmas
+pub mod PromiseLemmas
 pub mod RelayLemmas
 pub mod RoomLemmas
 pub mod RoomNames
+pub mod RoomPromises
+pub mod RoomsApart
 pub mod ShiftLemmas
 pub mod ShownLemmas
 pub mod SweptLemmas

@@ -1,6 +1,6 @@
 -- What the record of a day keeps, however its threads ran.
 use Rattle.std.specs.Prelude.{◌≡◌, ℕ, ◌+◌, zero, suc, List, [], ◌∷◌, ◌++◌, length, map, slice_get}
-use Rattle.std.specs.Prelude.{All, IfSome, Option, Some, None}
+use Rattle.std.specs.Prelude.{All, IfSome, Option, Some}
 use Rattle.std.specs.Option.{option_map}
 use Rattle.dealer_desk.specs.DealerDesk.{book_at}
 use Rattle.dealer_desk.specs.DealerOutput.{dealer_output}
@@ -22,19 +22,17 @@ use Rattle.venue_rows.specs.declared.dealer_rows.DealerRow.{DealerRow}
 use Rattle.venue_rows.specs.declared.investor_rows.InvestorRow.{InvestorRow}
 use Rattle.step_replay.specs.Actions.{dealer_of, first_word}
 use Rattle.recorded_days.specs.DayDues.{day_due_list}
+use Rattle.step_replay.specs.EachLemmas.{Every}
 use Rattle.step_replay.specs.DealerView.{dealer_view}
 use Rattle.recorded_days.specs.Records.{DealerLists, FirmLists, InvestorLists, RecordedDay}
 use Rattle.recorded_days.specs.Records.{RoomLists, dealer_in, firms_in}
 use Rattle.recorded_days.specs.declared.actions.Inbound.{Inbound}
 use Rattle.recorded_days.specs.declared.actions.Sweep.{Sweep}
-use Rattle.session_worker.specs.AnsweredResponses.{first_unanswered}
-use Rattle.session_worker.specs.DayActions.{EventsAreOfActions}
 use Rattle.session_worker.specs.DayChecks.{DayRoom, came_from_dealer, came_from_investor}
-use Rattle.session_worker.specs.DayChecks.{first_unswept, first_untold}
+use Rattle.session_worker.specs.DayPromises.{EachNumbered, IsOfActions, WasAnswered, WasRelayed}
+use Rattle.session_worker.specs.DayPromises.{WasShown, WasSwept, WasTold}
 use Rattle.session_worker.specs.LeftResponses.{responses_answered, responses_left}
 use Rattle.session_worker.specs.Locks.{Answer, StandsIn, answers_at, answers_in}
-use Rattle.session_worker.specs.RelayedQuotes.{first_unrelayed}
-use Rattle.session_worker.specs.ShownRequests.{first_unshown}
 
 -- Rooms.
 
@@ -186,13 +184,13 @@ pub record KeepsDay (config : Configuration) (inboxes : List (List Inbound)) (sw
   pub inboxes_are : map (λ (firm : FirmLists). firm.inbox) (firms_in day) ≡ inboxes
   pub dealers_keep : DealersKeep config day.dealers
   pub investors_keep : InvestorsKeep config day.investors
-  pub told : first_untold (rooms_in day) day.dealers ≡ None
-  pub swept : first_unswept sweeps (rooms_in day) ≡ None
-  pub shown : first_unshown (rooms_in day) day.dealers ≡ None
-  pub relayed : first_unrelayed config (length day.dealers) day.investors (rooms_in day) ≡ None
-  pub answered : first_unanswered (length day.dealers) day.investors (rooms_in day) ≡ None
+  pub told : EachNumbered (WasTold (rooms_in day)) 0 day.dealers
+  pub swept : Every (WasSwept sweeps) (rooms_in day)
+  pub shown : EachNumbered (WasShown (rooms_in day)) 0 day.dealers
+  pub relayed : Every (WasRelayed config (length day.dealers) day.investors) (rooms_in day)
+  pub answered : Every (WasAnswered (length day.dealers) day.investors) (rooms_in day)
   pub answers_agree : AnswersAgree config day
-  pub of_actions : EventsAreOfActions day
+  pub of_actions : IsOfActions day
 
 -- what the dealer with this number was sent on a recorded day
 abbrev pub sent_on : RecordedDay → ℕ → Option (List (List ℕ))

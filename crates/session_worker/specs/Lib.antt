@@ -3,6 +3,7 @@ pub mod Arrivals
 pub mod DayActions
 pub mod DayChecks
 pub mod DayFaults
+pub mod DayPromises
 pub mod FaultTexts
 pub mod Inbox
 pub mod KeptDays

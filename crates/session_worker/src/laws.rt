@@ -1,6 +1,6 @@
 //! Laws of days on threads: what is true of every day that keeps what `run_day` ensures, of every
 //! two of them, and of one beside a replay.
-ghost use Rattle.std.specs.Prelude.{◌≡◌, ℕ, List, Some};
+ghost use Rattle.std.specs.Prelude.{◌≡◌, ◌↔◌, ℕ, List, None, Some};
 ghost use Rattle.std.specs.Option.{option_map};
 ghost use Rattle.venue_rows.specs.Rows.{Configuration, dealer_numbered};
 ghost use Rattle.venue_rows.specs.declared.dealer_rows.DealerRow.{DealerRow};
@@ -11,7 +11,16 @@ ghost use Rattle.recorded_days.specs.Records.{RecordedDay};
 ghost use Rattle.recorded_days.specs.declared.actions.Inbound.{Inbound};
 ghost use Rattle.recorded_days.specs.declared.actions.Sweep.{Sweep};
 ghost use Rattle.step_replay.specs.declared.steps.Step.{Step};
-ghost use Rattle.session_worker.specs.KeptDays.{KeepsDay, sent_on};
+ghost use Rattle.recorded_days.specs.Records.{DealerLists, InvestorLists};
+ghost use Rattle.session_worker.specs.AnsweredResponses.{first_unanswered};
+ghost use Rattle.session_worker.specs.DayActions.{EventsAreOfActions};
+ghost use Rattle.session_worker.specs.DayChecks.{DayRoom, first_unswept, first_untold};
+ghost use Rattle.session_worker.specs.DayPromises.{EachNumbered, IsOfActions, WasAnswered};
+ghost use Rattle.session_worker.specs.DayPromises.{WasRelayed, WasShown, WasSwept, WasTold};
+ghost use Rattle.session_worker.specs.KeptDays.{KeepsDay, names_of, rooms_of_venue, sent_on};
+ghost use Rattle.session_worker.specs.RelayedQuotes.{first_unrelayed};
+ghost use Rattle.session_worker.specs.ShownRequests.{first_unshown};
+ghost use Rattle.step_replay.specs.EachLemmas.{Every};
 
 use step_replay::dealers_are_sent_their_view;
 
@@ -49,3 +58,25 @@ pub fn dealers_are_isolated_on_threads()
 {
     dealers_are_sent_their_view();
 }
+
+/// A law: each check of a day decides what it is for. It finds no dealer, no room and no action at
+/// fault exactly where the promise is kept, so what [`crate::run_day`] promises of a record is what
+/// it checked, and no day that keeps it is refused for it. The rooms are those of a venue. It does
+/// nothing.
+pub fn checks_decide_what_is_promised()
+    ensures told { (config : Configuration) (rooms : List DayRoom) (dealers : List DealerLists)
+        → names_of rooms ≡ rooms_of_venue config
+        → (first_untold rooms dealers ≡ None) ↔ EachNumbered (WasTold rooms) 0 dealers }
+    ensures swept { (sweeps : List Sweep) (rooms : List DayRoom)
+        → (first_unswept sweeps rooms ≡ None) ↔ Every (WasSwept sweeps) rooms }
+    ensures shown { (config : Configuration) (rooms : List DayRoom) (dealers : List DealerLists)
+        → names_of rooms ≡ rooms_of_venue config
+        → (first_unshown rooms dealers ≡ None) ↔ EachNumbered (WasShown rooms) 0 dealers }
+    ensures relayed { (config : Configuration) (first : ℕ) (investors : List InvestorLists)
+        (rooms : List DayRoom) → (first_unrelayed config first investors rooms ≡ None)
+        ↔ Every (WasRelayed config first investors) rooms }
+    ensures answered { (first : ℕ) (investors : List InvestorLists) (rooms : List DayRoom)
+        → (first_unanswered first investors rooms ≡ None)
+        ↔ Every (WasAnswered first investors) rooms }
+    ensures of_actions { (day : RecordedDay) → EventsAreOfActions day ↔ IsOfActions day }
+{}

@@ -16,6 +16,8 @@
 //!   settlements of one word agree. With more or fewer inboxes than firms there is no day. Else an
 //!   `Inbox` names a firm of the venue, and any other fault but `Memory` is the first of a day of the
 //!   venue to which these messages came (`IsFaultOf` of `specs/DayFaults`).
+//! - [`checks_decide_what_is_promised`]: each check behind the joins finds no fault exactly where
+//!   what it is for is so (`specs/DayPromises`).
 //! - [`dealers_of_a_day_are_sent_their_view`] and [`dealers_are_isolated_on_threads`]: so a dealer
 //!   is sent what follows from its own row and what was due to it, whatever else the other firms
 //!   did.
@@ -63,6 +65,9 @@ pub use days::run_day;
 pub use faults::DayFault;
 pub use gates::{Gate, Point};
 pub use inbox::inbox_of;
-pub use laws::{dealers_are_isolated_on_threads, dealers_of_a_day_are_sent_their_view};
+pub use laws::{
+    checks_decide_what_is_promised, dealers_are_isolated_on_threads,
+    dealers_of_a_day_are_sent_their_view,
+};
 pub use naming::Naming;
 pub use venue::SharedVenue;
