@@ -1,10 +1,12 @@
 -- What an action that asks a word at most has seen and noted.
 use Rattle.std.proofs.Common.{◌≡◌, ◌∙◌, ap, sym, ℕ, Option, Some, None}
-use Rattle.std.specs.Option.{option_map}
 use Rattle.quote_word.specs.Board.{BoardName, Front, SettlesOnBoard}
 use Rattle.quote_word.specs.declared.settled.Settled.{Settled}
 use Rattle.venue_steps.specs.Words.{AsksAtMost, SettlesSo, word_to_ask}
-use Rattle.session_worker.specs.Watched.{SettlesWatched, Watched, asked_of, entry_watched}
+use Rattle.session_worker.specs.Watched.{SettlesWatched, Watched, and_asked, asked_of}
+use Rattle.session_worker.specs.Watched.{entry_watched, one_asked}
+use Rattle.session_worker.specs.declared.watched.WordsAsked.{WordsAsked}
+use Rattle.session_worker.specs.declared.watched.WordsAsked.TheVariants as all_asked
 use Rattle.session_worker.proofs.LockLemmas.{entry_seen}
 
 -- an exchange that is noted is one on the board
@@ -24,22 +26,24 @@ asks_on_board before after (Some word) wish e =
 
 -- an exchange is noted with its settlement
 pub exchange_is_noted : (before after : Watched) (word : ℕ) (wish : Settled)
-    (settlement : Option Settled) → SettlesSo SettlesWatched before word wish settlement after
-    → after.asked ≡ option_map (λ settled. (word, settled)) settlement
-exchange_is_noted before after word wish (Some settlement) e = e.noted
-exchange_is_noted before after word wish None e = elim e [ ]
+    (settlement : Option Settled) → before.asked ≡ all_asked.Nothing
+    → SettlesSo SettlesWatched before word wish settlement after
+    → after.asked ≡ one_asked word settlement
+exchange_is_noted before after word wish (Some settlement) none e =
+    e.noted ∙ ap (λ asked. and_asked asked word settlement) none
+exchange_is_noted before after word wish None none e = elim e [ ]
 
 -- what is noted is the word that was asked, with its settlement, and nothing where none was asked
 pub asked_is_noted : (before after : Watched) (word : Option ℕ) (wish : Settled)
-    → before.asked ≡ None → AsksAtMost SettlesWatched entry_watched before word wish after
+    → before.asked ≡ all_asked.Nothing → AsksAtMost SettlesWatched entry_watched before word wish after
     → after.asked ≡ asked_of (entry_watched after) word
 asked_is_noted before after None wish none e =
     ap (λ (watched : Watched). watched.asked) e ∙ none
 asked_is_noted before after (Some word) wish none e =
-    exchange_is_noted before after word wish (entry_watched after word) e
+    exchange_is_noted before after word wish (entry_watched after word) none e
 
 -- the same by what a lock has seen afterwards, and by how many words its board has
-pub noted_by : (count words : ℕ) (after : Watched) (seen : Front) (asked : Option (ℕ × Settled))
+pub noted_by : (count words : ℕ) (after : Watched) (seen : Front) (asked : WordsAsked)
     (word : Option ℕ) → count ≡ words → seen ≡ after.front → asked ≡ after.asked
     → after.asked ≡ asked_of (entry_watched after) (word_to_ask count word)
     → asked ≡ asked_of (entry_seen seen) (word_to_ask words word)
@@ -50,7 +54,7 @@ noted_by count words after seen asked word counts same told noted =
 
 -- how many words they are: those of the board whose token the lock has
 pub counted_by : (board : BoardName) (held again : Front) (watched : Watched)
-    → watched ≡ record { front = again; asked = None } → again ≡ held → held.board ≡ board
+    → watched ≡ record { front = again; asked = all_asked.Nothing } → again ≡ held → held.board ≡ board
     → watched.front.board.words ≡ board.words
 counted_by board held again watched begun same ours =
     ap (λ (w : Watched). w.front.board.words) begun

@@ -1,5 +1,6 @@
 pub mod AnsweredResponses
 pub mod Arrivals
+pub mod Comings
 pub mod DayActions
 pub mod DayChecks
 pub mod DayFaults

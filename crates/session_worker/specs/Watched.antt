@@ -1,15 +1,28 @@
 -- The words of a board as one action asks them: what was seen of the board, and what was asked.
 use Rattle.std.specs.Prelude.{◌≡◌, ℕ, ◌<◌, Option, Some, None}
-use Rattle.std.specs.Option.{option_map}
 use Rattle.quote_word.specs.Board.{Front, SettlesOnBoard}
 use Rattle.quote_word.specs.BoardLaws as laws
 use Rattle.quote_word.specs.SettleLog.{entry_of}
 use Rattle.quote_word.specs.declared.settled.Settled.{Settled}
+use Rattle.session_worker.specs.declared.watched.WordsAsked.{WordsAsked}
+use Rattle.session_worker.specs.declared.watched.WordsAsked.TheVariants as all_asked
 
--- what an action has seen of the board, and the word that it asked last, with its settlement
+-- what an action has seen of the board, and all the words that it asked, with their settlements
 pub record Watched : Type 0 where
   pub front : Front
-  pub asked : Option (ℕ × Settled)
+  pub asked : WordsAsked
+
+-- these words and one more
+abbrev pub and_asked : WordsAsked → ℕ → Settled → WordsAsked
+and_asked all_asked.Nothing word settlement = all_asked.One word settlement
+and_asked (all_asked.One other was) word settlement = all_asked.Several
+and_asked all_asked.Several word settlement = all_asked.Several
+
+-- the word that was asked, where it is one alone
+abbrev pub word_in : WordsAsked → Option (ℕ × Settled)
+word_in all_asked.Nothing = None
+word_in (all_asked.One word settlement) = Some (word, settlement)
+word_in all_asked.Several = None
 
 -- what a word is, as the action has seen it
 abbrev pub entry_watched : Watched → ℕ → Option Settled
@@ -20,12 +33,17 @@ pub record SettlesWatched (before : Watched) (word : ℕ) (wish settlement : Set
     (after : Watched)
     : Type 0 where
   pub on_board : SettlesOnBoard before.front word wish settlement after.front
-  pub noted : after.asked ≡ Some (word, settlement)
+  pub noted : after.asked ≡ and_asked before.asked word settlement
 
--- the word that is asked, if one is, with its settlement
-abbrev pub asked_of : (ℕ → Option Settled) → Option ℕ → Option (ℕ × Settled)
-asked_of entry None = None
-asked_of entry (Some word) = option_map (λ settled. (word, settled)) (entry word)
+-- one word with its settlement
+abbrev pub one_asked : ℕ → Option Settled → WordsAsked
+one_asked word None = all_asked.Nothing
+one_asked word (Some settlement) = all_asked.One word settlement
+
+-- all that is asked: the word, if one is, with its settlement, and no other
+abbrev pub asked_of : (ℕ → Option Settled) → Option ℕ → WordsAsked
+asked_of entry None = all_asked.Nothing
+asked_of entry (Some word) = one_asked word (entry word)
 
 -- no word comes or goes
 pub watched_keeps_count : (before after : Watched) (w : ℕ) (wish settlement : Settled)

@@ -2,6 +2,7 @@
 ghost use Rattle.std.specs.Prelude.{◌≡◌, [], ◌∷◌, ◌++◌, map, IfOk, OnOk};
 ghost use Rattle.recorded_days.specs.Kinds.{is_expire, is_in, kind_of};
 ghost use Rattle.session_worker.specs.Shifts as spec;
+ghost use Rattle.session_worker.specs.Watched.{word_in};
 
 use crate::done::Done;
 use crate::gates::{Gate, Point};
@@ -54,24 +55,20 @@ impl<'v, J: Naming, R: Wait, G: Gate> Shift<'v, J, R, G> {
         ensures by { result.by ≡ self.now.by }
         ensures board { result.board.now ≡ J.board }
     {
-        let (by, number) = self.action();
-        Acting {
-            by,
-            number,
-            board: &self.venue.board,
-            gate: self.gate,
-        }
+        let action = self.action();
+        self.venue.board.acting(action, self.gate)
     }
 
     /// Notes an action that was done, and leaves its duties at the end of the queue.
     fn note(&mut self, kind: Kind, moment: Moment, done: Done) -> Result<(), Memory>
         ensures actions { OnOk result (self.new.actions.items
-            ≡ self.old.actions.items ++ spec.action_of kind moment done.word ∷ []) }
+            ≡ self.old.actions.items ++ spec.action_of kind moment (word_in done.asked) ∷ []) }
         ensures queue { OnOk result
             (self.new.queue.items ≡ self.old.queue.items ++ done.duties.items) }
     {
         self.gate.at(Point::After(self.by, kind));
-        let Done { duties, word } = done;
+        let Done { duties, asked } = done;
+        let word = asked.word();
         self.actions.push(Action { kind, moment, word })?;
         leave(&mut self.queue, duties)?;
         Ok(())

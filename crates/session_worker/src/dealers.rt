@@ -4,17 +4,20 @@ ghost use Rattle.dealer_desk.specs.DealerDesk.{book_at};
 ghost use Rattle.dealer_desk.specs.DealerOutput.{dealer_output};
 ghost use Rattle.dealer_desk.specs.QuoteLines.{lines_of};
 ghost use Rattle.quote_word.specs.SettleLog.{entry_of, IsLegal};
+ghost use Rattle.session_worker.specs.Comings.{MayCome};
 ghost use Rattle.session_worker.specs.DayActions.{number_at};
 ghost use Rattle.session_worker.specs.DayChecks.{came_from_dealer};
 ghost use Rattle.session_worker.specs.KeptDays.{DealerKeeps, DealerStands};
 ghost use Rattle.session_worker.specs.Locks.{KeepsDealer, StandsIn, answers_at, with_action};
 ghost use Rattle.session_worker.specs.Watched.{asked_of};
 ghost use Rattle.session_worker.specs.declared.faults.DayFault.TheVariants as fault;
+ghost use Rattle.session_worker.specs.declared.watched.WordsAsked.TheVariants as all_asked;
 ghost use Rattle.step_replay.specs.Actions as actions;
 ghost use Rattle.step_replay.specs.Actions.{dealer_of};
 ghost use Rattle.venue_rows.specs.Rows.{dealer_numbered};
 ghost use Rattle.venue_places.specs.Brought as spec;
 ghost use Rattle.venue_places.specs.declared.actors.Actor.TheVariants as actor;
+ghost use Rattle.venue_places.specs.declared.arrivals.Placement.TheVariants as place;
 ghost use Rattle.venue_steps.specs.DealerSteps as steps;
 ghost use Rattle.venue_steps.specs.Words.{settlement_in, has_word, word_to_ask};
 
@@ -81,6 +84,9 @@ impl<J: Naming> LockedDealer<J> {
         requires row { dealer_numbered J.config firm ≡ Some row.now }
         requires first { first_word ≡ actions.first_word J.config (dealer_of firm row.now) }
         requires seen { seen.board ≡ J.board }
+        ensures firm { IfOk result (λ locked. locked.firm ≡ firm) }
+        ensures events { IfOk result (λ locked. locked.desk.events ≡ []) }
+        ensures order { IfOk result (λ locked. locked.order ≡ []) }
     {
         let desk = DealerDesk::new(alloc, *config.date(), row.copy())?;
         Ok(LockedDealer {
@@ -104,12 +110,12 @@ impl<J: Naming> LockedDealer<J> {
     /// before.
     pub(crate) fn receive<G: Gate>(
         &mut self,
-        acting: &Acting<'_, G>,
+        acting: Acting<'_, G>,
         moment: Moment,
         bytes: &[u8],
     ) -> Result<Done, Memory>
-        requires board { acting.now.board.now ≡ J.board }
-        requires by { acting.now.by ≡ actor.Firm self.old.firm }
+        requires board { acting.board.now ≡ J.board }
+        requires by { acting.by ≡ actor.Firm self.old.firm }
         ensures desk { OnOk result (self.new.desk ≡ steps.desk_after_own
             self.old.desk moment bytes.now
             (has_word J.board.words (steps.own_word self.old.first self.old.desk moment bytes.now))
@@ -120,36 +126,38 @@ impl<J: Naming> LockedDealer<J> {
             (has_word J.board.words (steps.own_word self.old.first self.old.desk moment bytes.now))
             (settlement_in (λ word. entry_of word self.new.seen.log)
             (steps.own_word self.old.first self.old.desk moment bytes.now))) }
-        ensures word { IfOk result (λ done. done.word
+        ensures word { IfOk result (λ done. done.asked
             ≡ asked_of (λ word. entry_of word self.new.seen.log) (word_to_ask J.board.words
             (steps.own_word self.old.first self.old.desk moment bytes.now))) }
         ensures order { OnOk result
-            (self.new.order ≡ with_action self.old.order (acting.now.by, acting.now.number)) }
+            (self.new.order ≡ with_action self.old.order (acting.entry.by, acting.entry.number)) }
         ensures err { OnErr result (self.new ≡ record self.old { seen = self.new.seen }) }
     {
         words_are_asked_event_by_event();
         events_are_settled_one_by_one();
         self.order.reserve(1)?;
+        let noted = (acting.by, acting.number);
         let mut words = WatchedWords::new(acting, self.seen.again());
         let done = own_dealer(&mut self.desk, &mut words, self.first_word, moment, bytes);
-        let (seen, word) = words.into_parts();
+        let (seen, asked) = words.into_parts();
         self.seen = seen;
         let duties = done?;
-        self.order.push((acting.by, acting.number))?;
-        Ok(Done { duties, word })
+        self.order.push(noted)?;
+        Ok(Done { duties, asked })
     }
 
     /// The next quote of a cancel of all of the dealer with this number is dropped, of those up to
     /// `last`. After an error all but the token is as before.
     pub(crate) fn drop_next<G: Gate>(
         &mut self,
-        acting: &Acting<'_, G>,
+        acting: Acting<'_, G>,
         firm: u16,
         last: u32,
         moment: Moment,
     ) -> Result<Done, Memory>
-        requires board { acting.now.board.now ≡ J.board }
+        requires board { acting.board.now ≡ J.board }
         requires firm { self.old.firm ≡ firm }
+        requires placed { MayCome J.config acting.by (place.Drop firm last moment) }
         ensures desk { OnOk result (self.new.desk ≡ steps.desk_after_drop
             self.old.desk last moment
             (has_word J.board.words (steps.drop_word self.old.first self.old.desk last))
@@ -160,23 +168,24 @@ impl<J: Naming> LockedDealer<J> {
             (has_word J.board.words (steps.drop_word self.old.first self.old.desk last))
             (settlement_in (λ word. entry_of word self.new.seen.log)
             (steps.drop_word self.old.first self.old.desk last))) }
-        ensures word { IfOk result (λ done. done.word
+        ensures word { IfOk result (λ done. done.asked
             ≡ asked_of (λ word. entry_of word self.new.seen.log) (word_to_ask J.board.words
             (steps.drop_word self.old.first self.old.desk last))) }
         ensures order { OnOk result
-            (self.new.order ≡ with_action self.old.order (acting.now.by, acting.now.number)) }
+            (self.new.order ≡ with_action self.old.order (acting.entry.by, acting.entry.number)) }
         ensures err { OnErr result (self.new ≡ record self.old { seen = self.new.seen }) }
     {
         words_are_asked_event_by_event();
         events_are_settled_one_by_one();
         self.order.reserve(1)?;
+        let noted = (acting.by, acting.number);
         let mut words = WatchedWords::new(acting, self.seen.again());
         let done = do_drop(&mut self.desk, &mut words, self.first_word, last, moment);
-        let (seen, word) = words.into_parts();
+        let (seen, asked) = words.into_parts();
         self.seen = seen;
         let duties = done?;
-        self.order.push((acting.by, acting.number))?;
-        Ok(Done { duties, word })
+        self.order.push(noted)?;
+        Ok(Done { duties, asked })
     }
 
     /// What comes to the desk of the dealer with this number for a duty, and asks no word. After an
@@ -187,10 +196,11 @@ impl<J: Naming> LockedDealer<J> {
         firm: u16,
         what: ForDealer,
     ) -> Result<Done, Memory>
-        requires { self.old.firm ≡ firm }
+        requires firm { self.old.firm ≡ firm }
+        requires placed { MayCome J.config action.0 (place.Dealer firm what) }
         ensures desk { OnOk result (self.new.desk ≡ spec.dealer_with self.old.desk what) }
         ensures duties { IfOk result (λ done. done.duties.items ≡ []) }
-        ensures unasked { IfOk result (λ done. done.word ≡ None) }
+        ensures unasked { IfOk result (λ done. done.asked ≡ all_asked.Nothing) }
         ensures order { OnOk result (self.new.order ≡ with_action self.old.order action) }
         ensures err { OnErr result (self.new ≡ self.old) }
     {

@@ -1,30 +1,34 @@
 //! What an action left.
-ghost use Rattle.std.specs.Prelude.{◌≡◌, [], None};
+ghost use Rattle.std.specs.Prelude.{◌≡◌, []};
+ghost use Rattle.session_worker.specs.declared.watched.WordsAsked.TheVariants as all_asked;
 
+use crate::watched::WordsAsked;
 use market_terms::Duty;
-use quote_word::Settled;
 use std::alloc::Global;
 use venue_steps::Duties;
 
-/// What an action left: the duties that follow, and the word that it asked, with its settlement.
+/// What an action left: the duties that follow, and all the words that it asked.
 #[derive(Drop)]
 pub(crate) struct Done {
     pub(crate) duties: Duties,
-    pub(crate) word: Option<(u32, Settled)>,
+    pub(crate) asked: WordsAsked,
 }
 
 impl Done {
     /// An action that asked no word.
     pub(crate) fn unasked(duties: Duties) -> Self
-        ensures { result ≡ record { duties = duties; word = None } }
+        ensures { result ≡ record { duties = duties; asked = all_asked.Nothing } }
     {
-        Done { duties, word: None }
+        Done {
+            duties,
+            asked: WordsAsked::Nothing,
+        }
     }
 
     /// An action at a place that the venue does not have.
     pub(crate) fn nothing(alloc: Global) -> Self
         ensures duties { result.duties.items ≡ [] }
-        ensures unasked { result.word ≡ None }
+        ensures unasked { result.asked ≡ all_asked.Nothing }
     {
         Done::unasked(Duties::new(alloc))
     }

@@ -1,6 +1,8 @@
 //! What an action does: it takes the lock of the one place that the market's table gives, and brings
 //! it what comes there.
 ghost use Rattle.std.specs.Prelude.{◌≡◌};
+ghost use Rattle.session_worker.specs.Comings.{MayCome};
+ghost use Rattle.venue_places.specs.declared.arrivals.Placement.TheVariants as place;
 ghost use Rattle.venue_places.specs.declared.actors.Actor.TheVariants as actor;
 
 use crate::actors::Shift;
@@ -33,7 +35,9 @@ impl<'v, J: Naming, R: Wait, G: Gate> Shift<'v, J, R, G> {
     }
 
     /// Brings to a place what comes there.
-    fn bring(&self, arrival: Placement) -> Result<Done, Memory> {
+    fn bring(&self, arrival: Placement) -> Result<Done, Memory>
+        requires { MayCome J.config self.now.by arrival }
+    {
         match arrival {
             Placement::Dealer(firm, what) => self.to_dealer(firm, what),
             Placement::Drop(firm, last, moment) => self.to_drop(firm, last, moment),
@@ -46,7 +50,9 @@ impl<'v, J: Naming, R: Wait, G: Gate> Shift<'v, J, R, G> {
     }
 
     /// The same at a dealer's desk.
-    fn to_dealer(&self, firm: u16, what: ForDealer) -> Result<Done, Memory> {
+    fn to_dealer(&self, firm: u16, what: ForDealer) -> Result<Done, Memory>
+        requires { MayCome J.config self.now.by (place.Dealer firm what) }
+    {
         let Some(mut desk) = self.venue.lock_dealer(self.rt, firm) else {
             return Ok(Done::nothing(self.venue.alloc));
         };
@@ -55,17 +61,21 @@ impl<'v, J: Naming, R: Wait, G: Gate> Shift<'v, J, R, G> {
     }
 
     /// The same of a drop.
-    fn to_drop(&self, firm: u16, last: u32, moment: Moment) -> Result<Done, Memory> {
+    fn to_drop(&self, firm: u16, last: u32, moment: Moment) -> Result<Done, Memory>
+        requires { MayCome J.config self.now.by (place.Drop firm last moment) }
+    {
         let Some(mut desk) = self.venue.lock_dealer(self.rt, firm) else {
             return Ok(Done::nothing(self.venue.alloc));
         };
         let acting = self.acting();
-        let done = desk.drop_next(&acting, firm, last, moment)?;
+        let done = desk.drop_next(acting, firm, last, moment)?;
         Ok(done)
     }
 
     /// The same at an investor's desk.
-    fn to_investor(&self, firm: u16, what: ForInvestor) -> Result<Done, Memory> {
+    fn to_investor(&self, firm: u16, what: ForInvestor) -> Result<Done, Memory>
+        requires { MayCome J.config self.now.by (place.Investor firm what) }
+    {
         let Some(mut desk) = self.venue.lock_investor(self.rt, firm) else {
             return Ok(Done::nothing(self.venue.alloc));
         };
@@ -74,7 +84,9 @@ impl<'v, J: Naming, R: Wait, G: Gate> Shift<'v, J, R, G> {
     }
 
     /// The same in a room.
-    fn to_room(&self, at: RoomRef, what: ForRoom) -> Result<Done, Memory> {
+    fn to_room(&self, at: RoomRef, what: ForRoom) -> Result<Done, Memory>
+        requires { MayCome J.config self.now.by (place.Room at what) }
+    {
         let Some(mut room) = self.venue.lock_room(self.rt, at) else {
             return Ok(Done::nothing(self.venue.alloc));
         };
@@ -89,12 +101,14 @@ impl<'v, J: Naming, R: Wait, G: Gate> Shift<'v, J, R, G> {
         response: ResponseRef,
         word: u32,
         moment: Moment,
-    ) -> Result<Done, Memory> {
+    ) -> Result<Done, Memory>
+        requires { MayCome J.config self.now.by (place.Hit at response word moment) }
+    {
         let Some(mut room) = self.venue.lock_room(self.rt, at) else {
             return Ok(Done::nothing(self.venue.alloc));
         };
         let acting = self.acting();
-        let done = room.hit(&acting, at, response, word, moment)?;
+        let done = room.hit(acting, at, response, word, moment)?;
         Ok(done)
     }
 
@@ -108,7 +122,7 @@ impl<'v, J: Naming, R: Wait, G: Gate> Shift<'v, J, R, G> {
             return Ok(done);
         };
         let acting = self.acting();
-        let done = desk.receive(&acting, moment, bytes)?;
+        let done = desk.receive(acting, moment, bytes)?;
         Ok(done)
     }
 

@@ -4,14 +4,17 @@ ghost use Rattle.std.specs.Prelude.{OnErr, OnOk};
 ghost use Rattle.investor_desk.specs.InvestorDesk.{book_at, market_for};
 ghost use Rattle.investor_desk.specs.InvestorOutput.{investor_output};
 ghost use Rattle.investor_desk.specs.RequestLines.{lines_of};
+ghost use Rattle.session_worker.specs.Comings.{MayCome};
 ghost use Rattle.session_worker.specs.DayChecks.{came_from_investor};
 ghost use Rattle.session_worker.specs.KeptDays.{InvestorKeeps};
 ghost use Rattle.session_worker.specs.LeftResponses.{responses_answered, responses_left};
 ghost use Rattle.session_worker.specs.Locks.{with_action};
 ghost use Rattle.session_worker.specs.declared.faults.DayFault.TheVariants as fault;
+ghost use Rattle.session_worker.specs.declared.watched.WordsAsked.TheVariants as all_asked;
 ghost use Rattle.venue_rows.specs.Rows.{investor_numbered};
 ghost use Rattle.venue_places.specs.Brought as spec;
 ghost use Rattle.venue_places.specs.declared.actors.Actor.TheVariants as actor;
+ghost use Rattle.venue_places.specs.declared.arrivals.Placement.TheVariants as place;
 ghost use Rattle.venue_steps.specs.InvestorSteps as steps;
 
 use crate::day_checks::is_inbox_of_investor;
@@ -55,6 +58,9 @@ impl<J: Naming> LockedInvestor<J> {
     pub(crate) fn new(alloc: Global, config: &VenueConfig, firm: u16) -> Result<Self, Memory>
         requires config { config.now ≡ J.config }
         requires investor { is_some (investor_numbered J.config firm) ≡ true }
+        ensures firm { IfOk result (λ locked. locked.desk.market.firm ≡ firm) }
+        ensures events { IfOk result (λ locked. locked.desk.events ≡ []) }
+        ensures order { IfOk result (λ locked. locked.order ≡ []) }
     {
         let desk = InvestorDesk::new(alloc, config, firm)?;
         Ok(LockedInvestor {
@@ -84,7 +90,7 @@ impl<J: Naming> LockedInvestor<J> {
             (self.new.desk ≡ steps.desk_after_own self.old.desk moment bytes.now) }
         ensures duties { IfOk result (λ done. done.duties.items
             ≡ steps.duties_of_own self.old.desk moment bytes.now) }
-        ensures unasked { IfOk result (λ done. done.word ≡ None) }
+        ensures unasked { IfOk result (λ done. done.asked ≡ all_asked.Nothing) }
         ensures order { OnOk result (self.new.order ≡ with_action self.old.order action) }
         ensures err { OnErr result (self.new ≡ self.old) }
     {
@@ -107,10 +113,11 @@ impl<J: Naming> LockedInvestor<J> {
         firm: u16,
         what: ForInvestor,
     ) -> Result<Done, Memory>
-        requires { self.old.desk.market.firm ≡ firm }
+        requires firm { self.old.desk.market.firm ≡ firm }
+        requires placed { MayCome J.config action.0 (place.Investor firm what) }
         ensures desk { OnOk result (self.new.desk ≡ spec.investor_with self.old.desk what) }
         ensures duties { IfOk result (λ done. done.duties.items ≡ []) }
-        ensures unasked { IfOk result (λ done. done.word ≡ None) }
+        ensures unasked { IfOk result (λ done. done.asked ≡ all_asked.Nothing) }
         ensures order { OnOk result (self.new.order ≡ with_action self.old.order action) }
         ensures err { OnErr result (self.new ≡ self.old) }
     {

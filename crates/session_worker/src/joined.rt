@@ -16,9 +16,10 @@ use crate::faults::DayFault;
 use crate::naming::Naming;
 use crate::rooms::LockedRoom;
 use crate::venue::InvestorPlace;
+use crate::watched::VenueBoard;
 use fix_fields::Memory;
 use market_terms::RoomRef;
-use quote_word::{Board, BoardSeen};
+use quote_word::BoardSeen;
 use recorded_days::{Action, DealerDay, Inbound, InvestorDay, RoomDay};
 use std::alloc::Global;
 use std::sync::Mutex;
@@ -43,7 +44,7 @@ pub(crate) fn firm_number(place: usize) -> u16
 /// the first dealer whose desk is another's, or whose own events are not its inbox.
 pub(crate) fn dealer_days<J: Naming>(
     alloc: Global,
-    board: &Board,
+    board: &VenueBoard,
     seen: BoardSeen,
     places: Vec<Mutex<LockedDealer<J>>>,
     sessions: Vec<Session>,
@@ -77,7 +78,7 @@ pub(crate) fn dealer_days<J: Naming>(
 /// leave, or with a room that is another request's.
 pub(crate) fn investor_days<J: Naming>(
     alloc: Global,
-    board: &Board,
+    board: &VenueBoard,
     seen: BoardSeen,
     first: u16,
     places: Vec<InvestorPlace<J>>,
@@ -116,7 +117,7 @@ pub(crate) fn investor_days<J: Naming>(
 /// Puts the rooms of an investor behind the others, each by the number of its request, and gives a
 /// token that is later than those of their locks. The fault is a room that is another request's.
 fn put_rooms<J: Naming>(
-    board: &Board,
+    board: &VenueBoard,
     seen: BoardSeen,
     investor: u16,
     rooms: Vec<Mutex<LockedRoom<J>>>,

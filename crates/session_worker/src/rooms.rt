@@ -1,14 +1,17 @@
 //! What lies under the lock of a room.
-ghost use Rattle.std.specs.Prelude.{◌≡◌, ◌≢◌, ◌↔◌, true, None, Err, All, IsTrue, IfOk, IsOk};
+ghost use Rattle.std.specs.Prelude.{◌≡◌, ◌≢◌, ◌↔◌, [], true, None, Err, All, IsTrue, IfOk, IsOk};
 ghost use Rattle.std.specs.Prelude.{OnErr, OnOk};
 ghost use Rattle.quote_word.specs.SettleLog.{entry_of};
 ghost use Rattle.request_room.specs.Book.{room_after};
 ghost use Rattle.request_room.specs.declared.events.RoomEvent.TheVariants as event;
+ghost use Rattle.session_worker.specs.Comings.{MayCome};
 ghost use Rattle.session_worker.specs.Locks.{StandsIn, answers_in, with_action};
 ghost use Rattle.session_worker.specs.Watched.{asked_of};
 ghost use Rattle.session_worker.specs.declared.faults.DayFault.TheVariants as fault;
+ghost use Rattle.session_worker.specs.declared.watched.WordsAsked.TheVariants as all_asked;
 ghost use Rattle.venue_rows.specs.Rows.{has_room};
 ghost use Rattle.venue_places.specs.Brought as spec;
+ghost use Rattle.venue_places.specs.declared.arrivals.Placement.TheVariants as place;
 ghost use Rattle.venue_steps.specs.RoomSteps as steps;
 ghost use Rattle.venue_steps.specs.Words.{settlement_in, has_word, word_to_ask};
 
@@ -60,6 +63,7 @@ impl<J: Naming> LockedRoom<J> {
     pub(crate) fn vacant(alloc: Global, at: RoomRef, seen: BoardSeen) -> Self
         requires room { has_room J.config at.investor at.n ≡ true }
         requires seen { seen.board ≡ J.board }
+        ensures { result ≡ record { at = at; events = []; seen = seen; order = [] } }
     {
         LockedRoom {
             at,
@@ -88,11 +92,12 @@ impl<J: Naming> LockedRoom<J> {
         at: RoomRef,
         what: ForRoom,
     ) -> Result<Done, Memory>
-        requires { self.old.at ≡ at }
+        requires room { self.old.at ≡ at }
+        requires placed { MayCome J.config action.0 (place.Room at what) }
         ensures room { OnOk result (self.new.events ≡ spec.room_with self.old.events what) }
         ensures duties { IfOk result (λ done. done.duties.items
             ≡ spec.duties_in_room at self.old.events what) }
-        ensures unasked { IfOk result (λ done. done.word ≡ None) }
+        ensures unasked { IfOk result (λ done. done.asked ≡ all_asked.Nothing) }
         ensures order { OnOk result (self.new.order ≡ with_action self.old.order action) }
         ensures err { OnErr result (self.new ≡ self.old) }
     {
@@ -106,14 +111,15 @@ impl<J: Naming> LockedRoom<J> {
     /// but the token is as before.
     pub(crate) fn hit<G: Gate>(
         &mut self,
-        acting: &Acting<'_, G>,
+        acting: Acting<'_, G>,
         at: RoomRef,
         response: ResponseRef,
         word: u32,
         moment: Moment,
     ) -> Result<Done, Memory>
-        requires board { acting.now.board.now ≡ J.board }
+        requires board { acting.board.now ≡ J.board }
         requires room { self.old.at ≡ at }
+        requires placed { MayCome J.config acting.by (place.Hit at response word moment) }
         ensures room { OnOk result (self.new.events
             ≡ steps.where_done (has_word J.board.words
             (steps.hit_word (room_after self.old.events) word moment)) self.old.events
@@ -125,24 +131,22 @@ impl<J: Naming> LockedRoom<J> {
             (steps.hit_word (room_after self.old.events) word moment))
             (settlement_in (λ w. entry_of w self.new.seen.log)
             (steps.hit_word (room_after self.old.events) word moment))) }
-        ensures word { IfOk result (λ done. done.word
+        ensures word { IfOk result (λ done. done.asked
             ≡ asked_of (λ w. entry_of w self.new.seen.log) (word_to_ask J.board.words
             (steps.hit_word (room_after self.old.events) word moment))) }
         ensures order { OnOk result
-            (self.new.order ≡ with_action self.old.order (acting.now.by, acting.now.number)) }
+            (self.new.order ≡ with_action self.old.order (acting.entry.by, acting.entry.number)) }
         ensures err { OnErr result (self.new ≡ record self.old { seen = self.new.seen }) }
     {
         self.order.reserve(1)?;
+        let noted = (acting.by, acting.number);
         let mut words = WatchedWords::new(acting, self.seen.again());
         let done = do_hit(&mut self.room, &mut words, at, response, word, moment);
         let (seen, asked) = words.into_parts();
         self.seen = seen;
         let duties = done?;
-        self.order.push((acting.by, acting.number))?;
-        Ok(Done {
-            duties,
-            word: asked,
-        })
+        self.order.push(noted)?;
+        Ok(Done { duties, asked })
     }
 
     /// A copy of the token.

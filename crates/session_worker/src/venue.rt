@@ -12,6 +12,7 @@ use crate::dealers::LockedDealer;
 use crate::investors::LockedInvestor;
 use crate::naming::Naming;
 use crate::rooms::LockedRoom;
+use crate::watched::VenueBoard;
 use fix_fields::Memory;
 use market_terms::RoomRef;
 use quote_word::{Board, BoardSeen};
@@ -36,7 +37,7 @@ pub(crate) struct InvestorPlace<J: Naming> {
 pub struct SharedVenue<J: Naming> {
     pub(crate) alloc: Global,
     pub(crate) config: VenueConfig,
-    pub(crate) board: Board,
+    pub(crate) board: VenueBoard,
     pub(crate) dealers: Vec<Mutex<LockedDealer<J>>>,
     pub(crate) investors: Vec<InvestorPlace<J>>,
     pub(crate) ghost board_is: { board ≡ J.board },
@@ -66,7 +67,7 @@ impl<J: Naming> SharedVenue<J> {
         Ok(SharedVenue {
             alloc,
             config,
-            board,
+            board: VenueBoard::new(board),
             dealers,
             investors,
         })

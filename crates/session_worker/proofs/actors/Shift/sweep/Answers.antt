@@ -2,13 +2,14 @@ use Rattle.std.proofs.Common.{refl}
 use Rattle.recorded_days.specs.Kinds.{is_expire, is_in}
 use Rattle.recorded_days.specs.declared.actions.Kind.TheVariants as kind
 use Rattle.session_worker.specs.Shifts.{IsNoted}
+use Rattle.session_worker.specs.Watched.{word_in}
 use Rattle.session_worker.proofs.ShiftLemmas.{moment_noted, nothing_noted}
 use Rattle.session_worker.proofs.actors.Shift.sweep.Goals as goal
 
 -- whatever word it asked
 pub returns-clause-noted : goal.returns-clause-noted
 returns-clause-noted g c = record {
-  word = c.in_ok-done.done.word;
+  word = word_in c.in_ok-done.done.asked;
   one_more = c.in_ok-note.ensures.actions;
 }
 
@@ -16,7 +17,7 @@ pub returns-clause-sweeps : goal.returns-clause-sweeps
 returns-clause-sweeps g c =
     let noted : IsNoted kind.Expire c.args.sweep.moment c.args.self.now.actions.items
     c.note.new.self.actions.items = record {
-      word = c.in_ok-done.done.word;
+      word = word_in c.in_ok-done.done.asked;
       one_more = c.in_ok-note.ensures.actions;
     } in
     moment_noted is_expire kind.Expire c.args.sweep.moment c.args.self.now.actions.items
@@ -26,7 +27,7 @@ pub returns-clause-messages : goal.returns-clause-messages
 returns-clause-messages g c =
     let noted : IsNoted kind.Expire c.args.sweep.moment c.args.self.now.actions.items
     c.note.new.self.actions.items = record {
-      word = c.in_ok-done.done.word;
+      word = word_in c.in_ok-done.done.asked;
       one_more = c.in_ok-note.ensures.actions;
     } in
     nothing_noted is_in kind.Expire c.args.sweep.moment c.args.self.now.actions.items

@@ -4,6 +4,7 @@ use Rattle.recorded_days.specs.Kinds.{is_expire, is_in, kind_of}
 use Rattle.recorded_days.specs.declared.actions.Action.{Action}
 use Rattle.recorded_days.specs.declared.actions.Kind.{Kind}
 use Rattle.session_worker.specs.Shifts.{IsNoted, action_of, moment_of}
+use Rattle.session_worker.specs.Watched.{word_in}
 use Rattle.session_worker.proofs.ShiftLemmas.{duty_is_no_message, duty_is_no_sweep, nothing_noted}
 use Rattle.session_worker.proofs.actors.Shift.turn.Goals as goal
 
@@ -22,7 +23,7 @@ noted_as before after kind named moment time word kind_is time_is more =
 -- whatever word it asked
 pub returns-clause-noted : goal.returns-clause-noted
 returns-clause-noted g c = noted_as c.args.self.now.actions.items c.note.new.self.actions.items
-    c.of-kind.result _ c.moment_of-moment.result _ c.in_ok-done.done.word c.of-kind.ensures
+    c.of-kind.result _ c.moment_of-moment.result _ (word_in c.in_ok-done.done.asked) c.of-kind.ensures
     c.moment_of-moment.ensures c.in_ok-note.ensures.actions
 
 pub returns-clause-messages : goal.returns-clause-messages
@@ -31,7 +32,7 @@ returns-clause-messages g c =
     c.args.self.now.actions.items c.note.new.self.actions.items =
     noted_as c.args.self.now.actions.items c.note.new.self.actions.items c.of-kind.result
     (kind_of c.args.duty) c.moment_of-moment.result (moment_of c.args.duty)
-    c.in_ok-done.done.word c.of-kind.ensures c.moment_of-moment.ensures
+    (word_in c.in_ok-done.done.asked) c.of-kind.ensures c.moment_of-moment.ensures
     c.in_ok-note.ensures.actions in
     nothing_noted is_in (kind_of c.args.duty) (moment_of c.args.duty)
     c.args.self.now.actions.items c.note.new.self.actions.items noted
@@ -43,7 +44,7 @@ returns-clause-sweeps g c =
     c.args.self.now.actions.items c.note.new.self.actions.items =
     noted_as c.args.self.now.actions.items c.note.new.self.actions.items c.of-kind.result
     (kind_of c.args.duty) c.moment_of-moment.result (moment_of c.args.duty)
-    c.in_ok-done.done.word c.of-kind.ensures c.moment_of-moment.ensures
+    (word_in c.in_ok-done.done.asked) c.of-kind.ensures c.moment_of-moment.ensures
     c.in_ok-note.ensures.actions in
     nothing_noted is_expire (kind_of c.args.duty) (moment_of c.args.duty)
     c.args.self.now.actions.items c.note.new.self.actions.items noted
