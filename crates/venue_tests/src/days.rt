@@ -9,3 +9,4 @@ mod forced_ends;
 mod overlaps;
 mod races;
 mod scripts;
+mod settlements;

@@ -1,5 +1,6 @@
 //! Days of many firms, again and again.
 use super::fixtures::{Open, are_views, is_woven, runs};
+use super::settlements::each_was_wished;
 use recorded_days::DayRecord;
 use std::process::Abort;
 use std::test::Fail;
@@ -19,6 +20,8 @@ struct Crowd {
     cancels: u32,
     /// and one more of so many dealers.
     one_more: u16,
+    /// Whether each of the other dealers cancels all its quotes, behind all else that it sends.
+    drops: bool,
     /// Hits of each investor, on the quotes that it was shown from the first on.
     hits: u32,
 }
@@ -30,6 +33,11 @@ impl Crowd {
             return self.cancels.wrapping_add(1);
         }
         self.cancels
+    }
+
+    /// Whether a dealer cancels all its quotes.
+    fn drops_of(&self, dealer: u16) -> bool {
+        self.drops && dealer >= self.one_more
     }
 }
 
@@ -89,7 +97,12 @@ fn dealer_says(crowd: Crowd, dealer: u16, text: &mut String) -> Result<u32, Fail
     for _ in 0..cancels {
         writeln!(text, "say DLR{dealer} T1 09:00:20 Z 298=5|117=x")?;
     }
-    Ok(crowd.quotes.wrapping_add(cancels))
+    let mut said = crowd.quotes.wrapping_add(cancels);
+    if crowd.drops_of(dealer) {
+        writeln!(text, "say DLR{dealer} T1 09:00:30 Z 298=4")?;
+        said = said.wrapping_add(1);
+    }
+    Ok(said)
 }
 
 /// The day as a text, in which 2,000 messages come.
@@ -113,6 +126,7 @@ const WIDE: Crowd = Crowd {
     quotes: 0,
     cancels: 32,
     one_more: 16,
+    drops: false,
     hits: 0,
 };
 
@@ -141,14 +155,15 @@ fn a_crowd_is_sent_as_much_each_time(rt: HostRuntime) -> Result<(), Fail> {
     Ok(())
 }
 
-// 16 dealers and 16 investors with 125 messages for each two: what becomes of the quotes and hits
-// is another thing each time.
+// 16 dealers and 16 investors with 125 messages for each two: what becomes of the quotes, the hits
+// and the drops is another thing each time.
 const BUSY: Crowd = Crowd {
     pairs: 16,
     requests: 40,
     quotes: 40,
-    cancels: 25,
-    one_more: 0,
+    cancels: 24,
+    one_more: 12,
+    drops: true,
     hits: 20,
 };
 
@@ -159,6 +174,7 @@ fn a_busy_day_is_woven_each_time(rt: HostRuntime) -> Result<(), Fail> {
         let (config, record) = runs(&rt, text.as_str(), &Open)?;
         is_woven(&rt, &config, &record)?;
         are_views(&rt, &config, &record)?;
+        each_was_wished(&rt, &config, &record)?;
     }
     Ok(())
 }

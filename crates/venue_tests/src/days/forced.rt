@@ -8,6 +8,7 @@ use super::forced_ends::{
     AWARDED_AND_SWEPT, BOTH_DROPPED, DECLINED_AND_TOO_LATE, DROPPED_OR_LIFTED,
 };
 use super::scripts::{Script, kind_name};
+use super::settlements::each_was_wished;
 use fix_fields::time_text;
 use market_terms::RoomRef;
 use quote_word::Settled;
@@ -172,6 +173,7 @@ fn goes_so<T: Threads + Wait + Sync + Abort + AllocGlobal>(
     let wanted = text_of(alloc, day.done)?;
     assert_eq!(rt; done.as_str(), wanted.as_str(), "{name}");
     is_woven(rt, &config, &record)?;
+    each_was_wished(rt, &config, &record)?;
     are_views(rt, &config, &record)
 }
 
