@@ -208,14 +208,19 @@ day_folder() {
     folder "$name" $((limit + in_day)) "$@"
 }
 
+# The gateway, and its tests. What ccache keeps of it need not be compiled again for tests/mutants.
 build_gateway() {
     [ -z "${GATEWAY:-}" ] || return 0
     in_one_day ctest || return 0
+    told=$work/ccache
+    launcher=
+    ! can_have "$(what_is_left)" ccache || launcher=-DCMAKE_CXX_COMPILER_LAUNCHER=ccache
     # shellcheck disable=SC2016 # of the inner shell
     form ctest 7200 "$(gateway/packages.sh)" \
-        sh -c 'cmake -S gateway -B gateway/out && cmake --build gateway/out -j "$1" &&
+        env CCACHE_BASEDIR="${CCACHE_BASEDIR:-$root}" CCACHE_NOHASHDIR=1 \
+        sh -c 'cmake -S gateway -B gateway/out $3 && cmake --build gateway/out -j "$1" &&
             python3 -m tests.gateway.midnight &&
-            ctest --test-dir gateway/out --output-on-failure --output-junit "$2"' build "$jobs" "$work/ctest.xml"
+            ctest --test-dir gateway/out --output-on-failure --output-junit "$2"' build "$jobs" "$work/ctest.xml" "$launcher"
 }
 
 # part NAME: a folder of tests, with its limit of time and what it needs.
@@ -229,7 +234,7 @@ part() {
     gateway) day_folder gateway 5400 "$usual clang libclang-rt-dev" -n 3 ;;
     audit) day_folder audit 5400 "$usual" ;;
     replicas) day_folder replicas 3600 "$usual patroni etcd-server etcd-client iproute2" ;;
-    mutants) day_folder mutants 7200 "$usual ccache" ;;
+    mutants) day_folder mutants 7200 "$usual $(cat tests/desk/packages)" ;;
     *) day_folder "$1" 3600 "$usual $(cat "tests/$1/packages" 2>/dev/null)" ;;
     esac
 }

@@ -9,11 +9,11 @@ from pathlib import Path
 import pytest
 
 from tests.desk.browser import Browser
-from tests.desk.desks import DEALER, FIRMS, INVESTOR, OTHER, PASSWORD, ROOT, Desk, FirmOf, bonds_text, row_text
+from tests.desk.desks import DEALER, FIRMS, INVESTOR, OTHER, PASSWORD, Desk, FirmOf, bonds_text, row_text
 from tests.desk.view import View
 from tests.gateway.door import Door, today
 from tests.gateway.firm import Identity
-from tests.harness.build import alone, told
+from tests.harness.build import built
 
 
 @pytest.fixture(scope="session")
@@ -21,11 +21,7 @@ def desk_program() -> Path:
     """The desk that DESK names, or that of desk/out, built as it stands there."""
     if "DESK" in os.environ:
         return Path(os.environ["DESK"])
-    out = ROOT / "desk" / "out"
-    with alone(out):
-        told(["cmake", "-S", str(ROOT / "desk"), "-B", str(out)])
-        told(["cmake", "--build", str(out), "-j", str(os.cpu_count() or 1)])
-    return out / "mireseason-desk"
+    return built("desk", "mireseason-desk")
 
 
 @pytest.fixture(scope="session")

@@ -4,8 +4,9 @@ import fcntl
 import hashlib
 import os
 import shlex
+import shutil
 import subprocess
-from collections.abc import Iterator
+from collections.abc import Iterator, Sequence
 from contextlib import contextmanager
 from pathlib import Path
 
@@ -30,10 +31,11 @@ def alone(folder: Path) -> Iterator[None]:
         yield
 
 
-def told(words: list[str]) -> None:
+def told(words: list[str], environment: dict[str, str] | None = None) -> None:
     """Runs a command, whose last words are told where it fails."""
     done = subprocess.run(
         words,
+        env=environment,
         stdout=subprocess.PIPE,
         stderr=subprocess.STDOUT,
         text=True,
@@ -44,13 +46,27 @@ def told(words: list[str]) -> None:
         raise NotBuilt("%s:\n%s" % (shlex.join(words), done.stdout[-4000:]))
 
 
+def cmake(folder: Path, targets: Sequence[str] = ()) -> Path:
+    """Builds a folder's targets, or all, into its `out`. What was compiled once, in this tree or in a copy, is not again."""
+    out = folder / "out"
+    cache = {"CCACHE_BASEDIR": str(folder.parent), "CCACHE_NOHASHDIR": "1"}
+    environment = {**cache, **os.environ}
+    launcher = ["-DCMAKE_CXX_COMPILER_LAUNCHER=ccache"] if shutil.which("ccache") else []
+    told(["cmake", "-S", str(folder), "-B", str(out), *launcher], environment)
+    chosen = ["--target", *targets] if targets else []
+    jobs = str(len(os.sched_getaffinity(0)))
+    told(["cmake", "--build", str(out), *chosen, "-j", jobs], environment)
+    return out
+
+
+def built(part: str, program: str) -> Path:
+    """A program of a part of the tree, such as `gateway`, built as it stands there with all of its part."""
+    with alone(ROOT / part / "out"):
+        return cmake(ROOT / part) / program
+
+
 def built_gateway() -> Path:
-    """The gateway of gateway/out, built as it stands there."""
-    out = ROOT / "gateway" / "out"
-    with alone(out):
-        told(["cmake", "-S", str(ROOT / "gateway"), "-B", str(out)])
-        told(["cmake", "--build", str(out), "-j", str(os.cpu_count() or 1)])
-    return out / "mireseason-gateway"
+    return built("gateway", "mireseason-gateway")
 
 
 def compiled(name: str, form: str, sources: list[Path]) -> Path:

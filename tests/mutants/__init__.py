@@ -1,1 +1,1 @@
-"""Wrong bodies of the gateway and of the audit, each with the test that has to fail on it."""
+"""Wrong bodies of the gateway, the audit and the desk, each with the test that has to fail on it."""

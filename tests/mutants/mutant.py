@@ -22,9 +22,10 @@ class Mutant:
     new: str
 
     @property
-    def is_built(self) -> bool:
-        """Whether a compiler has to be asked."""
-        return self.file.startswith("gateway/")
+    def part(self) -> str | None:
+        """The part of the tree whose program has to be built anew, if one has."""
+        folder = self.file.partition("/")[0]
+        return {"gateway": "gateway", "desk": "desk", "web": "desk"}.get(folder)
 
     def planted_in(self, text: str) -> str:
         """The file's text with the wrong body in its place."""

@@ -9,14 +9,14 @@ from contextlib import contextmanager
 from dataclasses import dataclass
 from pathlib import Path
 
-from tests.harness.build import alone, told
+from tests.harness.build import alone, cmake
 from tests.harness.options import ROOT
 from tests.harness.reports import Count, counted
 from tests.mutants.mutant import Mutant
 
 FOLDER = ROOT / "tests" / "out" / "mutants"
 LIMIT = 1800  # seconds of one test
-GATEWAY = "mireseason-gateway"
+PROGRAMS = {"gateway": "mireseason-gateway", "desk": "mireseason-desk"}
 
 
 @dataclass(frozen=True)
@@ -25,10 +25,10 @@ class Nursery:
 
     folder: Path
     venue: tuple[str, ...]
+    gateway: Path | None  # one that is built, for tests that have a wrong body elsewhere
 
-    @property
-    def out(self) -> Path:
-        return self.folder / "gateway" / "out"
+    def program(self, part: str) -> Path:
+        return self.folder / part / "out" / PROGRAMS[part]
 
     def refresh(self) -> None:
         """Copies each file of the tree that is another there, and takes away those that the tree has not."""
@@ -38,23 +38,9 @@ class Nursery:
         for name in set(files_below(self.folder)) - set(names):
             (self.folder / name).unlink()
 
-    def build(self) -> None:
-        words = ["cmake", "-S", str(self.folder / "gateway"), "-B", str(self.out)]
-        if shutil.which("ccache"):
-            words.append("-DCMAKE_CXX_COMPILER_LAUNCHER=ccache")
-        told(words)
-        told(
-            [
-                "cmake",
-                "--build",
-                str(self.out),
-                "--target",
-                GATEWAY,
-                "terms_test",
-                "-j",
-                str(os.cpu_count() or 1),
-            ]
-        )
+    def build(self, part: str) -> None:
+        """The program of a part of the copy, and no test of that part."""
+        cmake(self.folder / part, [PROGRAMS[part]])
 
     @contextmanager
     def planted(self, mutant: Mutant) -> Iterator[None]:
@@ -62,8 +48,8 @@ class Nursery:
         text = file.read_text()
         try:
             file.write_text(mutant.planted_in(text))
-            if mutant.is_built:
-                self.build()
+            if mutant.part is not None:
+                self.build(mutant.part)
             yield
         finally:
             file.write_text(text)
@@ -87,13 +73,14 @@ class Nursery:
             "-o",
             "junit_family=xunit1",
         ]
-        for word in self.venue_words():
-            words.append(word)
+        words += self.chosen(mutant)
         own = {
             name: value
             for name, value in os.environ.items()
-            if name not in ("PYTHONPATH", "VENUE", "GATEWAY", "FORM")
+            if name not in ("PYTHONPATH", "VENUE", "GATEWAY", "FORM", "DESK")
         }
+        if mutant.part == "desk":
+            own["DESK"] = str(self.program("desk"))
         done = subprocess.run(
             words,
             cwd=self.folder,
@@ -106,12 +93,11 @@ class Nursery:
         )
         return (counted([report]) if report.exists() else Count()), done.stdout[-3000:]
 
-    def venue_words(self) -> list[str]:
-        program = self.out / GATEWAY
-        return [
-            "--venue=" + " ".join(self.venue),
-            *(["--gateway=" + str(program)] if program.exists() else []),
-        ]
+    def chosen(self, mutant: Mutant) -> list[str]:
+        """The venue, and the gateway: that with the wrong body, where it is the gateway's."""
+        gateway = self.program("gateway") if mutant.part == "gateway" else self.gateway
+        words = ["--venue=" + " ".join(self.venue)]
+        return words + (["--gateway=" + str(gateway)] if gateway is not None else [])
 
 
 def files_of(root: Path) -> list[str]:
@@ -128,7 +114,9 @@ def files_of(root: Path) -> list[str]:
         "--",
         "audit",
         "conftest.py",
+        "crates.txt",
         "deploy",
+        "desk",
         "docs",
         "examples",
         "fix",
@@ -136,6 +124,7 @@ def files_of(root: Path) -> list[str]:
         "pyproject.toml",
         "tests",
         "tools",
+        "web",
     ]
     listed = subprocess.run(words, capture_output=True, check=True).stdout.decode().split("\0")
     return [name for name in listed if name and (root / name).is_file()]
@@ -157,9 +146,9 @@ def copy_if_other(source: Path, target: Path) -> None:
 
 
 @contextmanager
-def nursery(venue: tuple[str, ...]) -> Iterator[Nursery]:
+def nursery(venue: tuple[str, ...], gateway: Path | None) -> Iterator[Nursery]:
     """The copy, for one process at a time."""
     with alone(FOLDER):
-        made = Nursery(FOLDER / "tree", venue)
+        made = Nursery(FOLDER / "tree", venue, gateway)
         made.refresh()
         yield made

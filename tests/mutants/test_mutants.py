@@ -2,6 +2,7 @@
 
 import random
 from collections.abc import Iterator
+from pathlib import Path
 
 import pytest
 
@@ -23,8 +24,8 @@ def pytest_generate_tests(metafunc: pytest.Metafunc) -> None:
 
 
 @pytest.fixture(scope="module")
-def tree(venue: tuple[str, ...]) -> Iterator[Nursery]:
-    with nursery(venue) as made:
+def tree(venue: tuple[str, ...], gateway_program: Path) -> Iterator[Nursery]:
+    with nursery(venue, gateway_program) as made:
         yield made
 
 
