@@ -185,10 +185,10 @@ class Stage:
     def quote_fields(self, request: bytes, name: bytes, price: bytes = b"99.5") -> Fields:
         return [(117, name), (131, request), (48, BOND), (22, b"4"), (133, price)]
 
-    def quote(self, firm: Firm, request: bytes, price: bytes = b"99.5") -> bytes:
-        """An accepted quote; its name."""
+    def quote(self, firm: Firm, request: bytes, price: bytes = b"99.5", more: Fields | None = None) -> bytes:
+        """An accepted quote, with more fields behind the usual ones; its name."""
         name = self.name("q")
-        self.say(firm, "S", self.quote_fields(request, name, price))
+        self.say(firm, "S", self.quote_fields(request, name, price) + (more or []))
         answer = self.answer(firm, "what became of a quote", lambda message: message.value(117) == name)
         check(answer.value(297) == b"0", "a lawful quote is answered %r" % answer.raw)
         return name
@@ -201,6 +201,12 @@ class Stage:
         check(answer.value(297) == b"9", "a cancel of no quote is answered %r" % answer.raw)
         return answer
 
+    def hit(self, quote: bytes, firm: Firm | None = None) -> Received:
+        """The investor hits a quote, by its own name of it; the answer."""
+        firm, name = firm or self.investor, self.name("h")
+        self.say(firm, "AJ", [(693, name), (694, b"1"), (117, quote)])
+        return self.answer(firm, "what became of a hit", lambda message: message.value(693) == name)
+
     def auction(self, dealers: list[Firm] | None = None) -> None:
         """A request, a quote of each dealer, and a hit."""
         dealers = dealers or [self.dealer, self.other]
@@ -208,14 +214,11 @@ class Stage:
         for dealer in dealers:
             self.quote(dealer, b"R%d" % self.shown(dealer))
         quote = self.answer(self.investor, "a quote", lambda message: message.kind == b"S" and message.value(131) == self.asked)
-        name = self.name("h")
-        self.say(self.investor, "AJ", [(693, name), (694, b"1"), (117, quote.given(117))])
-        answer = self.answer(self.investor, "what became of a hit", lambda message: message.value(693) == name)
+        answer = self.hit(quote.given(117))
         check(answer.value(297) == b"0", "a lawful hit is answered %r" % answer.raw)
         for dealer in dealers:
             request = b"R%d" % self.shown(dealer)
             self.answer(dealer, "a notice", lambda message: message.kind == b"AJ" and message.value(131) == request)
-
 
     def whole(self) -> None:
         """Waits for all that is still to come, ends the gateway, and holds the initiators' messages against the log."""

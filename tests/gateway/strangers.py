@@ -253,9 +253,7 @@ def said(stage: Stage, way: Way, frames: list[bytes]) -> None:
 def trades(stage: Stage, firm: Firm, quote: bytes) -> None:
     """The firm logs on with its password and its numbers, and hits the quote that the stranger was after."""
     stage.log_on(firm)
-    name = stage.name("h")
-    stage.say(firm, "AJ", [(693, name), (694, b"1"), (117, quote)])
-    answer = stage.answer(firm, "what became of a hit", lambda message: message.value(693) == name)
+    answer = stage.hit(quote, firm)
     check(answer.value(297) == b"0", "a lawful hit is answered %r" % answer.raw)
     for dealer in (stage.dealer, stage.other):
         stage.answer(dealer, "a notice", lambda message: message.kind == b"AJ")
