@@ -24,7 +24,14 @@ INSERT INTO form (number) VALUES (4);
 -- neither, and one that a newer gateway began with them an older one does not go on with.)
 --
 -- Every other line is a step line of `rfq_venue live`, without its line feed: `hex FIRM TIME HEX` or
--- `clock TIME`. Fed after the configuration, `%%` and one line `#`, place P is line C + 2 + P of the
+-- `clock TIME`; or a note, which the venue ignores, of at most 200 printable bytes:
+--     # act TIME NAME(UID) WORDS because="REASON"   what an operator did; the reason may be missing, and other
+--                         bytes than printable ASCII, quotation marks and backslashes stand there as \xHH
+--     # clock TIME STATE ERROR   STATE is synchronised or unsynchronised, as the kernel has it (adjtimex), and ERROR
+--                         its greatest error in microseconds: at each begin of a term, each five minutes, and
+--                         when STATE changes
+--     # clock TIME set BY        by how many microseconds the clock was set
+-- What an act sets holds from its commit to the end of the day, for whoever writes the log. Fed after the configuration, `%%` and one line `#`, place P is line C + 2 + P of the
 -- venue's input, C being the lines of the configuration.
 --
 -- The chain: hash is the SHA-256 of the text
@@ -41,9 +48,9 @@ CREATE TABLE entry (
                                  -- a later millisecond than moment. Of one connection it never falls: where the
                                  -- machine's clock is set back it stands. From one connection to another it may.
                                  -- Where no message came: when the line was made, in the millisecond of moment
-    firm       TEXT,             -- whose message it is; NULL at place 0 and in a clock line
+    firm       TEXT,             -- whose message it is; NULL at place 0, in a clock line and in a note
     number     INTEGER,          -- MsgSeqNum (34) of the session; NULL where no message came: at place 0, in
-                                 -- a clock line, and in a cancel for a dealer that is gone
+                                 -- a clock line, in a note, and in a cancel for a dealer that is gone
     connection INTEGER,          -- the number of the connection that the message came on; NULL where number is
     line       BYTEA   NOT NULL,
     before     BYTEA   NOT NULL,

@@ -59,7 +59,7 @@ venue=${VENUE:-$root/crates/rfq_venue/out/rfq_venue}
 [ -x "$venue" ] || fail "there is no program $venue"
 if [ -z "${GATEWAY:-}" ]; then
     cmake -S "$root/gateway" -B "$root/gateway/out" >&2
-    cmake --build "$root/gateway/out" -j "$(nproc)" --target mireseason-gateway spdx >&2
+    cmake --build "$root/gateway/out" -j "$(nproc)" --target mireseason-gateway mireseason-admin spdx >&2
 fi
 gateway=${GATEWAY:-$root/gateway/out}
 [ -x "$gateway/mireseason-gateway" ] || fail "there is no gateway in $gateway"
@@ -77,7 +77,7 @@ changes >"$place/debian/changelog"
 files=$place/files
 install -m 0755 "$venue" "$files/rfq_venue"
 programs >"$files/programs"
-install -m 0755 "$gateway/mireseason-gateway" "$files"
+install -m 0755 "$gateway/mireseason-gateway" "$gateway/mireseason-admin" "$files"
 cp "$gateway/mireseason-gateway.spdx.json" "$files"
 cp "$root/gateway/mireseason-gateway.service" "$place/debian/mireseason-gateway.service"
 cp -R "$root/fix" "$files/fix"

@@ -9,6 +9,7 @@ from .door import DOOR, Door, DoorReader
 from .findings import Finding
 from .lines import firm_and_time
 from .log import Log
+from .notes import is_note
 from .progress import Step
 from .records import Day, Entry
 from .streams import FEED, Growing
@@ -129,10 +130,12 @@ class ChainReader:
 
 
 def is_step_line(line: bytes, firm: str | None, moment: str) -> bool:
-    """Whether a line is one, and that of this firm at this moment; without a firm, of a clock."""
+    """Whether a line is one, and that of this firm at this moment; without a firm, of a clock, or
+    one that the venue ignores.
+    """
     if firm:
         return line.startswith(f"hex {firm} {moment} ".encode()) and line.find(FEED) < 0
-    return firm is None and line == b"clock " + moment.encode()
+    return firm is None and (line == b"clock " + moment.encode() or is_note(line, moment))
 
 
 def read_chain(log: Log, step: Step) -> Chained:

@@ -16,6 +16,7 @@ from .export import export_day
 from .facts import Facts
 from .faults import Unreadable
 from .folders import make_folder
+from .notes import ACTS, CLOCK_NOTES, acts, clock_notes, clock_text
 from .parties import read_parties
 from .records import Day, Firm
 from .rts24 import FIELDS, MARK, SOURCES, order_events, record_table
@@ -119,13 +120,34 @@ def do_record(work: Work) -> int:
     scratch.mkdir()
     write_table(record_table(parties), events, form, scratch)
     write_table(SOURCES, FIELDS, form, scratch)
+    with work.source.open() as log:
+        clock = list(clock_notes(log))
+    write_table(CLOCK_NOTES, clock, form, scratch)
     for path in sorted(scratch.iterdir()):
         shutil.move(path, words.folder / path.name)
     print("%s: %d events of orders, %s" % (words.folder, len(events), MARK))
-    print("clock: the log has no samples of the gateway's clock")
+    print(clock_text(clock))
     for name in parties.missing:
         print("missing in %s: %s" % (words.parties, name))
     return 1 if parties.missing else 0
+
+
+def do_acts(work: Work) -> int:
+    """`acts`: what operators did."""
+    form = form_of(work)
+    verdict = checked(work)
+    if not is_good(verdict):
+        return 1
+    with work.source.open() as log:
+        found = list(acts(log))
+    if form is not None:
+        print(table_text(ACTS, found, form), end="")
+        return 0
+    for act in found:
+        reason = ', because "%s"' % act.because if act.because else ""
+        print("entry %d: %s %s: %s%s" % (act.place, act.moment, act.who, act.what, reason))
+    print("%d acts of operators" % len(found))
+    return 0
 
 
 def do_trades(work: Work) -> int:

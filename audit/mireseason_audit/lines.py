@@ -5,6 +5,8 @@ from typing import NamedTuple
 from .frame import Fields, barred, fields_of
 from .records import SOH
 
+NOTES = (b"act", b"clock")  # of lines that the venue ignores (notes.py)
+
 
 class Came(NamedTuple):
     """A message that came from a firm."""
@@ -53,7 +55,7 @@ def decoded(data: bytes) -> str:
 
 
 def firm_and_time(line: bytes) -> tuple[str | None, str | None]:
-    """Whose line it is, None of the clock's, and its TIME; None of what has none."""
+    """Whose line it is, None of the clock's or a note, and its TIME; None of what has none."""
     words = line.split(b" ", 4)
     verb = words[0]
     if verb in (b"hex", b"in", b"piece") and len(words) >= 4:
@@ -62,4 +64,6 @@ def firm_and_time(line: bytes) -> tuple[str | None, str | None]:
         return decoded(words[1]), decoded(words[3])
     if verb == b"clock" and len(words) == 2:
         return None, decoded(words[1])
+    if verb == b"#" and len(words) >= 4 and words[1] in NOTES:
+        return None, decoded(words[2])
     return None, None

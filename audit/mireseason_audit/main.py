@@ -17,7 +17,7 @@ from .arguments import (
 from .before import Before
 from .check import report
 from .command import Work, checked, compared_with, seal_of, seal_path
-from .day_commands import do_export, do_record, do_stats, do_trades
+from .day_commands import do_acts, do_export, do_record, do_stats, do_trades
 from .faults import Unreadable, Wrong
 from .frame import printable
 from .log import Source
@@ -81,9 +81,10 @@ def add_tables(commands: Commands) -> None:
     record.add_argument("--rts24", action="store_true", help=text)
     text = "who stands behind the names (parties.toml)"
     record.add_argument("--parties", type=Path, default=Path("parties.toml"), help=text)
-    for parser in (export, trades, record):
+    did = commands.add("acts", "prints what operators did", do_acts)
+    for parser in (export, trades, record, did):
         with_form(parser)
-    for parser in (export, trades, stats, record):
+    for parser in (export, trades, stats, record, did):
         with_moment(parser)
         with_seal(parser)
 

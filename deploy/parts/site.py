@@ -64,8 +64,8 @@ class Site:
     def _gateway_files(self, host: str, folders: Folders) -> dict[str, str]:
         words = {"NAME": host, "ADDRESS": self.gateways[host], "CONFIG": folders.config,
                  "STATE": folders.data, "TLS": folders.tls, "GATEWAY_KEYS": self._gateway_keys(),
-                 "SYNCHRONOUS": self.synchronous, "SCHEMA": self.schema, "VENUES": self._venues(),
-                 "SECURITY": self.security}
+                 "OPERATOR": operator_text(folders), "SYNCHRONOUS": self.synchronous, "SCHEMA": self.schema,
+                 "VENUES": self._venues(), "SECURITY": self.security}
         return {"gateway.toml": self._filled("gateway.toml", words),
                 "pgpass": "*:*:*:gateway:%s\n" % self.passwords["GATEWAY"]}
 
@@ -92,6 +92,13 @@ class Site:
         if left:
             raise Fault("%s: nothing is said of %s" % (name, left[0]))
         return text
+
+
+def operator_text(folders: Folders) -> str:
+    """The part [operator] of gateway.toml, where the host has a folder for sockets."""
+    if not folders.run:
+        return ""
+    return '[operator]\nsocket = "%s/admin.sock"\ngroup = "mireseason-operators"\n\n' % folders.run
 
 
 def file_of(venue: str) -> str:

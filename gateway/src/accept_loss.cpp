@@ -1,16 +1,53 @@
 #include "accept_loss.h"
 
+#include "chain.h"
 #include "log_guard.h"
 #include "log_places.h"
+#include "moment.h"
+
+#include <stdexcept>
+
+#include <fmt/format.h>
 
 namespace gateway {
 
-std::string accept_loss(const Config &config, const std::shared_ptr<spdlog::logger> &events) {
+namespace {
+
+// The log is sealed up to this entry, and `seals` is the number of that seal.
+void commit_act(const Config &config, const std::string &text, Database &database, LogReader &log,
+                const Entry &last, std::uint32_t seals) {
+    const auto term = database.take_over();
+    if (!term) {
+        throw std::runtime_error("another gateway writes the log: there it was accepted, or is to "
+                                 "be, and this one can put nothing there");
+    }
+    DayClock clock(config.firms.date);
+    clock.not_before(ExactMoment::end_of(moment_of(last.moment).value_or(Moment{})));
+    const auto event = log.connections().last;
+    const Position end{*term, last.place, last.hash, event ? event->place : 0,
+                       event ? event->hash : Digest{}};
+    Batch batch;
+    batch.entries.push_back(
+        note_entry(last.place + 1, *term, note_kinds::act, text, clock.exact_now()));
+    Chain(end, sealer_of(config), seals).link(batch);
+    database.writer()->commit(batch);
+}
+
+} // namespace
+
+AcceptedLoss accept_loss(const Config &config, const Act &act,
+                         const std::shared_ptr<spdlog::logger> &events) {
+    const std::string text = text_of(act);
     const auto database = open_database(config);
+    const auto reader = database->reader();
     LogGuard guard(sealer_of(config), config.checkpoints, events);
-    std::string lost = guard.accept(*database->reader());
-    events->warn("loss accepted {}", lost);
-    return lost;
+    AcceptedLoss accepted;
+    accepted.has_begin = reader->last_entry().has_value();
+    accepted.said = guard.accept(*reader, [&](const Entry &last) {
+        commit_act(config, text, *database, *reader, last, guard.seals());
+    });
+    events->warn("loss accepted {} act=\"{}\"", accepted.said, text);
+    return accepted;
 }
 
 } // namespace gateway

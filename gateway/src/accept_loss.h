@@ -3,6 +3,7 @@
 #define GATEWAY_ACCEPT_LOSS_H
 
 #include "config.h"
+#include "notes.h"
 
 #include <memory>
 #include <string>
@@ -11,11 +12,18 @@
 
 namespace gateway {
 
+struct AcceptedLoss {
+    std::string said; // what was given up
+    bool has_begin =
+        false; // else the log is empty, and the act is still to be put behind its begin
+};
+
 // Takes a venue's log as it is: the next start goes on behind its last entry, whatever the
-// checkpoint that was kept says. Returns what was given up. Throws std::runtime_error where the log
-// can't be read, another gateway has it, or its seals are not right: what no gateway has sealed is
-// never accepted.
-std::string accept_loss(const Config &config, const std::shared_ptr<spdlog::logger> &events);
+// checkpoint that was kept says. The act is committed first, as the log's new last entry. Throws
+// std::runtime_error where the log can't be read or written, another gateway has it, or its seals
+// are not right: what no gateway has sealed is never accepted.
+AcceptedLoss accept_loss(const Config &config, const Act &act,
+                         const std::shared_ptr<spdlog::logger> &events);
 
 } // namespace gateway
 

@@ -8,6 +8,9 @@
 
 namespace gateway {
 
+// By more than this a clock was set so far that moments of the day can't be told from it.
+constexpr auto longest_step = std::chrono::seconds(2);
+
 // One thread looks.
 class ClockWatch {
   public:

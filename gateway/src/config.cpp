@@ -90,8 +90,9 @@ class ConfigReader {
     }
 
   private:
-    static constexpr std::array<std::string_view, 10> sections = {
-        "venue", "day", "log", "copies", "seal", "fix", "tls", "limits", "metrics", "events"};
+    static constexpr std::array<std::string_view, 11> sections = {
+        "venue", "day",    "log",      "copies",  "seal",  "fix",
+        "tls",   "limits", "operator", "metrics", "events"};
     static constexpr std::array<std::string_view, 4> levels = {"debug", "info", "warning", "error"};
 
     Section section(std::string_view name) const {
@@ -373,6 +374,13 @@ class ConfigReader {
     }
 
     void read_rest() {
+        Section socket = section("operator");
+        config_.operator_socket = socket.path("socket");
+        config_.operator_group = socket.text("group");
+        socket.end();
+        if (config_.operator_socket.empty() && socket.stands()) {
+            socket.fail_at("socket", "is missing");
+        }
         Section metrics = section("metrics");
         config_.metrics_port = static_cast<unsigned short>(metrics.number("port", 0, 0, 65535));
         metrics.end();

@@ -69,7 +69,13 @@ struct Config {
     ShareLimits shares;
     std::uint64_t day_bytes = 1073741824;
 
+    // The text of the act by which an operator accepted that the log begins anew; empty as a rule.
+    std::string opening_act;
+
     DayRules days;
+
+    std::filesystem::path operator_socket; // empty for none
+    std::string operator_group;            // whose members may use it; empty for none
 
     unsigned short metrics_port = 0;
     std::string event_level = "info";

@@ -77,6 +77,8 @@ class LogReader {
     // The state of every firm that stands anywhere in the log.
     virtual std::map<std::string, FirmState> states() = 0;
     virtual ConnectionState connections() = 0;
+    // The lines of all notes (notes.h), in order.
+    virtual std::vector<std::string> notes() = 0;
     // The seals from a number on, `limit` at most, in order, with the hashes that stand now in the
     // rows that they name.
     virtual std::vector<Seal> seals(std::uint32_t from, std::uint32_t limit) = 0;
@@ -162,6 +164,13 @@ inline std::string select_position(std::string_view table, std::string_view last
 constexpr std::string_view open_connections =
     "WHERE event = 'logon' AND NOT EXISTS (SELECT 1 FROM connection AS later "
     "WHERE later.event = 'end' AND later.number = connection.number) ORDER BY place";
+
+// Of the table `entry`: the lines of notes. The bytes are those of `# `.
+inline std::string select_notes(std::string_view bytes) {
+    return fmt::format("SELECT line FROM entry WHERE firm IS NULL AND substr(line, 1, 2) = {} "
+                       "ORDER BY place",
+                       bytes);
+}
 
 // The texts of schema.sql and of terms.sql.
 const char *schema_text();

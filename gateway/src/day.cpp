@@ -1,5 +1,6 @@
 #include "day.h"
 
+#include "notes.h"
 #include "process.h"
 #include "reasons.h"
 #include "venue_trial.h"
@@ -84,8 +85,8 @@ Day day_now(const Config &config) {
     return day;
 }
 
-Entry begin_log(const Day &day, Database &database, LogGuard &guard,
-                std::optional<std::uint32_t> term, DayClock &clock) {
+OpenedDay begin_log(const Config &config, const Day &day, Database &database, LogGuard &guard,
+                    std::optional<std::uint32_t> term, DayClock &clock) {
     if (!term) {
         throw std::runtime_error("the log has no begin");
     }
@@ -98,9 +99,15 @@ Entry begin_log(const Day &day, Database &database, LogGuard &guard,
     first.hash = hash_of(first);
     Batch batch;
     batch.entries.push_back(first);
-    batch.seal = guard.begin(first);
+    if (!config.opening_act.empty()) {
+        Entry act = note_entry(1, first.term, note_kinds::act, config.opening_act, now);
+        act.before = first.hash;
+        act.hash = hash_of(act);
+        batch.entries.push_back(std::move(act));
+    }
+    batch.seal = guard.begin(batch.entries.back());
     database.writer()->commit(batch);
-    return first;
+    return {first, batch.entries.back(), {}};
 }
 
 // The day's first entry, with this gateway's reasons where the venue's program gives notes.
@@ -110,9 +117,10 @@ OpenedDay begin_day_of(Day day, const Config &config, Database &database, LogGua
     if (try_configuration(config.command, config.configuration)) {
         day.reasons = built_in_reasons();
     }
-    const Entry first = begin_log(day, database, guard, term, clock);
+    OpenedDay begun = begin_log(config, day, database, guard, term, clock);
     events->info("log begun date={} program=\"{}\"", clock.date(), day.version);
-    return {first, first, std::move(day.reasons)};
+    begun.reasons = std::move(day.reasons);
+    return begun;
 }
 
 // A day goes on as it began.

@@ -8,7 +8,7 @@
 
 namespace gateway {
 
-// For every firm the same.
+// As they are configured, for every firm the same.
 struct RateLimits {
     std::size_t messages_per_second = 2000;
     std::size_t messages_burst = 10000;
@@ -29,6 +29,13 @@ class FirmRate {
           bytes_(limits.bytes_per_second, limits.bytes_burst),
           resends_(limits.resends_per_second, limits.resends_burst) {}
 
+    // Other limits from now on.
+    void change(const RateLimits &limits) {
+        const std::lock_guard<std::mutex> lock(mutex_);
+        messages_.change(limits.messages_per_second, limits.messages_burst);
+        bytes_.change(limits.bytes_per_second, limits.bytes_burst);
+        resends_.change(limits.resends_per_second, limits.resends_burst);
+    }
     // So much came, the session's own messages too: from when on more may be read.
     Clock::time_point came(std::size_t messages, std::size_t bytes) {
         const Clock::time_point now = Clock::now();

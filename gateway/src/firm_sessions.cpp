@@ -18,8 +18,8 @@ constexpr const char *bytes_are_used_up =
     "no "
     "request and no quote is taken; cancels, declines, hits and passes are";
 constexpr const char *clock_was_set =
-    "the clock of the venue was set: until the gateway is started again with one that is right, no "
-    "request and no quote is taken; cancels, declines, hits and passes are";
+    "the clock of the venue was set: until the operator says that it is right, no request and no "
+    "quote is taken; cancels, declines, hits and passes are";
 
 // A message that begins something, and takes nothing back: a request (R), or a quote (S).
 bool begins_business(const WireMessage &message) {
@@ -117,12 +117,38 @@ FirmSessions::renew(const std::map<std::string, Credentials> &credentials) {
             continue;
         }
         const std::uint64_t most = own->second.day_bytes;
-        firm.bytes.set_limit(most > 0 ? most : day_.config.day_bytes);
+        firm.limits.configure_bytes(most > 0 ? most : day_.config.day_bytes);
         firm.told_of_bytes = false;
         const std::lock_guard lock(firm.mutex);
         firm.cancel_on_disconnect = own->second.cancel_on_disconnect;
     }
     return gone;
+}
+
+void FirmSessions::set_limit(const LimitSet &set) {
+    const auto found = firms_.find(set.firm);
+    if (found != firms_.end()) {
+        found->second.limits.set(set.key, set.value);
+        found->second.told_of_bytes = false;
+    }
+}
+
+std::vector<FirmSessions::Facts> FirmSessions::facts() {
+    std::vector<Facts> all;
+    for (auto &[name, firm] : firms_) {
+        Facts facts;
+        facts.firm = name;
+        facts.bytes = firm.limits.bytes.used();
+        facts.bytes_limit = firm.limits.bytes.limit();
+        facts.set = firm.limits.all_set();
+        facts.limits = firm.limits.all();
+        facts.entries = firm.entries;
+        const std::lock_guard lock(firm.seen_mutex);
+        facts.since = firm.since;
+        facts.address = firm.address;
+        all.push_back(std::move(facts));
+    }
+    return all;
 }
 
 void FirmSessions::cancel_all_of(const std::string &name, Firm &firm) {
@@ -175,6 +201,7 @@ std::uint32_t FirmSessions::logon_accepted(const std::string &name, const Connec
     }
     firm.connection = rows_.put_logon(name, facts);
     firm.last_receipt = {};
+    firm.see(text_of(day_.clock.exact_now()), facts.address);
     return *firm.connection->number;
 }
 
@@ -191,6 +218,7 @@ void FirmSessions::connection_ended(const std::string &name, std::uint32_t conne
     if (firm.connection && firm.connection->number == connection) {
         rows_.put_end(*firm.connection, why);
         firm.connection.reset();
+        firm.see("", "");
     }
 }
 
@@ -247,7 +275,7 @@ int FirmSessions::received(const std::string &name, const WireMessage &message,
     const std::string &bytes = std::get<std::string>(frame);
     log_.append_message(name, came, bytes, Log::Committer::caller);
     firm.metrics->came(message.value(35), message.value(694));
-    firm.bytes.add(bytes_of_line(name, bytes));
+    firm.limits.bytes.add(bytes_of_line(name, bytes));
     ++firm.entries;
     firm.last_number = message.number;
     return 0;
@@ -260,16 +288,16 @@ void FirmSessions::count_waiting(const Engine &engine) {
 }
 
 bool FirmSessions::may_begin_business(const std::string &name, Firm &firm) {
-    const bool are_used_up = firm.bytes.are_used_up();
+    const bool are_used_up = firm.limits.bytes.are_used_up();
     if (are_used_up && !firm.told_of_bytes.exchange(true)) {
         day_.events->warn("day's bytes used up firm={}{} bytes={} limit={}", name, day_.of_venue(),
-                          firm.bytes.used(), firm.bytes.limit());
+                          firm.limits.bytes.used(), firm.limits.bytes.limit());
     }
     return !are_used_up && day_.clock_is_right;
 }
 
 std::string FirmSessions::why_not_taken(const std::string &name) {
-    return firm_of(name).bytes.are_used_up() ? bytes_are_used_up : clock_was_set;
+    return firm_of(name).limits.bytes.are_used_up() ? bytes_are_used_up : clock_was_set;
 }
 
 void FirmSessions::all_received() {
@@ -312,11 +340,11 @@ std::vector<StoredMessage> FirmSessions::stored_messages(const std::string &firm
 
 FirmSessions::Time FirmSessions::was_read(const std::string &firm, std::size_t messages,
                                           std::size_t bytes) {
-    return firm_of(firm).rate.came(messages, bytes);
+    return firm_of(firm).limits.rate.came(messages, bytes);
 }
 
 FirmSessions::Time FirmSessions::was_sent_again(const std::string &firm, std::size_t messages) {
-    return firm_of(firm).rate.sent_again(messages);
+    return firm_of(firm).limits.rate.sent_again(messages);
 }
 
 } // namespace gateway

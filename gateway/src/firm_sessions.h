@@ -4,12 +4,12 @@
 
 #include "connection_rows.h"
 #include "database.h"
-#include "day_bytes.h"
 #include "deliveries.h"
 #include "doorkeeper.h"
 #include "engine.h"
-#include "firm_rate.h"
+#include "firm_limits.h"
 #include "log.h"
+#include "notes.h"
 #include "venue_day.h"
 
 #include <atomic>
@@ -44,6 +44,24 @@ class FirmSessions final : private SessionHost {
     // Counts what waits for each firm; to be called each second.
     void count_waiting(const Engine &engine);
 
+    // A limit of a firm, as an operator has set it: of the thread that commits the log. Does
+    // nothing for a firm that the venue has not.
+    void set_limit(const LimitSet &set);
+
+    // A firm as an operator sees it.
+    struct Facts {
+        std::string firm;
+        std::string since;   // HH:MM:SS.ssssss, of its Logon; empty without a session
+        std::string address; // of its connection, ADDRESS:PORT
+        std::uint32_t entries = 0;
+        std::uint64_t bytes = 0; // of its lines in the log
+        std::uint64_t bytes_limit = 0;
+        std::map<std::string, std::uint64_t> limits; // all, by their names
+        std::map<std::string, std::uint64_t> set;    // those that an operator has set
+    };
+    std::vector<Facts> facts();
+    bool has_firm(const std::string &name) const { return firms_.contains(name); }
+
     // Other credentials from now on, with the limits in them. Returns the firms whose sessions are
     // to end.
     std::vector<std::string> renew(const std::map<std::string, Credentials> &credentials);
@@ -51,18 +69,29 @@ class FirmSessions final : private SessionHost {
   private:
     // One firm, as its venue's day sees it.
     struct Firm {
-        Firm(const RateLimits &limits, std::uint64_t used, std::uint64_t most)
-            : rate(limits), bytes(used, most) {}
+        Firm(const RateLimits &configured, std::uint64_t used, std::uint64_t most)
+            : limits(configured, used, most) {}
 
-        FirmRate rate;
-        DayBytes bytes; // of its lines in the log
+        FirmLimits limits;
         std::atomic<bool> told_of_bytes{false};
         FirmMetrics *metrics = nullptr;
         FirmState found; // as the log had it at the start
 
-        std::mutex mutex;                 // of what follows
+        std::atomic<std::uint32_t> entries{
+            0}; // messages of the firm in the log, with a number each
+
+        // Who is there, for the operator: whoever has the other mutex may wait for the log with it.
+        void see(const std::string &logon, const std::string &peer) {
+            const std::lock_guard lock(seen_mutex);
+            since = logon;
+            address = peer;
+        }
+        std::mutex seen_mutex;
+        std::string since;
+        std::string address;
+
+        std::mutex mutex;                 // of what follows, and over changes of entries
         std::string cancel_on_disconnect; // a trader, or empty
-        std::uint32_t entries = 0;        // messages of the firm in the log, each with a number
         std::uint32_t last_number = 0;    // the session's, of the last message in the log
         // The row of the Logon of the connection that it has.
         std::optional<ConnectionEvent> connection;

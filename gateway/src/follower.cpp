@@ -131,7 +131,7 @@ std::optional<Follower::End> Follower::catch_up() {
         return std::nullopt;
     }
     ahead_.settle(*reader);
-    End end{last_, reader->states()};
+    End end{last_, reader->states(), reader->notes()};
     comparison_.check_sent(end.states);
     return end;
 }

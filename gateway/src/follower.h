@@ -32,6 +32,7 @@ class Follower final : private VenueListener {
     struct End {
         Entry last;
         std::map<std::string, FirmState> states;
+        std::vector<std::string> notes; // lines, in order
     };
 
     // Starts the venue's process. Where the log has no begin, it is begun in this term. Throws

@@ -27,6 +27,7 @@ Gateway::Gateway(std::filesystem::path path, std::vector<Config> configs, Metric
 
 // Nothing new comes; the days' threads hand what they have to the engine, and then it may go.
 Gateway::~Gateway() {
+    open(false);
     status_.end();
     engine_.stop("");
     speakers_.clear();
@@ -59,6 +60,10 @@ std::unique_ptr<Speaker> Gateway::follow_one(std::size_t at) {
         return begin_day(*days_[at], engine_,
                          [this, at] { return at == 0 || days_[at - 1]->has_term; });
     } catch (const LogNotAccepted &fault) {
+        {
+            const std::lock_guard lock(mutex_);
+            not_accepted_.push_back(at);
+        }
         status_.fail(fault.what(), log_not_accepted);
     } catch (const std::exception &fault) {
         status_.fail(fault.what());
@@ -82,6 +87,13 @@ void Gateway::listen() {
     count_certificates(settings);
     events_->info("ready address={}:{} tls={} firms={}", settings.address, settings.port,
                   !settings.certificate.empty(), engine_.sessions());
+    open(true);
+}
+
+// Waits for the commands that are at work.
+void Gateway::open(bool is_open) {
+    const std::unique_lock lock(open_mutex_);
+    is_open_ = is_open;
 }
 
 // All or nothing: where a file is at fault, what was read before stays in force.
@@ -97,9 +109,26 @@ void Gateway::renew() {
             speakers_[at]->renew(read[at].credentials);
         }
         events_->info("credentials and certificates were read again");
+        tell_renewed("");
     } catch (const std::exception &fault) {
         events_->error("credentials and certificates stay as they were cause=\"{}\"", fault.what());
+        tell_renewed(fault.what());
     }
+}
+
+void Gateway::tell_renewed(const std::string &fault) {
+    const std::lock_guard lock(mutex_);
+    ++renewals_;
+    renewal_fault_ = fault;
+    renewed_.notify_all();
+}
+
+std::optional<std::string> Gateway::renew_within(std::chrono::milliseconds longest) {
+    std::unique_lock lock(mutex_);
+    const std::uint64_t before = renewals_;
+    is_to_renew_ = true;
+    const bool is_done = renewed_.wait_for(lock, longest, [&] { return renewals_ != before; });
+    return is_done ? std::optional(renewal_fault_) : std::nullopt;
 }
 
 void Gateway::count_certificates(const EngineSettings &settings) {
@@ -137,6 +166,7 @@ std::optional<std::string> Gateway::run(std::optional<SystemSeconds> ends) {
             speaker->look();
         }
     }
+    open(false);
     if (const auto failure = status_.failure()) {
         return failure;
     }

@@ -11,9 +11,14 @@
 #include "venue_day.h"
 
 #include <atomic>
+#include <chrono>
+#include <condition_variable>
+#include <cstdint>
 #include <filesystem>
 #include <memory>
+#include <mutex>
 #include <optional>
+#include <shared_mutex>
 #include <string>
 #include <vector>
 
@@ -42,6 +47,22 @@ class Gateway final {
     // Has credentials and certificates read again, from this file, by run(); of any thread.
     void ask_to_renew() { is_to_renew_ = true; }
 
+    // The same, and waits for it so long at most. What is at fault in the files, empty where
+    // nothing is; nothing where it was not done in time.
+    std::optional<std::string> renew_within(std::chrono::milliseconds longest);
+
+    // For an operator's commands; of any thread. As long as the lock is kept a day that is open
+    // stays so. The speakers are to be had while it is.
+    std::shared_lock<std::shared_mutex> keep() { return std::shared_lock(open_mutex_); }
+    bool is_open() const { return is_open_; }
+    const std::vector<std::unique_ptr<Speaker>> &speakers() const { return speakers_; }
+    const std::vector<Config> &configs() const { return configs_; }
+    // The venues whose log was not accepted, by their place among the configurations; once it has
+    // ended.
+    const std::vector<std::size_t> &not_accepted() const { return not_accepted_; }
+    // Why it has ended, where it failed.
+    std::string failure() { return status_.failure().value_or(""); }
+
     // Asks run() to end; of any thread.
     void ask_to_stop(const std::string &why);
 
@@ -61,7 +82,9 @@ class Gateway final {
     void follow();
     std::unique_ptr<Speaker> follow_one(std::size_t at);
     void listen();
+    void open(bool is_open);
     void renew();
+    void tell_renewed(const std::string &fault);
     void count_certificates(const EngineSettings &settings);
 
     const std::filesystem::path path_;
@@ -74,6 +97,15 @@ class Gateway final {
     std::vector<std::unique_ptr<VenueDay>> days_;
     std::vector<std::unique_ptr<Speaker>> speakers_; // of the days, once it has their terms
     std::atomic<bool> is_to_renew_{false};
+
+    std::mutex mutex_; // of the next three
+    std::condition_variable renewed_;
+    std::uint64_t renewals_ = 0;
+    std::string renewal_fault_; // of the last one
+    std::vector<std::size_t> not_accepted_;
+
+    std::shared_mutex open_mutex_;
+    std::atomic<bool> is_open_{false}; // it speaks, and has not begun to end
 };
 
 } // namespace gateway

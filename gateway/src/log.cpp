@@ -44,9 +44,9 @@ Position end_of(const Log::Start &start) {
 Log::Log(Database &database, Committed &committed, DayClock &clock, Metrics &metrics, Start start,
          std::function<void(const std::string &)> failed)
     : entries_(committed), clock_(clock), metrics_(metrics), failed_(std::move(failed)),
-      writer_(database.writer()), limit_(start.waiting), shares_(start.shares),
-      sessions_(std::move(start.sessions)), next_place_(start.last.place + 1),
-      taken_place_(start.last.place),
+      noted_(std::move(start.noted)), writer_(database.writer()), limit_(start.waiting),
+      shares_(start.shares), sessions_(std::move(start.sessions)),
+      next_place_(start.last.place + 1), taken_place_(start.last.place),
       taken_moment_(ExactMoment::end_of(moment_of(start.last.moment).value_or(Moment{}))),
       committed_place_(start.last.place),
       last_event_(start.connections.last ? start.connections.last->place : 0),
@@ -127,13 +127,20 @@ Position Log::position() {
 }
 
 void Log::wait(Ticket ticket) {
+    while (!wait_for(ticket, 1h)) {
+    }
+}
+
+bool Log::wait_for(Ticket ticket, std::chrono::milliseconds longest) {
     std::unique_lock lock(mutex_);
     if (ticket == filling_ticket_) {
         urgent_ = true;
         work_.notify_one();
     }
-    done_.wait(lock, [&] { return committed_ >= ticket || !failure_.empty(); });
+    const bool is_done =
+        done_.wait_for(lock, longest, [&] { return committed_ >= ticket || !failure_.empty(); });
     throw_if_failed();
+    return is_done;
 }
 
 void Log::flush() {
@@ -269,6 +276,7 @@ void Log::commit_some(std::unique_lock<std::mutex> &lock, bool all) {
     room_.notify_all();
     lock.unlock();
     write_rows(filling);
+    tell_notes(filling.rows.entries);
     // An entry is on disk before the venue sees it, and so before any answer to it can leave.
     const auto last = hand_on(filling);
     lock.lock();
@@ -292,6 +300,14 @@ void Log::write_rows(Filling &filling) {
     writer_->commit(filling.rows);
     metrics_.committed(filling.rows.entries.size(), filling.rows.sent.size(),
                        std::chrono::steady_clock::now() - begin);
+}
+
+void Log::tell_notes(const std::vector<Entry> &entries) {
+    for (const Entry &entry : entries) {
+        if (!entry.firm && entry.line.starts_with('#')) {
+            noted_(entry.line);
+        }
+    }
 }
 
 std::optional<std::uint32_t> Log::hand_on(Filling &filling) {

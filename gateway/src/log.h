@@ -47,6 +47,9 @@ class Log {
         std::map<std::string, SessionRow> sessions;
         std::size_t waiting = 4096; // rows that may wait
         ShareLimits shares;
+        // Is told the line of each note that is committed, by the thread that committed it, which
+        // it keeps waiting for nothing.
+        std::function<void(const std::string &line)> noted = [](const std::string &) {};
     };
 
     // What is committed is put into `committed`.
@@ -79,6 +82,9 @@ class Log {
     // nothing waits that was received before the deadline: then its own place.
     std::optional<std::uint32_t> append_clock_behind(std::uint32_t place, Moment deadline);
 
+    // A note (notes.h) of this kind, at the moment of now. Waits for nothing.
+    Ticket append_note(std::string_view kind, std::string_view text);
+
     // Messages of firms that were received at a deadline or later wait for as long as it lives;
     // sweeps do not. One at a time.
     class Hold {
@@ -110,6 +116,8 @@ class Log {
 
     // Returns when the batch is on disk.
     void wait(Ticket ticket);
+    // The same for so long at most: whether it is.
+    bool wait_for(Ticket ticket, std::chrono::milliseconds longest);
     // Returns when all that was put so far is on disk.
     void flush();
 
@@ -168,6 +176,8 @@ class Log {
     // Commits what is to be committed now. The lock is held before and after; nobody else writes.
     void commit_some(std::unique_lock<std::mutex> &lock, bool all);
     void write_rows(Filling &filling);
+    // Tells of the notes among the entries.
+    void tell_notes(const std::vector<Entry> &entries);
     // Hands the entries on to the venue, and returns the last one's place, if there is one.
     std::optional<std::uint32_t> hand_on(Filling &filling);
     void fail(const std::string &cause);
@@ -176,6 +186,7 @@ class Log {
     DayClock &clock_;
     Metrics &metrics_;
     std::function<void(const std::string &)> failed_;
+    std::function<void(const std::string &)> noted_;
     std::unique_ptr<LogWriter> writer_;
     const std::size_t limit_;
 

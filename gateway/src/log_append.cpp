@@ -85,6 +85,17 @@ std::optional<std::uint32_t> Log::append_clock_behind(std::uint32_t place, Momen
     return place + 1;
 }
 
+Log::Ticket Log::append_note(std::string_view kind, std::string_view text) {
+    Arrival arrival;
+    arrival.verb = fmt::format("# {} ", kind);
+    arrival.rest = fmt::format(" {}", text);
+    arrival.received = std::chrono::steady_clock::now();
+    arrival.at = clock_.exact_now();
+    const std::lock_guard lock(mutex_);
+    throw_if_failed();
+    return append_here(std::move(arrival), Committer::thread);
+}
+
 Log::Hold::Hold(Log &log, Moment deadline) : log_(log) {
     const std::lock_guard lock(log_.mutex_);
     log_.held_from_ = ExactMoment{std::int64_t{deadline.milliseconds} * 1000};

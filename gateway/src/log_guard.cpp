@@ -25,7 +25,7 @@ LogGuard::LogGuard(Sealer sealer, const std::filesystem::path &checkpoints,
                    std::shared_ptr<spdlog::logger> events)
     : sealer_(std::move(sealer)), file_(checkpoints, sealer_), events_(std::move(events)) {}
 
-Seal LogGuard::begin(const Entry &first) {
+Seal LogGuard::begin(const Entry &last) {
     const auto kept = file_.read();
     if (kept && kept->at.hash != nothing) {
         throw LogNotAccepted(
@@ -34,7 +34,7 @@ Seal LogGuard::begin(const Entry &first) {
     }
     // So a start that comes after the first entry, and before the first signature, knows of it.
     file_.write(sealer_.sign(0, Position{}));
-    sealed_ = sealer_.seal(1, {first.term, first.place, first.hash, 0, {}});
+    sealed_ = sealer_.seal(1, {last.term, last.place, last.hash, 0, {}});
     return sealed_;
 }
 
@@ -143,15 +143,19 @@ void LogGuard::check_sealed(LogReader &log, const Entry &last) {
 }
 
 std::string LogGuard::way_out() const {
-    return ". Put the log back, or accept what is lost: mireseason-gateway --accept-loss CONFIG";
+    return ". Put the log back, or accept what is lost: mireseason-admin log accept-loss, or "
+           "mireseason-gateway --accept-loss CONFIG";
 }
 
 std::unique_ptr<Notary> LogGuard::notary(Log &log) const {
     return std::make_unique<Notary>(log, sealer_, file_, signed_, events_);
 }
 
-std::string LogGuard::accept(LogReader &log) {
-    // A file that is none is given up, too. First, since to read the log may put another there.
+std::string LogGuard::accept(LogReader &log, const std::function<void(const Entry &last)> &commit) {
+    // What is kept stands until the act is committed: to read the log puts nothing there.
+    const auto checkpoint = log.last_checkpoint();
+    signed_ = checkpoint ? checkpoint->number : 0;
+    // A file that is none is given up, too.
     std::string had = "nothing that can be read";
     try {
         const auto kept = file_.read();
@@ -161,6 +165,8 @@ std::string LogGuard::accept(LogReader &log) {
     const auto last = log.last_entry();
     if (last) {
         check_sealed(log, *last);
+        commit(*last);
+        read_on(log);
     }
     was_kept_ = true;
     file_.write(sealer_.sign(0, last ? sealed_.at : Position{}));

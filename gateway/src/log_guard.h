@@ -9,6 +9,7 @@
 #include "seals.h"
 
 #include <filesystem>
+#include <functional>
 #include <memory>
 #include <optional>
 #include <stdexcept>
@@ -33,9 +34,9 @@ class LogGuard {
 
     const Sealer &sealer() const { return sealer_; }
 
-    // Before the first entry of the day: throws LogNotAccepted where there was one. The seal is
-    // that of the batch with it.
-    Seal begin(const Entry &first);
+    // Before the first batch of the day: throws LogNotAccepted where there was one. The seal is
+    // that of the batch, whose last entry this is.
+    Seal begin(const Entry &last);
     // Verifies all seals of the log that a start found, and holds it against the checkpoint that
     // was kept. Throws as read_on() and begin() do.
     void check_found(LogReader &log);
@@ -52,8 +53,9 @@ class LogGuard {
     std::unique_ptr<Notary> notary(Log &log) const;
 
     // Takes the log as it is, which is sealed up to its end: what the checkpoint that was kept says
-    // beyond that is given up. Returns what was given up, for the operator.
-    std::string accept(LogReader &log);
+    // beyond that is given up. Where it has an entry, `commit` is given the last one first, and
+    // commits behind it that the loss is accepted. Returns what was given up, for the operator.
+    std::string accept(LogReader &log, const std::function<void(const Entry &last)> &commit);
 
   private:
     [[noreturn]] void tell_change(LogReader &log, const Seal &wrong);

@@ -1,5 +1,6 @@
 // mireseason-gateway CONFIG
 #include "accept_loss.h"
+#include "admin_peer.h"
 #include "check_settings.h"
 #include "confinement.h"
 #include "make_keys.h"
@@ -20,6 +21,7 @@
 #include <spdlog/pattern_formatter.h>
 #include <spdlog/sinks/stdout_sinks.h>
 #include <spdlog/spdlog.h>
+#include <unistd.h>
 
 namespace {
 
@@ -156,7 +158,8 @@ void accept_loss(const std::string &path) {
         gateway::read_configs(files, path, gateway::today());
     const auto events = make_events(configs.front().event_level);
     for (const gateway::Config &config : configs) {
-        std::cout << gateway::accept_loss(config, events) << '\n';
+        const gateway::Act act{gateway::who_is(::getuid()), "log accept-loss", ""};
+        std::cout << gateway::accept_loss(config, act, events).said << '\n';
     }
 }
 

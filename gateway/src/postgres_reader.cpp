@@ -178,6 +178,17 @@ class PostgresReader final : public LogReader {
         });
     }
 
+    std::vector<std::string> notes() override {
+        return told("notes", [&] {
+            pqxx::nontransaction work(*connection_);
+            std::vector<std::string> all;
+            for (const pqxx::row &row : work.exec(select_notes("'# '::bytea"))) {
+                all.push_back(bytes_of(row[0]));
+            }
+            return all;
+        });
+    }
+
     std::vector<Seal> seals(std::uint32_t from, std::uint32_t limit) override {
         return told("seals", [&] {
             pqxx::nontransaction work(*connection_);

@@ -26,13 +26,19 @@ class Rate {
         return whole_at_ - burst_;
     }
 
+    // Another rate from now on. What is owed stays owed.
+    void change(std::size_t a_second, std::size_t burst) {
+        each_ = Rate(a_second, burst).each_;
+        burst_ = in_time(burst);
+    }
+
   private:
     Clock::duration in_time(std::size_t amount) const {
         return std::chrono::duration_cast<Clock::duration>(each_ * static_cast<double>(amount));
     }
 
-    const std::chrono::duration<double> each_; // in which one more may be taken
-    const Clock::duration burst_;
+    std::chrono::duration<double> each_; // in which one more may be taken
+    Clock::duration burst_;
     Clock::time_point whole_at_; // when the whole burst may be taken again
 };
 

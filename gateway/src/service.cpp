@@ -1,5 +1,6 @@
 #include "service.h"
 
+#include "accept_loss.h"
 #include "day_copies.h"
 
 #include "version.h"
@@ -46,7 +47,9 @@ Service::Service(std::filesystem::path path, ConfigFiles files, std::vector<Conf
     : path_(std::move(path)), first_(std::move(configs)), events_(std::move(events)),
       recent_(std::move(recent)), next_(path_, std::move(files), metrics_, events_),
       monitor_(first_.front().metrics_port, sources()),
-      supervised_(std::move(supervisor), [this] { return condition(); }) {}
+      supervised_(std::move(supervisor), [this] { return condition(); }) {
+    open_operator_socket();
+}
 
 MonitorSources Service::sources() {
     MonitorSources sources;
@@ -170,16 +173,35 @@ Service::Shown::Shown(Service &service, Gateway &gateway) : service_(service) {
     }
 }
 
+// It waits for the operator's commands that are at work.
 Service::Shown::~Shown() {
+    const std::unique_lock no_command(service_.day_mutex_);
     const std::lock_guard lock(service_.mutex_);
     service_.gateway_ = nullptr;
 }
 
+// With an operator's socket a log that is not accepted waits for the operator.
 int Service::run_day(std::vector<Config> configs, std::optional<SystemSeconds> ends) {
-    Gateway gateway(path_, std::move(configs), metrics_, events_);
+    for (;;) {
+        const int status = run_gateway(configs, ends);
+        if (status != log_not_accepted || !socket_) {
+            return status;
+        }
+        if (!wait_for_acceptance(configs, ends)) {
+            return 0;
+        }
+    }
+}
+
+int Service::run_gateway(const std::vector<Config> &configs, std::optional<SystemSeconds> ends) {
+    Gateway gateway(path_, configs, metrics_, events_);
     const Shown shown(*this, gateway);
     gateway.start();
     gateway.run(ends);
+    const std::lock_guard lock(mutex_);
+    not_accepted_ = gateway.not_accepted();
+    waits_for_ = not_accepted_.empty() ? "the day has ended"
+                                       : fmt::format("log accept-loss: {}", gateway.failure());
     return gateway.exit_status();
 }
 
@@ -193,6 +215,9 @@ bool Service::wait_for(const TradingDay &day) {
     if (now() < day.opens) {
         events_->info("closed until={} date={}", text_of(day.opens), day.date);
         is_now(Phase::closed);
+        const std::lock_guard lock(mutex_);
+        waits_for_ =
+            fmt::format("the trading day {}, which opens at {}", day.date, text_of(day.opens));
     }
     while (now() < day.opens) {
         if (wait_a_second()) {
@@ -206,6 +231,77 @@ bool Service::wait_for(const TradingDay &day) {
 bool Service::wait_a_second() {
     std::unique_lock lock(mutex_);
     return changed_.wait_for(lock, 1s, [&] { return stopping_.stop_requested(); });
+}
+
+// For the operator.
+
+void Service::open_operator_socket() {
+    const Config &config = first_.front();
+    if (!config.operator_socket.empty()) {
+        socket_ = std::make_unique<AdminSocket>(
+            config.operator_socket, config.operator_group,
+            [this](const std::string &who, const std::string &line) {
+                return answer_to(*this, who, line);
+            },
+            events_);
+    }
+}
+
+// Whether each log was accepted; false where the day is over, or the service is to stop.
+bool Service::wait_for_acceptance(std::vector<Config> &configs, std::optional<SystemSeconds> ends) {
+    events_->error("waits for the operator: mireseason-admin log accept-loss, or put the log back "
+                   "and restart");
+    is_now(Phase::closed);
+    std::unique_lock lock(mutex_);
+    waiting_configs_ = &configs;
+    while (!not_accepted_.empty() && !stopping_.stop_requested() && !(ends && now() >= *ends)) {
+        changed_.wait_for(lock, 1s);
+    }
+    waiting_configs_ = nullptr;
+    const bool is_accepted = not_accepted_.empty();
+    not_accepted_.clear();
+    between_ = Phase::opens;
+    return is_accepted && !stopping_.stop_requested();
+}
+
+AdminScene::HeldDay Service::hold_day() {
+    HeldDay held{std::shared_lock(day_mutex_), nullptr};
+    const std::lock_guard lock(mutex_);
+    held.gateway = gateway_;
+    return held;
+}
+
+std::string Service::waits_for() {
+    const std::lock_guard lock(mutex_);
+    return waits_for_;
+}
+
+std::string Service::accept_loss(const Act &act) {
+    const std::lock_guard one_at_a_time(acceptance_mutex_);
+    std::vector<std::size_t> venues;
+    std::vector<Config> configs;
+    {
+        const std::lock_guard lock(mutex_);
+        if (waiting_configs_ == nullptr || not_accepted_.empty()) {
+            throw AdminFault("no log waits to be accepted");
+        }
+        venues = not_accepted_;
+        configs = *waiting_configs_;
+    }
+    std::string said;
+    for (const std::size_t at : venues) {
+        const AcceptedLoss accepted = gateway::accept_loss(configs[at], act, events_);
+        configs[at].opening_act = accepted.has_begin ? "" : text_of(act);
+        said += (said.empty() ? "" : "; ") + accepted.said;
+    }
+    const std::lock_guard lock(mutex_);
+    if (waiting_configs_ != nullptr) {
+        *waiting_configs_ = std::move(configs);
+    }
+    not_accepted_.clear();
+    waits_for_ = "the gateway begins";
+    changed_.notify_all();
+    return said;
 }
 
 void Service::watch_files(const std::stop_token &stop) {

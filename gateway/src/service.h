@@ -2,6 +2,8 @@
 #ifndef GATEWAY_SERVICE_H
 #define GATEWAY_SERVICE_H
 
+#include "admin_command.h"
+#include "admin_socket.h"
 #include "condition.h"
 #include "gateway.h"
 #include "metrics.h"
@@ -16,9 +18,11 @@
 #include <memory>
 #include <mutex>
 #include <optional>
+#include <shared_mutex>
 #include <stop_token>
 #include <string>
 #include <thread>
+#include <vector>
 
 #include <spdlog/logger.h>
 #include <spdlog/sinks/ringbuffer_sink.h>
@@ -30,7 +34,7 @@ using RecentEvents = spdlog::sinks::ringbuffer_sink_mt;
 
 // Opens a gateway for each trading day and ends it with that day. Where a venue's configuration has
 // a date of its own, there is that day alone.
-class Service final {
+class Service final : private AdminScene {
   public:
     // `files` were read from the path, and give these configurations.
     Service(std::filesystem::path path, ConfigFiles files, std::vector<Config> configs,
@@ -64,6 +68,15 @@ class Service final {
 
     int run_days();
     int run_day(std::vector<Config> configs, std::optional<SystemSeconds> ends);
+    int run_gateway(const std::vector<Config> &configs, std::optional<SystemSeconds> ends);
+    bool wait_for_acceptance(std::vector<Config> &configs, std::optional<SystemSeconds> ends);
+    void open_operator_socket();
+
+    // AdminScene
+    HeldDay hold_day() override;
+    std::string waits_for() override;
+    std::string accept_loss(const Act &act) override;
+
     TradingDay next_day(SystemSeconds now);
     bool wait_for(const TradingDay &day);
     void watch_files(const std::stop_token &stop);
@@ -91,6 +104,14 @@ class Service final {
     std::jthread copying_;         // of the service's own thread
     Monitor monitor_;
     Supervised supervised_;
+
+    // For the operator.
+    std::shared_mutex day_mutex_; // over the end of a day, which waits for commands
+    std::mutex acceptance_mutex_; // one act accepts a loss at a time
+    std::string waits_for_ = "the gateway begins";
+    std::vector<std::size_t> not_accepted_;          // venues whose logs wait, by their places
+    std::vector<Config> *waiting_configs_ = nullptr; // of the day that waits for them
+    std::unique_ptr<AdminSocket> socket_;            // the first to end
 };
 
 } // namespace gateway

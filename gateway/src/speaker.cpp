@@ -40,16 +40,27 @@ Log::Start start_of(VenueDay &day, const Follower::End &end, std::uint32_t term)
     return start;
 }
 
+// Notes come only once the log is given some: what they set is there then.
+Log::Start with_notes_told(Log::Start start, std::function<void(const std::string &)> listener) {
+    start.noted = std::move(listener);
+    return start;
+}
+
 } // namespace
 
 Speaker::Speaker(VenueDay &day, std::unique_ptr<Follower> follower, const Follower::End &end,
                  Log::Start start, Engine &engine)
     : day_(day), engine_(engine), follower_(std::move(follower)), lost_(start.connections.open),
-      log_(*day.database, follower_->committed(), day.clock, day.metrics, std::move(start),
+      sessions_(day, log_, deliveries_, end.states),
+      log_(*day.database, follower_->committed(), day.clock, day.metrics,
+           with_notes_told(std::move(start), [this](const std::string &line) { take_note(line); }),
            [&status = day.status](const std::string &cause) { status.fail(cause); }),
-      notary_(day.guard.notary(log_)), deliveries_(day, engine, log_),
-      sessions_(day, log_, deliveries_, end.states), stall_(day.events, day.of_venue()),
-      sweeper_(follower_->answers(), log_, day.clock) {}
+      notary_(day.guard.notary(log_)), deliveries_(day, engine, log_), clock_log_(log_),
+      stall_(day.events, day.of_venue()), sweeper_(follower_->answers(), log_, day.clock) {
+    for (const std::string &line : end.notes) {
+        take_note(line);
+    }
+}
 
 Speaker::Speaker(VenueDay &day, std::unique_ptr<Follower> follower, const Follower::End &end,
                  std::uint32_t term, Engine &engine)
@@ -70,7 +81,32 @@ void Speaker::start() {
     deliveries_.wait_until_handed_over();
     log_.flush();
     sessions_.end_lost(lost_);
+    clock_log_.look(day_.kernel_clock(), day_.take_steps());
+    log_.flush();
     sweeper_.start();
+}
+
+// What an operator has set, and what the clock has done, as the log has it: the same at a start.
+void Speaker::take_note(const std::string &line) {
+    const auto note = note_of(line);
+    if (!note) {
+        return;
+    }
+    if (const auto limit = limit_in(*note)) {
+        sessions_.set_limit(*limit);
+    }
+    if (accepts_clock(*note)) {
+        day_.clock_is_right = true;
+    }
+    if (const auto step = step_in(*note); step && std::chrono::abs(*step) > longest_step) {
+        day_.clock_is_right = false;
+    }
+}
+
+bool Speaker::commit_act(const Act &act, std::chrono::milliseconds longest) {
+    const std::string text = text_of(act);
+    day_.events->warn("operator{} act=\"{}\"", day_.of_venue(), text);
+    return log_.wait_for(log_.append_note(note_kinds::act, text), longest);
 }
 
 void Speaker::finish() {
@@ -88,8 +124,17 @@ void Speaker::end() {
     day_.events->info("ended{} entries={}", day_.of_venue(), log_.last_place());
 }
 
-void Speaker::look() {
+void Speaker::look_at_clock() {
     day_.look_at_clock();
+    try {
+        clock_log_.look(day_.kernel_clock(), day_.take_steps());
+    } catch (const std::exception &) {
+        // The log takes nothing any more, and has told it.
+    }
+}
+
+void Speaker::look() {
+    look_at_clock();
     try {
         // Of what is committed: a log that does not answer is no silence of the venue.
         const auto silent = follower_->look_at_venue(follower_->committed().last_place());

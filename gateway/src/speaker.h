@@ -2,6 +2,7 @@
 #ifndef GATEWAY_SPEAKER_H
 #define GATEWAY_SPEAKER_H
 
+#include "clock_log.h"
 #include "deliveries.h"
 #include "engine.h"
 #include "firm_sessions.h"
@@ -12,6 +13,7 @@
 #include "sweeper.h"
 #include "venue_day.h"
 
+#include <chrono>
 #include <cstdint>
 #include <map>
 #include <memory>
@@ -52,20 +54,34 @@ class Speaker final {
     // Puts a stranger into the log, as often as its rows may be.
     void put_stranger(const ConnectionFacts &facts, const std::string &why);
 
+    // For an operator's commands: of any thread.
+    VenueDay &day() { return day_; }
+    FirmSessions &sessions() { return sessions_; }
+    // Commits an act, at which it takes effect. False where the log has not committed it within so
+    // long: it takes effect when it is. Throws ActTooLong, and std::runtime_error where the log is
+    // written no more.
+    bool commit_act(const Act &act, std::chrono::milliseconds longest);
+    // The last entry that is committed.
+    std::uint32_t last_place() { return log_.position().place; }
+
   private:
     void count();
 
     Speaker(VenueDay &day, std::unique_ptr<Follower> follower, const Follower::End &end,
             Log::Start start, Engine &engine);
 
+    void take_note(const std::string &line);
+    void look_at_clock();
+
     VenueDay &day_;
     Engine &engine_;
     const std::unique_ptr<Follower> follower_;
     const std::vector<ConnectionEvent> lost_; // connections that the log had open
+    FirmSessions sessions_;                   // outlives the log, which sets their limits
     Log log_;
     const std::unique_ptr<Notary> notary_;
     Deliveries deliveries_;
-    FirmSessions sessions_;
+    ClockLog clock_log_;
     Stall stall_;
     Sweeper sweeper_;
 };

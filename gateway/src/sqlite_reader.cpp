@@ -65,6 +65,7 @@ class SqliteReader final : public LogReader {
           gave_(connection_.get(), "SELECT firm, max(number) FROM sent GROUP BY firm"),
           went_(connection_.get(), "SELECT firm, max(number), coalesce(max(sent), 0) "
                                    "FROM outgoing GROUP BY firm"),
+          notes_(connection_.get(), select_notes("x'2320'")),
           seals_(connection_.get(), select_position("seal", "mac",
                                                     "WHERE seal.number >= ? ORDER BY "
                                                     "seal.number LIMIT ?")),
@@ -150,6 +151,14 @@ class SqliteReader final : public LogReader {
         return state;
     }
 
+    std::vector<std::string> notes() override {
+        std::vector<std::string> all;
+        while (notes_.step()) {
+            all.push_back(notes_.bytes(0));
+        }
+        return all;
+    }
+
     std::vector<Seal> seals(std::uint32_t from, std::uint32_t limit) override {
         std::vector<Seal> all;
         seals_.bind(std::int64_t{from}).bind(std::int64_t{limit});
@@ -181,6 +190,7 @@ class SqliteReader final : public LogReader {
     Statement came_;
     Statement gave_;
     Statement went_;
+    Statement notes_;
     Statement seals_;
     Statement last_checkpoint_;
 };

@@ -11,8 +11,8 @@ namespace gateway {
 
 namespace {
 
-// By more than this a clock was set so far that moments of the day can't be told from it.
-constexpr auto longest_step = std::chrono::seconds(2);
+// Steps of the clock that are kept until there is a log to put them into.
+constexpr std::size_t most_steps = 64;
 
 // Throws where it is none of today.
 std::unique_ptr<Database> open_database(const Config &config, DayClock &clock) {
@@ -38,8 +38,8 @@ VenueDay::~VenueDay() {
 }
 
 void VenueDay::tell_if_clock_was_set() {
-    const KernelClock kernel = read_kernel_clock();
-    metrics.clock_is(kernel.is_synchronised, kernel.greatest_error);
+    kernel_clock_ = read_kernel_clock();
+    metrics.clock_is(kernel_clock_.is_synchronised, kernel_clock_.greatest_error);
     const auto step = clock_watch_.look();
     if (!step) {
         return;
@@ -47,11 +47,19 @@ void VenueDay::tell_if_clock_was_set() {
     metrics.clock_set();
     const double seconds = std::chrono::duration<double>(*step).count();
     events->error("clock was set{} by={:.3f} s", of_venue(), seconds);
+    if (steps_.size() < most_steps) {
+        steps_.push_back(*step);
+    }
     if (std::chrono::abs(*step) > longest_step) {
         clock_is_right = false;
-        events->error("no request and no quote is taken{} cause=\"the clock was set by {:.3f} s\"",
+        events->error("no request and no quote is taken{} until=\"an operator accepts the clock\" "
+                      "cause=\"the clock was set by {:.3f} s\"",
                       of_venue(), seconds);
     }
+}
+
+std::vector<std::chrono::microseconds> VenueDay::take_steps() {
+    return std::exchange(steps_, {});
 }
 
 void VenueDay::look_at_clock() {

@@ -13,8 +13,10 @@
 #include "status.h"
 
 #include <atomic>
+#include <chrono>
 #include <memory>
 #include <string>
+#include <vector>
 
 #include <spdlog/logger.h>
 
@@ -34,6 +36,10 @@ struct VenueDay {
     // Ends the gateway where the day does not go on, and tells where the machine's clock was set;
     // to be called each second, by one thread.
     void look_at_clock();
+    // What the kernel said of the clock at that look, and by how much the clock was set since this
+    // was asked last; by the same thread.
+    const KernelClock &kernel_clock() const { return kernel_clock_; }
+    std::vector<std::chrono::microseconds> take_steps();
     // For events: which venue it is, where there are several.
     std::string of_venue() const;
 
@@ -49,13 +55,15 @@ struct VenueDay {
     // Nobody else writes the log: this gateway speaks, or is about to.
     std::atomic<bool> has_term{false};
     // False once the clock was set by more than two seconds: no request and no quote is taken until
-    // the gateway is started again.
+    // an operator says that it is right, also where the gateway is started again.
     std::atomic<bool> clock_is_right{true};
 
   private:
     void tell_if_clock_was_set();
 
     ClockWatch clock_watch_;
+    KernelClock kernel_clock_ = read_kernel_clock();
+    std::vector<std::chrono::microseconds> steps_;
 };
 
 } // namespace gateway

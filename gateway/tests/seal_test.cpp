@@ -247,6 +247,9 @@ void intruders(const fs::path &folder, const std::string &connection) {
     }
 }
 
+// The act that accepts a loss is committed elsewhere.
+void no_act(const Entry &) {}
+
 // A log that was cut off is taken once the operator has said so, and goes on.
 void accepted(const fs::path &folder, const std::string &connection) {
     const Place place(folder / "sealed_days", connection);
@@ -255,14 +258,14 @@ void accepted(const fs::path &folder, const std::string &connection) {
               "DELETE FROM seal WHERE place > 3; DELETE FROM checkpoint WHERE place > 3;");
     told(start(place), "--accept-loss", "the way out");
     LogGuard guard = guard_at(place);
-    told(guard.accept(*place.open()->reader()),
+    told(guard.accept(*place.open()->reader(), no_act),
          "behind entry 3; the checkpoint that was kept had entry 5", "what is accepted");
     same<std::string>("", start(place), "a start after it");
     // What nobody has sealed is never accepted.
     place.run(insert_of(place, next_entry(place)));
     bool refused = false;
     try {
-        guard_at(place).accept(*place.open()->reader());
+        guard_at(place).accept(*place.open()->reader(), no_act);
     } catch (const std::runtime_error &) {
         refused = true;
     }

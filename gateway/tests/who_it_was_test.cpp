@@ -262,10 +262,11 @@ void on_a_connection(const std::filesystem::path &folder) {
         opened.speaker->end();
     }
     same_rows(config,
-              {"logon 0 1 F 10.0.0.1:4001 F - 0", "end 1 1 F 10.0.0.1:4001 F Connection?reset 0",
-               "logon 1 2 F 10.0.0.1:4002 - - 0", "end 3 2 F 10.0.0.1:4002 - another one began 0",
-               "logon 3 3 F 10.0.0.1:4001 F - 0"});
-    const auto entries = open_sqlite(config.sqlite.string())->reader()->entries(1, 9);
+              {"logon 1 1 F 10.0.0.1:4001 F - 0", "end 2 1 F 10.0.0.1:4001 F Connection?reset 0",
+               "logon 2 2 F 10.0.0.1:4002 - - 0", "end 4 2 F 10.0.0.1:4002 - another one began 0",
+               "logon 4 3 F 10.0.0.1:4001 F - 0"});
+    // The first entry says how the clock was.
+    const auto entries = open_sqlite(config.sqlite.string())->reader()->entries(2, 9);
     same<std::size_t>(3, entries.size(), "entries");
     same(1U, entries[0].connection.value_or(0), "the first one's connection");
     same(2U, entries[1].connection.value_or(0), "the second one's");
@@ -274,7 +275,7 @@ void on_a_connection(const std::filesystem::path &folder) {
     same(4U, again.host->logon_accepted("G", at_f), "after a start");
     again.speaker->end();
     const auto rows = rows_of(config);
-    same<std::string>("end 3 3 F 10.0.0.1:4001 F its gateway was gone 0", rows.at(5),
+    same<std::string>("end 4 3 F 10.0.0.1:4001 F its gateway was gone 0", rows.at(5),
                       "the end of the one that was open");
 }
 
@@ -295,11 +296,11 @@ void strangers(const std::filesystem::path &folder) {
     }
     std::vector<std::string> wanted;
     for (int count = 0; count < 10; ++count) {
-        wanted.push_back("stranger 0 - - 10.0.0.9:1 ?|" + std::string(195, 'x') + "... no Logon 0");
-        wanted.push_back("refused 0 - F 10.0.0.9:2 - wrong password 0");
+        wanted.push_back("stranger 1 - - 10.0.0.9:1 ?|" + std::string(195, 'x') + "... no Logon 0");
+        wanted.push_back("refused 1 - F 10.0.0.9:2 - wrong password 0");
     }
-    wanted.push_back("left out 0 - -  - no Logon 490");
-    wanted.push_back("left out 0 - -  - wrong password 490");
+    wanted.push_back("left out 1 - -  - no Logon 490");
+    wanted.push_back("left out 1 - -  - wrong password 490");
     same_rows(config, wanted);
 }
 

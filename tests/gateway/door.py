@@ -80,6 +80,7 @@ class Door:
     environment: dict[str, str] = field(default_factory=dict)
     cancelled: dict[str, str] = field(default_factory=dict)  # of a dealer: the trader that cancels when it is gone
     postgres: PostgresLog | None = None  # the log, in the place of a file of SQLite
+    operators: str | None = None  # the group that may use the operator's socket, none where empty; None: no socket
     process: subprocess.Popen[bytes] | None = None
     _hashes: dict[str, str] = field(default_factory=dict)
     _sessions_port: Port = field(default_factory=Port)
@@ -118,6 +119,8 @@ class Door:
             text += "[tls]\n" + "".join("%s = %s\n" % item for item in self.tls.items())
         text += "[limits]\n" + "".join("%s = %d\n" % item for item in self.limits.items())
         text += "[metrics]\nport = %d\n" % self.metrics
+        if self.operators is not None:
+            text += '[operator]\nsocket = "admin.sock"\n' + ('group = "%s"\n' % self.operators if self.operators else "")
         (self.folder / "gateway.toml").write_text(text)
         venue = self.folder / "venue.toml"
         if not venue.exists():

@@ -7,6 +7,7 @@ import time
 from collections.abc import Callable
 from datetime import datetime, timedelta, timezone
 
+from tests.admin.desk import did
 from tests.gateway.door import today
 from tests.gateway.held import milliseconds
 from tests.gateway.market import moment_in
@@ -125,8 +126,9 @@ def clock_of(stage: Stage) -> Callable[[int], None]:
 
 def test_clock_set_to_another_day(stage: Stage) -> None:
     """The machine's clock is set to tomorrow, and to yesterday: the gateway ends with a fault, so that it is started again, and nothing
-    of the day is over. Once the clock is right the day goes on."""
+    of the day is over. Once the clock is right the day goes on, and once an operator has said so, requests are taken."""
     set_clock = clock_of(stage)
+    stage.door.operators = ""
     stage.open(*stage.firms)
     stage.ask(600)
     for days in (1, -1):
@@ -143,6 +145,7 @@ def test_clock_set_to_another_day(stage: Stage) -> None:
         for firm in stage.firms:
             firm.wait_on()
     check(not any(entry.is_clock for entry in stage.door.ledger().entries), "a deadline of the day has passed")
+    did(stage, "clock", "accept")
     stage.auction()
     stage.whole()
 

@@ -1,5 +1,6 @@
 """The fixtures themselves: each gives what tests/README.md says of it."""
 
+from tests.admin.desk import did
 from tests.gateway.ledger import answers
 from tests.gateway.stage import DEALER, INVESTOR, Stage, check
 from tests.gateway.wait import LONG, until
@@ -36,12 +37,14 @@ def test_a_wire_is_not_let_in_by_another_password(stage: Stage, wire: OpenWire) 
 
 
 def test_a_clock_that_is_set(stage: Stage, clock: Clock) -> None:
+    stage.door.operators = ""
     stage.open(*stage.firms)
     clock.set(24 * 60 * 60)
     assert stage.door.wait_end() == 1
     clock.set(0)
     stage.door.start()
     until("the firms are on again", LONG, lambda: all(firm.logged_on() for firm in stage.firms))
+    did(stage, "clock", "accept")
     stage.auction()
     check(answers(list(stage.tools.programs.venue), stage.door.ledger().day()), "the venue answers nothing")
     stage.whole()

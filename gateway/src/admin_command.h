@@ -1,0 +1,101 @@
+// A command of the operator: what it is called, and what it does.
+#ifndef GATEWAY_ADMIN_COMMAND_H
+#define GATEWAY_ADMIN_COMMAND_H
+
+#include "admin_answer.h"
+#include "gateway.h"
+#include "notes.h"
+
+#include <chrono>
+#include <shared_mutex>
+#include <string>
+#include <string_view>
+#include <vector>
+
+namespace gateway {
+
+// What commands see and act on: the gateway over its days. Any thread may call it.
+class AdminScene {
+  public:
+    virtual ~AdminScene() = default;
+
+    // The gateway of the day that goes on, which stays as long as the lock is kept; null where
+    // there is none.
+    struct HeldDay {
+        std::shared_lock<std::shared_mutex> lock;
+        Gateway *gateway = nullptr;
+    };
+    virtual HeldDay hold_day() = 0;
+    // What it waits for where no day goes on: in a few words.
+    virtual std::string waits_for() = 0;
+    // Commits the act into each log that waits to be accepted, and accepts it. Returns what was
+    // given up. Throws AdminFault where none waits, and std::runtime_error.
+    virtual std::string accept_loss(const Act &act) = 0;
+};
+
+// Who calls it, and with which words.
+struct AdminCall {
+    AdminScene &scene;
+    std::string who;                // NAME(UID)
+    std::vector<std::string> words; // behind the command's name
+    std::string because;            // of --because
+
+    Act act(const std::string &what) const { return {who, what, because}; }
+};
+
+// Each has a file of its own, admin_NAME.cpp, and a line in admin_commands.cpp. A command that
+// changes something commits its act first. It throws AdminFault where it is not done.
+struct AdminCommand {
+    std::string_view name;  // one word, or two with a space
+    std::string_view words; // of its usage, behind the name
+    std::string_view what;  // for the help, a line
+    AdminAnswer (*run)(AdminCall &call);
+};
+
+AdminAnswer run_status(AdminCall &call);
+AdminAnswer run_firms(AdminCall &call);
+AdminAnswer run_limit(AdminCall &call);
+AdminAnswer run_clock_accept(AdminCall &call);
+AdminAnswer run_reload(AdminCall &call);
+AdminAnswer run_log_accept_loss(AdminCall &call);
+
+// All of them.
+const std::vector<AdminCommand> &admin_commands();
+
+// The answer to a request's line, without its line feed: its first line is answer_is_good or
+// answer_is_error (admin_words.h). Throws nothing that is a fault of the request.
+std::string answer_to(AdminScene &scene, const std::string &who, std::string_view line);
+
+// How long a command waits for the log, or for the gateway, before it says that it did.
+constexpr auto longest_act = std::chrono::seconds(5);
+
+// The day that goes on, of a gateway that speaks. It stays open as long as this is kept.
+class OpenDay {
+  public:
+    // Throws AdminFault where there is none.
+    explicit OpenDay(AdminScene &scene);
+
+    Gateway &gateway() { return *held_.gateway; }
+    // Those that have the firm. Throws AdminFault where none has.
+    std::vector<Speaker *> speakers_of(const std::string &firm);
+    std::vector<Speaker *> speakers();
+    // Commits the act into this venue's log, at which it takes effect. Throws AdminFault.
+    static void commit(Speaker &speaker, const Act &act);
+
+  private:
+    AdminScene::HeldDay held_;
+    std::shared_lock<std::shared_mutex> open_;
+};
+
+// Words that the command's usage does not have.
+class WrongWords : public AdminFault {
+  public:
+    WrongWords() : AdminFault("these are not its words") {}
+};
+
+// Throws WrongWords where there are more words, or fewer.
+void check_words(const AdminCall &call, std::size_t least, std::size_t most);
+
+} // namespace gateway
+
+#endif

@@ -1,0 +1,160 @@
+#include "admin_command.h"
+
+#include "admin_words.h"
+#include "nearest_word.h"
+#include "printable.h"
+
+#include <algorithm>
+
+#include <fmt/format.h>
+
+namespace gateway {
+
+namespace {
+
+constexpr std::string_view reason = "--because";
+
+AdminAnswer run_help(AdminCall &call);
+
+std::string usage_of(const AdminCommand &command) {
+    return fmt::format("{}{}{}", command.name, command.words.empty() ? "" : " ", command.words);
+}
+
+AdminAnswer run_help(AdminCall &call) {
+    check_words(call, 0, 0);
+    AdminAnswer answer;
+    for (const AdminCommand &command : admin_commands()) {
+        answer.rows.push_back(
+            {{"command", usage_of(command)}, {"what", std::string(command.what)}});
+    }
+    return answer;
+}
+
+// Takes `--because TEXT` out of the words.
+std::string take_reason(std::vector<std::string> &words) {
+    const auto found = std::find(words.begin(), words.end(), reason);
+    if (found == words.end()) {
+        return "";
+    }
+    if (found + 1 == words.end() || (found + 1)->empty()) {
+        throw AdminFault("--because has no reason behind it");
+    }
+    std::string text = *(found + 1);
+    words.erase(found, found + 2);
+    return text;
+}
+
+[[noreturn]] void fail_unknown(const std::string &name) {
+    std::vector<std::string_view> names;
+    for (const AdminCommand &command : admin_commands()) {
+        names.push_back(command.name);
+    }
+    const auto nearest = nearest_word(name, names);
+    throw AdminFault(fmt::format("there is no command `{}`{}: `help` lists them",
+                                 printable(name, 40),
+                                 nearest ? fmt::format("; `{}`?", *nearest) : ""));
+}
+
+// By its name of one word or of two, which are taken out of the words.
+const AdminCommand &take_command(std::vector<std::string> &words) {
+    std::string name = words.empty() ? "" : words.front();
+    for (std::size_t taken = 1; taken <= 2 && taken <= words.size(); ++taken) {
+        name = taken == 1 ? words[0] : words[0] + " " + words[1];
+        for (const AdminCommand &command : admin_commands()) {
+            if (command.name == name) {
+                words.erase(words.begin(), words.begin() + static_cast<std::ptrdiff_t>(taken));
+                return command;
+            }
+        }
+    }
+    fail_unknown(name);
+}
+
+AdminAnswer run(AdminScene &scene, const std::string &who, const AdminRequest &request) {
+    AdminCall call{scene, who, request.words, {}};
+    call.because = take_reason(call.words);
+    const AdminCommand &command = take_command(call.words);
+    try {
+        return command.run(call);
+    } catch (const WrongWords &) {
+        throw AdminFault(fmt::format("usage: {}", usage_of(command)));
+    }
+}
+
+} // namespace
+
+const std::vector<AdminCommand> &admin_commands() {
+    static const std::vector<AdminCommand> commands = {
+        {"status", "", "says what the gateway does", run_status},
+        {"firms", "", "lists the firms: who is there, what they sent, their limits", run_firms},
+        {"limit", "FIRM [KEY=VALUE] [--because TEXT]",
+         "shows a firm's limits, or sets one for the day; VALUE may be `configured`", run_limit},
+        {"clock accept", "[--because TEXT]",
+         "takes requests and quotes again after the clock was set", run_clock_accept},
+        {"reload", "[--because TEXT]", "reads credentials and certificates again", run_reload},
+        {"log accept-loss", "[--because TEXT]",
+         "takes a log whose end was lost as it is, and opens the day", run_log_accept_loss},
+        {"help", "", "lists the commands", run_help},
+    };
+    return commands;
+}
+
+std::string answer_to(AdminScene &scene, const std::string &who, std::string_view line) {
+    const auto request = request_of(line);
+    if (!request) {
+        return std::string(answer_is_error) + "this is no request of mireseason-admin\n";
+    }
+    try {
+        const AdminAnswer answer = run(scene, who, *request);
+        return std::string(answer_is_good) +
+               (request->wants_json ? json_of(answer) : text_of(answer));
+    } catch (const std::runtime_error &fault) {
+        return std::string(answer_is_error) + (request->wants_json
+                                                   ? json_of_error(fault.what())
+                                                   : fault.what() + std::string("\n"));
+    }
+}
+
+void check_words(const AdminCall &call, std::size_t least, std::size_t most) {
+    if (call.words.size() < least || call.words.size() > most) {
+        throw WrongWords();
+    }
+}
+
+OpenDay::OpenDay(AdminScene &scene) : held_(scene.hold_day()) {
+    if (held_.gateway == nullptr) {
+        throw AdminFault(fmt::format("no day is open: {}", scene.waits_for()));
+    }
+    open_ = held_.gateway->keep();
+    if (!held_.gateway->is_open()) {
+        throw AdminFault("this gateway does not speak: it follows another one, begins or ends; ask "
+                         "the one that does");
+    }
+}
+
+std::vector<Speaker *> OpenDay::speakers() {
+    std::vector<Speaker *> all;
+    for (const auto &speaker : gateway().speakers()) {
+        all.push_back(speaker.get());
+    }
+    return all;
+}
+
+std::vector<Speaker *> OpenDay::speakers_of(const std::string &firm) {
+    std::vector<Speaker *> all = speakers();
+    std::erase_if(all, [&](Speaker *each) { return !each->sessions().has_firm(firm); });
+    if (all.empty()) {
+        throw AdminFault(fmt::format("the venue has no firm {}: `firms` lists them", firm));
+    }
+    return all;
+}
+
+void OpenDay::commit(Speaker &speaker, const Act &act) {
+    if (!speaker.commit_act(act, longest_act)) {
+        throw AdminFault(fmt::format("the log has not committed this act within {} s: it takes "
+                                     "effect when it has",
+                                     longest_act.count()));
+    }
+}
+
+} // namespace gateway

@@ -1,0 +1,39 @@
+// The operator's command `firms`.
+#include "admin_command.h"
+
+#include <fmt/format.h>
+
+namespace gateway {
+
+namespace {
+
+std::string words_of(const std::map<std::string, std::uint64_t> &set) {
+    std::string words;
+    for (const auto &[key, value] : set) {
+        words += fmt::format("{}{}={}", words.empty() ? "" : " ", key, value);
+    }
+    return words;
+}
+
+} // namespace
+
+AdminAnswer run_firms(AdminCall &call) {
+    check_words(call, 0, 0);
+    OpenDay day(call.scene);
+    AdminAnswer answer;
+    for (Speaker *speaker : day.speakers()) {
+        for (const FirmSessions::Facts &firm : speaker->sessions().facts()) {
+            answer.rows.push_back({{"firm", firm.firm},
+                                   {"venue", speaker->day().config.venue},
+                                   {"logged_on", firm.since},
+                                   {"address", firm.address},
+                                   {"messages", std::uint64_t{firm.entries}},
+                                   {"day_bytes", firm.bytes},
+                                   {"day_bytes_limit", firm.bytes_limit},
+                                   {"set", words_of(firm.set)}});
+        }
+    }
+    return answer;
+}
+
+} // namespace gateway

@@ -1,0 +1,11 @@
+// The operator's command `log accept-loss`.
+#include "admin_command.h"
+
+namespace gateway {
+
+AdminAnswer run_log_accept_loss(AdminCall &call) {
+    check_words(call, 0, 0);
+    return {call.scene.accept_loss(call.act("log accept-loss")), {}};
+}
+
+} // namespace gateway

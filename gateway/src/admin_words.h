@@ -1,0 +1,40 @@
+// A request at the operator's socket, as it stands on the line: what the program mireseason-admin
+// writes and the gateway reads.
+#ifndef GATEWAY_ADMIN_WORDS_H
+#define GATEWAY_ADMIN_WORDS_H
+
+#include <optional>
+#include <string>
+#include <string_view>
+#include <vector>
+
+namespace gateway {
+
+// `1 text WORD ..` or `1 json WORD ..` and a line feed: 1 is the version of this form. Of a word
+// every byte that is no printable ASCII, a space and a percent sign stand as %HH, so that a line
+// feed in a word is none of the line. An empty word is `%`.
+struct AdminRequest {
+    bool wants_json = false;
+    std::vector<std::string> words; // one at least
+};
+
+// The most bytes of a request, with its line feed.
+constexpr std::size_t longest_request = 1024;
+
+// The first line of an answer; the rest is what is to be printed. Where it is `error` that says
+// what is wrong, and nothing was done.
+constexpr std::string_view answer_is_good = "ok\n";
+constexpr std::string_view answer_is_error = "error\n";
+
+// Where the socket is if nobody says otherwise.
+constexpr const char *usual_socket = "/run/mireseason/admin.sock";
+
+// With the line feed.
+std::string line_of(const AdminRequest &request);
+
+// Reads what line_of wrote, without the line feed; nothing where it is of another form.
+std::optional<AdminRequest> request_of(std::string_view line);
+
+} // namespace gateway
+
+#endif

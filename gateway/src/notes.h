@@ -1,0 +1,74 @@
+// Lines of the log that the venue ignores: what operators did, and what the machine's clock was.
+#ifndef GATEWAY_NOTES_H
+#define GATEWAY_NOTES_H
+
+#include "clock_watch.h"
+#include "moment.h"
+#include "records.h"
+
+#include <chrono>
+#include <cstddef>
+#include <cstdint>
+#include <optional>
+#include <stdexcept>
+#include <string>
+#include <string_view>
+#include <vector>
+
+namespace gateway {
+
+// A note is an entry of no firm whose line is `# KIND MOMENT TEXT`: schema.sql says which there
+// are. It is printable ASCII, and has no more bytes than this.
+constexpr std::size_t longest_note = 200;
+
+namespace note_kinds {
+constexpr std::string_view act = "act";
+constexpr std::string_view clock = "clock";
+} // namespace note_kinds
+
+// An act whose line would be too long.
+class ActTooLong : public std::runtime_error {
+  public:
+    using std::runtime_error::runtime_error;
+};
+
+// What an operator does. Its words have no spaces and no quotation marks but those of the reason.
+struct Act {
+    std::string who; // NAME(UID)
+    std::string words;
+    std::string because; // a reason, which may have any bytes; empty without one
+};
+
+// The text of its note: WHO WORDS, and the reason as because="..", where every byte that is no
+// printable ASCII, a quotation mark and a backslash stand as \xHH. Throws ActTooLong.
+std::string text_of(const Act &act);
+
+// The text of the notes about the clock: `synchronised ERROR` or `unsynchronised ERROR`, and
+// `set BY`, all in microseconds.
+std::string text_of(const KernelClock &sample);
+std::string text_of_step(std::chrono::microseconds step);
+
+// A note's entry, without its hashes.
+Entry note_entry(std::uint32_t place, std::uint32_t term, std::string_view kind,
+                 std::string_view text, ExactMoment at);
+
+// What a line says, in words; the moment is left out, and a reason ends them.
+struct Note {
+    std::string_view kind;
+    std::vector<std::string_view> words;
+};
+std::optional<Note> note_of(std::string_view line);
+
+// What notes set. Each is nothing where the note is another one.
+struct LimitSet {
+    std::string firm;
+    std::string key;
+    std::optional<std::uint64_t> value; // nothing: as it is configured
+};
+std::optional<LimitSet> limit_in(const Note &note);
+bool accepts_clock(const Note &note);
+std::optional<std::chrono::microseconds> step_in(const Note &note);
+
+} // namespace gateway
+
+#endif

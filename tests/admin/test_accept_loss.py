@@ -1,0 +1,98 @@
+"""A log whose end is lost: the gateway opens its operator's socket alone, until the loss is accepted."""
+
+import socket
+import sqlite3
+from collections.abc import Callable
+
+import pytest
+
+from tests.admin.desk import acts, admin, audit, did, rows, socket_of
+from tests.gateway.stage import Stage
+from tests.gateway.test_seals import kept_aside, put_back
+from tests.gateway.wait import LONG, until
+
+
+def cut_off(stage: Stage) -> None:
+    """An old backup in the log's place."""
+    backup = stage.folder / "backup.db"
+    put_back(stage, backup)
+
+
+def gone(stage: Stage) -> None:
+    for ending in ("", "-wal", "-shm"):
+        stage.door.database.with_name(stage.door.database.name + ending).unlink(missing_ok=True)
+
+
+def kept_gone(stage: Stage) -> None:
+    stage.door.kept.unlink()
+
+
+LOSSES: list[Callable[[Stage], None]] = [cut_off, gone, kept_gone]
+NAMES = ["an old backup", "no log", "no checkpoint"]
+
+
+@pytest.mark.parametrize("lose", LOSSES, ids=NAMES)
+def test_a_loss_that_is_accepted(stage: Stage, lose: Callable[[Stage], None]) -> None:
+    """Nothing but the operator's socket is open; nothing of the day can be changed; once the loss is accepted the day opens, and
+    the log says by whom and why."""
+    stage.door.operators = ""
+    stage.open(*stage.firms)
+    stage.auction()
+    stage.log_off(*stage.firms)
+    stage.door.stop()
+    kept_aside(stage)
+    stage.door.start()
+    stage.door.wait_open()
+    did(stage, "limit", "DLR1", "day_bytes=700000")
+    stage.door.stop()
+    lose(stage)
+    stage.door.start()
+    until("it waits", LONG, lambda: "waits for the operator" in stage.door.last_words())
+    (row,) = rows(stage, "status")
+    assert row["state"] == "waits" and row["for"].startswith("log accept-loss: "), row
+    with socket.socket() as probe:
+        assert probe.connect_ex(("127.0.0.1", stage.door.port)) != 0, "the door is open"
+    for words in (("limit", "DLR1", "day_bytes=800000"), ("clock", "accept"), ("reload",), ("firms",)):
+        said = admin(stage, *words)
+        assert said.status == 1 and "no day is open" in said.err, said.text
+    did(stage, "log", "accept-loss", "--because", "the disk of db1 is gone")
+    stage.door.wait_open()
+    lines = acts(stage)
+    assert lines[-1].endswith(b' log accept-loss because="the disk of db1 is gone"'), lines
+    if lose is gone:
+        assert stage.door.ledger().entries[1].line == lines[-1]
+    if lose is not kept_gone:
+        assert len(lines) == 1, "an act that was lost is there: %r" % lines
+    assert admin(stage, "log", "accept-loss").status == 1
+    stage.door.stop()
+    stage.door.start()
+    stage.door.wait_open()
+    found = audit(stage, "acts")
+    assert found.status == 0 and "log accept-loss, because" in found.out, found.text
+
+
+def test_a_gateway_that_waits_is_ended(stage: Stage) -> None:
+    """By SIGTERM, with status 0 and its socket removed; and nothing was accepted."""
+    stage.door.operators = ""
+    stage.open()
+    stage.door.stop()
+    kept_gone(stage)
+    stage.door.start()
+    until("it waits", LONG, lambda: "waits for the operator" in stage.door.last_words())
+    assert stage.door.stop() == 0
+    assert not socket_of(stage).exists()
+    assert not stage.door.kept.exists()
+
+
+def test_a_log_that_somebody_changed_is_not_accepted(stage: Stage) -> None:
+    """What no gateway has sealed is no loss: the gateway ends with its fault, and there is nothing to accept."""
+    stage.door.operators = ""
+    stage.open(*stage.firms)
+    stage.auction()
+    stage.door.stop()
+    with sqlite3.connect(stage.door.database) as log:
+        log.execute("DELETE FROM seal WHERE number = (SELECT max(number) FROM seal)")
+    log.close()
+    stage.door.start()
+    assert stage.door.wait_end() == 1
+    assert "is not sealed" in stage.door.last_words()

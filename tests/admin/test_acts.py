@@ -1,0 +1,190 @@
+"""What acts change: a firm's limits, the clock, credentials; and that it is so again after a restart and on another gateway."""
+
+import subprocess
+
+from tests.admin.desk import acts, admin, audit, did, firm_row, rows
+from tests.gateway.market import BOND
+from tests.gateway.stage import DEALER, Stage
+from tests.gateway.wait import LONG, until
+from tests.gateway.wire import Fields, Wire
+from tests.harness.clock import Clock
+from tests.limits.flood import cancel, logged_on
+
+USED_UP = b"this firm has sent all the bytes that it may send in a day"
+CLOCK_SET = b"the clock of the venue was set"
+MOST = 65536
+
+
+def quote(name: bytes) -> Fields:
+    return [(50, b"T1"), (117, name), (131, b"R1"), (48, BOND), (22, b"4"), (133, b"99.5")]
+
+
+def refused(stage: Stage, number: int, name: bytes, reason: bytes) -> int:
+    """A quote that is not taken, and ends its session; the session's next number."""
+    with logged_on(stage, DEALER, number=number) as wire:
+        assert wire.raw(wire.message(b"S", wire.name, quote(name)))
+        logout = wire.read_kind(b"5")
+        assert logout is not None and reason in (logout.value(58) or b""), "a quote is answered %r" % logout
+        return wire.number
+
+
+def taken(stage: Stage, number: int, name: bytes) -> int:
+    """A quote that is accepted; the session's next number."""
+    with logged_on(stage, DEALER, number=number) as wire:
+        assert wire.raw(wire.message(b"S", wire.name, quote(name)))
+        answer = wire.read_until(lambda message: message.value(117) == name)
+        assert answer is not None and answer.value(297) == b"0", "a quote is answered %r" % answer
+        return wire.number
+
+
+def use_up(wire: Wire) -> None:
+    """Sends cancels until the bytes of the firm's day are used up."""
+    last = MOST // 200 - 1
+    for at in range(last + 1):
+        assert wire.raw(cancel(wire, wire.number, b"c%d" % at))
+        wire.number += 1
+    assert wire.read_until(lambda message: message.value(117) == b"c%d" % last) is not None
+
+
+def started_again(stage: Stage) -> None:
+    stage.door.kill()
+    stage.door.start()
+    stage.door.wait_open()
+
+
+def test_a_limit_that_is_raised(stage_of_log: Stage) -> None:
+    """A firm at the limit of its day quotes again once an operator has raised it, also after its gateway was killed and after the
+    credentials were read again; and no more when that is taken back."""
+    stage = stage_of_log
+    stage.door.operators = ""
+    stage.door.limits |= {"day_bytes": MOST}
+    stage.open(stage.other, stage.investor)
+    with logged_on(stage, DEALER) as wire:
+        stage.ask_of([stage.dealer, stage.other])
+        use_up(wire)
+        number = wire.number
+    number = refused(stage, number, b"q1", USED_UP)
+    did(stage, "limit", "DLR1", "day_bytes=100000000", "--because", "agreed by phone")
+    assert acts(stage)[-1].endswith(b' limit DLR1 day_bytes=100000000 because="agreed by phone"')
+    number = taken(stage, number, b"q2")
+    started_again(stage)
+    assert firm_row(stage, "DLR1")["day_bytes_limit"] == 100_000_000
+    did(stage, "reload")
+    number = taken(stage, number, b"q3")
+    assert {row["limit"]: row["value"] for row in rows(stage, "limit", "DLR1") if row["set"]} == {"day_bytes": 100_000_000}
+    did(stage, "limit", "DLR1", "day_bytes=configured")
+    refused(stage, number, b"q4", USED_UP)
+    assert len(acts(stage)) == 3
+    assert audit(stage, "check").status == 0, audit(stage, "check").text
+
+
+def test_a_rate_that_is_changed(stage: Stage) -> None:
+    """A rate that an operator has lowered is the firm's at once, and after a restart."""
+    stage.door.operators = ""
+    stage.open(stage.other)
+    with logged_on(stage, DEALER) as wire:
+        for key in ("messages_per_second=500", "messages_burst=500"):
+            did(stage, "limit", "DLR1", key)
+        began = len(stage.door.ledger().messages_of("DLR1"))
+        budget = 500 + 1000  # the burst, and what is read at once before anything is counted
+        assert wire.raw(b"".join(cancel(wire, wire.number + at) for at in range(4000)))
+        until("some are in the log", LONG, lambda: len(stage.door.ledger().messages_of("DLR1")) > began)
+        assert len(stage.door.ledger().messages_of("DLR1")) - began < 4000 - budget, "the whole flood is in the log at once"
+    started_again(stage)
+    assert {row["limit"]: row["value"] for row in rows(stage, "limit", "DLR1") if row["set"]} == {
+        "messages_per_second": 500, "messages_burst": 500}
+    assert not any(row["set"] for row in rows(stage, "limit", "DLR2"))
+
+
+def test_a_clock_that_is_accepted(stage: Stage, clock: Clock) -> None:
+    """After a step of the clock no quote is taken until an operator says so: a restart is no such word. After it quotes are taken,
+    also after a restart. The log says that the clock was set."""
+    stage.door.operators = ""
+    stage.open(stage.other, stage.investor)
+    with logged_on(stage, DEALER) as wire:
+        stage.ask_of([stage.dealer, stage.other])
+        assert wire.read_kind(b"R") is not None
+        number = wire.number
+    clock.set(-40)
+    until("it is told", LONG, lambda: "clock was set by=-" in stage.door.told.read_text())
+    number = refused(stage, number, b"q1", CLOCK_SET)
+    assert rows(stage, "status")[0]["takes_business"] is False
+    started_again(stage)
+    assert rows(stage, "status")[0]["takes_business"] is False
+    number = refused(stage, number, b"q2", CLOCK_SET)
+    did(stage, "clock", "accept", "--because", "ntpd was wrong, and is right")
+    assert rows(stage, "status")[0]["takes_business"] is True
+    number = taken(stage, number, b"q3")
+    started_again(stage)
+    taken(stage, number, b"q4")
+    assert admin(stage, "clock", "accept").status == 1
+    steps = [entry.line for entry in stage.door.ledger().entries[1:] if entry.line.startswith(b"# clock ") and b" set -" in entry.line]
+    assert len(steps) == 1, steps
+    microseconds = int(steps[0].rsplit(b" ", 1)[1])
+    assert -40_100_000 < microseconds < -39_000_000, steps
+
+
+def test_samples_of_the_clock(stage: Stage) -> None:
+    """Each start puts one before any session logs on; the record of orders has them."""
+    stage.door.operators = ""
+    stage.open(*stage.firms)
+    stage.auction()
+    stage.log_off(*stage.firms)
+    started_again(stage)
+    lines = [entry.line for entry in stage.door.ledger().entries[1:] if entry.line.startswith(b"# clock ")]
+    assert len(lines) == 2 and all(line.split(b" ")[3] in (b"synchronised", b"unsynchronised") for line in lines), lines
+    assert stage.door.ledger().entries[1].line == lines[0]
+    (stage.folder / "parties.toml").write_text("")
+    out = stage.folder / "record"
+    done = audit(stage, "record", str(out), "--rts24", "--parties", str(stage.folder / "parties.toml"))
+    assert "clock: 2 samples" in done.out, done.text
+    assert len((out / "clock.csv").read_text().splitlines()) == 3
+
+
+def test_files_that_are_read_again(stage: Stage) -> None:
+    """`reload` says whether that was done, or what is at fault; the act stands in the log either way."""
+    stage.door.operators = ""
+    stage.open(*stage.firms)
+    did(stage, "reload", "--because", "as every Friday")
+    file = stage.door.folder / "credentials.toml"
+    right = file.read_text()
+    file.write_text(right.replace("username", "usrname"))
+    said = admin(stage, "reload")
+    assert said.status == 1 and "stay as they were" in said.err and "username is missing" in said.err, said.text
+    file.write_text(right.split("[DLR2]")[0] + "[INV1]" + right.split("[INV1]")[1])
+    did(stage, "reload")
+    until("the other dealer is logged off", LONG, lambda: bool(firm_row(stage, "DLR2")["logged_on"] == ""))
+    assert firm_row(stage, "DLR1")["logged_on"]
+    assert len(acts(stage)) == 3
+
+
+def test_acts_and_another_gateway(stage_of_log: Stage) -> None:
+    """In PostgreSQL a second gateway follows. It takes no act; when it takes over, what was set is as it was."""
+    stage = stage_of_log
+    if stage.postgres is None:
+        return  # a file of SQLite has one gateway
+    stage.door.operators = ""
+    stage.open(stage.other)
+    second = stage.folder / "second.toml"
+    text = (stage.folder / "gateway.toml").read_text()
+    text = text.replace("admin.sock", "second.sock").replace("port = %d\n" % stage.door.metrics, "port = 0\n")
+    second.write_text(text.replace('checkpoints = "checkpoints"', 'checkpoints = "checkpoints2"'))
+    told = stage.folder / "second.told"
+    with told.open("wb") as file:
+        follows = subprocess.Popen([stage.door.programs.gateway, second], stdout=file, stderr=file)
+    try:
+        until("it stands by", LONG, lambda: "stands by" in told.read_text())
+        # Without one it would not know whether the log was cut off.
+        until("it has a checkpoint of the other", LONG, lambda: any((stage.folder / "checkpoints2").glob("*.checkpoint")))
+        did(stage, "limit", "DLR1", "day_bytes=100000000")
+        at = stage.folder / "second.sock"
+        said = admin(stage, "limit", "DLR1", "day_bytes=200000000", at=at)
+        assert said.status == 1 and "does not speak" in said.err, said.text
+        stage.door.kill()
+        until("it speaks", LONG, lambda: " ready " in told.read_text())
+        row = next(row for row in rows(stage, "firms", at=at) if row["firm"] == "DLR1")
+        assert row["set"] == "day_bytes=100000000", row
+        assert len(acts(stage)) == 1
+    finally:
+        follows.kill()
+        follows.wait()
