@@ -1,6 +1,7 @@
 // A clock that is set, one that is set little by little, and one that is only slewed.
-//
-// usage: clock_watch_test
+#define DOCTEST_CONFIG_IMPLEMENT_WITH_MAIN
+#include <doctest/doctest.h>
+
 #include "check.h"
 #include "clock_watch.h"
 
@@ -32,7 +33,7 @@ void check_step(ClockWatch &watch, std::optional<std::chrono::microseconds> want
     check(came == wanted, fmt::format("{}: {}", what, came ? came->count() : 0));
 }
 
-void set_at_once() {
+TEST_CASE("set at once") {
     Machine machine;
     ClockWatch watch = machine.watch();
     machine.pass(1s, 0us);
@@ -50,7 +51,7 @@ void set_at_once() {
 }
 
 // Half of what the watch lets pass: a day of it is no step.
-void slewed() {
+TEST_CASE("slewed") {
     Machine machine;
     ClockWatch watch = machine.watch();
     for (int second = 0; second < 24 * 60 * 60; ++second) {
@@ -59,7 +60,7 @@ void slewed() {
     }
 }
 
-void set_little_by_little() {
+TEST_CASE("set little by little") {
     Machine machine;
     ClockWatch watch = machine.watch();
     int told = 0;
@@ -70,20 +71,10 @@ void set_little_by_little() {
     check(told >= 15, fmt::format("50 ms a second, told {} times in a minute", told));
 }
 
-void what_the_kernel_says() {
+TEST_CASE("what the kernel says") {
     check(read_kernel_clock().greatest_error >= 0us, "an error below nothing");
 }
 
 } // namespace
 
 } // namespace gateway::tests
-
-int main(int count, char **words) {
-    using namespace gateway::tests;
-    return run_with(count, words, 0, 0, "clock_watch_test", [](std::span<char *>) {
-        set_at_once();
-        slewed();
-        set_little_by_little();
-        what_the_kernel_says();
-    });
-}

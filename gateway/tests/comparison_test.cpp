@@ -1,7 +1,8 @@
 // What the venue gives again, held against what was sent and the messages of the session that
 // carried it: a log in which one of them is another, or lacks, is refused.
-//
-// usage: comparison_test FOLDER
+#define DOCTEST_CONFIG_IMPLEMENT_WITH_MAIN
+#include <doctest/doctest.h>
+
 #include "check.h"
 #include "comparison.h"
 #include "frame.h"
@@ -98,15 +99,16 @@ void refused_where_one_lacks(const std::filesystem::path &folder) {
     refused_for(folder, rows, "message 2");
 }
 
+TEST_CASE("refused where it differs") {
+    const Scratch folder("comparison");
+    refused_where_it_differs(folder.path());
+}
+
+TEST_CASE("refused where one lacks") {
+    const Scratch folder("comparison");
+    refused_where_one_lacks(folder.path());
+}
+
 } // namespace
 
 } // namespace gateway::tests
-
-int main(int count, char **words) {
-    using namespace gateway::tests;
-    return run_with(count, words, 1, 1, "comparison_test FOLDER", [](std::span<char *> given) {
-        const std::filesystem::path folder = std::filesystem::path(given[0]) / "comparison";
-        refused_where_it_differs(folder);
-        refused_where_one_lacks(folder);
-    });
-}

@@ -1,9 +1,12 @@
 // Connections in the log: what happened to them and their numbers, which connection a message came
 // on and when, and a log of another form.
-//
-// usage: connection_log_test FOLDER [CONNECTION]    SQLite in the folder, or a PostgreSQL database
+#define DOCTEST_CONFIG_IMPLEMENT_WITH_MAIN
+#include <doctest/doctest.h>
+
 #include "log_days.h"
 #include "sqlite_statement.h"
+
+#include <cstdlib>
 
 #include <unistd.h>
 
@@ -101,7 +104,7 @@ void times_of_receipt(Database &database) {
           "a sweep was made at another moment");
 }
 
-void exact_moments() {
+TEST_CASE("exact moments") {
     const ExactMoment moment{((9 * 60 + 5) * 60 + 7) * 1'000'000LL + 80'009};
     same<std::string>("09:05:07.080009", text_of(moment), "a moment");
     same<std::string>("09:05:07.080", text_of(moment.cut()), "its millisecond");
@@ -118,7 +121,7 @@ void exact_moments() {
           "a receipt on another day has a moment of this one");
 }
 
-void changed_connections() {
+TEST_CASE("changed connections") {
     ConnectionEvent event = event_of(connection_events::end, 3);
     event.place = 4;
     event.moment = "09:00:00.000001";
@@ -160,32 +163,29 @@ void another_form(const std::filesystem::path &folder) {
          told, "the cause");
 }
 
-void tried_on(Database &database) {
-    begin_day(database);
-    connections(database);
-    times_of_receipt(database);
+// In a file of SQLite, or where TEST_POSTGRES names a database in a schema there.
+std::unique_ptr<Database> database_of(const std::filesystem::path &folder) {
+    const char *connection = std::getenv("TEST_POSTGRES");
+    if (connection != nullptr) {
+        return open_postgres(
+            {connection, fmt::format("connection_log_test_{}", ::getpid()), "connection_log_test"});
+    }
+    return open_sqlite(folder / "day.db");
 }
 
-void run(const std::vector<std::string> &arguments) {
-    const std::filesystem::path folder = arguments.at(0);
-    if (arguments.size() > 1) {
-        tried_on(*open_postgres({arguments[1], fmt::format("connection_log_test_{}", ::getpid()),
-                                 "connection_log_test"}));
-    } else {
-        tried_on(*open_sqlite(fresh(folder / "connection_log_test.db")));
-        another_form(folder);
-    }
-    changed_connections();
-    exact_moments();
+TEST_CASE("connections and times of receipt") {
+    const Scratch folder("connection_log");
+    const std::unique_ptr<Database> database = database_of(folder.path());
+    begin_day(*database);
+    connections(*database);
+    times_of_receipt(*database);
+}
+
+TEST_CASE("another form") {
+    const Scratch folder("connection_log");
+    another_form(folder.path());
 }
 
 } // namespace
 
 } // namespace gateway::tests
-
-int main(int count, char **words) {
-    return gateway::tests::run_with(count, words, 1, 2, "connection_log_test FOLDER [CONNECTION]",
-                                    [](std::span<char *> given) {
-                                        gateway::tests::run({given.begin(), given.end()});
-                                    });
-}

@@ -1,7 +1,8 @@
 // What feeds the venue: the log from its begin, entries as they are committed, a process that reads
 // nothing for a while, a chain that is broken, how much is kept, and how a process ends.
-//
-// usage: feeder_test FOLDER
+#define DOCTEST_CONFIG_IMPLEMENT_WITH_MAIN
+#include <doctest/doctest.h>
+
 #include "check.h"
 #include "feeder.h"
 
@@ -120,7 +121,7 @@ void a_broken_chain(const std::string &file) {
 }
 
 // Of long lines few are kept: a slower venue reads them from the database.
-void kept_by_their_bytes() {
+TEST_CASE("kept by their bytes") {
     Committed committed(0);
     for (std::uint32_t place = 1; place <= 10; ++place) {
         Entry entry;
@@ -134,7 +135,7 @@ void kept_by_their_bytes() {
 }
 
 // One that is killed ends with what it has started, which has the same output.
-void killed_with_its_own() {
+TEST_CASE("killed with its own") {
     Process process({"sh", "-c", "sleep 200 & echo; wait"});
     read_some(process, 1);
     process.kill();
@@ -145,7 +146,7 @@ void killed_with_its_own() {
 }
 
 // One whose output has ended, and that goes on: it is given its time, and then killed.
-void ended_in_time() {
+TEST_CASE("ended in time") {
     Process lasting({"sh", "-c", "exec sleep 200 >&- 2>&-"});
     check(lasting.read_output().empty(), "it says something");
     check(!lasting.end_within(std::chrono::milliseconds(1)), "it has ended by itself");
@@ -156,25 +157,16 @@ void ended_in_time() {
     same<std::string>("ended with status 3", soon.wait(), "its end");
 }
 
-std::string fresh(const std::filesystem::path &folder, const std::string &name) {
-    const std::filesystem::path file = folder / name;
-    for (const char *suffix : {"", "-wal", "-shm", ".lock"}) {
-        std::filesystem::remove(file.string() + suffix);
-    }
-    return file.string();
+TEST_CASE("fed as it comes") {
+    const Scratch folder("feeder");
+    fed_as_it_comes(folder.path() / "day.db");
+}
+
+TEST_CASE("a broken chain") {
+    const Scratch folder("feeder");
+    a_broken_chain(folder.path() / "day.db");
 }
 
 } // namespace
 
 } // namespace gateway::tests
-
-int main(int count, char **words) {
-    using namespace gateway::tests;
-    return run_with(count, words, 1, 1, "feeder_test FOLDER", [](std::span<char *> given) {
-        fed_as_it_comes(fresh(given[0], "feeder_test.db"));
-        a_broken_chain(fresh(given[0], "feeder_broken.db"));
-        kept_by_their_bytes();
-        killed_with_its_own();
-        ended_in_time();
-    });
-}

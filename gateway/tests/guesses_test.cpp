@@ -1,6 +1,7 @@
 // What wrong passwords cost an address, and which addresses a range has.
-//
-// usage: guesses_test
+#define DOCTEST_CONFIG_IMPLEMENT_WITH_MAIN
+#include <doctest/doctest.h>
+
 #include "address_range.h"
 #include "check.h"
 #include "guesses.h"
@@ -15,7 +16,7 @@ using namespace std::chrono_literals;
 
 // Twice as long each time, up to a quarter of a second; a minute later it begins anew. Other
 // addresses wait for nothing.
-void cost_of_guesses() {
+TEST_CASE("cost of guesses") {
     Guesses::Clock::time_point now{1h};
     Guesses guesses([&now] { return now; });
     check(guesses.judged_from("a") <= now, "an address that has not guessed waits");
@@ -33,7 +34,7 @@ void cost_of_guesses() {
 }
 
 // Of more addresses than are remembered none is refused, and memory has its bound.
-void many_addresses() {
+TEST_CASE("many addresses") {
     Guesses guesses;
     for (int number = 0; number < 10000; ++number) {
         guesses.wrong(fmt::format("192.0.2.{}", number));
@@ -41,7 +42,7 @@ void many_addresses() {
     same<std::size_t>(2, guesses.wrong("192.0.2.9999"), "of the last one");
 }
 
-void ranges() {
+TEST_CASE("ranges") {
     struct Case {
         const char *range;
         const char *address;
@@ -70,12 +71,3 @@ void ranges() {
 } // namespace
 
 } // namespace gateway::tests
-
-int main(int count, char **words) {
-    using namespace gateway::tests;
-    return run_with(count, words, 0, 0, "guesses_test", [](std::span<char *>) {
-        cost_of_guesses();
-        many_addresses();
-        ranges();
-    });
-}

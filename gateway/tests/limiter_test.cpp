@@ -1,7 +1,8 @@
 // What anybody may cause is told ten times a minute of each kind, and counted; and as what it may
 // stand in a line.
-//
-// usage: limiter_test
+#define DOCTEST_CONFIG_IMPLEMENT_WITH_MAIN
+#include <doctest/doctest.h>
+
 #include "check.h"
 #include "limiter.h"
 #include "operator_events.h"
@@ -32,7 +33,7 @@ struct Time {
     }
 };
 
-void ten_a_minute() {
+TEST_CASE("ten a minute") {
     Time time;
     same(10U, time.told_of(100, "a"), "of a hundred at once");
     same(10U, time.told_of(15, "b"), "of another kind");
@@ -46,7 +47,7 @@ void ten_a_minute() {
 }
 
 // Whatever minute is looked at: one a second for ten minutes.
-void any_minute() {
+TEST_CASE("any minute") {
     Time time;
     std::deque<int> told;
     for (int second = 0; second < 600; ++second) {
@@ -62,7 +63,7 @@ void any_minute() {
 }
 
 // Nothing more of a kind comes, and its count is told all the same: once, and as one of the ten.
-void the_rest() {
+TEST_CASE("the rest") {
     Time time;
     time.told_of(12, "a");
     time.told_of(10, "b");
@@ -78,7 +79,7 @@ void the_rest() {
 }
 
 // Whoever has always another kind.
-void many_kinds() {
+TEST_CASE("many kinds") {
     Time time;
     unsigned told = 0;
     for (int kind = 0; kind < 100'000; ++kind) {
@@ -87,7 +88,7 @@ void many_kinds() {
     check(told <= 64 * 10, fmt::format("{} are told of as many kinds", told));
 }
 
-void texts() {
+TEST_CASE("texts") {
     same<std::string>("a|b'c?d?",
                       printable("a\x01"
                                 "b\"c\nd\xff",
@@ -99,7 +100,7 @@ void texts() {
 }
 
 // Lines about strangers, as the operator reads them.
-void lines() {
+TEST_CASE("lines") {
     std::ostringstream written;
     auto events = std::make_shared<spdlog::logger>(
         "test", std::make_shared<spdlog::sinks::ostream_sink_mt>(written));
@@ -132,15 +133,3 @@ void lines() {
 } // namespace
 
 } // namespace gateway::tests
-
-int main(int count, char **words) {
-    using namespace gateway::tests;
-    return run_with(count, words, 0, 0, "limiter_test", [](std::span<char *>) {
-        ten_a_minute();
-        any_minute();
-        the_rest();
-        many_kinds();
-        texts();
-        lines();
-    });
-}

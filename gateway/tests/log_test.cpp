@@ -1,8 +1,9 @@
 // The log: places without a gap from many threads, commits together, the chains, connections and
 // their numbers, times of receipt, a commit that fails, a message for which there is no memory,
 // what a crash left, and tables of another form.
-//
-// usage: log_test FOLDER [CONNECTION]    SQLite in the folder, or a PostgreSQL database
+#define DOCTEST_CONFIG_IMPLEMENT_WITH_MAIN
+#include <doctest/doctest.h>
+
 #include "check.h"
 #include "log_days.h"
 #include "sqlite_statement.h"
@@ -206,7 +207,7 @@ void no_memory(Database &database) {
     check_link(entries[0], day.last + 1, day.start.last.hash);
 }
 
-void a_commit_that_fails() {
+TEST_CASE("a commit that fails") {
     FailingDatabase database(1);
     DayClock clock(today());
     Metrics metrics;
@@ -235,7 +236,7 @@ void a_commit_that_fails() {
     same<std::string>("the log could not be written: no room", told, "what is told");
 }
 
-void a_commit_that_fails_at_its_caller() {
+TEST_CASE("a commit that fails at its caller") {
     FailingDatabase database(0);
     DayClock clock(today());
     Metrics metrics;
@@ -252,7 +253,7 @@ void a_commit_that_fails_at_its_caller() {
     same<std::string>("the log could not be written: no room", told, "what is told");
 }
 
-void changed_entries() {
+TEST_CASE("changed entries") {
     Entry entry;
     entry.place = 7;
     entry.moment = "09:00:00.000";
@@ -287,7 +288,7 @@ void changed_entries() {
 }
 
 // In front of entry 0 there is none.
-void no_first_entry() {
+TEST_CASE("no first entry") {
     Entry entry;
     entry.place = 1;
     std::string told;
@@ -317,37 +318,49 @@ void after_a_crash(const std::filesystem::path &folder) {
     same(1U, rows.step() ? rows.number(0) : 0, "entries in the file");
 }
 
-void tried_on(Database &database) {
-    many_threads(database);
-    a_held_log(database);
-    a_message_alone(database);
-    no_memory(database);
+// In a file of SQLite, or where TEST_POSTGRES names a database in a schema there, which stays.
+std::unique_ptr<Database> database_of(const std::filesystem::path &folder) {
+    static int count = 0;
+    const char *connection = std::getenv("TEST_POSTGRES");
+    if (connection != nullptr) {
+        const std::string schema = fmt::format("log_test_{}_{}", ::getpid(), ++count);
+        return open_postgres({connection, schema, "log_test"});
+    }
+    return open_sqlite(folder / "day.db");
 }
 
-void run(const std::vector<std::string> &arguments) {
-    const std::filesystem::path folder = arguments.at(0);
-    if (arguments.size() > 1) {
-        const auto database =
-            open_postgres({arguments[1], fmt::format("log_test_{}", ::getpid()), "log_test"});
-        tried_on(*database);
-    } else {
-        const auto database = open_sqlite(fresh(folder / "log_test.db"));
-        tried_on(*database);
-        after_a_crash(folder);
-    }
-    a_commit_that_fails();
-    a_commit_that_fails_at_its_caller();
-    changed_entries();
-    no_first_entry();
+// A day that many threads have written.
+std::unique_ptr<Database> written_by_many(const std::filesystem::path &folder) {
+    auto database = database_of(folder);
+    many_threads(*database);
+    return database;
+}
+
+TEST_CASE("many threads") {
+    const Scratch folder("log");
+    written_by_many(folder.path());
+}
+
+TEST_CASE("a held log") {
+    const Scratch folder("log");
+    a_held_log(*written_by_many(folder.path()));
+}
+
+TEST_CASE("a message alone") {
+    const Scratch folder("log");
+    a_message_alone(*written_by_many(folder.path()));
+}
+
+TEST_CASE("no memory") {
+    const Scratch folder("log");
+    no_memory(*written_by_many(folder.path()));
+}
+
+TEST_CASE("after a crash") {
+    const Scratch folder("log");
+    after_a_crash(folder.path());
 }
 
 } // namespace
 
 } // namespace gateway::tests
-
-int main(int count, char **words) {
-    return gateway::tests::run_with(count, words, 1, 2, "log_test FOLDER [CONNECTION]",
-                                    [](std::span<char *> given) {
-                                        gateway::tests::run({given.begin(), given.end()});
-                                    });
-}

@@ -1,9 +1,11 @@
 // Lines of the log that the venue ignores, and the requests that they come of.
+#define DOCTEST_CONFIG_IMPLEMENT_WITH_MAIN
+#include <doctest/doctest.h>
+
 #include "admin_words.h"
 #include "check.h"
 #include "notes.h"
 
-#include <iostream>
 #include <string>
 #include <vector>
 
@@ -15,7 +17,7 @@ namespace {
 
 constexpr std::string_view head = "# act 09:00:00.123 ";
 
-void acts_are_one_line() {
+TEST_CASE("acts are one line") {
     struct Case {
         Act act;
         std::string text;
@@ -33,7 +35,7 @@ void acts_are_one_line() {
     }
 }
 
-void acts_are_short() {
+TEST_CASE("acts are short") {
     const std::string longest(longest_note - head.size() - 25, 'x');
     const Act act{"root(0)", "reload", longest};
     check(head.size() + text_of(act).size() <= longest_note, "the longest act is too long");
@@ -47,7 +49,7 @@ void acts_are_short() {
 }
 
 // A reason is never a word, and no line but a note has any.
-void notes_are_read() {
+TEST_CASE("notes are read") {
     struct Case {
         std::string line;
         std::string firm; // of a limit; empty where it is none
@@ -80,7 +82,7 @@ void notes_are_read() {
 }
 
 // What is written is read, whatever its bytes.
-void requests_are_read() {
+TEST_CASE("requests are read") {
     std::string all;
     for (int byte = 0; byte < 256; ++byte) {
         all += static_cast<char>(byte);
@@ -101,13 +103,3 @@ void requests_are_read() {
 } // namespace
 
 } // namespace gateway::tests
-
-int main() {
-    using namespace gateway::tests;
-    acts_are_one_line();
-    acts_are_short();
-    notes_are_read();
-    requests_are_read();
-    std::cout << "notes: passed\n";
-    return 0;
-}

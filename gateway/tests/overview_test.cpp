@@ -1,5 +1,8 @@
 // What an operator is shown and told: open requests, refusals that are counted, how the service is,
 // and what a firm is handed out.
+#define DOCTEST_CONFIG_IMPLEMENT_WITH_MAIN
+#include <doctest/doctest.h>
+
 #include "check.h"
 #include "condition.h"
 #include "engine.h"
@@ -8,8 +11,6 @@
 #include "open_requests.h"
 #include "overview.h"
 
-#include <exception>
-#include <iostream>
 #include <stdexcept>
 
 #include <toml++/toml.h>
@@ -34,7 +35,7 @@ std::string report(const std::string &fields) {
 }
 
 // By docs/FORMATS.md, "Written messages", to an investor.
-void requests_open_and_end() {
+TEST_CASE("requests open and end") {
     OpenRequests open;
     const auto given = [&open](const std::string &fields) {
         open.was_given("INV1", report(fields));
@@ -66,7 +67,7 @@ Delivery delivery(std::string type, std::string body) {
     return made;
 }
 
-void refusals_are_told_apart() {
+TEST_CASE("refusals are told apart") {
     check(refuses(delivery("3", "45=4|371=50|373=5|")), "a Reject");
     check(refuses(delivery("AG", "131=A1|658=99|")), "a refused request");
     check(refuses(delivery("AI", "131=R1|117=a|297=5|300=99|")), "a refused quote");
@@ -77,7 +78,7 @@ void refusals_are_told_apart() {
     check(!refuses(delivery("AJ", "693=N1|297=5|")), "another message");
 }
 
-void conditions_say_what_is_wrong() {
+TEST_CASE("conditions say what is wrong") {
     Condition now{Phase::ready, "20261127", Pulse::Silent{"the venue", 14s}};
     check(!now.fault() && now.words() == "ready: 20261127", "14 seconds are none");
     now.silent->time = 15s;
@@ -96,7 +97,7 @@ void conditions_say_what_is_wrong() {
     check(pulse.longest()->time < 20s, "it works again");
 }
 
-void pages_show_text_as_text() {
+TEST_CASE("pages show text as text") {
     Overview seen;
     seen.condition = {Phase::ready, "<b>day</b>", {}};
     seen.events = {"refused text=\"<script>alert('x')</script> & more\""};
@@ -145,7 +146,7 @@ open = 3
 quantity = 888000000
 )";
 
-void hand_outs_tell_a_firm_its_own() {
+TEST_CASE("hand outs tell a firm its own") {
     const toml::table dealer = toml::parse(hand_out(venue_text, "DLR1"));
     check(dealer["bond"][0]["id"] == "BONDA0000001" && dealer["bond"][0]["grid"] == 128 &&
               dealer["bond"][0]["name"] == "Treasury 4 % 2034" && dealer["version"] == 2,
@@ -175,19 +176,3 @@ void hand_outs_tell_a_firm_its_own() {
 } // namespace
 
 } // namespace gateway::tests
-
-int main() {
-    using namespace gateway::tests;
-    try {
-        requests_open_and_end();
-        refusals_are_told_apart();
-        conditions_say_what_is_wrong();
-        pages_show_text_as_text();
-        hand_outs_tell_a_firm_its_own();
-    } catch (const std::exception &fault) {
-        std::cerr << fault.what() << '\n';
-        return 1;
-    }
-    std::cout << "passed\n";
-    return 0;
-}

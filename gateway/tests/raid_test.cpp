@@ -1,8 +1,9 @@
 // Attacks by somebody who has read the code, each of which the door withstood: what QuickFIX might
 // see in a message that the reader does not, the ends of all numbers, connections of one firm that
 // come at one time, and a gateway whose parts fail.
-//
-// usage: raid_test
+#define DOCTEST_CONFIG_IMPLEMENT_WITH_MAIN
+#include <doctest/doctest.h>
+
 #include "check.h"
 #include "door_scene.h"
 #include "refusal_words.h"
@@ -44,7 +45,7 @@ Calls types_of_the_application() {
 }
 
 // The engine looks into none of them, and has no opinion of its own.
-void every_type_is_counted() {
+TEST_CASE("every type is counted") {
     Scene scene;
     Talk talk(scene);
     talk.settle();
@@ -57,7 +58,7 @@ void every_type_is_counted() {
     }
 }
 
-void times_of_every_precision() {
+TEST_CASE("times of every precision") {
     for (const std::string fraction : {"", ".000", ".123456", ".123456789", ".123456789012"}) {
         Scene scene;
         Talk talk(scene);
@@ -71,7 +72,7 @@ void times_of_every_precision() {
 }
 
 // A TestReqID comes back byte for byte, whatever its bytes are.
-void any_byte_is_repeated() {
+TEST_CASE("any byte is repeated") {
     std::string any = "1181=1";
     for (int byte = 0; byte < 256; ++byte) {
         any += byte == 1 ? '|' : static_cast<char>(byte);
@@ -85,7 +86,7 @@ void any_byte_is_repeated() {
 }
 
 // However it comes, and whatever comes with it.
-void byte_by_byte() {
+TEST_CASE("byte by byte") {
     Scene scene;
     Talk talk(scene);
     const std::string all = logon_of() + message_of("S", 2, "58=a|b|") + message_of("S", 3, "");
@@ -98,7 +99,7 @@ void byte_by_byte() {
 }
 
 // Ahead of a gap a ResendRequest is answered; but only a message that is F's.
-void request_ahead_that_is_not_the_firms() {
+TEST_CASE("request ahead that is not the firms") {
     const std::string requests[] = {
         framed(with_soh("35=2|49=F|56=VENUE|34=7|7=1|16=0|")),
         framed(with_soh("35=2|49=F|56=VENUE|34=7|52=|7=1|16=0|")),
@@ -118,7 +119,7 @@ void request_ahead_that_is_not_the_firms() {
 // ---------------------------------------------------------------- the ends of all numbers
 
 // A firm that has used up the last number is told so, for the rest of the day; no number wraps.
-void after_the_last_number() {
+TEST_CASE("after the last number") {
     Scene scene(0, 1, 999999998);
     Talk talk(scene);
     talk.say(logon_of(999999998));
@@ -137,7 +138,7 @@ void after_the_last_number() {
 }
 
 // It asks for what is missing, and counts nothing.
-void logon_under_the_last_number() {
+TEST_CASE("logon under the last number") {
     Scene scene;
     {
         Talk talk(scene);
@@ -153,7 +154,7 @@ void logon_under_the_last_number() {
 
 // The Logon is part of the gap, and counted once with it, also where what comes before it is
 // rejected.
-void rejected_up_to_a_logon() {
+TEST_CASE("rejected up to a logon") {
     Scene scene;
     Talk talk(scene);
     talk.say(logon_of(3));
@@ -168,7 +169,7 @@ void rejected_up_to_a_logon() {
 // ---------------------------------------------------------------- connections of one firm
 
 // Both wait for the old one; one of them has the session after it.
-void two_wait_for_one() {
+TEST_CASE("two wait for one") {
     Scene scene;
     Talk old(scene);
     old.settle();
@@ -306,7 +307,7 @@ void drawn_connection(Sessions &sessions, EngineEvents &events, const Watch &hos
 
 // Five that come again and again, while the venue delivers and a day ends: one at a time is heard,
 // and each number is used once. To be run under the thread sanitizer, too.
-void many_connections_at_one_time() {
+TEST_CASE("many connections at one time") {
     Watch host;
     NoEvents events;
     SessionStart start;
@@ -350,19 +351,3 @@ void many_connections_at_one_time() {
 } // namespace
 
 } // namespace gateway::tests
-
-int main(int count, char **words) {
-    using namespace gateway::tests;
-    return run_with(count, words, 0, 0, "raid_test", [](std::span<char *>) {
-        every_type_is_counted();
-        times_of_every_precision();
-        any_byte_is_repeated();
-        byte_by_byte();
-        request_ahead_that_is_not_the_firms();
-        after_the_last_number();
-        logon_under_the_last_number();
-        rejected_up_to_a_logon();
-        two_wait_for_one();
-        many_connections_at_one_time();
-    });
-}

@@ -1,7 +1,8 @@
 // What the reader makes of what comes over the network: each line of its table on both sides of its
 // limit, in pieces of any size, and inputs that are meant to cost much.
-//
-// usage: reader_test
+#define DOCTEST_CONFIG_IMPLEMENT_WITH_MAIN
+#include <doctest/doctest.h>
+
 #include "check.h"
 #include "numbers.h"
 #include "reader.h"
@@ -64,7 +65,7 @@ void read_as(const Case &wanted) {
 }
 
 // A second field of each of these is rejected, whether it is the session's own message or not.
-void each_field_once() {
+TEST_CASE("each field once") {
     for (const unsigned tag : {35, 49,  56,  52,  43,   97, 122, 50, 57,  553, 554,
                                98, 108, 141, 789, 1137, 7,  16,  36, 112, 123}) {
         const std::string field = fmt::format("{}=Y|", tag);
@@ -79,7 +80,7 @@ void each_field_once() {
 }
 
 // Reads that end in a message, again and again: what is kept of one is dropped with what was taken.
-void reads_that_end_anywhere() {
+TEST_CASE("reads that end anywhere") {
     std::string text;
     for (int number = 1; number <= 2000; ++number) {
         text += framed(fmt::format("35=0|34={}|58={}|", number, x(number % 97)));
@@ -101,7 +102,7 @@ WireMessage only_piece(const std::string &text) {
     return piece;
 }
 
-void fields_of_a_message() {
+TEST_CASE("fields of a message") {
     const WireMessage piece = only_piece(framed("35=A|34=1|49=INV1|58=|98=0|58=b|"));
     std::string fields;
     for (const WireField &field : piece.fields) {
@@ -116,7 +117,7 @@ void fields_of_a_message() {
 }
 
 // The session's fields can be read where the message is rejected, and nothing of the piece before.
-void fields_of_a_rejected_message() {
+TEST_CASE("fields of a rejected message") {
     const std::string text =
         framed("35=A|34=1|43=Y|58=a|9999=a|") + framed("35=D|34=2|49=INV1|b|56=VENUE|49=INV2|");
     Reader reader;
@@ -130,7 +131,7 @@ void fields_of_a_rejected_message() {
     check(!piece.has(43) && !piece.has(9999), "fields of the message before");
 }
 
-void words_for_the_operator() {
+TEST_CASE("words for the operator") {
     same<std::string>("BeginString (8) is FIX.4.2, not FIXT.1.1",
                       only_piece(framed("35=A|34=1|", "FIX.4.2")).why, "another version");
     same<std::string>("49: a second field with this tag",
@@ -145,7 +146,7 @@ struct Number {
     std::uint32_t number;
 };
 
-void numbers() {
+TEST_CASE("numbers") {
     const std::vector<Number> cases = {
         {"0", true, 0},
         {"5", true, 5},
@@ -199,7 +200,7 @@ std::string nested() {
 
 // What a stranger may send to cost the gateway much. In front of the message behind it, and in
 // reads of a socket, nothing takes longer than its bytes, and what waits is bounded.
-void inputs_that_cost_much() {
+TEST_CASE("inputs that cost much") {
     constexpr std::size_t many = 4 << 20, a_read = 65536, limit = 65536;
     const std::vector<Case> cases = {
         {"begins", repeated("8=", many), {}},
@@ -238,7 +239,7 @@ void inputs_that_cost_much() {
 }
 
 // The same byte by byte, of less.
-void byte_by_byte() {
+TEST_CASE("byte by byte") {
     for (const std::string &text :
          {nested().substr(0, 200000), repeated(with_soh("8=x|9=65000|"), 200000)}) {
         const double before = worked();
@@ -247,26 +248,42 @@ void byte_by_byte() {
     }
 }
 
+TEST_CASE("each of the cases: messages") {
+    for (const Case &wanted : messages()) {
+        read_as(wanted);
+    }
+}
+
+TEST_CASE("each of the cases: garbled") {
+    for (const Case &wanted : garbled()) {
+        read_as(wanted);
+    }
+}
+
+TEST_CASE("each of the cases: versions") {
+    for (const Case &wanted : versions()) {
+        read_as(wanted);
+    }
+}
+
+TEST_CASE("each of the cases: rejected") {
+    for (const Case &wanted : rejected()) {
+        read_as(wanted);
+    }
+}
+
+TEST_CASE("each of the cases: unnumbered") {
+    for (const Case &wanted : unnumbered()) {
+        read_as(wanted);
+    }
+}
+
+TEST_CASE("each of the cases: endless") {
+    for (const Case &wanted : endless()) {
+        read_as(wanted);
+    }
+}
+
 } // namespace
 
 } // namespace gateway::tests
-
-int main(int count, char **words) {
-    using namespace gateway::tests;
-    return run_with(count, words, 0, 0, "reader_test", [](std::span<char *>) {
-        for (const auto *cases :
-             {&messages(), &garbled(), &versions(), &rejected(), &unnumbered(), &endless()}) {
-            for (const Case &wanted : *cases) {
-                read_as(wanted);
-            }
-        }
-        each_field_once();
-        reads_that_end_anywhere();
-        fields_of_a_message();
-        fields_of_a_rejected_message();
-        words_for_the_operator();
-        numbers();
-        inputs_that_cost_much();
-        byte_by_byte();
-    });
-}

@@ -1,5 +1,8 @@
 // What the venue notes beside its messages, and what of it a firm is told: the names of
 // docs/MARKET.md, the words of fix/reasons.txt, and nothing else.
+#define DOCTEST_CONFIG_IMPLEMENT_WITH_MAIN
+#include <doctest/doctest.h>
+
 #include "check.h"
 #include "frame.h"
 #include "reasons.h"
@@ -36,7 +39,7 @@ void is_refused(const std::string &line, const std::string &words) {
     check(refusal.find(words) != std::string::npos, fmt::format("`{}`: {}", line, refusal));
 }
 
-void what_firms_are_told() {
+TEST_CASE("what firms are told") {
     same<std::string>("58=the request has ended|", told("why DLR1 7 Closed"), "a reason");
     same<std::string>("58=too late|", told("why DLR1 7 Lifted"), "another");
     same<std::string>("1003=20250314-INV1-DLR1-12|", told("trade DLR1 7 20250314-INV1-DLR1-12"),
@@ -45,7 +48,7 @@ void what_firms_are_told() {
                       "a trade of an investor");
 }
 
-void what_firms_are_not_told() {
+TEST_CASE("what firms are not told") {
     is_refused("why DLR2 7 Closed", "that is of DLR2's message 7");
     is_refused("why DLR1 8 Closed", "that is of DLR1's message 8");
     for (const char *name : {"closed", "Closed ", "Unknown", "",
@@ -68,7 +71,7 @@ void what_firms_are_not_told() {
     }
 }
 
-void which_tables_are_none() {
+TEST_CASE("which tables are none") {
     const std::string longest(100, 'x');
     same<std::size_t>(1, read_reasons("Name " + longest).size(), "the longest words");
     for (const std::string &text :
@@ -87,7 +90,7 @@ void which_tables_are_none() {
     }
 }
 
-void entry_0_has_the_table() {
+TEST_CASE("entry 0 has the table") {
     Day day;
     day.version = "v";
     day.configuration = "version = 1\n";
@@ -112,7 +115,11 @@ void entry_0_has_the_table() {
     }
 }
 
-void the_flag() {
+TEST_CASE("the built in table") {
+    check(!gateway::built_in_reasons().empty(), "it is empty");
+}
+
+TEST_CASE("the flag") {
     const std::vector<std::string> plain{"venue", "live", "--marks"};
     const std::vector<std::string> noting{"venue", "live", "--marks", "--notes"};
     check(with_notes(plain, true) == noting && with_notes(noting, true) == noting, "with notes");
@@ -122,15 +129,3 @@ void the_flag() {
 } // namespace
 
 } // namespace gateway::tests
-
-int main(int count, char **words) {
-    using namespace gateway::tests;
-    return run_with(count, words, 0, 0, "reasons_test", [](std::span<char *>) {
-        what_firms_are_told();
-        what_firms_are_not_told();
-        which_tables_are_none();
-        entry_0_has_the_table();
-        check(!gateway::built_in_reasons().empty(), "the built-in table is empty");
-        the_flag();
-    });
-}

@@ -1,8 +1,9 @@
 // What a session that stands does with each piece that comes, without a network: with each line of
 // docs/FORMATS.md, "What comes over the network", with numbers and times at fault, with gaps; and
 // that nothing is taken of a firm that was sent a Logout.
-//
-// usage: session_test
+#define DOCTEST_CONFIG_IMPLEMENT_WITH_MAIN
+#include <doctest/doctest.h>
+
 #include "check.h"
 #include "door_scene.h"
 
@@ -112,7 +113,7 @@ void check_odd(const Odd &odd) {
     check_calls(odd.calls, scene.book.calls, odd.what);
 }
 
-void odd_message() {
+TEST_CASE("odd message") {
     for (const auto &table : {rejected_frames(), rejected_values()}) {
         for (const Rejected &each : table) {
             check_odd({each.what, each.bytes, each.reply, rejected});
@@ -126,7 +127,7 @@ void odd_message() {
 }
 
 // A Logout, and then nothing of the firm is taken but its own.
-void after_a_logout() {
+TEST_CASE("after a logout") {
     const Calls logout = {"sent 3 5"};
     const Calls counted = {"expects 4", "sent 3 5"};
     const Calls rejects = {"expects 4", "sent 3 3", "sent 4 5"};
@@ -160,7 +161,7 @@ void after_a_logout() {
 }
 
 // The connection ends by the firm's Logout, which is counted.
-void logout_is_answered() {
+TEST_CASE("logout is answered") {
     Scene scene;
     Talk talk(scene);
     talk.settle();
@@ -174,7 +175,7 @@ void logout_is_answered() {
 }
 
 // What came is asked for once; what is sent again is taken in its order, whenever it comes.
-void gap_that_is_filled() {
+TEST_CASE("gap that is filled") {
     Scene scene;
     Talk talk(scene);
     talk.settle();
@@ -189,7 +190,7 @@ void gap_that_is_filled() {
 }
 
 // The Logon is part of the gap: a stock engine fills it with what else was its session's own.
-void logon_ahead_of_a_gap() {
+TEST_CASE("logon ahead of a gap") {
     const std::string other_day = "43=Y|122=20250313-09:00:00|";
     const std::pair<std::string, Calls> tries[] = {
         {again, {"received 1", "expects 2", "received 2", "expects 3"}},
@@ -215,14 +216,3 @@ void logon_ahead_of_a_gap() {
 } // namespace
 
 } // namespace gateway::tests
-
-int main(int count, char **words) {
-    using namespace gateway::tests;
-    return run_with(count, words, 0, 0, "session_test", [](std::span<char *>) {
-        odd_message();
-        after_a_logout();
-        logout_is_answered();
-        gap_that_is_filled();
-        logon_ahead_of_a_gap();
-    });
-}

@@ -1,7 +1,8 @@
 // Each firm's share of the log: the order of what was received, how much of a batch and of what the
 // venue has not answered is one firm's, and who goes first where many wait.
-//
-// usage: shares_test
+#define DOCTEST_CONFIG_IMPLEMENT_WITH_MAIN
+#include <doctest/doctest.h>
+
 #include "arrivals.h"
 #include "check.h"
 #include "log.h"
@@ -31,7 +32,7 @@ Arrival arrival_at(std::int64_t microseconds) {
 }
 
 // By receipt, and those of one moment as they came; what is fenced stays in front.
-void in_the_order_of_receipt() {
+TEST_CASE("in the order of receipt") {
     Arrivals arrivals;
     for (const std::int64_t at : {5, 3, 4, 3}) {
         arrivals.put(arrival_at(at));
@@ -49,7 +50,7 @@ void in_the_order_of_receipt() {
 }
 
 // Two of a batch, three that are not answered, and four of all firms.
-void shares_of_firms() {
+TEST_CASE("shares of firms") {
     Shares shares({2, 3, 4});
     shares.put("A");
     check(shares.has_room("A"), "no second one in a batch");
@@ -73,7 +74,7 @@ void shares_of_firms() {
 }
 
 // A burst of two, and then one each tenth of a second.
-void a_rate() {
+TEST_CASE("a rate") {
     const auto begin = Rate::Clock::now();
     Rate rate(10, 2);
     check(rate.take(2, begin) <= begin, "the burst is owed");
@@ -144,7 +145,7 @@ void put_many(Log &log, const std::string &firm, std::uint32_t count) {
 
 // A firm that has always another message has no more of a batch than its share, and one that has a
 // single one is in the next batch.
-void a_share_of_each_batch() {
+TEST_CASE("a share of each batch") {
     constexpr std::uint32_t many = 20;
     GatedLog gated({2, many, many + 1});
     std::jthread busy([&] { put_many(*gated.log, "BUSY", many); });
@@ -172,7 +173,7 @@ void a_share_of_each_batch() {
 }
 
 // What the venue does not answer is no more than may be; then it goes on.
-void no_more_than_the_venue_answers() {
+TEST_CASE("no more than the venue answers") {
     constexpr std::uint32_t many = 6;
     GatedLog gated({ShareLimits::none, 3, ShareLimits::none});
     gated.database.open();
@@ -197,7 +198,7 @@ Log::Came came_at(std::chrono::system_clock::time_point at) {
 
 // An entry's moment is that of its receipt, however long it waits; no moment is below the one
 // before it, and what waits for one batch stands in the order of receipt.
-void the_moment_is_that_of_the_receipt() {
+TEST_CASE("the moment is that of the receipt") {
     GatedLog gated({});
     const auto begin = std::chrono::system_clock::now();
     gated.log->append_message("A", came_at(begin - 30ms), "x");
@@ -225,15 +226,3 @@ void the_moment_is_that_of_the_receipt() {
 } // namespace
 
 } // namespace gateway::tests
-
-int main(int count, char **words) {
-    using namespace gateway::tests;
-    return run_with(count, words, 0, 0, "shares_test", [](std::span<char *>) {
-        in_the_order_of_receipt();
-        shares_of_firms();
-        a_rate();
-        a_share_of_each_batch();
-        no_more_than_the_venue_answers();
-        the_moment_is_that_of_the_receipt();
-    });
-}

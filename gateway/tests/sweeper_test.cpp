@@ -1,7 +1,8 @@
 // The clock of the venue: a deadline that has come, messages that always come after it, and a venue
 // that does not answer meanwhile, or not the sweep.
-//
-// usage: sweeper_test
+#define DOCTEST_CONFIG_IMPLEMENT_WITH_MAIN
+#include <doctest/doctest.h>
+
 #include "check.h"
 #include "sweeper.h"
 
@@ -88,7 +89,7 @@ template <typename Condition> bool comes(const Condition &condition) {
 }
 
 // After the entry whose mark told the deadline, and once.
-void a_deadline_that_has_come() {
+TEST_CASE("a deadline that has come") {
     DayWithADeadline day;
     {
         Sweeper sweeper(day.answers, day.log, day.clock);
@@ -138,7 +139,7 @@ class BusyFirm {
 
 // Messages are held for the sweep, but for no longer than a while: the venue may not answer before
 // one of them is in the log.
-void a_venue_that_does_not_answer() {
+TEST_CASE("a venue that does not answer") {
     DayWithADeadline day;
     day.log.append_message("F", Log::Came{2, 1, {}}, "x");
     Sweeper sweeper(day.answers, day.log, day.clock);
@@ -152,7 +153,7 @@ void a_venue_that_does_not_answer() {
 }
 
 // Messages go on after a sweep: the venue may not answer it before one of them is in the log.
-void a_sweep_that_is_not_answered() {
+TEST_CASE("a sweep that is not answered") {
     DayWithADeadline day;
     day.log.append_message("F", Log::Came{2, 1, {}}, "x");
     Sweeper sweeper(day.answers, day.log, day.clock);
@@ -175,12 +176,3 @@ void a_sweep_that_is_not_answered() {
 } // namespace
 
 } // namespace gateway::tests
-
-int main(int count, char **words) {
-    using namespace gateway::tests;
-    return run_with(count, words, 0, 0, "sweeper_test", [](std::span<char *>) {
-        a_deadline_that_has_come();
-        a_venue_that_does_not_answer();
-        a_sweep_that_is_not_answered();
-    });
-}

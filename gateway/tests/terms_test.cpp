@@ -1,12 +1,13 @@
 // Two gateways on one log in PostgreSQL: which may write, and that the other can't; and a commit
 // that the server did not make safe.
-//
-// usage: terms_test CONNECTION [own]    a PostgreSQL database, in which it makes a schema and drops
-//                                       it; own: the server is the test's, which sets its standbys
+#define DOCTEST_CONFIG_IMPLEMENT_WITH_MAIN
+#include <doctest/doctest.h>
+
 #include "check.h"
 #include "database.h"
 
 #include <chrono>
+#include <cstdlib>
 #include <future>
 #include <iostream>
 #include <memory>
@@ -243,22 +244,30 @@ void waits_for_nobody(Schema &schema) {
     check(told.find("one machine alone") != std::string::npos, "told of it: " + told);
 }
 
+// The schema of a test in the database that TEST_POSTGRES names, which is dropped behind it.
+std::string connection() {
+    const char *given = std::getenv("TEST_POSTGRES");
+    check(given != nullptr, "TEST_POSTGRES names no database");
+    return given;
+}
+
+// One log, of which each part goes on from where the one before it has left it.
+TEST_CASE("one gateway after the other speaks") {
+    Schema schema(connection());
+    one_speaks(schema);
+    terms_rise(schema);
+    tables_refuse(schema);
+    another_form(schema);
+    hangs_in_a_transaction(schema);
+    hangs_behind_its_work(schema);
+}
+
+// On a server of the test alone, which sets its standbys.
+TEST_CASE("waits for nobody" * doctest::skip(std::getenv("TEST_POSTGRES_OWN") == nullptr)) {
+    Schema schema(connection());
+    waits_for_nobody(schema);
+}
+
 } // namespace
 
 } // namespace gateway::tests
-
-int main(int count, char **words) {
-    using namespace gateway::tests;
-    return run_with(count, words, 1, 2, "terms_test CONNECTION [own]", [](std::span<char *> given) {
-        Schema schema(given[0]);
-        one_speaks(schema);
-        terms_rise(schema);
-        tables_refuse(schema);
-        another_form(schema);
-        hangs_in_a_transaction(schema);
-        hangs_behind_its_work(schema);
-        if (given.size() == 2) {
-            waits_for_nobody(schema);
-        }
-    });
-}

@@ -1,4 +1,7 @@
 // Numbers and times: messages of docs/CONNECTING.md on both sides of the gateway.
+#define DOCTEST_CONFIG_IMPLEMENT_WITH_MAIN
+#include <doctest/doctest.h>
+
 #include "check.h"
 #include "frame.h"
 #include "moment.h"
@@ -32,7 +35,7 @@ std::string given(const std::string &body, unsigned number) {
 
 // The documents' example of a quote, as an engine sends it: other numbers, microseconds, the
 // session's fields; and as the venue is to get it.
-void a_quote() {
+TEST_CASE("a quote") {
     const std::string venue =
         "8=FIXT.1.1|9=109|35=S|49=DLR1|56=VENUE|34=1|52=20250314-09:00:10.000|50=T1|131=R1|117=a1|"
         "48=BONDA0000001|22=4|133=99.50390625|10=039|";
@@ -49,7 +52,7 @@ void a_quote() {
          "a quote of an engine");
 }
 
-void every_byte() {
+TEST_CASE("every byte") {
     for (int byte = 0; byte < 256; ++byte) {
         if (byte == 1) {
             continue;
@@ -62,7 +65,7 @@ void every_byte() {
     }
 }
 
-void the_longest() {
+TEST_CASE("the longest") {
     // 4,096 bytes are a frame, and one more is none: 8=FIXT.1.1|9=4071|, the body and 10=ccc|. The
     // venue's number may have more digits than the firm's.
     const std::string begin = "35=Z|34=1|58=";
@@ -72,13 +75,13 @@ void the_longest() {
     same<std::string>("tag 9", given(body, 10), "one byte more");
 }
 
-void cancel_of_one_that_is_gone() {
+TEST_CASE("cancel of one that is gone") {
     same<std::string>(
         "8=FIXT.1.1|9=64|35=Z|49=DLR2|56=VENUE|34=3|52=20250314-09:00:45.000|50=T2|298=4|10=024|",
         with_bars(cancel_of_all("DLR2", "T2", 3, "20250314-09:00:45.000")), "a cancel of all");
 }
 
-void to_firms() {
+TEST_CASE("to firms") {
     const auto body = [](const std::string &frame, unsigned refers_to) {
         return with_bars(for_wire(with_soh(frame), refers_to).body);
     };
@@ -103,7 +106,7 @@ void to_firms() {
 }
 
 // What is told beside a message stands behind all its fields, and never twice.
-void told_beside() {
+TEST_CASE("told beside") {
     const auto body = [](const std::string &frame, const std::string &field) {
         ForWire message = for_wire(with_soh(frame), 5);
         add_told(message, with_soh(field));
@@ -130,7 +133,7 @@ void told_beside() {
     check(is_refused, "a message is told two reasons");
 }
 
-void moments() {
+TEST_CASE("moments") {
     same<std::string>("09:05:00.007", text_of(Moment{32700007}), "a moment");
     check(moment_of("23:59:59.999") == Moment{Moment::last}, "the last moment");
     for (const char *text : {"24:00:00.000", "23:60:00.000", "23:59:60.000", "9:05:00.000", ""}) {
@@ -141,16 +144,3 @@ void moments() {
 } // namespace
 
 } // namespace gateway::tests
-
-int main(int count, char **words) {
-    using namespace gateway::tests;
-    return run_with(count, words, 0, 0, "translation_test", [](std::span<char *>) {
-        a_quote();
-        every_byte();
-        the_longest();
-        cancel_of_one_that_is_gone();
-        to_firms();
-        told_beside();
-        moments();
-    });
-}

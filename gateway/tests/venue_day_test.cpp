@@ -1,7 +1,8 @@
 // A venue's day whose process ends between the start of the gateway and the first session, and one
 // whose program does not say what it is.
-//
-// usage: venue_day_test FOLDER
+#define DOCTEST_CONFIG_IMPLEMENT_WITH_MAIN
+#include <doctest/doctest.h>
+
 #include "begin_day.h"
 #include "check.h"
 #include "checkpoint_file.h"
@@ -146,16 +147,20 @@ void begun_without_a_version(const std::filesystem::path &folder) {
     same<std::string>("unknown", day_of(opened.get().first.line).version, "its version");
 }
 
+TEST_CASE("given again before sessions") {
+    // As the gateway does: the venue may end while it is fed.
+    std::signal(SIGPIPE, SIG_IGN);
+    const Scratch folder("venue_day");
+    given_again_before_sessions(folder.path());
+}
+
+TEST_CASE("begun without a version") {
+    // As the gateway does: the venue may end while it is fed.
+    std::signal(SIGPIPE, SIG_IGN);
+    const Scratch folder("venue_day");
+    begun_without_a_version(folder.path());
+}
+
 } // namespace
 
 } // namespace gateway::tests
-
-int main(int count, char **words) {
-    using namespace gateway::tests;
-    return run_with(count, words, 1, 1, "venue_day_test FOLDER", [](std::span<char *> given) {
-        // As the gateway does: the venue may end while it is fed.
-        std::signal(SIGPIPE, SIG_IGN);
-        given_again_before_sessions(std::filesystem::path(given[0]) / "venue_day");
-        begun_without_a_version(std::filesystem::path(given[0]) / "venue_day");
-    });
-}

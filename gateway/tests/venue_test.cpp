@@ -1,7 +1,8 @@
 // A process of the venue that does not behave: a line without an end, an output that ends before
 // the process does, and what a process leaves behind.
-//
-// usage: venue_test FOLDER
+#define DOCTEST_CONFIG_IMPLEMENT_WITH_MAIN
+#include <doctest/doctest.h>
+
 #include "check.h"
 #include "venue.h"
 
@@ -53,23 +54,51 @@ void tried(const std::string &file, const std::string &script, const std::string
     check(told.find(cause) != std::string::npos, fmt::format("of `{}` is told: {}", script, told));
 }
 
+TEST_CASE("a line without end") {
+    // As the gateway does: a venue may end while it is fed.
+    std::signal(SIGPIPE, SIG_IGN);
+    const Scratch folder("venue");
+    tried(folder.path() / "day.db", "head -c 1000000 /dev/zero; exec sleep 200",
+          "a line of more than 65536 bytes");
+}
+
+TEST_CASE("an output that has ended") {
+    // As the gateway does: a venue may end while it is fed.
+    std::signal(SIGPIPE, SIG_IGN);
+    const Scratch folder("venue");
+    tried(folder.path() / "day.db", "exec sleep 200 >&-", "was ended by signal 9");
+}
+
+TEST_CASE("a note of no message") {
+    std::signal(SIGPIPE, SIG_IGN);
+    const Scratch folder("venue");
+    tried(folder.path() / "day.db", "echo why DLR1 1 Closed; exec sleep 200",
+          "a note of no message");
+}
+
+TEST_CASE("a note behind another of its message") {
+    std::signal(SIGPIPE, SIG_IGN);
+    const Scratch folder("venue");
+    tried(folder.path() / "day.db",
+          "echo DLR1 8=x; echo why DLR1 1 Closed; echo trade DLR1 1 x; exec sleep 200",
+          "a note of no message");
+}
+
+TEST_CASE("a note of no form") {
+    std::signal(SIGPIPE, SIG_IGN);
+    const Scratch folder("venue");
+    tried(folder.path() / "day.db", "echo DLR1 8=x; echo why DLR1 Closed; exec sleep 200",
+          "a note of no form");
+}
+
+TEST_CASE("one that ends again and again") {
+    // As the gateway does: a venue may end while it is fed.
+    std::signal(SIGPIPE, SIG_IGN);
+    const Scratch folder("venue");
+    tried(folder.path() / "day.db", "sleep 200 >&- & echo last >&2; exit 3",
+          "ended with status 3 again and again; its last words: last");
+}
+
 } // namespace
 
 } // namespace gateway::tests
-
-int main(int count, char **words) {
-    using namespace gateway::tests;
-    return run_with(count, words, 1, 1, "venue_test FOLDER", [](std::span<char *> given) {
-        // As the gateway does: a venue may end while it is fed.
-        std::signal(SIGPIPE, SIG_IGN);
-        const std::string file = std::filesystem::path(given[0]) / "venue_test.db";
-        tried(file, "head -c 1000000 /dev/zero; exec sleep 200", "a line of more than 65536 bytes");
-        tried(file, "exec sleep 200 >&-", "was ended by signal 9");
-        tried(file, "echo why DLR1 1 Closed; exec sleep 200", "a note of no message");
-        tried(file, "echo DLR1 8=x; echo why DLR1 1 Closed; echo trade DLR1 1 x; exec sleep 200",
-              "a note of no message");
-        tried(file, "echo DLR1 8=x; echo why DLR1 Closed; exec sleep 200", "a note of no form");
-        tried(file, "sleep 200 >&- & echo last >&2; exit 3",
-              "ended with status 3 again and again; its last words: last");
-    });
-}

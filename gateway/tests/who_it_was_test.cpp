@@ -1,7 +1,8 @@
 // Who a venue's day lets in, and what it puts into its log of them: Logons judged, connections and
 // the messages that came on them, strangers, and connections that their gateway left open.
-//
-// usage: who_it_was_test FOLDER
+#define DOCTEST_CONFIG_IMPLEMENT_WITH_MAIN
+#include <doctest/doctest.h>
+
 #include "begin_day.h"
 #include "check.h"
 #include "frame.h"
@@ -178,7 +179,7 @@ void as_long_with_several_methods(const std::filesystem::path &folder) {
     }
 }
 
-void settings() {
+TEST_CASE("settings") {
     for (const auto &[hash, setting] : std::vector<std::pair<std::string, std::string>>{
              {"$y$j9T$abc./$hash", "$y$j9T$"},
              {"$6$salt$hash", "$6$"},
@@ -304,20 +305,36 @@ void strangers(const std::filesystem::path &folder) {
     same_rows(config, wanted);
 }
 
+TEST_CASE("judged") {
+    std::signal(SIGPIPE, SIG_IGN);
+    const Scratch folder("who_it_was");
+    judged(folder.path());
+}
+
+TEST_CASE("as long for every name") {
+    std::signal(SIGPIPE, SIG_IGN);
+    const Scratch folder("who_it_was");
+    as_long_for_every_name(folder.path());
+}
+
+TEST_CASE("as long with several methods") {
+    std::signal(SIGPIPE, SIG_IGN);
+    const Scratch folder("who_it_was");
+    as_long_with_several_methods(folder.path());
+}
+
+TEST_CASE("on a connection") {
+    std::signal(SIGPIPE, SIG_IGN);
+    const Scratch folder("who_it_was");
+    on_a_connection(folder.path());
+}
+
+TEST_CASE("strangers") {
+    std::signal(SIGPIPE, SIG_IGN);
+    const Scratch folder("who_it_was");
+    strangers(folder.path());
+}
+
 } // namespace
 
 } // namespace gateway::tests
-
-int main(int count, char **words) {
-    using namespace gateway::tests;
-    return run_with(count, words, 1, 1, "who_it_was_test FOLDER", [](std::span<char *> given) {
-        std::signal(SIGPIPE, SIG_IGN);
-        const std::filesystem::path folder = std::filesystem::path(given[0]) / "who_it_was";
-        judged(folder);
-        as_long_for_every_name(folder);
-        as_long_with_several_methods(folder);
-        settings();
-        on_a_connection(folder);
-        strangers(folder);
-    });
-}

@@ -1,5 +1,6 @@
 """Programs of their own beside the gateway: two on one log, the fuzzer, and the proved reader."""
 
+import os
 import re
 import shutil
 import subprocess
@@ -32,7 +33,8 @@ def test_two_gateways_on_one_log(gateway_program: Path, place: Path) -> None:
     if programs is None or not test.exists():
         pytest.skip("PostgreSQL is not installed" if programs is None else "terms_test is not built beside the gateway")
     with postgres.running(programs, place / "server") as server:
-        done = subprocess.run([test, server.connection("postgres"), "own"], capture_output=True, text=True, timeout=LIMIT, check=False)
+        own = {**os.environ, "TEST_POSTGRES": server.connection("postgres"), "TEST_POSTGRES_OWN": "yes"}
+        done = subprocess.run([test], env=own, capture_output=True, text=True, timeout=LIMIT, check=False)
     assert done.returncode == 0, done.stdout + done.stderr
 
 

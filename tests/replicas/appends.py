@@ -20,6 +20,7 @@ from parts.site import Site
 from tests.lab.database import DATABASE
 from tests.lab.machine import DATABASES, GATEWAYS, Machine, site_here
 
+TESTS = ("terms_test", "log_test", "connection_log_test")
 LOADS = ((1, 1), (1, 8), (1, 32), (2, 32), (4, 32))  # logs, threads of each
 
 
@@ -32,11 +33,10 @@ def tried(machine: Machine, out: Path, seconds: int) -> int:
     """Runs the tests and the measurement; how many tests failed."""
     inside = machine.network.words(GATEWAYS[0].name)
     failed, connection = 0, connection_to(machine.site)
-    folder = str(machine.folder)
-    for test in (["terms_test"], ["log_test", folder], ["connection_log_test", folder]):
-        words = [*inside, str(out / test[0]), *test[1:], connection]
-        status = subprocess.run(words, check=False).returncode
-        print("%s: %s" % (test[0], "failed" if status else "passed"), flush=True)
+    own = {**os.environ, "TEST_POSTGRES": connection}
+    for test in TESTS:
+        status = subprocess.run([*inside, str(out / test)], env=own, check=False).returncode
+        print("%s: %s" % (test, "failed" if status else "passed"), flush=True)
         failed += status != 0
     for logs, threads in LOADS:
         subprocess.run([*inside, str(out / "log_bench"), connection, str(logs), str(threads),
@@ -63,7 +63,7 @@ def main() -> None:
             failed = tried(machine, words.out, words.seconds)
         finally:
             machine.down()
-    print("%d passed, %d failed" % (2 - failed, failed))
+    print("%d passed, %d failed" % (len(TESTS) - failed, failed))
     sys.exit(1 if failed else 0)
 
 
