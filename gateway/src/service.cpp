@@ -2,6 +2,8 @@
 
 #include "accept_loss.h"
 #include "day_copies.h"
+#include "log_places.h"
+#include "venue_file.h"
 
 #include "version.h"
 
@@ -138,7 +140,7 @@ int Service::run_days() {
             break;
         }
         next_.look(day);
-        if (const int status = run_day(next_.in_force(day.date), day.ends); status != 0) {
+        if (const int status = run_day(as_begun(next_.in_force(day.date)), day.ends); status != 0) {
             return status;
         }
     }
@@ -162,6 +164,24 @@ void Service::make_copies(const std::string &before, const std::stop_token &stop
     } catch (const std::exception &fault) {
         events_->error("days are not copied cause=\"{}\"", fault.what());
     }
+}
+
+// A day goes on with the configuration that it began with: what the files say by now is for the
+// next one.
+std::vector<Config> Service::as_begun(std::vector<Config> configs) {
+    for (Config &config : configs) {
+        const auto begun = begun_configuration(config);
+        if (!begun || *begun == config.configuration) {
+            continue;
+        }
+        VenueFile file = read_venue_file("entry 0", *begun, config.firms.date);
+        events_->info("the day goes on with the configuration that it began with{}: that of the "
+                      "files applies to the next day",
+                      config.venue.empty() ? "" : " venue=" + config.venue);
+        config.configuration = std::move(file.text);
+        config.firms = {std::move(file.date), std::move(file.firms), false};
+    }
+    return configs;
 }
 
 // Other threads see the gateway from here to its end, however that comes.

@@ -67,6 +67,7 @@ class Service final : private AdminScene {
     };
 
     int run_days();
+    std::vector<Config> as_begun(std::vector<Config> configs);
     int run_day(std::vector<Config> configs, std::optional<SystemSeconds> ends);
     int run_gateway(const std::vector<Config> &configs, std::optional<SystemSeconds> ends);
     bool wait_for_acceptance(std::vector<Config> &configs, std::optional<SystemSeconds> ends);

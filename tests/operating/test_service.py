@@ -153,6 +153,22 @@ def test_a_day_that_has_not_opened(stage: Stage, systemd: Systemd) -> None:
     assert stage.door.stop() == 0
 
 
+def test_a_change_for_tomorrow(stage: Stage) -> None:
+    """A gateway that is killed after it comes back today, with the configuration that the day began with."""
+    (stage.folder / "venue.toml").write_text(VENUE)
+    stage.open(*stage.firms)
+    stage.auction()
+    (stage.folder / "venue.toml").write_text(VENUE.replace("[[dealer]]", '[[bond]]\nid = "BONDB0000002"\ngrid = 32\n[[dealer]]', 1))
+    until("it is told", LONG, lambda: "it is right, and applies from" in stage.door.told.read_text(errors="replace"))
+    stage.door.kill()
+    stage.door.start()
+    stage.door.wait_open()
+    assert "the day goes on with the configuration that it began with" in stage.door.told.read_text(errors="replace")
+    until("all are back", LONG, lambda: all(firm.logged_on() for firm in stage.firms))
+    stage.auction()
+    assert b"BONDB0000002" not in stage.door.ledger().entries[0].line
+
+
 def test_ready(stage: Stage) -> None:
     stage.open()
     assert asked(stage.door, "/health")[0] == 200
