@@ -116,6 +116,8 @@ class Signals {
 
 // Nothing is written, and no port is listened at.
 int check(const std::string &path, const std::string &day) {
+    // A program of the venue that does not take what it is given may have ended already.
+    std::signal(SIGPIPE, SIG_IGN);
     if (!gateway::is_date(day)) {
         std::cerr << "mireseason-gateway: --date takes a day as eight digits\n";
         return 2;
