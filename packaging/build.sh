@@ -78,7 +78,12 @@ files=$place/files
 install -m 0755 "$venue" "$files/rfq_venue"
 programs >"$files/programs"
 install -m 0755 "$gateway/mireseason-gateway" "$gateway/mireseason-admin" "$files"
-cp "$gateway/mireseason-gateway.spdx.json" "$files"
+if [ -e "$gateway/mireseason-gateway.spdx.json" ]; then
+    cp "$gateway/mireseason-gateway.spdx.json" "$files"
+else
+    /usr/bin/python3 "$root/gateway/spdx.py" "$gateway/mireseason-gateway" "$root/crates.txt" \
+        "$files/mireseason-gateway.spdx.json"
+fi
 cp "$root/gateway/mireseason-gateway.service" "$place/debian/mireseason-gateway.service"
 cp -R "$root/fix" "$files/fix"
 cp -R "$root/deploy/prometheus" "$files/prometheus"

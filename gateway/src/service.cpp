@@ -4,7 +4,6 @@
 #include "day_copies.h"
 #include "log_places.h"
 #include "venue_file.h"
-
 #include "version.h"
 
 #include <thread>

@@ -62,6 +62,7 @@ def built(gateway: Path, venue: tuple[str, ...], folder: Path, version: str = VE
         root = folder / "tree"
         for part in ("packaging", "gateway", "deploy", "docs", "fix", "audit"):
             shutil.copytree(ROOT / part, root / part, ignore=shutil.ignore_patterns("out", "__pycache__"))
+        shutil.copy2(ROOT / "crates.txt", root)
         (root / "VERSION").write_text(version + "\n")
         (root / "COMMIT").write_text("0123456789ab\n")
         (root / "CHANGELOG.md").write_text("# Changes\n\n## %s\n\n- Nothing but its number.\n" % version)
