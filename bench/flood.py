@@ -36,7 +36,10 @@ from tests.harness import postgres
 FLOODER = Identity("DLR1", "T1", "dealer-1-secret")
 DEALER = Identity("DLR2", "T2", "dealer-2-secret")
 INVESTOR = Identity("INV1", "V1", "investor-1-secret")
-RATE, BURST = 2000, 10000  # messages of a firm, as the gateway has them without a word of its configuration
+RATE, BURST = (
+    2000,
+    10000,
+)  # messages of a firm, as the gateway has them without a word of its configuration
 READ_AT_ONCE = 1000  # messages: what is read of a socket before any of it is counted
 MEDIAN, SLOWEST = 1.5, 3.0  # the aim: times those of the time alone
 PAUSE = 0.05  # seconds from one message of a firm that measures to its next
@@ -53,7 +56,12 @@ class Grown:
     venue: int
 
     def since(self, before: "Grown") -> "Grown":
-        return Grown(self.flood - before.flood, self.log - before.log, self.gateway - before.gateway, self.venue - before.venue)
+        return Grown(
+            self.flood - before.flood,
+            self.log - before.log,
+            self.gateway - before.gateway,
+            self.venue - before.venue,
+        )
 
 
 @dataclass(frozen=True)
@@ -88,7 +96,12 @@ def logged_on(port: int, who: Identity, number: int = 1) -> Wire:
 
 def quote(at: int) -> tuple[bytes, int, bytes, Fields]:
     name = b"q%d" % at
-    return b"S", 117, name, [(50, b"T2"), (117, name), (131, REQUEST), (48, BOND), (22, b"4"), (133, b"99.5")]
+    return (
+        b"S",
+        117,
+        name,
+        [(50, b"T2"), (117, name), (131, REQUEST), (48, BOND), (22, b"4"), (133, b"99.5")],
+    )
 
 
 def hit(at: int) -> tuple[bytes, int, bytes, Fields]:
@@ -110,7 +123,14 @@ def measured(wire: Wire, kind: str, first: int, seconds: float) -> list[float]:
     return times
 
 
-def measure(port: int, who: Identity, number: int, kind: str, orders: "Queue[float]", answers: "Queue[list[float]]") -> None:
+def measure(
+    port: int,
+    who: Identity,
+    number: int,
+    kind: str,
+    orders: "Queue[float]",
+    answers: "Queue[list[float]]",
+) -> None:
     """A process: measures for as long as each order says, until one says 0."""
     wire, count = logged_on(port, who, number), 0
     answers.put([])
@@ -168,7 +188,7 @@ class Flood:
                 waiting = b"".join(cancel(wire.number + at) for at in range(50))
                 wire.number += 50
                 sent += 50
-            waiting = waiting[sent_of(wire, waiting):]
+            waiting = waiting[sent_of(wire, waiting) :]
             wire._more(0 if not waiting else 0.001)
             wire.waiting = wire.waiting[-256:]  # nobody reads its answers
             if not waiting:
@@ -263,7 +283,10 @@ class Run:
         try:
             self.door.wait_open()
             number = self._ask()
-            firms = [Measuring(self.door.port, DEALER, "quote"), Measuring(self.door.port, INVESTOR, "hit", number)]
+            firms = [
+                Measuring(self.door.port, DEALER, "quote"),
+                Measuring(self.door.port, INVESTOR, "hit", number),
+            ]
             self._phase("warm", firms, min(seconds, 5))
             found = [self._phase("alone", firms, seconds)]
             for name, a_second in (("at its limit", float(RATE)), ("above it", None)):
@@ -277,7 +300,16 @@ class Run:
 
     def _ask(self) -> int:
         """A request that is open all the time; the next number of the investor's session."""
-        fields: Fields = [(50, b"V1"), (131, b"A"), (146, b"1"), (55, b"[N/A]"), (48, BOND), (22, b"4"), (54, b"1"), (38, b"2000000")]
+        fields: Fields = [
+            (50, b"V1"),
+            (131, b"A"),
+            (146, b"1"),
+            (55, b"[N/A]"),
+            (48, BOND),
+            (22, b"4"),
+            (54, b"1"),
+            (38, b"2000000"),
+        ]
         fields += [(126, moment_in(7200)), (453, b"1"), (448, b"DLR2"), (447, b"D"), (452, b"35")]
         with logged_on(self.door.port, INVESTOR) as wire:
             assert wire.raw(wire.message(b"R", wire.name, fields))
@@ -294,7 +326,9 @@ class Run:
 
     def _grown(self) -> Grown:
         venue = self.door.venues()
-        return Grown(self._flood(), self._bytes(), resident(self.door.running.pid), sum(map(resident, venue)))
+        return Grown(
+            self._flood(), self._bytes(), resident(self.door.running.pid), sum(map(resident, venue))
+        )
 
     def _flood(self) -> int:
         return int(self._asked("SELECT count(*) FROM entry WHERE firm = 'DLR1'"))
@@ -302,7 +336,9 @@ class Run:
     def _bytes(self) -> int:
         if self.log is not None:
             tables = ("entry", "sent", "outgoing", "session", "seal", "checkpoint", "connection")
-            return sum(int(self._asked("SELECT pg_total_relation_size('%s')" % name)) for name in tables)
+            return sum(
+                int(self._asked("SELECT pg_total_relation_size('%s')" % name)) for name in tables
+            )
         files = self.door.folder.glob("day.db*")
         return sum(file.stat().st_size for file in files)
 
@@ -334,11 +370,21 @@ def faults(phases: list[Phase]) -> Iterator[str]:
     alone = phases[0]
     for phase in phases:
         if phase.median > MEDIAN * alone.median:
-            yield "%s: the median is %.2f times that alone" % (phase.name, phase.median / alone.median)
+            yield "%s: the median is %.2f times that alone" % (
+                phase.name,
+                phase.median / alone.median,
+            )
         if phase.slowest > SLOWEST * alone.slowest:
-            yield "%s: the 99th percentile is %.2f times that alone" % (phase.name, phase.slowest / alone.slowest)
+            yield "%s: the 99th percentile is %.2f times that alone" % (
+                phase.name,
+                phase.slowest / alone.slowest,
+            )
         if phase.grown.flood > allowed(phase):
-            yield "%s: %d messages of the flood are in the log, and the rate allows %d" % (phase.name, phase.grown.flood, allowed(phase))
+            yield "%s: %d messages of the flood are in the log, and the rate allows %d" % (
+                phase.name,
+                phase.grown.flood,
+                allowed(phase),
+            )
 
 
 def table(log: str, phases: list[Phase]) -> Iterator[str]:
@@ -347,8 +393,19 @@ def table(log: str, phases: list[Phase]) -> Iterator[str]:
     for phase in phases:
         grown = phase.grown
         yield "| %s | %s | %d | %.2f | %.2f | %.2f | %.2f | %d of %d | %.1f | %.1f | %.1f |" % (
-            log, phase.name, len(phase.times), phase.median, phase.median / alone.median, phase.slowest,
-            phase.slowest / alone.slowest, grown.flood, allowed(phase), grown.log / 1e6, grown.gateway / 1e6, grown.venue / 1e6)
+            log,
+            phase.name,
+            len(phase.times),
+            phase.median,
+            phase.median / alone.median,
+            phase.slowest,
+            phase.slowest / alone.slowest,
+            grown.flood,
+            allowed(phase),
+            grown.log / 1e6,
+            grown.gateway / 1e6,
+            grown.venue / 1e6,
+        )
 
 
 HEAD = """| log | the flood | answers | median, ms | times | 99th percentile, ms | times | its messages in the log, of | log, MB | gateway, MB | venue, MB |

@@ -20,7 +20,9 @@ from tests.gateway.firm import Identity, Places, settings_text
 from tests.gateway.market import moment_in
 
 ROOT = Path(__file__).resolve().parent.parent
-DEALER, INVESTOR = Identity("DLR1", "T1", "dealer-1-secret"), Identity("INV1", "V1", "investor-1-secret")
+DEALER, INVESTOR = Identity("DLR1", "T1", "dealer-1-secret"), Identity(
+    "INV1", "V1", "investor-1-secret"
+)
 DICTIONARIES = (ROOT / "fix" / "FIXT11.xml", ROOT / "fix" / "MIRESEASON.xml")
 
 
@@ -45,8 +47,17 @@ class Bench:
         return file
 
     def measured(self, folder: Path, port: int, *request: str) -> Figures:
-        words = ["dealer", str(self.settings(folder, DEALER, port)), DEALER.name, DEALER.password, str(self.one_by_one), str(self.burst)]
-        run = subprocess.run([str(self.load), *words, *request], stdout=subprocess.PIPE, text=True, check=True)
+        words = [
+            "dealer",
+            str(self.settings(folder, DEALER, port)),
+            DEALER.name,
+            DEALER.password,
+            str(self.one_by_one),
+            str(self.burst),
+        ]
+        run = subprocess.run(
+            [str(self.load), *words, *request], stdout=subprocess.PIPE, text=True, check=True
+        )
         return Figures(*map(float, run.stdout.split()))
 
     def echo(self) -> Figures:
@@ -66,7 +77,13 @@ class Bench:
             try:
                 door.wait_open()
                 settings = self.settings(folder, INVESTOR, door.port)
-                words = ["investor", str(settings), INVESTOR.name, INVESTOR.password, moment_in(3600).decode()]
+                words = [
+                    "investor",
+                    str(settings),
+                    INVESTOR.name,
+                    INVESTOR.password,
+                    moment_in(3600).decode(),
+                ]
                 with started([self.load, *words], "asked"):
                     return self.measured(folder, door.port)
             finally:
@@ -75,10 +92,22 @@ class Bench:
 
 def echo_settings(folder: Path, port: int) -> str:
     transport, messages = DICTIONARIES
-    values = {"ConnectionType": "acceptor", "BeginString": "FIXT.1.1", "DefaultApplVerID": "9", "SenderCompID": "VENUE",
-              "TargetCompID": DEALER.name, "SocketAcceptPort": str(port), "SocketReuseAddress": "Y", "SocketNodelay": "Y",
-              "StartTime": "00:00:00", "EndTime": "23:59:59", "FileStorePath": str(folder / "echo"), "UseDataDictionary": "Y",
-              "TransportDataDictionary": str(transport), "AppDataDictionary": str(messages)}
+    values = {
+        "ConnectionType": "acceptor",
+        "BeginString": "FIXT.1.1",
+        "DefaultApplVerID": "9",
+        "SenderCompID": "VENUE",
+        "TargetCompID": DEALER.name,
+        "SocketAcceptPort": str(port),
+        "SocketReuseAddress": "Y",
+        "SocketNodelay": "Y",
+        "StartTime": "00:00:00",
+        "EndTime": "23:59:59",
+        "FileStorePath": str(folder / "echo"),
+        "UseDataDictionary": "Y",
+        "TransportDataDictionary": str(transport),
+        "AppDataDictionary": str(messages),
+    }
     return "[DEFAULT]\n" + "".join("%s=%s\n" % item for item in values.items()) + "[SESSION]\n"
 
 
@@ -98,7 +127,11 @@ def started(words: Sequence[str | Path], ready: str) -> Iterator[None]:
 
 
 def best(rounds: list[Figures]) -> Figures:
-    return Figures(min(one.median for one in rounds), min(one.slowest for one in rounds), max(one.burst for one in rounds))
+    return Figures(
+        min(one.median for one in rounds),
+        min(one.slowest for one in rounds),
+        max(one.burst for one in rounds),
+    )
 
 
 def main() -> None:
@@ -109,12 +142,20 @@ def main() -> None:
         parser.add_argument(name, type=int, default=usual)
     parser.add_argument("venue", nargs="+")
     words = parser.parse_args()
-    bench = Bench(programs_of(words.gateway, words.venue), words.load.resolve(), words.one_by_one, words.burst)
+    bench = Bench(
+        programs_of(words.gateway, words.venue), words.load.resolve(), words.one_by_one, words.burst
+    )
     pairs = [(bench.echo(), bench.gateway()) for _ in range(words.rounds)]
     echo, gateway = best([pair[0] for pair in pairs]), best([pair[1] for pair in pairs])
     for name, one in (("echo", echo), ("gateway", gateway)):
-        print("%-8s median %6.0f us, 99th percentile %6.0f us, burst %6.0f messages a second" % (name, one.median, one.slowest, one.burst))
-    print("gateway / echo: median %.2f, 99th percentile %.2f" % (gateway.median / echo.median, gateway.slowest / echo.slowest))
+        print(
+            "%-8s median %6.0f us, 99th percentile %6.0f us, burst %6.0f messages a second"
+            % (name, one.median, one.slowest, one.burst)
+        )
+    print(
+        "gateway / echo: median %.2f, 99th percentile %.2f"
+        % (gateway.median / echo.median, gateway.slowest / echo.slowest)
+    )
 
 
 if __name__ == "__main__":

@@ -32,11 +32,15 @@ class Taken:
 def configuration() -> str:
     text = 'version = 1\ndate = "20250314"\n[[bond]]\nid = "BONDA0000001"\n'
     for dealer in range(1, INVESTORS * DEALERS + 1):
-        text += '[[dealer]]\nname = "DLR%d"\ntraders = ["T1"]\nquotes = %d\nexposure = 1000000000000\n' % (
-            dealer, REQUESTS * len(PRICES))
+        text += (
+            '[[dealer]]\nname = "DLR%d"\ntraders = ["T1"]\nquotes = %d\nexposure = 1000000000000\n'
+            % (dealer, REQUESTS * len(PRICES))
+        )
     for investor in range(1, INVESTORS + 1):
-        text += '[[investor]]\nname = "INV%d"\ntraders = ["T8"]\nrequests = %d\nopen = 1024\nquantity = 5000000\n' % (
-            investor, REQUESTS)
+        text += (
+            '[[investor]]\nname = "INV%d"\ntraders = ["T8"]\nrequests = %d\nopen = 1024\nquantity = 5000000\n'
+            % (investor, REQUESTS)
+        )
     return text + "%%\n"
 
 
@@ -45,13 +49,23 @@ def auction(investor: int, number: int) -> Iterator[tuple[str, str]]:
     dealers = [DEALERS * (investor - 1) + dealer for dealer in range(1, DEALERS + 1)]
     parties = "".join("|448=DLR%d|447=D|452=35" % dealer for dealer in dealers)
     turns = "turn INV%d 4\n" % investor
-    yield ("say INV%d T8 09:00:10 R 131=q%d|146=1|48=BONDA0000001|22=4|54=1|38=2000000|126=20250314-17:00:00|453=%d%s\n"
-           % (investor, number, DEALERS, parties), turns)
+    yield (
+        "say INV%d T8 09:00:10 R 131=q%d|146=1|48=BONDA0000001|22=4|54=1|38=2000000|126=20250314-17:00:00|453=%d%s\n"
+        % (investor, number, DEALERS, parties),
+        turns,
+    )
     for dealer in dealers:
         for place, price in enumerate(PRICES):
-            yield ("say DLR%d T1 09:00:10 S 117=a%d|131=R%d|48=BONDA0000001|22=4|133=%s\n"
-                   % (dealer, len(PRICES) * (number - 1) + place, number, price), "turn DLR%d 2\n" % dealer)
-    yield "say INV%d T8 09:00:10 AJ 693=h%d|694=1|117=Q%d\n" % (investor, number, DEALERS * len(PRICES) * number), turns
+            yield (
+                "say DLR%d T1 09:00:10 S 117=a%d|131=R%d|48=BONDA0000001|22=4|133=%s\n"
+                % (dealer, len(PRICES) * (number - 1) + place, number, price),
+                "turn DLR%d 2\n" % dealer,
+            )
+    yield "say INV%d T8 09:00:10 AJ 693=h%d|694=1|117=Q%d\n" % (
+        investor,
+        number,
+        DEALERS * len(PRICES) * number,
+    ), turns
 
 
 def write_day(requests: int, with_turns: bool, day: Path) -> int:
@@ -90,9 +104,16 @@ def main() -> None:
             come = write_day(REQUESTS, turns, day)
             of_all = taken([program, *words], day)
             more = of_all.memory - of_half.memory
-            print("`%s`: %d messages that come, %d that are sent, %.1f MB in all: %.0f bytes each" % (
-                " ".join(words), come, of_all.lines, of_all.memory / 1e6,
-                more / (come - half + of_all.lines - of_half.lines)))
+            print(
+                "`%s`: %d messages that come, %d that are sent, %.1f MB in all: %.0f bytes each"
+                % (
+                    " ".join(words),
+                    come,
+                    of_all.lines,
+                    of_all.memory / 1e6,
+                    more / (come - half + of_all.lines - of_half.lines),
+                )
+            )
 
 
 if __name__ == "__main__":

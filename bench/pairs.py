@@ -42,26 +42,40 @@ def configuration(pairs: int) -> str:
     text = 'version = 1\ndate = "20250314"\n[[bond]]\nid = "BONDA0000001"\n'
     for number in range(pairs + 1):
         quotes = ACCEPTED if number else 1
-        text += '[[dealer]]\nname = "DLR%d"\ntraders = ["T1"]\nquotes = %d\nexposure = 1000000000000000\n' % (number, quotes)
+        text += (
+            '[[dealer]]\nname = "DLR%d"\ntraders = ["T1"]\nquotes = %d\nexposure = 1000000000000000\n'
+            % (number, quotes)
+        )
     for number in range(1, pairs + 1):
-        text += '[[investor]]\nname = "INV%d"\ntraders = ["T1"]\nrequests = %d\nopen = 1024\nquantity = 5000000\n' % (
-            number, REQUESTS)
+        text += (
+            '[[investor]]\nname = "INV%d"\ntraders = ["T1"]\nrequests = %d\nopen = 1024\nquantity = 5000000\n'
+            % (number, REQUESTS)
+        )
     return text + "%%\n"
 
 
 def request(pair: int, number: int) -> str:
-    return ("say INV%d T1 09:00:00 R 131=q%d|146=1|48=BONDA0000001|22=4|54=1|38=1000|126=20250314-17:00:00|453=1"
-            "|448=DLR%d|447=D|452=35\n" % (pair, number, pair))
+    return (
+        "say INV%d T1 09:00:00 R 131=q%d|146=1|48=BONDA0000001|22=4|54=1|38=1000|126=20250314-17:00:00|453=1"
+        "|448=DLR%d|447=D|452=35\n" % (pair, number, pair)
+    )
 
 
 def quotes(pair: int) -> Iterator[str]:
     for turn in range(1, ROUNDS + 1):
         for number in range(1, REQUESTS + 1):
-            yield "say DLR%d T1 09:00:10 S 117=a%d.%d|131=R%d|48=BONDA0000001|22=4|133=99.5\n" % (pair, turn, number, number)
+            yield "say DLR%d T1 09:00:10 S 117=a%d.%d|131=R%d|48=BONDA0000001|22=4|133=99.5\n" % (
+                pair,
+                turn,
+                number,
+                number,
+            )
 
 
 def on_threads(pairs: int) -> str:
-    text = "".join(request(pair, number) for number in range(1, REQUESTS + 1) for pair in range(1, pairs + 1))
+    text = "".join(
+        request(pair, number) for number in range(1, REQUESTS + 1) for pair in range(1, pairs + 1)
+    )
     return text + "".join("".join(quotes(pair)) for pair in range(1, pairs + 1))
 
 
@@ -92,7 +106,9 @@ def as_it_came(pairs: int, text: bytes) -> str:
 def run(program: Path, words: list[str], day: Path) -> Ran:
     with day.open("rb") as lines, tempfile.TemporaryFile() as out:
         began = time.monotonic()
-        running = subprocess.Popen([program, *words], stdin=lines, stdout=out, stderr=subprocess.DEVNULL)
+        running = subprocess.Popen(
+            [program, *words], stdin=lines, stdout=out, stderr=subprocess.DEVNULL
+        )
         _, status, usage = os.wait4(running.pid, 0)
         took = time.monotonic() - began
         running.returncode = os.waitstatus_to_exitcode(status)
@@ -135,13 +151,29 @@ def measure(program: Path, pairs: int, runs: int, folder: Path) -> None:
     printing = replay.seconds - silent.seconds
     own, replayed = day.seconds - read.seconds - printing, silent.seconds - replay_read.seconds
     accepted = sum(b"|297=0" in line for line in lines_to_dealers(day.text))
-    print("%d pairs, %d messages, %d quotes of %d accepted: `replay` %.3f s (reading %.3f, the day %.3f, printing %.3f),"
-          " of processors %.3f" % (pairs, came.count("\n"), accepted, pairs * ACCEPTED, replay.seconds,
-                                   replay_read.seconds, replayed, printing, replay.processors))
-    print("`day` %.3f s (reading %.3f, the sessions %.3f, before and behind them %.3f, printing %.3f), of processors %.3f"
-          % (day.seconds, read.seconds, sessions, own - sessions, printing, day.processors))
-    print("`day` is %.2f of `replay`, reading and printing taken off, the sessions alone %.2f; %d processors, load %.1f" % (
-        own / replayed, sessions / replayed, len(os.sched_getaffinity(0)), os.getloadavg()[0]))
+    print(
+        "%d pairs, %d messages, %d quotes of %d accepted: `replay` %.3f s (reading %.3f, the day %.3f, printing %.3f),"
+        " of processors %.3f"
+        % (
+            pairs,
+            came.count("\n"),
+            accepted,
+            pairs * ACCEPTED,
+            replay.seconds,
+            replay_read.seconds,
+            replayed,
+            printing,
+            replay.processors,
+        )
+    )
+    print(
+        "`day` %.3f s (reading %.3f, the sessions %.3f, before and behind them %.3f, printing %.3f), of processors %.3f"
+        % (day.seconds, read.seconds, sessions, own - sessions, printing, day.processors)
+    )
+    print(
+        "`day` is %.2f of `replay`, reading and printing taken off, the sessions alone %.2f; %d processors, load %.1f"
+        % (own / replayed, sessions / replayed, len(os.sched_getaffinity(0)), os.getloadavg()[0])
+    )
 
 
 def main() -> None:

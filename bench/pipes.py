@@ -56,8 +56,10 @@ def main() -> None:
     with tempfile.NamedTemporaryFile() as file:
         file.writelines(line for line in lines if not line.startswith(b"turn "))
         file.flush()
-        ways = {"replay": ([program, "replay"], day),
-                "live --marks": ([program, "live", "--marks"], Path(file.name))}
+        ways = {
+            "replay": ([program, "replay"], day),
+            "live --marks": ([program, "live", "--marks"], Path(file.name)),
+        }
         taken: dict[str, list[Took]] = {name: [] for name in ways}
         for name in list(ways) * RUNS:
             taken[name].append(run(*ways[name]))

@@ -20,7 +20,9 @@ from tests.gateway.firm import Identity, Places, settings_text
 from tests.gateway.market import moment_in
 
 ROOT = Path(__file__).resolve().parent.parent
-DEALER, INVESTOR = Identity("DLR1", "T1", "dealer-1-secret"), Identity("INV1", "V1", "investor-1-secret")
+DEALER, INVESTOR = Identity("DLR1", "T1", "dealer-1-secret"), Identity(
+    "INV1", "V1", "investor-1-secret"
+)
 DICTIONARIES = (ROOT / "fix" / "FIXT11.xml", ROOT / "fix" / "MIRESEASON.xml")
 COUNTS = (1, 2, 4)
 WARM = "100"  # quotes that are sent one by one before the burst
@@ -37,14 +39,25 @@ class Bench:
         text, credentials = "", ""
         for name in names:
             text += '[venue.%s]\ncommand = %s\nconfiguration = "%s.toml"\n' % (
-                name, quoted((*self.programs.venue, "live", "--frames", "--marks")), name)
+                name,
+                quoted((*self.programs.venue, "live", "--frames", "--marks")),
+                name,
+            )
             (self.folder / (name + ".toml")).write_text(venue_text([DEALER], [INVESTOR]))
         for who in (DEALER, INVESTOR):
-            hashed = subprocess.run([self.programs.gateway, "--hash"], input=who.password + "\n", text=True,
-                                    capture_output=True, check=True).stdout.strip()
+            hashed = subprocess.run(
+                [self.programs.gateway, "--hash"],
+                input=who.password + "\n",
+                text=True,
+                capture_output=True,
+                check=True,
+            ).stdout.strip()
             credentials += '[%s]\nusername = "%s"\npassword = "%s"\n' % (who.name, who.name, hashed)
         text += seal_text(self.programs.gateway, self.folder)
-        text += '[log]\nsqlite = "{venue}.db"\n[fix]\nport = %d\ncredentials = "credentials.toml"\n' % port
+        text += (
+            '[log]\nsqlite = "{venue}.db"\n[fix]\nport = %d\ncredentials = "credentials.toml"\n'
+            % port
+        )
         (self.folder / "credentials.toml").write_text(credentials)
         (self.folder / "credentials.toml").chmod(0o600)
         (self.folder / "gateway.toml").write_text(text)
@@ -56,18 +69,27 @@ class Bench:
         settings = own / (who.name + ".cfg")
         settings.write_text(settings_text(Places(self.load, own, DICTIONARIES, port), who, {}))
         role = "dealer" if who is DEALER else "investor"
-        return subprocess.Popen([self.load, role, settings, who.name, who.password, *words], text=True,
-                                stdin=subprocess.PIPE, stdout=subprocess.PIPE, env={**os.environ, "PLAYER_VENUE": name})
+        return subprocess.Popen(
+            [self.load, role, settings, who.name, who.password, *words],
+            text=True,
+            stdin=subprocess.PIPE,
+            stdout=subprocess.PIPE,
+            env={**os.environ, "PLAYER_VENUE": name},
+        )
 
     def run(self, count: int) -> float:
         """The quotes a second of all venues together."""
         names, port = ["v%d" % number for number in range(count)], free_port()
         with contextlib.ExitStack() as stack:
             told = stack.enter_context((self.folder / "told").open("w+"))
-            gateway = subprocess.Popen([self.programs.gateway, self.write(names, port)], stdout=told, stderr=told)
+            gateway = subprocess.Popen(
+                [self.programs.gateway, self.write(names, port)], stdout=told, stderr=told
+            )
             stack.callback(gateway.wait, 30)
             stack.callback(gateway.terminate)
-            investors = [self.client(name, INVESTOR, port, moment_in(3600).decode()) for name in names]
+            investors = [
+                self.client(name, INVESTOR, port, moment_in(3600).decode()) for name in names
+            ]
             for each in investors:
                 stack.callback(each.wait, 30)
                 assert each.stdin is not None
@@ -91,8 +113,16 @@ def main() -> None:
     words = parser.parse_args()
     for count in COUNTS:
         with tempfile.TemporaryDirectory(dir=words.folder) as name:
-            bench = Bench(programs_of(words.gateway, words.venue), words.load.resolve(), Path(name), words.burst)
-            print("%d venues: %.0f quotes a second, all together" % (count, bench.run(count)), flush=True)
+            bench = Bench(
+                programs_of(words.gateway, words.venue),
+                words.load.resolve(),
+                Path(name),
+                words.burst,
+            )
+            print(
+                "%d venues: %.0f quotes a second, all together" % (count, bench.run(count)),
+                flush=True,
+            )
 
 
 if __name__ == "__main__":

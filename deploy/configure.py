@@ -15,9 +15,12 @@ from pathlib import Path
 from parts.fault import Fault
 from parts.site import Folders, read_site
 
-DATABASE_HOST = Folders("/etc/patroni", "/var/lib/mireseason", "/run/mireseason",
-                        "/etc/patroni/tls", "/etc/etcd/tls")
-GATEWAY_HOST = Folders("/etc/mireseason", "/var/lib/mireseason", "/run/mireseason", tls="/etc/mireseason/site")
+DATABASE_HOST = Folders(
+    "/etc/patroni", "/var/lib/mireseason", "/run/mireseason", "/etc/patroni/tls", "/etc/etcd/tls"
+)
+GATEWAY_HOST = Folders(
+    "/etc/mireseason", "/var/lib/mireseason", "/run/mireseason", tls="/etc/mireseason/site"
+)
 MODES = {"make_database.sh": 0o750}  # the others have passwords, too: 0640
 SECRET = 0o640
 

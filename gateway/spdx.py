@@ -26,13 +26,37 @@ AUDIT = ("python3", "python3-jinja2", "python3-psycopg2", "python3-cryptography"
 NONE = "NOASSERTION"
 # Debian's short names that are others in SPDX.
 NAMES = {
-    "Expat": "MIT", "Apache-2": "Apache-2.0", "Apache": "Apache-2.0", "BSD-3-clause": "BSD-3-Clause", "BSD-2-clause": "BSD-2-Clause",
-    "BSD": "BSD-3-Clause", "ISC": "ISC", "Zlib": "Zlib", "zlib": "Zlib", "BSL-1.0": "BSL-1.0", "PostgreSQL": "PostgreSQL",
-    "GPL-1+": "GPL-1.0-or-later", "GPL-2": "GPL-2.0-only", "GPL-2+": "GPL-2.0-or-later",
-    "GPL-3": "GPL-3.0-only", "GPL-3+": "GPL-3.0-or-later", "LGPL-2": "LGPL-2.0-only", "LGPL-2+": "LGPL-2.0-or-later",
-    "LGPL-2.1": "LGPL-2.1-only", "LGPL-2.1+": "LGPL-2.1-or-later", "LGPL-3": "LGPL-3.0-only", "LGPL-3+": "LGPL-3.0-or-later",
+    "Expat": "MIT",
+    "Apache-2": "Apache-2.0",
+    "Apache": "Apache-2.0",
+    "BSD-3-clause": "BSD-3-Clause",
+    "BSD-2-clause": "BSD-2-Clause",
+    "BSD": "BSD-3-Clause",
+    "ISC": "ISC",
+    "Zlib": "Zlib",
+    "zlib": "Zlib",
+    "BSL-1.0": "BSL-1.0",
+    "PostgreSQL": "PostgreSQL",
+    "GPL-1+": "GPL-1.0-or-later",
+    "GPL-2": "GPL-2.0-only",
+    "GPL-2+": "GPL-2.0-or-later",
+    "GPL-3": "GPL-3.0-only",
+    "GPL-3+": "GPL-3.0-or-later",
+    "LGPL-2": "LGPL-2.0-only",
+    "LGPL-2+": "LGPL-2.0-or-later",
+    "LGPL-2.1": "LGPL-2.1-only",
+    "LGPL-2.1+": "LGPL-2.1-or-later",
+    "LGPL-3": "LGPL-3.0-only",
+    "LGPL-3+": "LGPL-3.0-or-later",
 }
-SPDX_NAMES = frozenset(NAMES.values()) | {"MIT", "Apache-2.0", "OpenSSL", "CC0-1.0", "OLDAP-2.8", "Unicode-DFS-2016"}
+SPDX_NAMES = frozenset(NAMES.values()) | {
+    "MIT",
+    "Apache-2.0",
+    "OpenSSL",
+    "CC0-1.0",
+    "OLDAP-2.8",
+    "Unicode-DFS-2016",
+}
 
 
 def printed(*words: str) -> str:
@@ -78,7 +102,10 @@ class Licences:
         """A licence by its name in Debian, which may be an expression."""
         parts = re.split(r"\s*,?\s+(and|or)\s+", name)
         if len(parts) > 1:
-            named = [part.upper() if part in ("and", "or") else self.named(package, part, text) for part in parts]
+            named = [
+                part.upper() if part in ("and", "or") else self.named(package, part, text)
+                for part in parts
+            ]
             return "(%s)" % " ".join(named)
         spdx = NAMES.get(name, name)
         return spdx if spdx in SPDX_NAMES else self.reference(package, text)
@@ -115,7 +142,9 @@ def debian(names: set[str], relation: str, licences: Licences) -> list[Component
     for name in sorted(names):
         version = printed("dpkg-query", "-W", "-f=${Version}", name)
         if version:
-            made.append(Component(name, version, licences.of(name), "Organization: Debian", relation))
+            made.append(
+                Component(name, version, licences.of(name), "Organization: Debian", relation)
+            )
     return made
 
 
@@ -127,35 +156,77 @@ def crates(path: Path, version: str) -> list[Component]:
         if line and not line.startswith("#"):
             own.add(name.split()[0])
             kit.update(below.split())
-    listed = [(name, version, "OTHER") for name in sorted(own)] + [(name, NONE, "OTHER") for name in sorted(kit - own)]
+    listed = [(name, version, "OTHER") for name in sorted(own)] + [
+        (name, NONE, "OTHER") for name in sorted(kit - own)
+    ]
     return [Component(name, one, NONE, NONE, relation) for name, one, relation in listed]
 
 
 def package_of(one: Component) -> dict[str, Any]:
     return {
-        "SPDXID": one.identifier, "name": one.name, "versionInfo": one.version, "supplier": one.supplier,
-        "downloadLocation": NONE, "filesAnalyzed": False, "licenseConcluded": NONE, "licenseDeclared": one.licence,
+        "SPDXID": one.identifier,
+        "name": one.name,
+        "versionInfo": one.version,
+        "supplier": one.supplier,
+        "downloadLocation": NONE,
+        "filesAnalyzed": False,
+        "licenseConcluded": NONE,
+        "licenseDeclared": one.licence,
         "copyrightText": NONE,
     }
 
 
-RELATIONS = {"DYNAMIC_LINK": False, "BUILD_DEPENDENCY_OF": True, "OTHER": False, "DEPENDS_ON": False}  # whether turned round
+RELATIONS = {
+    "DYNAMIC_LINK": False,
+    "BUILD_DEPENDENCY_OF": True,
+    "OTHER": False,
+    "DEPENDS_ON": False,
+}  # whether turned round
 
 
-def document(gateway: Component, parts: list[Component], licences: Licences, program: Path) -> dict[str, Any]:
+def document(
+    gateway: Component, parts: list[Component], licences: Licences, program: Path
+) -> dict[str, Any]:
     digest = hashlib.sha256(program.read_bytes()).hexdigest()
-    relations = [{"spdxElementId": "SPDXRef-DOCUMENT", "relationshipType": "DESCRIBES", "relatedSpdxElement": gateway.identifier}]
+    relations = [
+        {
+            "spdxElementId": "SPDXRef-DOCUMENT",
+            "relationshipType": "DESCRIBES",
+            "relatedSpdxElement": gateway.identifier,
+        }
+    ]
     for one in parts:
-        ends = (one.identifier, gateway.identifier) if RELATIONS[one.relation] else (gateway.identifier, one.identifier)
-        relations.append({"spdxElementId": ends[0], "relationshipType": one.relation, "relatedSpdxElement": ends[1]})
+        ends = (
+            (one.identifier, gateway.identifier)
+            if RELATIONS[one.relation]
+            else (gateway.identifier, one.identifier)
+        )
+        relations.append(
+            {
+                "spdxElementId": ends[0],
+                "relationshipType": one.relation,
+                "relatedSpdxElement": ends[1],
+            }
+        )
     own = {**package_of(gateway), "checksums": [{"algorithm": "SHA256", "checksumValue": digest}]}
-    made = datetime.fromtimestamp(int(os.environ.get("SOURCE_DATE_EPOCH", program.stat().st_mtime)), timezone.utc)
+    made = datetime.fromtimestamp(
+        int(os.environ.get("SOURCE_DATE_EPOCH", program.stat().st_mtime)), timezone.utc
+    )
     return {
-        "spdxVersion": "SPDX-2.3", "dataLicense": "CC0-1.0", "SPDXID": "SPDXRef-DOCUMENT", "name": "mireseason",
+        "spdxVersion": "SPDX-2.3",
+        "dataLicense": "CC0-1.0",
+        "SPDXID": "SPDXRef-DOCUMENT",
+        "name": "mireseason",
         "documentNamespace": "https://mireseason.invalid/spdx/" + digest,
-        "creationInfo": {"created": made.strftime("%Y-%m-%dT%H:%M:%SZ"), "creators": ["Tool: gateway/spdx.py"]},
+        "creationInfo": {
+            "created": made.strftime("%Y-%m-%dT%H:%M:%SZ"),
+            "creators": ["Tool: gateway/spdx.py"],
+        },
         "packages": [own, *map(package_of, parts)],
-        "hasExtractedLicensingInfos": [{"licenseId": name, "extractedText": text} for name, text in sorted(licences.words.items())],
+        "hasExtractedLicensingInfos": [
+            {"licenseId": name, "extractedText": text}
+            for name, text in sorted(licences.words.items())
+        ],
         "relationships": relations,
     }
 
@@ -167,13 +238,17 @@ def main() -> None:
     words = parser.parse_args()
     licences = Licences()
     version = printed(str(words.program), "--version").split()
-    gateway = Component("mireseason-gateway", version[-1] if version else NONE, NONE, NONE, "program")
+    gateway = Component(
+        "mireseason-gateway", version[-1] if version else NONE, NONE, NONE, "program"
+    )
     built = set(printed("sh", str(ROOT / "gateway" / "packages.sh")).split())
     parts = debian(packages_of(libraries_of(words.program)), "DYNAMIC_LINK", licences)
     parts += debian(built, "BUILD_DEPENDENCY_OF", licences)
     parts += crates(words.crates, gateway.version)
     parts += debian(set(AUDIT), "DEPENDS_ON", licences)
-    words.out.write_text(json.dumps(document(gateway, parts, licences, words.program), indent=1) + "\n")
+    words.out.write_text(
+        json.dumps(document(gateway, parts, licences, words.program), indent=1) + "\n"
+    )
 
 
 if __name__ == "__main__":

@@ -14,7 +14,9 @@ import subprocess
 import sys
 from collections.abc import Callable, Iterator
 
-OfByte = Callable[[int, int], tuple[bytes, str]]  # of a byte and a number: the message, and its answer
+OfByte = Callable[
+    [int, int], tuple[bytes, str]
+]  # of a byte and a number: the message, and its answer
 SOH = b"\x01"
 FIRST_LINE = 15  # of the steps: behind the configuration and its `%%`
 CONFIGURATION = """version = 1
@@ -40,7 +42,16 @@ def frame(body: bytes) -> bytes:
 
 
 def cancel(number: int, quote: bytes, more: bytes) -> bytes:
-    fields = [b"35=Z", b"49=DLR1", b"56=VENUE", b"34=%d" % number, b"52=20250314-09:00:00", b"50=T1", b"298=5", b"117=" + quote]
+    fields = [
+        b"35=Z",
+        b"49=DLR1",
+        b"56=VENUE",
+        b"34=%d" % number,
+        b"52=20250314-09:00:00",
+        b"50=T1",
+        b"298=5",
+        b"117=" + quote,
+    ]
     return frame(b"".join(field + SOH for field in fields) + more)
 
 
@@ -93,7 +104,9 @@ def case(name: str) -> Iterator[str]:
 
 
 def write() -> None:
-    print("# Each value of a byte, 00 to FF, in a field of a message that is said digit by digit: what `live` does, and")
+    print(
+        "# Each value of a byte, 00 to FF, in a field of a message that is said digit by digit: what `live` does, and"
+    )
     print("# that no other firm is sent anything. Written by tests/every_byte.py, from the rules.")
     print("place commands\n")
     print("block VENUE")
@@ -105,7 +118,9 @@ def holds(program: list[str], name: str) -> bool:
     """Whether a program prints what a case says, and nothing else."""
     steps, answers = told(CASES[name])
     day = CONFIGURATION + "".join(step + "\n" for step in steps)
-    run = subprocess.run([*program, "live", "--marks"], input=day, capture_output=True, encoding="ascii", check=False)
+    run = subprocess.run(
+        [*program, "live", "--marks"], input=day, capture_output=True, encoding="ascii", check=False
+    )
     printed = run.stdout.splitlines()
     if (run.returncode, printed) == (0, answers):
         return True

@@ -46,8 +46,9 @@ def check_pages(root: Path, files: list[str], pages: list[Page], program: str | 
 
 def main() -> int:
     """The status: 0 where nothing was found."""
-    arguments = argparse.ArgumentParser(description=__doc__,
-                                        formatter_class=argparse.RawTextHelpFormatter)
+    arguments = argparse.ArgumentParser(
+        description=__doc__, formatter_class=argparse.RawTextHelpFormatter
+    )
     arguments.add_argument("--venue", metavar="PROGRAM")
     arguments.add_argument("--words", action="store_true")
     asked = arguments.parse_args()

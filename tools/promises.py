@@ -183,8 +183,11 @@ class FileReader:
             self.read_law(self.owner.name, law.group(1), law.group(2))
         elif self.owner and invariant:
             text, self.at = braced(self.lines, self.at - 1, invariant.group(1))
-            self.add(self.owner.name, "What every value of this type keeps.",
-                     Clause("invariant", text, ""))
+            self.add(
+                self.owner.name,
+                "What every value of this type keeps.",
+                Clause("invariant", text, ""),
+            )
 
     def read_function(self, head: re.Match[str]) -> None:
         """A function, with its clauses where it is public."""
@@ -235,8 +238,12 @@ def definition_lines(crate: Path) -> list[str]:
     files = sorted(path for path in (crate / "specs").glob("*.antt") if path.stem != "Lib")
     if not files:
         return []
-    return ["| definitions | what they say |", "|---|---|",
-            *(f"| `{path.stem}` | {in_cell(head_of(path))} |" for path in files), ""]
+    return [
+        "| definitions | what they say |",
+        "|---|---|",
+        *(f"| `{path.stem}` | {in_cell(head_of(path))} |" for path in files),
+        "",
+    ]
 
 
 def promise_lines(promises: list[Promise]) -> list[str]:
@@ -260,18 +267,23 @@ def caller_lines(crate: Path) -> list[str]:
     head = re.compile(rf"\s*(?:pub(?:\(crate\))? )?fn {name}\b")
     heads = [at for at, line in enumerate(lines) if head.match(line)]
     if not heads:
-        raise LookupError(f"{path} has no {name}, which calls {crate.name}: name another in CALLERS")
+        raise LookupError(
+            f"{path} has no {name}, which calls {crate.name}: name another in CALLERS"
+        )
     indent = " " * (len(lines[heads[0]]) - len(lines[heads[0]].lstrip()))
     end = lines.index(indent + "}", heads[0])
-    body = [line.removeprefix(indent) for line in lines[heads[0]:end + 1]]
+    body = [line.removeprefix(indent) for line in lines[heads[0] : end + 1]]
     return [f"`{name}` (`{path}`) calls it:", "", "```rust", *body, "```", ""]
 
 
 def bare_lines(promises: list[Promise]) -> list[str]:
     """The public functions that have no clause, or ensure nothing: they are safe and no more."""
     bare = [f"`{promise.name}`" for promise in promises if not promise.clauses]
-    asking = [f"`{promise.name}`" for promise in promises if promise.clauses
-              and all(clause.name.startswith("requires") for clause in promise.clauses)]
+    asking = [
+        f"`{promise.name}`"
+        for promise in promises
+        if promise.clauses and all(clause.name.startswith("requires") for clause in promise.clauses)
+    ]
     lines = [f"Without a clause: {', '.join(bare)}.", ""] if bare else []
     return lines + ([f"Ensure nothing: {', '.join(asking)}.", ""] if asking else [])
 
@@ -282,14 +294,22 @@ def crate_lines(crate: Path) -> list[str]:
     if not root.exists():
         return []
     names = exported(root.read_text(encoding="utf-8"))
-    promises = [promise for path in sorted((crate / "src").glob("*.rt"))
-                for promise in FileReader(path.read_text(encoding="utf-8").split("\n")).read()
-                if promise.name.split("::")[0] in names]
+    promises = [
+        promise
+        for path in sorted((crate / "src").glob("*.rt"))
+        for promise in FileReader(path.read_text(encoding="utf-8").split("\n")).read()
+        if promise.name.split("::")[0] in names
+    ]
     if not any(promise.clauses for promise in promises):
         return []
-    return [f"## {crate.name}", "", *definition_lines(crate),
-            *promise_lines([promise for promise in promises if promise.clauses]),
-            *bare_lines(promises), *caller_lines(crate)]
+    return [
+        f"## {crate.name}",
+        "",
+        *definition_lines(crate),
+        *promise_lines([promise for promise in promises if promise.clauses]),
+        *bare_lines(promises),
+        *caller_lines(crate),
+    ]
 
 
 def page_text(root: Path) -> str:

@@ -20,8 +20,9 @@ PAGE = "docs/PROOFS.md"
 BEGIN = "<!-- written by tools/reading_list.py -->"
 END = "<!-- end of what is written -->"
 
-USE = re.compile(r"^\s*(?:ghost |pub )?use Rattle\.(\w+)\.specs\.(\w+)(?:\.\{([^}]*)\}| as (\w+))?",
-                 re.MULTILINE)
+USE = re.compile(
+    r"^\s*(?:ghost |pub )?use Rattle\.(\w+)\.specs\.(\w+)(?:\.\{([^}]*)\}| as (\w+))?", re.MULTILINE
+)
 Definitions = tuple[str, str]  # a crate, and a file of its specs/
 
 
@@ -59,8 +60,11 @@ def below(root: Path, cited: list[Definitions]) -> dict[Definitions, str]:
 
 def lines_of(text: str) -> int:
     """How many lines of definitions a file has."""
-    return sum(1 for line in text.split("\n")
-               if line.strip() and not line.strip().startswith(("use ", "pub use ", "--")))
+    return sum(
+        1
+        for line in text.split("\n")
+        if line.strip() and not line.strip().startswith(("use ", "pub use ", "--"))
+    )
 
 
 def reading_list(root: Path) -> str:
@@ -71,7 +75,9 @@ def reading_list(root: Path) -> str:
     crates = [line.split(":")[0].split()[0] for line in listed if ":" in line and line[0] != "#"]
     rows: list[str] = []
     for crate in reversed(crates):
-        counts = {file: lines_of(text) for (one, file), text in sorted(files.items()) if one == crate}
+        counts = {
+            file: lines_of(text) for (one, file), text in sorted(files.items()) if one == crate
+        }
         if counts:
             named = ", ".join(f"`{file}` {count}" for file, count in counts.items())
             rows.append(f"| `{crate}` | {named} | {sum(counts.values())} |")

@@ -22,7 +22,9 @@ from .work import processors
 
 ROOT = Path(__file__).resolve().parent.parent.parent
 BUILT = ROOT / "crates" / "rfq_venue" / "out" / "rfq_venue"
-VENUE = BUILT if (ROOT / "crates").exists() else Path("/usr/bin/rfq_venue")  # as packages install it
+VENUE = (
+    BUILT if (ROOT / "crates").exists() else Path("/usr/bin/rfq_venue")
+)  # as packages install it
 DICTIONARY = ROOT / "fix" / "MIRESEASON.xml"
 AT_ONCE = processors() + 1  # a process that waits for the disk leaves its processor
 ADDRESSES = ("postgres://", "postgresql://")

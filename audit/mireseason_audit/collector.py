@@ -2,7 +2,15 @@
 
 from .exchanges import Exchange, Told
 from .facts import (
-    NOTICES, AskedFact, Facts, QuoteFact, RequestFact, ResponseFact, Side, TradeFact, price_in,
+    NOTICES,
+    AskedFact,
+    Facts,
+    QuoteFact,
+    RequestFact,
+    ResponseFact,
+    Side,
+    TradeFact,
+    price_in,
     quantity_in,
 )
 from .frame import text_of
@@ -149,7 +157,8 @@ class Collector:
         """An award, as the investor and the dealer are told of it for one entry."""
         quote = self._shown.get((request.investor, told.text(117)))
         notices = {
-            one.firm.name: one for one in exchange.told
+            one.firm.name: one
+            for one in exchange.told
             if one.kind == "AJ" and self._names.about(one) == request.number - 1
         }
         won = next((one for one in notices.values() if one.text(694) == "1"), None)
@@ -161,9 +170,15 @@ class Collector:
         second = self._second(request, quote, exchange.moment)
         is_best = second is None or not is_better(second, quote, request.buys)
         trade = TradeFact(
-            name, exchange.place, exchange.moment, request, quote,
-            self._side(told, text_of(exchange.came.fields, 50)), self._side(won, quote.trader),
-            quote if second is None or is_best else second, second,
+            name,
+            exchange.place,
+            exchange.moment,
+            request,
+            quote,
+            self._side(told, text_of(exchange.came.fields, 50)),
+            self._side(won, quote.trader),
+            quote if second is None or is_best else second,
+            second,
         )
         covers = [firm for firm, one in notices.items() if one.text(694) == "4"]
         trade.cover = self._live.get((request.number, covers[0])) if covers else None

@@ -141,7 +141,8 @@ RESPONSES: Table[ResponseFact] = Table(
     "a hit or a pass of an investor, whatever it was answered",
     (
         Column(
-            "request", "empty where it names none",
+            "request",
+            "empty where it names none",
             lambda row: None if row.request is None else row.request.number,
         ),
         Column("entry", "of its message (35=AJ)", lambda row: row.entry),
@@ -152,11 +153,13 @@ RESPONSES: Table[ResponseFact] = Table(
         Column("name", "693", lambda row: row.name),
         Column("shown", "117, the quote that a hit names", lambda row: row.shown),
         Column(
-            "quote_entry", "of that quote",
+            "quote_entry",
+            "of that quote",
             lambda row: None if row.quote is None else row.quote.entry,
         ),
         Column(
-            "answer", "awarded, passed, refused, not found, rejected or unanswered",
+            "answer",
+            "awarded, passed, refused, not found, rejected or unanswered",
             lambda row: row.answer,
         ),
         Column("reason", "of a refusal: 58", lambda row: row.reason),
@@ -190,25 +193,29 @@ TRADES: Table[TradeRow] = Table(
         Column("price", "", lambda row: row.fact.quote.price),
         Column("quote_entry", "of the quote", lambda row: row.fact.quote.entry),
         Column(
-            "best_dealer", "of the best quote that could be hit",
+            "best_dealer",
+            "of the best quote that could be hit",
             lambda row: row.fact.best.dealer,
         ),
         Column("best_price", "", lambda row: row.fact.best.price),
         Column("best_entry", "", lambda row: row.fact.best.entry),
         Column("from_best", "points worse than the best", lambda row: row.fact.from_best),
         Column(
-            "cover_dealer", "as it was told (694=4)",
+            "cover_dealer",
+            "as it was told (694=4)",
             lambda row: "" if row.fact.cover is None else row.fact.cover.dealer,
         ),
         Column(
             "cover_price", "", lambda row: None if row.fact.cover is None else row.fact.cover.price
         ),
         Column(
-            "cover_entry", "of the cover's quote",
+            "cover_entry",
+            "of the cover's quote",
             lambda row: None if row.fact.cover is None else row.fact.cover.entry,
         ),
         Column(
-            "cover_lapsed", "1 where its 62 had passed, else 0",
+            "cover_lapsed",
+            "1 where its 62 had passed, else 0",
             lambda row: int(row.fact.cover_lapsed),
         ),
         Column("from_cover", "points better than the cover", lambda row: row.fact.from_cover),

@@ -9,7 +9,15 @@ from typing import Any, TypeVar
 from .bonds import Bond, bonds_of
 from .day_pass import DayPass
 from .day_tables import (
-    ASKED, CONNECTIONS, MESSAGES, QUOTES, REQUESTS, RESPONSES, SESSIONS, TRADES, RequestRow,
+    ASKED,
+    CONNECTIONS,
+    MESSAGES,
+    QUOTES,
+    REQUESTS,
+    RESPONSES,
+    SESSIONS,
+    TRADES,
+    RequestRow,
     TradeRow,
 )
 from .exchanges import exchanges
@@ -20,7 +28,14 @@ from .tables import Column, Form, Table, TableWriter, write_table
 
 Row = TypeVar("Row")
 ALL: tuple[Table[Any], ...] = (
-    REQUESTS, ASKED, QUOTES, RESPONSES, TRADES, MESSAGES, SESSIONS, CONNECTIONS,
+    REQUESTS,
+    ASKED,
+    QUOTES,
+    RESPONSES,
+    TRADES,
+    MESSAGES,
+    SESSIONS,
+    CONNECTIONS,
 )
 
 

@@ -21,7 +21,14 @@ from .noted import NOTES, firm_of, misnoted
 from .progress import quiet
 from .records import SOH, Day, Firm, Sent
 from .streams import (
-    BLOCK, Followed, Growing, cut_at, is_same, last_line_of, lines_in, lines_of,
+    BLOCK,
+    Followed,
+    Growing,
+    cut_at,
+    is_same,
+    last_line_of,
+    lines_in,
+    lines_of,
 )
 from .venue import LineFault, Venue, message_of
 from .wire import check_wire

@@ -11,7 +11,15 @@ import traceback
 from pathlib import Path
 
 from .arguments import (
-    DICTIONARY, SEAL_HELP, Commands, Parser, seconds, source_of, venue_of, with_form, with_moment,
+    DICTIONARY,
+    SEAL_HELP,
+    Commands,
+    Parser,
+    seconds,
+    source_of,
+    venue_of,
+    with_form,
+    with_moment,
     with_seal,
 )
 from .before import Before

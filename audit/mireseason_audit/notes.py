@@ -86,8 +86,11 @@ CLOCK_NOTES: Table[ClockNote] = Table(
         Column("place", "of its entry", lambda note: note.place),
         Column("moment", "UTC", lambda note: note.moment),
         Column("state", "synchronised, unsynchronised or set", lambda note: note.state),
-        Column("microseconds", "the greatest error (adjtimex), or by how much it was set",
-               lambda note: note.microseconds),
+        Column(
+            "microseconds",
+            "the greatest error (adjtimex), or by how much it was set",
+            lambda note: note.microseconds,
+        ),
     ),
 )
 
@@ -98,7 +101,10 @@ def clock_text(notes: list[ClockNote]) -> str:
     if not samples:
         return "clock: the log has no samples of the gateway's clock"
     good = [note for note in samples if note.state == "synchronised"]
-    text = "clock: %d samples, %d of them of a clock that is synchronised" % (len(samples), len(good))
+    text = "clock: %d samples, %d of them of a clock that is synchronised" % (
+        len(samples),
+        len(good),
+    )
     if good:
         text += ", whose greatest error is %d us" % max(note.microseconds for note in good)
     steps = [note.microseconds for note in notes if note.state == "set"]

@@ -108,9 +108,7 @@ class Pager:
         checker, day, book = self.checker, verdict.day, self._book
         reader = Reader(read_dictionary(self.dictionary))
         source, files = checker.source, checker.files
-        seconds = seconds_for(
-            source, day, summary.requests, self.scratch, files.day, self.request
-        )
+        seconds = seconds_for(source, day, summary.requests, self.scratch, files.day, self.request)
         jobs: list[Job[object]] = [
             CertificateJob(
                 source,
@@ -132,7 +130,11 @@ class Pager:
         requests = summary.requests
         jobs += [
             RequestJob(
-                day, tuple(requests[at : at + ROWS_A_PAGE]), len(requests), book, self.folder,
+                day,
+                tuple(requests[at : at + ROWS_A_PAGE]),
+                len(requests),
+                book,
+                self.folder,
                 self.before,
             )
             for at in range(0, len(requests), ROWS_A_PAGE)

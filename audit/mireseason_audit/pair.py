@@ -150,7 +150,9 @@ def difference_words(found: Differences) -> list[str]:
     words = []
     for pair, count in sorted(found.notices.items()):
         which = "%d request%s, the first is %s" % (
-            count, "" if count == 1 else "s", found.first_notice[pair],
+            count,
+            "" if count == 1 else "s",
+            found.first_notice[pair],
         )
         text = "it is told `%s` where it was told `%s` (%s)." % (pair[1], pair[0], which)
         is_cover = set(pair) == {"cover", "done away"}

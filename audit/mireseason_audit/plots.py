@@ -77,8 +77,16 @@ class Frame:
             '<text class="tick" x="%.1f" y="%d" text-anchor="middle">%s</text>'
         )
         return [
-            line % (self.x(one), TOP - 4, self.x(one), self.height - 4, self.x(one), TOP - 10,
-                    number(one))
+            line
+            % (
+                self.x(one),
+                TOP - 4,
+                self.x(one),
+                self.height - 4,
+                self.x(one),
+                TOP - 10,
+                number(one),
+            )
             for one in values
         ]
 
@@ -145,15 +153,22 @@ def spreads(title: str, rows: Sequence[Marks], names: Sequence[str]) -> Plot:
     one.
     """
     known = [value for row in rows for value in row.values if value is not None]
-    frame = Frame(title, "Marks on a line for each row: %s." % ", ".join(names), len(rows),
-                  max([*known, 0]) or 1)
+    frame = Frame(
+        title,
+        "Marks on a line for each row: %s." % ", ".join(names),
+        len(rows),
+        max([*known, 0]) or 1,
+    )
     shapes = SHAPES if len(names) == len(SHAPES) else (SHAPES[0], SHAPES[-1])
     parts = []
     for at, row in enumerate(rows):
         parts.append(frame.label(at, row.label))
         y = frame.y(at) + BAR // 2
-        points = [(frame.x(max(one, 0)), shape, name, one)
-                  for one, shape, name in zip(row.values, shapes, names) if one is not None]
+        points = [
+            (frame.x(max(one, 0)), shape, name, one)
+            for one, shape, name in zip(row.values, shapes, names)
+            if one is not None
+        ]
         if points:
             line = '<line class="span" x1="%.1f" y1="%d" x2="%.1f" y2="%d"/>'
             parts.append(line % (points[0][0], y, points[-1][0], y))

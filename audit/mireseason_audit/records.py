@@ -38,9 +38,7 @@ class Entry(NamedTuple):
 
 
 # As an Entry has it.
-EntryRow = tuple[
-    int, int, str, str | None, int | None, bytes, bytes, bytes, str | None, int | None
-]
+EntryRow = tuple[int, int, str, str | None, int | None, bytes, bytes, bytes, str | None, int | None]
 
 
 class Entries(NamedTuple):

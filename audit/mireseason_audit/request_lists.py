@@ -40,9 +40,12 @@ def lists_of(day: Day, requests: Iterable[Request]) -> list[RequestList]:
     """All lists, those of a kind together; none is empty but a firm's or a bond's."""
     all_of = list(requests)
     found = [
-        listed("firm", firm.name, "Requests of " + firm.name, [
-            one for one in all_of if firm.name in (one.investor, *one.dealers)
-        ])
+        listed(
+            "firm",
+            firm.name,
+            "Requests of " + firm.name,
+            [one for one in all_of if firm.name in (one.investor, *one.dealers)],
+        )
         for firm in day.firms
     ]
     found += [
@@ -50,16 +53,23 @@ def lists_of(day: Day, requests: Iterable[Request]) -> list[RequestList]:
         for bond in bonds_of(day)
     ]
     found += [
-        listed("end", end, "Requests that were %s" % end if end != "open" else "Open requests", [
-            one for one in all_of if one.end == end
-        ])
-        for end in ENDS if any(one.end == end for one in all_of)
+        listed(
+            "end",
+            end,
+            "Requests that were %s" % end if end != "open" else "Open requests",
+            [one for one in all_of if one.end == end],
+        )
+        for end in ENDS
+        if any(one.end == end for one in all_of)
     ]
     hours = sorted({one.moment[:2] for one in all_of if one.moment[:2].isdecimal()})
     return found + [
-        listed("hour", hour, "Requests from %s:00 UTC on" % hour, [
-            one for one in all_of if one.moment[:2] == hour
-        ])
+        listed(
+            "hour",
+            hour,
+            "Requests from %s:00 UTC on" % hour,
+            [one for one in all_of if one.moment[:2] == hour],
+        )
         for hour in hours
     ]
 

@@ -55,7 +55,6 @@ class RequestJob:
                 path.write_text(text, encoding="utf-8")
         return len(self.requests)
 
-
     def _same(self, book: Book) -> set[int]:
         """The requests whose pages are what they were. Behind the last one there was no other."""
         if self.before is None:

@@ -137,9 +137,7 @@ class Requests:
 
     def _act(self, exchange: Exchange, told: list[Told]) -> Act:
         came, reader = exchange.came, self._reader
-        notes = tuple(
-            Note(one.firm.name, one.number, one.kind, self.words_of(one)) for one in told
-        )
+        notes = tuple(Note(one.firm.name, one.number, one.kind, self.words_of(one)) for one in told)
         said = reader.said(came.fields) if came else reader.unread(exchange.firm)
         entry = exchange.entry
         came_on = self._came_on.get(exchange.firm or "")

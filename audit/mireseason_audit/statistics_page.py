@@ -7,7 +7,14 @@ from decimal import Decimal
 from .plots import Bar, Marks, Plot, bars, filled, spreads
 from .statistics import Group, Statistics
 from .statistics_tables import (
-    ANSWERS, DISTANCES, LIVES, OUTCOMES, FigureRow, amount_rows, figure_rows, refusal_rows,
+    ANSWERS,
+    DISTANCES,
+    LIVES,
+    OUTCOMES,
+    FigureRow,
+    amount_rows,
+    figure_rows,
+    refusal_rows,
 )
 from .tables import Column, Value, decimal_text
 
@@ -18,11 +25,20 @@ TITLES = {
     Group.HOUR: "Hours",
 }
 HEADS = {
-    "response_ms": "Response, median s", "response_ms_90": "90th s", "response_ms_99": "99th s",
-    "life_ms": "Life, median s", "life_ms_90": "90th s", "life_ms_99": "99th s",
-    "hit_ratio": "Hit ratio %", "from_cover": "From cover, median",
-    "from_cover_most": "From cover, most", "from_best": "By, median", "from_best_most": "By, most",
-    "covers_lapsed": "Covers past 62", "lapsed": "Past 62", "not_best": "Hits not the best",
+    "response_ms": "Response, median s",
+    "response_ms_90": "90th s",
+    "response_ms_99": "99th s",
+    "life_ms": "Life, median s",
+    "life_ms_90": "90th s",
+    "life_ms_99": "99th s",
+    "hit_ratio": "Hit ratio %",
+    "from_cover": "From cover, median",
+    "from_cover_most": "From cover, most",
+    "from_best": "By, median",
+    "from_best_most": "By, most",
+    "covers_lapsed": "Covers past 62",
+    "lapsed": "Past 62",
+    "not_best": "Hits not the best",
 }
 SHARES = ("median", "90th of a hundred", "99th of a hundred")
 
@@ -89,10 +105,14 @@ def figure_grids(statistics: Statistics, group: Group) -> list[Grid]:
 def ends(rows: list[FigureRow]) -> Beside:
     names = ("awarded", "passed", "expired", "open")
     drawn = [Bar(row.key, tuple((one, row.figures.ends[one]) for one in names)) for row in rows]
-    table = Grid("Requests", ["Requests", *map(capital, names)], [
-        [row.key, str(row.figures.requests), *(str(row.figures.ends[one]) for one in names)]
-        for row in rows
-    ])
+    table = Grid(
+        "Requests",
+        ["Requests", *map(capital, names)],
+        [
+            [row.key, str(row.figures.requests), *(str(row.figures.ends[one]) for one in names)]
+            for row in rows
+        ],
+    )
     plot = bars("Requests, by how they ended", drawn)
     return Beside("Requests", [plot], legend_of(names), [], table)
 
@@ -104,15 +124,21 @@ def legend_of(names: tuple[str, ...]) -> list[tuple[str, str]]:
 def answers(rows: list[FigureRow]) -> Beside:
     names = ("answered", "declined", "silent")
     drawn = [
-        Bar(row.key, tuple(zip(names, (
-            row.figures.answered, row.figures.declined, row.figures.silent
-        )))) for row in rows
+        Bar(
+            row.key,
+            tuple(zip(names, (row.figures.answered, row.figures.declined, row.figures.silent))),
+        )
+        for row in rows
     ]
     return Beside(
         "Answers",
-        [bars("What dealers that were asked gave", drawn),
-         spreads("Response time in seconds", marks(rows, ANSWERS[-3:], seconds), SHARES)],
-        legend_of(names), list(SHARES), grid("Answers", rows, ANSWERS[1:]),
+        [
+            bars("What dealers that were asked gave", drawn),
+            spreads("Response time in seconds", marks(rows, ANSWERS[-3:], seconds), SHARES),
+        ],
+        legend_of(names),
+        list(SHARES),
+        grid("Answers", rows, ANSWERS[1:]),
     )
 
 
@@ -120,8 +146,11 @@ def outcomes(rows: list[FigureRow]) -> Beside:
     names = ("won", "cover", "done away", "passed", "expired")
     drawn = [Bar(row.key, tuple((one, row.figures.notices[one]) for one in names)) for row in rows]
     return Beside(
-        "What became of answers", [bars("What dealers that quoted were told", drawn)],
-        legend_of(names), [], grid("What became of answers", rows, OUTCOMES),
+        "What became of answers",
+        [bars("What dealers that quoted were told", drawn)],
+        legend_of(names),
+        [],
+        grid("What became of answers", rows, OUTCOMES),
     )
 
 
@@ -130,15 +159,21 @@ def distances(rows: list[FigureRow]) -> Beside:
     columns = [one for one in DISTANCES if one.name in ("from_cover", "from_cover_most")]
     names = ("median", "most")
     return Beside(
-        "Distances in points", [spreads(title, marks(rows, columns, float), names)],
-        [], list(names), grid("Distances in points", rows, DISTANCES),
+        "Distances in points",
+        [spreads(title, marks(rows, columns, float), names)],
+        [],
+        list(names),
+        grid("Distances in points", rows, DISTANCES),
     )
 
 
 def lives(rows: list[FigureRow]) -> Beside:
     title = "Life of a quote in seconds"
     return Beside(
-        "Quotes", [spreads(title, marks(rows, LIVES[-3:], seconds), SHARES)], [], list(SHARES),
+        "Quotes",
+        [spreads(title, marks(rows, LIVES[-3:], seconds), SHARES)],
+        [],
+        list(SHARES),
         grid("Quotes", rows, LIVES),
     )
 
@@ -162,9 +197,11 @@ def seconds(milliseconds: Decimal | int) -> float:
 
 def grid(name: str, rows: list[FigureRow], columns: Iterable[Column[FigureRow]]) -> Grid:
     listed = list(columns)
-    return Grid(name, [head(one) for one in listed], [
-        [row.key, *(cell(one, one.value(row)) for one in listed)] for row in rows
-    ])
+    return Grid(
+        name,
+        [head(one) for one in listed],
+        [[row.key, *(cell(one, one.value(row)) for one in listed)] for row in rows],
+    )
 
 
 def head(column: Column[FigureRow]) -> str:
@@ -186,17 +223,29 @@ def cell(column: Column[FigureRow], value: Value) -> str:
 
 def amounts(statistics: Statistics, group: Group) -> Grid:
     """Face value, never added across currencies."""
-    return Grid("Face value", ["In", "Asked for", "Traded", "Trades"], [
-        [row.key, row.unit, spaced(row.asked_for), spaced(row.traded), str(row.trades)]
-        for row in amount_rows(statistics) if row.group is group
-    ], texts=1)
+    return Grid(
+        "Face value",
+        ["In", "Asked for", "Traded", "Trades"],
+        [
+            [row.key, row.unit, spaced(row.asked_for), spaced(row.traded), str(row.trades)]
+            for row in amount_rows(statistics)
+            if row.group is group
+        ],
+        texts=1,
+    )
 
 
 def refusals(statistics: Statistics, group: Group) -> Grid:
-    return Grid("Refusals", ["What", "Code", "Text (58)", "Count"], [
-        [row.key, row.what, row.code, row.name, str(row.count)]
-        for row in refusal_rows(statistics) if row.group is group
-    ], texts=3)
+    return Grid(
+        "Refusals",
+        ["What", "Code", "Text (58)", "Count"],
+        [
+            [row.key, row.what, row.code, row.name, str(row.count)]
+            for row in refusal_rows(statistics)
+            if row.group is group
+        ],
+        texts=3,
+    )
 
 
 def spaced(value: int) -> str:

@@ -68,8 +68,11 @@ def ended(name: str) -> Callable[[FigureRow], int]:
 
 
 KEYS: tuple[Column[FigureRow], ...] = (
-    Column("group", "day, dealer, investor, bond or hour (of the request, in UTC)",
-           lambda row: row.group.value),
+    Column(
+        "group",
+        "day, dealer, investor, bond or hour (of the request, in UTC)",
+        lambda row: row.group.value,
+    ),
     Column("key", "which", lambda row: row.key),
 )
 ANSWERS: tuple[Column[FigureRow], ...] = (
@@ -78,8 +81,11 @@ ANSWERS: tuple[Column[FigureRow], ...] = (
     Column("answered", "with at least one quote", lambda row: row.figures.answered),
     Column("declined", "without a quote", lambda row: row.figures.declined),
     Column("silent", "", lambda row: row.figures.silent),
-    Column("response_ms", "median, from the request to the first quote",
-           lambda row: row.figures.response_ms.at(50)),
+    Column(
+        "response_ms",
+        "median, from the request to the first quote",
+        lambda row: row.figures.response_ms.at(50),
+    ),
     Column("response_ms_90", "90th of a hundred", lambda row: row.figures.response_ms.at(90)),
     Column("response_ms_99", "99th", lambda row: row.figures.response_ms.at(99)),
 )
@@ -98,16 +104,18 @@ DISTANCES: tuple[Column[FigureRow], ...] = (
     Column("from_cover_most", "", lambda row: row.figures.from_cover.greatest),
     Column("covers_lapsed", "whose 62 had passed", lambda row: row.figures.covers_lapsed),
     Column("not_best", "hits that were not the best", lambda row: row.figures.not_best),
-    Column("from_best", "of these, median, points worse",
-           lambda row: row.figures.from_best.at(50)),
+    Column("from_best", "of these, median, points worse", lambda row: row.figures.from_best.at(50)),
     Column("from_best_most", "", lambda row: row.figures.from_best.greatest),
 )
 LIVES: tuple[Column[FigureRow], ...] = (
     Column("quotes", "that were accepted", lambda row: row.figures.quotes.total()),
     Column("replaced", "", ended("replaced")),
     Column("withdrawn", "", ended("withdrawn")),
-    Column("fades", "withdrawn while they could be hit, and a hit of the request came later",
-           lambda row: row.figures.fades),
+    Column(
+        "fades",
+        "withdrawn while they could be hit, and a hit of the request came later",
+        lambda row: row.figures.fades,
+    ),
     Column("lapsed", "whose 62 passed before they ended", lambda row: row.figures.lapsed),
     Column("life_ms", "median, while it could be hit", lambda row: row.figures.life_ms.at(50)),
     Column("life_ms_90", "90th of a hundred", lambda row: row.figures.life_ms.at(90)),
@@ -134,8 +142,9 @@ REFUSALS: Table[RefusalRow] = Table(
     (
         Column("group", "", lambda row: row.group.value),
         Column("key", "", lambda row: row.key),
-        Column("what", "request, quote, cancel, decline, hit, pass or message",
-               lambda row: row.what),
+        Column(
+            "what", "request, quote, cancel, decline, hit, pass or message", lambda row: row.what
+        ),
         Column("code", "tag and value", lambda row: row.code),
         Column("name", "Text (58), where the answer has it", lambda row: row.name),
         Column("count", "", lambda row: row.count),
@@ -152,7 +161,11 @@ def amount_rows(statistics: Statistics) -> Iterator[AmountRow]:
     for (group, key), figures in statistics.rows.items():
         for unit in sorted(figures.asked_for):
             yield AmountRow(
-                group, key, unit, figures.asked_for[unit], figures.traded[unit],
+                group,
+                key,
+                unit,
+                figures.asked_for[unit],
+                figures.traded[unit],
                 figures.trade_counts[unit],
             )
 

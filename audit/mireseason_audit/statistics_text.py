@@ -6,8 +6,17 @@ from decimal import Decimal
 
 from .statistics import Group, Statistics
 from .statistics_tables import (
-    AMOUNTS, ANSWERS, DISTANCES, FIGURES, LIVES, OUTCOMES, REFUSALS, FigureRow, amount_rows,
-    figure_rows, refusal_rows,
+    AMOUNTS,
+    ANSWERS,
+    DISTANCES,
+    FIGURES,
+    LIVES,
+    OUTCOMES,
+    REFUSALS,
+    FigureRow,
+    amount_rows,
+    figure_rows,
+    refusal_rows,
 )
 from .tables import Column, Form, Value, decimal_text, table_text
 
@@ -35,19 +44,42 @@ def statistics_text(statistics: Statistics) -> str:
         parts.append("%s\n" % title)
         mine = [row for row in rows if row.group is group]
         for name, columns in BLOCKS.items():
-            parts.append(grid(name, [one.name for one in columns], [
-                [row.key, *(cell(column.value(row)) for column in columns)] for row in mine
-            ]))
+            parts.append(
+                grid(
+                    name,
+                    [one.name for one in columns],
+                    [[row.key, *(cell(column.value(row)) for column in columns)] for row in mine],
+                )
+            )
     parts.append("Face value, by currency, or by bond where it has none\n")
-    parts.append(grid("", ["", "unit", "asked for", "traded", "trades"], [
-        [row.group.value, row.key, row.unit, *map(grouped, (row.asked_for, row.traded, row.trades))]
-        for row in amount_rows(statistics) if row.group in WITH_DETAILS
-    ]))
+    parts.append(
+        grid(
+            "",
+            ["", "unit", "asked for", "traded", "trades"],
+            [
+                [
+                    row.group.value,
+                    row.key,
+                    row.unit,
+                    *map(grouped, (row.asked_for, row.traded, row.trades)),
+                ]
+                for row in amount_rows(statistics)
+                if row.group in WITH_DETAILS
+            ],
+        )
+    )
     parts.append("Refusals\n")
-    parts.append(grid("", ["", "what", "code", "name", "count"], [
-        [row.group.value, row.key, row.what, row.code, row.name, str(row.count)]
-        for row in refusal_rows(statistics) if row.group in WITH_DETAILS
-    ]))
+    parts.append(
+        grid(
+            "",
+            ["", "what", "code", "name", "count"],
+            [
+                [row.group.value, row.key, row.what, row.code, row.name, str(row.count)]
+                for row in refusal_rows(statistics)
+                if row.group in WITH_DETAILS
+            ],
+        )
+    )
     return "\n".join(parts)
 
 

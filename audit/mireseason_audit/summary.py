@@ -102,9 +102,7 @@ class Summarizer:
         elif exchange.came.firm in summary.firms:
             self._take_message(exchange, about, refusal)
 
-    def _take_message(
-        self, exchange: Exchange, about: int | None, refusal: Refusal | None
-    ) -> None:
+    def _take_message(self, exchange: Exchange, about: int | None, refusal: Refusal | None) -> None:
         came = exchange.came
         assert came is not None
         counts = self.summary.firms[came.firm]

@@ -56,8 +56,7 @@ class Drawing:
         self._lane_width = min(WIDEST, max(NARROWEST, ALL_LANES // len(names)))
         self._width = EDGE + TIME_WIDTH + self._lane_width * len(names) + EDGE
         return {
-            name: EDGE + TIME_WIDTH + self._lane_width * at + 10.0
-            for at, name in enumerate(names)
+            name: EDGE + TIME_WIDTH + self._lane_width * at + 10.0 for at, name in enumerate(names)
         }
 
     def _cells(self, act: Act) -> dict[str, list[Line]]:
@@ -166,7 +165,8 @@ class Drawing:
         """The text of a row, at each lane."""
         return "".join(
             text_lines(self._lanes[firm] + 12, row.y + 22, lines)
-            for firm, lines in row.cells.items() if firm in self._lanes
+            for firm, lines in row.cells.items()
+            if firm in self._lanes
         )
 
     def _time(self, row: Row, at: int) -> str:

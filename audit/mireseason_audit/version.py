@@ -24,7 +24,16 @@ def commit_of(root: Path) -> str:
     """Of a package by its file COMMIT, and else of the repository."""
     if (root / "COMMIT").exists():
         return first_line(root / "COMMIT")
-    words = ["git", "-C", str(root), "describe", "--always", "--abbrev=12", "--match=no-tag", "--dirty=+"]
+    words = [
+        "git",
+        "-C",
+        str(root),
+        "describe",
+        "--always",
+        "--abbrev=12",
+        "--match=no-tag",
+        "--dirty=+",
+    ]
     try:
         told = subprocess.run(words, capture_output=True, text=True, check=True, timeout=10)
     except (OSError, subprocess.SubprocessError):

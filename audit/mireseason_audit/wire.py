@@ -212,9 +212,7 @@ def check_wire(
         yield finding
 
 
-def first_fault(
-    reader: WireReader, rows: Iterator[Outgoing], file: IO[bytes]
-) -> Finding | None:
+def first_fault(reader: WireReader, rows: Iterator[Outgoing], file: IO[bytes]) -> Finding | None:
     """Reads a session up to its first fault, and writes the notes that it tells."""
     for row in rows:
         finding = reader.take(row)

@@ -81,7 +81,8 @@ def run_jobs(
                 results[running.pop(future)] = result_of(future)
                 progress.step(1)
             waiting = [
-                index for index in range(len(plan.jobs))
+                index
+                for index in range(len(plan.jobs))
                 if index not in results and index not in running.values()
             ]
             running |= submitted(pool, plan, waiting, results)

@@ -39,8 +39,11 @@ def put_certificate(made: Path, name: str, folder: Path, user: str) -> None:
     """Puts a host's certificate into a folder of its own, for one of its users."""
     folder.mkdir(exist_ok=True)
     owner = pwd.getpwnam(user)
-    for source, target, mode in (("authority.pem", "authority.pem", 0o644),
-                                 (name + ".pem", "host.pem", 0o644), (name + ".key", "host.key", 0o600)):
+    for source, target, mode in (
+        ("authority.pem", "authority.pem", 0o644),
+        (name + ".pem", "host.pem", 0o644),
+        (name + ".key", "host.key", 0o600),
+    ):
         path = folder / target
         shutil.copyfile(made / source, path)
         path.chmod(mode)
@@ -48,10 +51,22 @@ def put_certificate(made: Path, name: str, folder: Path, user: str) -> None:
 
 
 def _make_authority(folder: Path) -> None:
-    run("openssl", "req", "-x509", *CURVE, "-days", str(AUTHORITY_DAYS),
-        "-subj", "/CN=Mireseason site authority",
-        "-addext", "keyUsage=critical,keyCertSign,cRLSign",
-        "-keyout", str(folder / "authority.key"), "-out", str(folder / "authority.pem"))
+    run(
+        "openssl",
+        "req",
+        "-x509",
+        *CURVE,
+        "-days",
+        str(AUTHORITY_DAYS),
+        "-subj",
+        "/CN=Mireseason site authority",
+        "-addext",
+        "keyUsage=critical,keyCertSign,cRLSign",
+        "-keyout",
+        str(folder / "authority.key"),
+        "-out",
+        str(folder / "authority.pem"),
+    )
     (folder / "authority.key").chmod(0o600)
 
 
@@ -60,12 +75,37 @@ def _make_host(folder: Path, name: str, address: str) -> None:
     key = folder / (name + ".key")
     words.write_text(HOST % (name, address))
     try:
-        run("openssl", "req", "-new", *CURVE, "-subj", "/CN=" + name, "-keyout", str(key),
-            "-out", str(request))
+        run(
+            "openssl",
+            "req",
+            "-new",
+            *CURVE,
+            "-subj",
+            "/CN=" + name,
+            "-keyout",
+            str(key),
+            "-out",
+            str(request),
+        )
         key.chmod(0o600)
-        run("openssl", "x509", "-req", "-in", str(request), "-CA", str(folder / "authority.pem"),
-            "-CAkey", str(folder / "authority.key"), "-CAcreateserial", "-days", str(DAYS),
-            "-extfile", str(words), "-out", str(folder / (name + ".pem")))
+        run(
+            "openssl",
+            "x509",
+            "-req",
+            "-in",
+            str(request),
+            "-CA",
+            str(folder / "authority.pem"),
+            "-CAkey",
+            str(folder / "authority.key"),
+            "-CAcreateserial",
+            "-days",
+            str(DAYS),
+            "-extfile",
+            str(words),
+            "-out",
+            str(folder / (name + ".pem")),
+        )
     except Fault:
         key.unlink(missing_ok=True)
         raise

@@ -31,7 +31,9 @@ class Folders:
     config: str
     data: str = ""  # of etcd and PostgreSQL; of a gateway what it keeps from day to day
     run: str = ""  # sockets
-    tls: str = ""  # host.pem, host.key and authority.pem; of Patroni and PostgreSQL, or of a gateway
+    tls: str = (
+        ""  # host.pem, host.key and authority.pem; of Patroni and PostgreSQL, or of a gateway
+    )
     etcd_tls: str = ""  # the same of etcd
 
 
@@ -55,19 +57,37 @@ class Site:
         raise Fault("there is no host %s" % host)
 
     def _database_files(self, host: str, folders: Folders) -> dict[str, str]:
-        words = {"NAME": host, "ADDRESS": self.databases[host], "NETWORK": self.network,
-                 "DATA": folders.data, "RUN": folders.run, "CONFIG": folders.config,
-                 "TLS": folders.tls, "ETCD_TLS": folders.etcd_tls}
+        words = {
+            "NAME": host,
+            "ADDRESS": self.databases[host],
+            "NETWORK": self.network,
+            "DATA": folders.data,
+            "RUN": folders.run,
+            "CONFIG": folders.config,
+            "TLS": folders.tls,
+            "ETCD_TLS": folders.etcd_tls,
+        }
         words |= {word: (GATEWAY / name).read_text() for word, name in TABLES.items()}
         return {name: self._filled(name, words) for name in DATABASE_FILES}
 
     def _gateway_files(self, host: str, folders: Folders) -> dict[str, str]:
-        words = {"NAME": host, "ADDRESS": self.gateways[host], "CONFIG": folders.config,
-                 "STATE": folders.data, "TLS": folders.tls, "GATEWAY_KEYS": self._gateway_keys(),
-                 "OPERATOR": operator_text(folders), "SYNCHRONOUS": self.synchronous, "SCHEMA": self.schema,
-                 "VENUES": self._venues(), "SECURITY": self.security}
-        return {"gateway.toml": self._filled("gateway.toml", words),
-                "pgpass": "*:*:*:gateway:%s\n" % self.passwords["GATEWAY"]}
+        words = {
+            "NAME": host,
+            "ADDRESS": self.gateways[host],
+            "CONFIG": folders.config,
+            "STATE": folders.data,
+            "TLS": folders.tls,
+            "GATEWAY_KEYS": self._gateway_keys(),
+            "OPERATOR": operator_text(folders),
+            "SYNCHRONOUS": self.synchronous,
+            "SCHEMA": self.schema,
+            "VENUES": self._venues(),
+            "SECURITY": self.security,
+        }
+        return {
+            "gateway.toml": self._filled("gateway.toml", words),
+            "pgpass": "*:*:*:gateway:%s\n" % self.passwords["GATEWAY"],
+        }
 
     def _gateway_keys(self) -> str:
         """The public keys of all gateways, by which each knows what another has signed."""
@@ -109,22 +129,32 @@ def file_of(venue: str) -> str:
 def venues_text(venues: tuple[str, ...], command: tuple[str, ...]) -> str:
     """The part [venue] of gateway.toml, or a part for each of several."""
     words = json.dumps([*command, "live", "--frames", "--marks"])  # is TOML, too
-    return "\n".join('[%s]\ncommand = %s\nconfiguration = "%s"\n' % (
-        "venue." + name if name else "venue", words, file_of(name)) for name in venues)
+    return "\n".join(
+        '[%s]\ncommand = %s\nconfiguration = "%s"\n'
+        % ("venue." + name if name else "venue", words, file_of(name))
+        for name in venues
+    )
 
 
 def read_site(path: Path) -> Site:
     """A site from its file; Fault with what is wrong with it."""
     try:
         table = tomllib.loads(path.read_text())
-        passwords = {word.upper(): password(word, secret)
-                     for word, secret in table["passwords"].items()}
+        passwords = {
+            word.upper(): password(word, secret) for word, secret in table["passwords"].items()
+        }
         if set(passwords) != set(WORDS):
             raise ValueError("the passwords are those of %s" % ", ".join(WORDS).lower())
         venue = table["venue"]
-        return Site(text(table["network"]), texts(table["databases"]), texts(table["gateways"]),
-                    passwords, tuple(map(text, venue["command"])), text(table["security"]),
-                    tuple(map(text, venue.get("names", [ALONE]))))
+        return Site(
+            text(table["network"]),
+            texts(table["databases"]),
+            texts(table["gateways"]),
+            passwords,
+            tuple(map(text, venue["command"])),
+            text(table["security"]),
+            tuple(map(text, venue.get("names", [ALONE]))),
+        )
     except (OSError, ValueError, AttributeError, TypeError) as fault:
         raise Fault("%s: %s" % (path, fault)) from fault
     except KeyError as fault:

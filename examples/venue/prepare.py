@@ -64,29 +64,57 @@ def market_of(venue: Row, firm: str) -> str:
     for bond in venue["bond"]:
         lines += ["[[bond]]", *toml(bond)]
     for dealer in venue["dealer"]:
-        lines += ["[[dealer]]", *toml(dealer if dealer["name"] == firm else {"name": dealer["name"]})]
+        lines += [
+            "[[dealer]]",
+            *toml(dealer if dealer["name"] == firm else {"name": dealer["name"]}),
+        ]
     if role_of(venue, firm) == "investor":
         lines += ["[[investor]]", *toml(row_of(venue, firm))]
     return "\n".join(lines) + "\n"
 
 
 def hash_of(gateway: str, password: str) -> str:
-    told = subprocess.run([gateway, "--hash"], input=password + "\n", capture_output=True, text=True, check=True)
+    told = subprocess.run(
+        [gateway, "--hash"], input=password + "\n", capture_output=True, text=True, check=True
+    )
     return told.stdout.strip()
 
 
 def fix_part(folder: Path, firm: str, port: int) -> list[str]:
-    return ["[fix]", *toml({"addresses": [f"127.0.0.1:{port}"], "username": f"{firm.lower()}-user",
-                            "password_file": f"{firm}.password", "dictionaries": str(ROOT / "fix")})]
+    return [
+        "[fix]",
+        *toml(
+            {
+                "addresses": [f"127.0.0.1:{port}"],
+                "username": f"{firm.lower()}-user",
+                "password_file": f"{firm}.password",
+                "dictionaries": str(ROOT / "fix"),
+            }
+        ),
+    ]
 
 
 def write_gateway(folder: Path, port: int, command: list[str]) -> None:
     words = [str(Path(word).resolve()) if Path(word).is_file() else word for word in command]
-    lines = ["[venue]", *toml({"command": [*words, "live", "--frames", "--marks"], "configuration": "venue.toml"}),
-             "[log]", *toml({"sqlite": "day-{date}.db"}),
-             "[fix]", *toml({"listen": "127.0.0.1", "port": port, "credentials": "credentials.toml"}),
-             "[seal]", *toml({"key": "keys/seal.key", "signing_key": "keys/gateway.pem", "gateways": ["keys/gateway.pub"], "checkpoints": "checkpoints"}),
-             "[metrics]", *toml({"port": 0})]
+    lines = [
+        "[venue]",
+        *toml({"command": [*words, "live", "--frames", "--marks"], "configuration": "venue.toml"}),
+        "[log]",
+        *toml({"sqlite": "day-{date}.db"}),
+        "[fix]",
+        *toml({"listen": "127.0.0.1", "port": port, "credentials": "credentials.toml"}),
+        "[seal]",
+        *toml(
+            {
+                "key": "keys/seal.key",
+                "signing_key": "keys/gateway.pem",
+                "gateways": ["keys/gateway.pub"],
+                "checkpoints": "checkpoints",
+            }
+        ),
+        "[metrics]",
+        *toml({"port": 0}),
+    ]
     write(folder / "gateway.toml", "\n".join(lines) + "\n")
 
 
@@ -98,11 +126,16 @@ def write_credentials(folder: Path, gateway: str, firms: list[str]) -> None:
     for firm in firms:
         password = secrets.token_hex(16)
         write(folder / f"{firm}.password", password + "\n")
-        lines += [f"[{firm}]", *toml({"username": f"{firm.lower()}-user", "password": hash_of(gateway, password)})]
+        lines += [
+            f"[{firm}]",
+            *toml({"username": f"{firm.lower()}-user", "password": hash_of(gateway, password)}),
+        ]
     write(folder / "credentials.toml", "\n".join(lines) + "\n")
 
 
-def write_desk(folder: Path, venue: Row, firm: str, fix_port: int, gateway: str, banner: str) -> str:
+def write_desk(
+    folder: Path, venue: Row, firm: str, fix_port: int, gateway: str, banner: str
+) -> str:
     """The desk's configuration; the line that tells a person where it is."""
     _, login, password, usual = next(desk for desk in DESKS if desk[0] == firm)
     role, port = role_of(venue, firm), free_port(usual)
@@ -110,16 +143,35 @@ def write_desk(folder: Path, venue: Row, firm: str, fix_port: int, gateway: str,
     if banner:
         row["banner"] = banner
     may = "quote" if role == "dealer" else "ask"
-    trader = {"login": login, "password": hash_of(gateway, password), "name": row_of(venue, firm)["traders"][0], "may": [may]}
-    lines = [*toml(row), *fix_part(folder, firm, fix_port), "[page]", *toml({"port": port}), "[[trader]]", *toml(trader)]
+    trader = {
+        "login": login,
+        "password": hash_of(gateway, password),
+        "name": row_of(venue, firm)["traders"][0],
+        "may": [may],
+    }
+    lines = [
+        *toml(row),
+        *fix_part(folder, firm, fix_port),
+        "[page]",
+        *toml({"port": port}),
+        "[[trader]]",
+        *toml(trader),
+    ]
     write(folder / f"{firm}.toml", "\n".join(lines) + "\n")
     return f"  {firm}, {'a dealer  ' if role == 'dealer' else 'an investor'}  http://127.0.0.1:{port}/   login {login}   password {password}"
 
 
 def write_sample(folder: Path, venue: Row, firm: str, fix_port: int) -> None:
-    row = {"firm": firm, "role": role_of(venue, firm), "market": f"{firm}.market.toml", "data": f"{firm}.data",
-           "trader": row_of(venue, firm)["traders"][0]}
-    write(folder / f"{firm}.toml", "\n".join([*toml(row), *fix_part(folder, firm, fix_port)]) + "\n")
+    row = {
+        "firm": firm,
+        "role": role_of(venue, firm),
+        "market": f"{firm}.market.toml",
+        "data": f"{firm}.data",
+        "trader": row_of(venue, firm)["traders"][0],
+    }
+    write(
+        folder / f"{firm}.toml", "\n".join([*toml(row), *fix_part(folder, firm, fix_port)]) + "\n"
+    )
 
 
 def main() -> None:
@@ -134,13 +186,19 @@ def main() -> None:
     for firm in firms:
         write(folder / f"{firm}.market.toml", market_of(venue, firm))
     if not (folder / "keys").exists():
-        subprocess.run([gateway, "--make-keys", folder / "keys"], stdout=subprocess.DEVNULL, check=True)
+        subprocess.run(
+            [gateway, "--make-keys", folder / "keys"], stdout=subprocess.DEVNULL, check=True
+        )
     write_gateway(folder, fix_port, command)
     write_credentials(folder, gateway, firms)
     for firm in SAMPLES:
         write_sample(folder, venue, firm, fix_port)
     is_second = any("tests/model" in word for word in command)
-    banner = "The venue behind this page is its second implementation, in Python: it is tested, and nothing of it is proved." if is_second else ""
+    banner = (
+        "The venue behind this page is its second implementation, in Python: it is tested, and nothing of it is proved."
+        if is_second
+        else ""
+    )
     lines = [write_desk(folder, venue, firm, fix_port, gateway, banner) for firm, *_ in DESKS]
     write(folder / "addresses", "\n".join(lines) + "\n")
 

@@ -37,7 +37,9 @@ class Teller:
         for firm, message in sent:
             if message.get(35) == "R":
                 self.shown[firm, message[131]] = message
-        ends: dict[tuple[str, str, str, str], dict[str, list[tuple[str, Message]]]] = defaultdict(lambda: defaultdict(list))
+        ends: dict[tuple[str, str, str, str], dict[str, list[tuple[str, Message]]]] = defaultdict(
+            lambda: defaultdict(list)
+        )
         for firm, message in sent:
             if message.get(35) == "AJ":
                 request = self.shown[firm, message[131]]
@@ -46,15 +48,21 @@ class Teller:
         return [self.sentence(key, notices) for key, notices in ends.items()]
 
     @staticmethod
-    def sentence(key: tuple[str, str, str, str], notices: dict[str, list[tuple[str, Message]]]) -> str:
+    def sentence(
+        key: tuple[str, str, str, str], notices: dict[str, list[tuple[str, Message]]]
+    ) -> str:
         investor, bond, side, quantity = key
         what = f"{int(quantity):,} of {bond}"
         if "1" not in notices:
             way = "passed" if "6" in notices else "let expire its request"
             return f"{investor} {way}: to {'buy' if side == '1' else 'sell'} {what}"
         dealer, notice = notices["1"][0]
-        cover = f"; {notices['4'][0][0]} was the cover" if "4" in notices else "; there was no cover"
-        words = ("bought", "from", notice.get(133)) if side == "1" else ("sold", "to", notice.get(132))
+        cover = (
+            f"; {notices['4'][0][0]} was the cover" if "4" in notices else "; there was no cover"
+        )
+        words = (
+            ("bought", "from", notice.get(133)) if side == "1" else ("sold", "to", notice.get(132))
+        )
         return f"{investor} {words[0]} {what} {words[1]} {dealer} at {words[2]}{cover}"
 
 
@@ -64,12 +72,17 @@ def follow(log: Path) -> None:
     while True:
         # What an entry leads to is committed with a later one: the last is left for the next look.
         last = database.execute("SELECT coalesce(max(place), 0) FROM sent").fetchone()[0]
-        rows = database.execute("SELECT place, firm, bytes FROM sent WHERE place > ? AND place <= ? ORDER BY place, rowid", (told, last))
+        rows = database.execute(
+            "SELECT place, firm, bytes FROM sent WHERE place > ? AND place <= ? ORDER BY place, rowid",
+            (told, last),
+        )
         by_place: dict[int, list[tuple[str, Message]]] = defaultdict(list)
         for place, firm, raw in rows:
             by_place[place].append((firm, fields_of(bytes(raw))))
         time.sleep(LOOK)
-        fresh = database.execute("SELECT count(*) FROM sent WHERE place > ? AND place <= ?", (told, last)).fetchone()[0]
+        fresh = database.execute(
+            "SELECT count(*) FROM sent WHERE place > ? AND place <= ?", (told, last)
+        ).fetchone()[0]
         if fresh != sum(map(len, by_place.values())):
             continue  # more came for these entries meanwhile
         for place in sorted(by_place):

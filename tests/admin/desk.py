@@ -38,7 +38,9 @@ def admin(stage: Stage, *words: str, at: Path | None = None) -> Said:
     program = stage.door.programs.gateway.parent / "mireseason-admin"
     command = [str(program), "--socket", str(at or socket_of(stage)), *words]
     done = subprocess.run(command, capture_output=True, timeout=LONG, check=False)
-    return Said(done.returncode, done.stdout.decode(errors="replace"), done.stderr.decode(errors="replace"))
+    return Said(
+        done.returncode, done.stdout.decode(errors="replace"), done.stderr.decode(errors="replace")
+    )
 
 
 def did(stage: Stage, *words: str, at: Path | None = None) -> str:
@@ -91,7 +93,11 @@ def rest_of(connection: socket.socket) -> bytes:
 
 def acts(stage: Stage) -> list[bytes]:
     """The lines of all acts in the log, which have to be lines of their own."""
-    lines = [entry.line for entry in stage.door.ledger().entries[1:] if entry.firm is None and entry.line.startswith(b"#")]
+    lines = [
+        entry.line
+        for entry in stage.door.ledger().entries[1:]
+        if entry.firm is None and entry.line.startswith(b"#")
+    ]
     for line in lines:
         assert NOTE.fullmatch(line) and len(line) <= 200, "a note is %r" % line
     return [line for line in lines if line.startswith(b"# act ")]
@@ -100,8 +106,19 @@ def acts(stage: Stage) -> list[bytes]:
 def audit(stage: Stage, *words: str) -> Said:
     """The audit of the log as it stands: a command and what stands behind the log."""
     door = stage.door
-    log = [str(door.database)] if door.postgres is None else ["postgres:" + door.postgres.connection, "--schema", door.postgres.schema]
-    command = [str(ROOT / "audit" / "mireseason-audit"), words[0], *log, "--venue", " ".join(stage.tools.programs.venue), *words[1:]]
+    log = (
+        [str(door.database)]
+        if door.postgres is None
+        else ["postgres:" + door.postgres.connection, "--schema", door.postgres.schema]
+    )
+    command = [
+        str(ROOT / "audit" / "mireseason-audit"),
+        words[0],
+        *log,
+        "--venue",
+        " ".join(stage.tools.programs.venue),
+        *words[1:],
+    ]
     done = subprocess.run(command, capture_output=True, text=True, timeout=LONG, check=False)
     return Said(done.returncode, done.stdout, done.stderr)
 
@@ -122,6 +139,14 @@ def said_as(user: str, group: str, path: Path, line: bytes) -> str:
     )
     command = ["/usr/bin/python3", "-c", script, str(path)]
     done = subprocess.run(
-        command, input=line, capture_output=True, user=user, group=group, extra_groups=[], cwd="/", timeout=LONG, check=True
+        command,
+        input=line,
+        capture_output=True,
+        user=user,
+        group=group,
+        extra_groups=[],
+        cwd="/",
+        timeout=LONG,
+        check=True,
     )
     return done.stdout.decode()

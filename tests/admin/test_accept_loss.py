@@ -52,7 +52,12 @@ def test_a_loss_that_is_accepted(stage: Stage, lose: Callable[[Stage], None]) ->
     assert row["state"] == "waits" and row["for"].startswith("log accept-loss: "), row
     with socket.socket() as probe:
         assert probe.connect_ex(("127.0.0.1", stage.door.port)) != 0, "the door is open"
-    for words in (("limit", "DLR1", "day_bytes=800000"), ("clock", "accept"), ("reload",), ("firms",)):
+    for words in (
+        ("limit", "DLR1", "day_bytes=800000"),
+        ("clock", "accept"),
+        ("reload",),
+        ("firms",),
+    ):
         said = admin(stage, *words)
         assert said.status == 1 and "no day is open" in said.err, said.text
     did(stage, "log", "accept-loss", "--because", "the disk of db1 is gone")

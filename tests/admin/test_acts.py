@@ -24,7 +24,9 @@ def refused(stage: Stage, number: int, name: bytes, reason: bytes) -> int:
     with logged_on(stage, DEALER, number=number) as wire:
         assert wire.raw(wire.message(b"S", wire.name, quote(name)))
         logout = wire.read_kind(b"5")
-        assert logout is not None and reason in (logout.value(58) or b""), "a quote is answered %r" % logout
+        assert logout is not None and reason in (logout.value(58) or b""), (
+            "a quote is answered %r" % logout
+        )
         return wire.number
 
 
@@ -71,7 +73,9 @@ def test_a_limit_that_is_raised(stage_of_log: Stage) -> None:
     assert firm_row(stage, "DLR1")["day_bytes_limit"] == 100_000_000
     did(stage, "reload")
     number = taken(stage, number, b"q3")
-    assert {row["limit"]: row["value"] for row in rows(stage, "limit", "DLR1") if row["set"]} == {"day_bytes": 100_000_000}
+    assert {row["limit"]: row["value"] for row in rows(stage, "limit", "DLR1") if row["set"]} == {
+        "day_bytes": 100_000_000
+    }
     did(stage, "limit", "DLR1", "day_bytes=configured")
     refused(stage, number, b"q4", USED_UP)
     assert len(acts(stage)) == 3
@@ -88,11 +92,19 @@ def test_a_rate_that_is_changed(stage: Stage) -> None:
         began = len(stage.door.ledger().messages_of("DLR1"))
         budget = 500 + 1000  # the burst, and what is read at once before anything is counted
         assert wire.raw(b"".join(cancel(wire, wire.number + at) for at in range(4000)))
-        until("some are in the log", LONG, lambda: len(stage.door.ledger().messages_of("DLR1")) > began)
-        assert len(stage.door.ledger().messages_of("DLR1")) - began < 4000 - budget, "the whole flood is in the log at once"
+        until(
+            "some are in the log",
+            LONG,
+            lambda: len(stage.door.ledger().messages_of("DLR1")) > began,
+        )
+        assert (
+            len(stage.door.ledger().messages_of("DLR1")) - began < 4000 - budget
+        ), "the whole flood is in the log at once"
     started_again(stage)
     assert {row["limit"]: row["value"] for row in rows(stage, "limit", "DLR1") if row["set"]} == {
-        "messages_per_second": 500, "messages_burst": 500}
+        "messages_per_second": 500,
+        "messages_burst": 500,
+    }
     assert not any(row["set"] for row in rows(stage, "limit", "DLR2"))
 
 
@@ -118,7 +130,11 @@ def test_a_clock_that_is_accepted(stage: Stage, clock: Clock) -> None:
     started_again(stage)
     taken(stage, number, b"q4")
     assert admin(stage, "clock", "accept").status == 1
-    steps = [entry.line for entry in stage.door.ledger().entries[1:] if entry.line.startswith(b"# clock ") and b" set -" in entry.line]
+    steps = [
+        entry.line
+        for entry in stage.door.ledger().entries[1:]
+        if entry.line.startswith(b"# clock ") and b" set -" in entry.line
+    ]
     assert len(steps) == 1, steps
     microseconds = int(steps[0].rsplit(b" ", 1)[1])
     assert -40_100_000 < microseconds < -39_000_000, steps
@@ -131,12 +147,20 @@ def test_samples_of_the_clock(stage: Stage) -> None:
     stage.auction()
     stage.log_off(*stage.firms)
     started_again(stage)
-    lines = [entry.line for entry in stage.door.ledger().entries[1:] if entry.line.startswith(b"# clock ")]
-    assert len(lines) == 2 and all(line.split(b" ")[3] in (b"synchronised", b"unsynchronised") for line in lines), lines
+    lines = [
+        entry.line
+        for entry in stage.door.ledger().entries[1:]
+        if entry.line.startswith(b"# clock ")
+    ]
+    assert len(lines) == 2 and all(
+        line.split(b" ")[3] in (b"synchronised", b"unsynchronised") for line in lines
+    ), lines
     assert stage.door.ledger().entries[1].line == lines[0]
     (stage.folder / "parties.toml").write_text("")
     out = stage.folder / "record"
-    done = audit(stage, "record", str(out), "--rts24", "--parties", str(stage.folder / "parties.toml"))
+    done = audit(
+        stage, "record", str(out), "--rts24", "--parties", str(stage.folder / "parties.toml")
+    )
     assert "clock: 2 samples" in done.out, done.text
     assert len((out / "clock.csv").read_text().splitlines()) == 3
 
@@ -150,10 +174,16 @@ def test_files_that_are_read_again(stage: Stage) -> None:
     right = file.read_text()
     file.write_text(right.replace("username", "usrname"))
     said = admin(stage, "reload")
-    assert said.status == 1 and "stay as they were" in said.err and "username is missing" in said.err, said.text
+    assert (
+        said.status == 1 and "stay as they were" in said.err and "username is missing" in said.err
+    ), said.text
     file.write_text(right.split("[DLR2]")[0] + "[INV1]" + right.split("[INV1]")[1])
     did(stage, "reload")
-    until("the other dealer is logged off", LONG, lambda: bool(firm_row(stage, "DLR2")["logged_on"] == ""))
+    until(
+        "the other dealer is logged off",
+        LONG,
+        lambda: bool(firm_row(stage, "DLR2")["logged_on"] == ""),
+    )
     assert firm_row(stage, "DLR1")["logged_on"]
     assert len(acts(stage)) == 3
 
@@ -167,7 +197,9 @@ def test_acts_and_another_gateway(stage_of_log: Stage) -> None:
     stage.open(stage.other)
     second = stage.folder / "second.toml"
     text = (stage.folder / "gateway.toml").read_text()
-    text = text.replace("admin.sock", "second.sock").replace("port = %d\n" % stage.door.metrics, "port = 0\n")
+    text = text.replace("admin.sock", "second.sock").replace(
+        "port = %d\n" % stage.door.metrics, "port = 0\n"
+    )
     second.write_text(text.replace('checkpoints = "checkpoints"', 'checkpoints = "checkpoints2"'))
     told = stage.folder / "second.told"
     with told.open("wb") as file:
@@ -175,7 +207,11 @@ def test_acts_and_another_gateway(stage_of_log: Stage) -> None:
     try:
         until("it stands by", LONG, lambda: "stands by" in told.read_text())
         # Without one it would not know whether the log was cut off.
-        until("it has a checkpoint of the other", LONG, lambda: any((stage.folder / "checkpoints2").glob("*.checkpoint")))
+        until(
+            "it has a checkpoint of the other",
+            LONG,
+            lambda: any((stage.folder / "checkpoints2").glob("*.checkpoint")),
+        )
         did(stage, "limit", "DLR1", "day_bytes=100000000")
         at = stage.folder / "second.sock"
         said = admin(stage, "limit", "DLR1", "day_bytes=200000000", at=at)

@@ -7,7 +7,19 @@ import time
 
 import pytest
 
-from tests.admin.desk import acts, admin, answer_to, audit, connected, did, firm_row, is_root, rest_of, said_as, socket_of
+from tests.admin.desk import (
+    acts,
+    admin,
+    answer_to,
+    audit,
+    connected,
+    did,
+    firm_row,
+    is_root,
+    rest_of,
+    said_as,
+    socket_of,
+)
 from tests.gateway.stage import Stage
 from tests.gateway.wait import LONG, until, within
 from tests.harness.budget import Budget, seconds_of
@@ -29,7 +41,11 @@ def test_what_an_operator_sees(desk: Stage) -> None:
     text = did(desk, "status")
     assert "state " in text and "open" in text and "takes_business" in text, text
     row = firm_row(desk, "DLR1")
-    assert row["logged_on"] and row["address"].startswith("127.0.0.1:") and row["day_bytes_limit"] == 1 << 30, row
+    assert (
+        row["logged_on"]
+        and row["address"].startswith("127.0.0.1:")
+        and row["day_bytes_limit"] == 1 << 30
+    ), row
     assert firm_row(desk, "DLR2")["logged_on"] == ""
     help_text = did(desk, "--help")
     for command in json.loads(did(desk, "--json", "help"))["rows"]:
@@ -50,7 +66,11 @@ def test_what_an_operator_sees(desk: Stage) -> None:
         ((), 2, "usage: mireseason-admin"),
     ):
         answer = admin(desk, *words)
-        assert answer.status == status and said in answer.err, "%s: %d %s" % (words, answer.status, answer.text)
+        assert answer.status == status and said in answer.err, "%s: %d %s" % (
+            words,
+            answer.status,
+            answer.text,
+        )
     fault = admin(desk, "--json", "clock", "accept")
     assert json.loads(fault.out)["error"].startswith("the clock is not in doubt"), fault.text
     assert acts(desk) == [], "a call that was not done stands in the log"
@@ -68,7 +88,9 @@ def test_who_may(desk: Stage) -> None:
     path = socket_of(desk)
     assert path.stat().st_mode & 0o777 == 0o660
     assert said_as("daemon", "daemon", path, STATUS).startswith("ok\n")
-    assert said_as("daemon", "daemon", path, b"1 text limit DLR1 day_bytes=700000\n").startswith("ok\n")
+    assert said_as("daemon", "daemon", path, b"1 text limit DLR1 day_bytes=700000\n").startswith(
+        "ok\n"
+    )
     assert b" daemon(1) limit DLR1 day_bytes=700000" in acts(desk)[-1]
     assert said_as("nobody", "nogroup", path, STATUS) == "no Permission denied\n"
     path.chmod(0o666)
@@ -100,7 +122,10 @@ def test_lines_that_are_none(desk: Stage) -> None:
         (b"1 text status \xff\n", b"no request"),
     ):
         answer = answer_to(path, data)
-        assert answer.startswith(b"error\n") and said in answer, "%r is answered %r" % (data[:40], answer)
+        assert answer.startswith(b"error\n") and said in answer, "%r is answered %r" % (
+            data[:40],
+            answer,
+        )
         assert all(byte == 10 or 32 <= byte < 127 for byte in answer), answer
     # What stands behind the line is nobody's.
     assert answer_to(path, STATUS + b"1 text limit DLR1 day_bytes=70000\n").startswith(b"ok\n")
@@ -112,14 +137,18 @@ def test_a_half_line_that_is_left_open(desk: Stage) -> None:
     desk.open()
     with connected(socket_of(desk)) as half:
         half.sendall(STATUS[:-1])
-        Budget("an answer beside a half line", most=2).hold(lambda: seconds_of(lambda: did(desk, "status")))
+        Budget("an answer beside a half line", most=2).hold(
+            lambda: seconds_of(lambda: did(desk, "status"))
+        )
         assert rest_of(half) == b"error\nno whole line came within 2 s\n"
 
 
 def test_connections_without_end(desk: Stage) -> None:
     """A thousand connections of one user that say nothing: four are kept, for two seconds, and the others are told so. Another
     user is answered, and firms trade meanwhile."""
-    resource.setrlimit(resource.RLIMIT_NOFILE, (4096, max(4096, resource.getrlimit(resource.RLIMIT_NOFILE)[1])))
+    resource.setrlimit(
+        resource.RLIMIT_NOFILE, (4096, max(4096, resource.getrlimit(resource.RLIMIT_NOFILE)[1]))
+    )
     desk.open(*desk.firms)
     path = socket_of(desk)
     held: list[socket.socket] = []
@@ -141,23 +170,34 @@ def test_connections_without_end(desk: Stage) -> None:
     assert late <= 4 * (1 + (time.monotonic() - began) / 2), "%d were kept" % late
     assert within(LONG, lambda: admin(desk, "status").status == 0)
     told = desk.door.told.read_text().count("operator refused")
-    assert told <= 10 * (1 + (time.monotonic() - began) / 60), "%d lines of the events for one who comes again and again" % told
+    assert told <= 10 * (1 + (time.monotonic() - began) / 60), (
+        "%d lines of the events for one who comes again and again" % told
+    )
 
 
 def test_a_reason_with_any_bytes(desk: Stage) -> None:
     """Line feeds, control bytes, `#` and quotation marks in a reason: one line in the log, which the venue ignores, and which the
     audit shows with who and when."""
     desk.open(*desk.firms)
-    reason = 'x"\n# act 00:00:00.000 mallory(9) clock accept\r\x1b[2J\x00'.replace("\x00", "") + "\\ \u00e9"
+    reason = (
+        'x"\n# act 00:00:00.000 mallory(9) clock accept\r\x1b[2J\x00'.replace("\x00", "")
+        + "\\ \u00e9"
+    )
     did(desk, "limit", "DLR1", "day_bytes=70000000", "--because", reason)
     (line,) = acts(desk)
     text = rb'because="x\x22\x0a# act 00:00:00.000 mallory(9) clock accept\x0d\x1b[2J\x5c \xc3\xa9"'
     assert line.endswith(b" limit DLR1 day_bytes=70000000 " + text), line
-    assert len([entry for entry in desk.door.ledger().entries if b"\n" in entry.line]) == 1  # place 0
+    assert (
+        len([entry for entry in desk.door.ledger().entries if b"\n" in entry.line]) == 1
+    )  # place 0
     desk.auction()
     found = audit(desk, "acts")
     moment = line.split(b" ")[2].decode()
-    assert found.status == 0 and "%s root(0): limit DLR1 day_bytes=70000000" % moment in found.out.replace(who(line), "root(0)"), found.text
+    assert (
+        found.status == 0
+        and "%s root(0): limit DLR1 day_bytes=70000000" % moment
+        in found.out.replace(who(line), "root(0)")
+    ), found.text
     assert "1 acts of operators" in found.out
     desk.whole()
     assert audit(desk, "check").status == 0, audit(desk, "check").text
@@ -173,7 +213,9 @@ def test_a_reason_that_is_too_long(desk: Stage) -> None:
     did(desk, "limit", "DLR1", "day_bytes=700000", "--because", "x")
     room = 200 - len(acts(desk)[-1]) + 1
     refused = admin(desk, "limit", "DLR1", "day_bytes=700001", "--because", "x" * (room + 1))
-    assert refused.status == 1 and "would have 201 bytes, and may have 200" in refused.err, refused.text
+    assert (
+        refused.status == 1 and "would have 201 bytes, and may have 200" in refused.err
+    ), refused.text
     assert len(acts(desk)) == 1
     did(desk, "limit", "DLR1", "day_bytes=700001", "--because", "x" * room)
     assert len(acts(desk)[-1]) == 200

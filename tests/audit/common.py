@@ -20,7 +20,6 @@ SQLITE = "file:%s?mode=ro"
 REMEMBERED = ("/usr/bin/python3", str(HERE / "remembered.py"))  # in front of a program's words
 
 
-
 IS_SHORT = os.environ.get("FORM", "long") == "short"  # how much is drawn
 
 

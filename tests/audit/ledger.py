@@ -177,8 +177,14 @@ class Ledger:
     # ------------------------------------------------------------ connections
 
     def event(
-        self, event: str, moment: int, firm: str | None, number: int | None,
-        peer: tuple[str, str | None], why: str | None, left_out: int = 0,
+        self,
+        event: str,
+        moment: int,
+        firm: str | None,
+        number: int | None,
+        peer: tuple[str, str | None],
+        why: str | None,
+        left_out: int = 0,
     ) -> None:
         """Something that happened to a connection."""
         self.events += 1
@@ -267,7 +273,12 @@ class Ledger:
         return self.entry(time_text(moment), None, None, b"clock " + time_text(moment).encode())
 
     def given(
-        self, firm: str, data: bytes, place: int, moment: int, answered: int | None,
+        self,
+        firm: str,
+        data: bytes,
+        place: int,
+        moment: int,
+        answered: int | None,
         note: tuple[str, str] | None = None,
     ) -> None:
         """A message of the venue, with what is noted beside it, and the session's that carries it."""

@@ -12,9 +12,7 @@ from dataclasses import dataclass
 from pathlib import Path
 from typing import Any
 
-Row = tuple[
-    int, int, str, str | None, int | None, bytes, bytes, bytes, str, int | None
-]
+Row = tuple[int, int, str, str | None, int | None, bytes, bytes, bytes, str, int | None]
 COLUMNS = "place, term, moment, firm, number, line, before, hash, received, connection"
 ENTRIES = "SELECT %s FROM entry ORDER BY place" % COLUMNS
 CARRIED = "SELECT firm, number, sent FROM outgoing WHERE sent IS NOT NULL"
@@ -87,14 +85,16 @@ class Tamperer:
 
     def entry_column(self) -> Change:
         row = self.some_entry()
-        column, value = self.draw.choice([
-            ("term", row[1] + 1),
-            ("moment", "23:59:59.999"),
-            ("firm", "NOBODY"),
-            ("number", (row[4] or 0) + 1),
-            ("received", "07:59:59.999999"),
-            ("connection", (row[9] or 0) + 1),
-        ])
+        column, value = self.draw.choice(
+            [
+                ("term", row[1] + 1),
+                ("moment", "23:59:59.999"),
+                ("firm", "NOBODY"),
+                ("number", (row[4] or 0) + 1),
+                ("received", "07:59:59.999999"),
+                ("connection", (row[9] or 0) + 1),
+            ]
+        )
         self.do("UPDATE entry SET %s = ? WHERE place = ?" % column, value, row[0])
         what = "%s of entry %d" % (column, row[0])
         return Change(what, CHANGED % row[0])

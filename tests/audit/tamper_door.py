@@ -10,9 +10,7 @@ EVENTS = (
     "SELECT place, term, moment, event, entry, number, firm, address, certificate, why, left_out"
     " FROM connection ORDER BY place"
 )
-Event = tuple[
-    int, int, str, str, int, int | None, str | None, str, str | None, str | None, int
-]
+Event = tuple[int, int, str, str, int, int | None, str | None, str, str | None, str | None, int]
 
 # What the report has to have.
 CHANGED_ROW = r"door: row %d: it was changed"
@@ -82,18 +80,20 @@ def some_event(log: Tamperer, *events: str) -> Event:
 
 def event_column(log: Tamperer) -> Change:
     row = some_event(log)
-    column, value = log.draw.choice([
-        ("term", row[1] + 1),
-        ("moment", "23:59:59.999999"),
-        ("event", "refused" if row[3] != "refused" else "stranger"),
-        ("entry", row[4] + 1),
-        ("number", (row[5] or 0) + 1),
-        ("firm", "NOBODY"),
-        ("address", "203.0.113.9:1"),
-        ("certificate", "NOBODY"),
-        ("why", "nothing"),
-        ("left_out", row[10] + 1),
-    ])
+    column, value = log.draw.choice(
+        [
+            ("term", row[1] + 1),
+            ("moment", "23:59:59.999999"),
+            ("event", "refused" if row[3] != "refused" else "stranger"),
+            ("entry", row[4] + 1),
+            ("number", (row[5] or 0) + 1),
+            ("firm", "NOBODY"),
+            ("address", "203.0.113.9:1"),
+            ("certificate", "NOBODY"),
+            ("why", "nothing"),
+            ("left_out", row[10] + 1),
+        ]
+    )
     log.do("UPDATE connection SET %s = ? WHERE place = ?" % column, value, row[0])
     return Change("%s of row %d of the door" % (column, row[0]), CHANGED_ROW % row[0])
 

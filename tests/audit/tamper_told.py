@@ -37,7 +37,9 @@ def told_more(log: Tamperer) -> Change:
     plain = [row for row in log.rows(CARRYING) if not any(tag in row[2] for tag in TOLD)]
     firm, number, data = log.draw.choice(plain)
     fields = [
-        (b"58", b"the request has ended"), (b"58", b"x"), (b"1003", b"20261125-FJORD-ALPHA-1"),
+        (b"58", b"the request has ended"),
+        (b"58", b"x"),
+        (b"1003", b"20261125-FJORD-ALPHA-1"),
     ]
     tag, value = log.draw.choice(fields)
     return told_by(log, firm, number, [*body_of(data), (tag, value)], "%d put in" % int(tag))

@@ -43,8 +43,10 @@ class Acts(unittest.TestCase):
         """447=D and 452=35 name a dealer, in any order; entries of other roles name none."""
         for text, dealers in (
             ("453=1|448=DLR1|447=D|452=35|", ["DLR1"]),
-            ("453=3|448=DLR2|452=35|447=D|448=BANK|447=D|452=4|448=DLR1|447=D|452=35|",
-             ["DLR2", "DLR1"]),
+            (
+                "453=3|448=DLR2|452=35|447=D|448=BANK|447=D|452=4|448=DLR1|447=D|452=35|",
+                ["DLR2", "DLR1"],
+            ),
             ("453=2|448=DLR1|447=B|452=35|448=DLR2|447=D|452=035|", []),
             ("453=0|", []),
         ):

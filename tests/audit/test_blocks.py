@@ -74,8 +74,13 @@ class Given(unittest.TestCase):
         first, second = notes.splitlines(keepends=True)
         given = GIVEN + notes + b"why BRAVO 1 Closed\n"
         for told, others in (
-            (notes, []), (first, ["ALPHA"]), (second, ["ALPHA"]), (second + first, ["ALPHA"]),
-            (notes + second, ["ALPHA"]), (notes.replace(b"2", b"4"), ["ALPHA"]), (b"", ["ALPHA"]),
+            (notes, []),
+            (first, ["ALPHA"]),
+            (second, ["ALPHA"]),
+            (second + first, ["ALPHA"]),
+            (notes + second, ["ALPHA"]),
+            (notes.replace(b"2", b"4"), ["ALPHA"]),
+            (b"", ["ALPHA"]),
         ):
             self.files.notes("ALPHA").write_bytes(told)
             for size in SIZES:
@@ -249,8 +254,10 @@ class Kept(unittest.TestCase):
                 rows = session().given
                 number, place, data = rows[at]
                 for row in (
-                    (number, place, data + b"\n"), (number, place, b"|" + data),
-                    (number, place, data.replace(b"\x01", b"|", 1)), (number + 1, place, data),
+                    (number, place, data + b"\n"),
+                    (number, place, b"|" + data),
+                    (number, place, data.replace(b"\x01", b"|", 1)),
+                    (number + 1, place, data),
                     (number - 1, place, data),
                 ):
                     rows[at] = row

@@ -56,8 +56,14 @@ def chromium(place: Path, page: Path, *words: str) -> tuple[str, str]:
     """What a page has become in the browser, and what the browser told."""
     done = subprocess.run(
         [
-            "chromium", "--headless", "--no-sandbox", "--disable-gpu", "--enable-logging=stderr",
-            "--allow-file-access-from-files", "--user-data-dir=%s" % (place / "profile"), *words,
+            "chromium",
+            "--headless",
+            "--no-sandbox",
+            "--disable-gpu",
+            "--enable-logging=stderr",
+            "--allow-file-access-from-files",
+            "--user-data-dir=%s" % (place / "profile"),
+            *words,
             page.as_uri(),
         ],
         capture_output=True,

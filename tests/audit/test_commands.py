@@ -31,7 +31,8 @@ class Commands(LogCase):
     def change_answer(self, before: str, after: str) -> int:
         """Changes the bytes of the first acceptance of a quote of ALPHA; answers its number."""
         number = next(
-            row.number for row in Witness(DAY).sent
+            row.number
+            for row in Witness(DAY).sent
             if row.firm == "ALPHA" and row.message["35"] == "AI" and row.message.get("297") == "0"
         )
         value = "CAST(replace(bytes, %s, %s) AS BLOB)" % (before, after)
@@ -235,14 +236,18 @@ class Commands(LogCase):
         ran = audit("check", self.log, "--key", public)
         self.assertEqual((ran.status, ran.err), (1, ""))
         told = [line for line in ran.out.splitlines() if "sealed" in line]
-        self.assertEqual(told, [
-            "entries: entry 336: the log goes on to entry 337, behind entry 336, the last that was"
-            " sealed",
-            "ALPHA: its messages of its session go on behind those that were sealed: 1 more",
-        ])
-        beat.do("UPDATE outgoing SET bytes = ? WHERE firm = 'ALPHA' AND number = 1", framed(
-            b"35=A|34=1|49=VENUE|52=20261125-08:00:00.001|56=ALPHA|98=0|108=30|1137=9|"
-        ))
+        self.assertEqual(
+            told,
+            [
+                "entries: entry 336: the log goes on to entry 337, behind entry 336, the last that was"
+                " sealed",
+                "ALPHA: its messages of its session go on behind those that were sealed: 1 more",
+            ],
+        )
+        beat.do(
+            "UPDATE outgoing SET bytes = ? WHERE firm = 'ALPHA' AND number = 1",
+            framed(b"35=A|34=1|49=VENUE|52=20261125-08:00:00.001|56=ALPHA|98=0|108=30|1137=9|"),
+        )
         beat.connection.close()
         ran = audit("check", self.log, "--key", public)
         self.assertIn("ALPHA: its messages of its session are not those that were sealed", ran.out)
@@ -257,8 +262,16 @@ class Commands(LogCase):
         (self.place / "text").write_bytes(b"".join(lines[:-1]))
         (self.place / "signature").write_bytes(base64.b64decode(lines[-1].split()[1]))
         openssl(
-            "pkeyutl", "-verify", "-rawin", "-pubin", "-inkey", str(public),
-            "-in", str(self.place / "text"), "-sigfile", str(self.place / "signature"),
+            "pkeyutl",
+            "-verify",
+            "-rawin",
+            "-pubin",
+            "-inkey",
+            str(public),
+            "-in",
+            str(self.place / "text"),
+            "-sigfile",
+            str(self.place / "signature"),
         )
 
     def test_a_broken_chain_is_not_sealed(self) -> None:
@@ -276,8 +289,16 @@ class Commands(LogCase):
         ran = audit("page", self.log, pages, "--key", public, "--sign", private)
         self.assertEqual(ran.status, 0, ran.text)
         openssl(
-            "pkeyutl", "-verify", "-rawin", "-pubin", "-inkey", str(public),
-            "-in", str(pages / "SHA256SUMS"), "-sigfile", str(pages / "SHA256SUMS.sig"),
+            "pkeyutl",
+            "-verify",
+            "-rawin",
+            "-pubin",
+            "-inkey",
+            str(public),
+            "-in",
+            str(pages / "SHA256SUMS"),
+            "-sigfile",
+            str(pages / "SHA256SUMS.sig"),
         )
         self.assertIn("as it was sealed", (pages / "index.html").read_text())
         self.assertEqual(audit("page", self.log, pages).status, 2)  # the folder is not empty
@@ -331,7 +352,7 @@ class Commands(LogCase):
         self.assertEqual(audit("page", self.log, pages).status, 0)
         (self.place / "bin").mkdir()
         program = self.place / "bin" / "rfq_venue"
-        program.write_text("#!/bin/sh\nexec %s \"$@\"\n" % " ".join(venue_words()))
+        program.write_text('#!/bin/sh\nexec %s "$@"\n' % " ".join(venue_words()))
         program.chmod(0o755)
         path = "%s:%s" % (self.place / "bin", os.environ["PATH"])
         text = (pages / "certificates" / "BRAVO.html").read_text()
@@ -342,17 +363,24 @@ class Commands(LogCase):
         for command in commands:
             command = command.replace("&lt;", "<")
             done = subprocess.run(
-                command, shell=True, cwd=pages / "certificates", capture_output=True, text=True,
-                env={**os.environ, "PATH": path}, check=True,
+                command,
+                shell=True,
+                cwd=pages / "certificates",
+                capture_output=True,
+                text=True,
+                env={**os.environ, "PATH": path},
+                check=True,
             )
             answers.append(done.stdout.split()[0])
         self.assertEqual(answers, [hashes[0], hashes[1], hashes[0], hashes[1]])
 
     def test_a_certificate_that_compare_speaks_against(self) -> None:
-        for number, edit in enumerate((
-            "s/^due .*/due equal/;s/^messages .*/messages differ at 1/",
-            "s/^row equal/row differs/",
-        )):
+        for number, edit in enumerate(
+            (
+                "s/^due .*/due equal/;s/^messages .*/messages differ at 1/",
+                "s/^row equal/row differs/",
+            )
+        ):
             pages = self.place / ("pages-%d" % number)
             ran = audit("page", self.log, pages, venue=self.edited("compare", edit))
             self.assertEqual((ran.status, ran.err), (1, ""), ran.text)

@@ -84,8 +84,19 @@ class Doors(unittest.TestCase):
         CERTIFICATE WHY, a line feed, and these texts.
         """
         row = ConnectionEvent(
-            7, 2, "09:00:00.000001", "end", 12, 3, "DLR1", PEER, "Dé", "closed", 4,
-            bytes(range(32)), b"",
+            7,
+            2,
+            "09:00:00.000001",
+            "end",
+            12,
+            3,
+            "DLR1",
+            PEER,
+            "Dé",
+            "closed",
+            4,
+            bytes(range(32)),
+            b"",
         )
         text = bytes(range(32)).hex() + " 7 2 09:00:00.000001 12 3 DLR1 4 3 15 3 6\n"
         text += "end" + PEER + "Dé" + "closed"
@@ -103,29 +114,65 @@ class Doors(unittest.TestCase):
     def test_entries_that_are_not_as_they_should_be(self) -> None:
         changes: Changes = [
             (1, {"connection": None}, "entry 1: number 1 of DLR1's session came on no connection"),
-            (1, {"connection": 9}, "entry 1: number 1 of DLR1's session came on connection 9, and"
-             " no Logon was accepted on that before it"),
-            (1, {"connection": 2}, "entry 1: number 1 of DLR1's session came on connection 2, and"
-             " no Logon was accepted on that before it"),
-            (5, {"connection": 5}, "entry 5: number 5 of DLR1's session came on connection 5,"
-             " which is INV1's"),
-            (5, {"connection": 1}, "entry 5: number 5 of DLR1's session came on connection 1,"
-             " which had ended"),
-            (5, {"firm": "INV1"}, "entry 5: number 5 of INV1's session came on connection 2,"
-             " which is DLR1's"),
-            (4, {"number": 4, "connection": 1}, "entry 4: number 4 of DLR1's session came on"
-             " connection 1, which had ended"),
+            (
+                1,
+                {"connection": 9},
+                "entry 1: number 1 of DLR1's session came on connection 9, and"
+                " no Logon was accepted on that before it",
+            ),
+            (
+                1,
+                {"connection": 2},
+                "entry 1: number 1 of DLR1's session came on connection 2, and"
+                " no Logon was accepted on that before it",
+            ),
+            (
+                5,
+                {"connection": 5},
+                "entry 5: number 5 of DLR1's session came on connection 5," " which is INV1's",
+            ),
+            (
+                5,
+                {"connection": 1},
+                "entry 5: number 5 of DLR1's session came on connection 1," " which had ended",
+            ),
+            (
+                5,
+                {"firm": "INV1"},
+                "entry 5: number 5 of INV1's session came on connection 2," " which is DLR1's",
+            ),
+            (
+                4,
+                {"number": 4, "connection": 1},
+                "entry 4: number 4 of DLR1's session came on" " connection 1, which had ended",
+            ),
             (4, {"connection": 1}, "entry 4: it has connection 1, and is no message that came"),
-            (2, {"received": "09:00:01.000000"}, "entry 2: it was received at 09:00:01.000000, and"
-             " what came before it on its connection at 09:00:01.000001"),
-            (2, {"received": "09:00:01.001000"}, "entry 2: it was received at 09:00:01.001000,"
-             " behind its moment 09:00:01.000"),
-            (3, {"received": "09:00:01.999999"}, "entry 3: it was made at 09:00:01.999999, and its"
-             " moment is 09:00:02.000"),
-            (3, {"received": "09:00:02.001000"}, "entry 3: it was made at 09:00:02.001000, and its"
-             " moment is 09:00:02.000"),
-            (2, {"received": "09:00:01.00000"}, "entry 2: it was received at 09:00:01.00000, which"
-             " is no time"),
+            (
+                2,
+                {"received": "09:00:01.000000"},
+                "entry 2: it was received at 09:00:01.000000, and"
+                " what came before it on its connection at 09:00:01.000001",
+            ),
+            (
+                2,
+                {"received": "09:00:01.001000"},
+                "entry 2: it was received at 09:00:01.001000," " behind its moment 09:00:01.000",
+            ),
+            (
+                3,
+                {"received": "09:00:01.999999"},
+                "entry 3: it was made at 09:00:01.999999, and its" " moment is 09:00:02.000",
+            ),
+            (
+                3,
+                {"received": "09:00:02.001000"},
+                "entry 3: it was made at 09:00:02.001000, and its" " moment is 09:00:02.000",
+            ),
+            (
+                2,
+                {"received": "09:00:01.00000"},
+                "entry 2: it was received at 09:00:01.00000, which" " is no time",
+            ),
         ]
         for at, columns, text in changes:
             log = whole()
@@ -137,12 +184,24 @@ class Doors(unittest.TestCase):
             (3, {"hash": bytes(32)}, "row 3: it was changed: its SHA-256 is another than it says"),
             (3, {"place": 9}, "row 3 is missing: in its place comes 9"),
             (2, {"term": -1}, "row 2: its term -1 is before 0, that of the row before it"),
-            (2, {"moment": "08:59:59.999999"}, "row 2: its moment 08:59:59.999999 is before"
-             " 09:00:00.000500, that of the row before it"),
-            (4, {"moment": "09:00:01.999999"}, "row 4: its moment 09:00:01.999999 is before"
-             " 09:00:02.000, that of entry 3, behind which it stands"),
-            (3, {"moment": "09:00:02.001000"}, "row 3: its moment 09:00:02.001000 is behind"
-             " 09:00:02.000, that of the entry behind it"),
+            (
+                2,
+                {"moment": "08:59:59.999999"},
+                "row 2: its moment 08:59:59.999999 is before"
+                " 09:00:00.000500, that of the row before it",
+            ),
+            (
+                4,
+                {"moment": "09:00:01.999999"},
+                "row 4: its moment 09:00:01.999999 is before"
+                " 09:00:02.000, that of entry 3, behind which it stands",
+            ),
+            (
+                3,
+                {"moment": "09:00:02.001000"},
+                "row 3: its moment 09:00:02.001000 is behind"
+                " 09:00:02.000, that of the entry behind it",
+            ),
             (3, {"moment": "9:00"}, "row 3: its moment 9:00 is no time"),
             (4, {"entry": 1}, "row 4: it stands behind entry 1, and the row before it behind 2"),
             (8, {"entry": 6}, "row 8: it stands behind entry 6, and the last one is 5"),
@@ -151,15 +210,29 @@ class Doors(unittest.TestCase):
             (3, {"firm": "DLR1"}, "row 3: it is `stranger`, with firm"),
             (4, {"why": None}, "row 4: it is `end`, without why"),
             (5, {"number": 1}, "row 5: connection 1 comes behind connection 1"),
-            (6, {"firm": "DLR1"}, "row 6: connection 5 of DLR1 begins, and its connection 2 has"
-             " not ended"),
+            (
+                6,
+                {"firm": "DLR1"},
+                "row 6: connection 5 of DLR1 begins, and its connection 2 has" " not ended",
+            ),
             (8, {"number": 3}, "row 8: connection 3 of DLR1 ends, which it has not"),
-            (8, {"address": "192.0.2.9:1"}, "row 8: connection 2 ends as that of 192.0.2.9:1, and"
-             " began as that of " + PEER),
-            (8, {"certificate": "X"}, "row 8: connection 2 ends as that of %s, certificate X, and"
-             " began as that of %s" % (PEER, PEER)),
-            (4, {"moment": "09:00:01.000000", "entry": 2}, "row 4: connection 1 ends at"
-             " 09:00:01.000000, and a message came on it at 09:00:01.000001"),
+            (
+                8,
+                {"address": "192.0.2.9:1"},
+                "row 8: connection 2 ends as that of 192.0.2.9:1, and" " began as that of " + PEER,
+            ),
+            (
+                8,
+                {"certificate": "X"},
+                "row 8: connection 2 ends as that of %s, certificate X, and"
+                " began as that of %s" % (PEER, PEER),
+            ),
+            (
+                4,
+                {"moment": "09:00:01.000000", "entry": 2},
+                "row 4: connection 1 ends at"
+                " 09:00:01.000000, and a message came on it at 09:00:01.000001",
+            ),
         ]
         for place, columns, text in changes:
             log = whole()
@@ -183,11 +256,15 @@ class Doors(unittest.TestCase):
         log = whole()
         connections = CameOn({event.number or 0: event for event in log.events[:1]})
         words = [connections.words(entry) for entry in log.entries[1:6]]
-        self.assertEqual(words[0], "received 09:00:01.000001 on connection 1 from 192.0.2.1:40001,"
-                                   " since 09:00:00.000500")
+        self.assertEqual(
+            words[0],
+            "received 09:00:01.000001 on connection 1 from 192.0.2.1:40001,"
+            " since 09:00:00.000500",
+        )
         self.assertEqual(words[3], "made by the gateway 09:00:02.000100")
-        self.assertEqual(words[4], "received 09:00:04.099999 on connection 2, on which it had no"
-                                   " Logon")
+        self.assertEqual(
+            words[4], "received 09:00:04.099999 on connection 2, on which it had no" " Logon"
+        )
         none = log.entries[1]._replace(connection=None)
         self.assertEqual(connections.words(none), "received 09:00:01.000001 on no connection")
 
@@ -232,15 +309,20 @@ class DrawnDay(unittest.TestCase):
             connection.moment, connection.number FROM entry LEFT JOIN connection
             ON connection.number = entry.connection AND event = 'logon' WHERE entry.firm <> ''"""
         shown: dict[str, Element] = {}
-        for page in self.pages("firms/%s-1.html" % firm for firm, in self.rows(
-                "SELECT DISTINCT firm FROM entry WHERE firm <> ''")):
+        for page in self.pages(
+            "firms/%s-1.html" % firm
+            for firm, in self.rows("SELECT DISTINCT firm FROM entry WHERE firm <> ''")
+        ):
             shown |= {one.attributes["id"]: one for one in page.all("article", "came")}
         rows = self.rows(query)
         self.assertEqual(len(shown), len(rows))
         for place, _, number, received, address, certificate, since, connection in rows:
             words = [one.text for one in shown["e%d" % place].all("p")[0].all("span")]
-            named = address + (", certificate %s" % certificate if certificate else "") \
-                if address else ""
+            named = (
+                address + (", certificate %s" % certificate if certificate else "")
+                if address
+                else ""
+            )
             expected = "made by the gateway %s" % received
             if number is not None:
                 text = "received %s on connection %d from %s, since %s"
@@ -286,8 +368,21 @@ class DrawnDay(unittest.TestCase):
         ((last, hash_, entry),) = self.rows(
             "SELECT place, hash, entry FROM connection ORDER BY place DESC LIMIT 1", log
         )
-        made = ConnectionEvent(last + 1, 0, "18:00:00.000000", "stranger", entry, None, None,
-                               "192.0.2.9:1", None, "no Logon", 0, hash_, b"")
+        made = ConnectionEvent(
+            last + 1,
+            0,
+            "18:00:00.000000",
+            "stranger",
+            entry,
+            None,
+            None,
+            "192.0.2.9:1",
+            None,
+            "no Logon",
+            0,
+            hash_,
+            b"",
+        )
         values = (*made[:-1], event_hash(made))
         with closing(sqlite3.connect(log, isolation_level=None)) as connection:
             marks = ", ".join(["?"] * len(values))
@@ -323,12 +418,18 @@ class DrawnDay(unittest.TestCase):
             self.assertEqual((ran.status, ran.out), (2, ""), query)
             self.assertIn(text, ran.err)
         for query, text in (
-            ("UPDATE connection SET address = x'ff' WHERE place = 2",
-             "door: row 2: it was changed"),
-            ("UPDATE connection SET certificate = CAST(x'ff41' AS TEXT) WHERE place = 2",
-             "door: row 2: it was changed"),
-            ("UPDATE entry SET received = CAST(received AS BLOB) WHERE place = 1",
-             "entries: entry 1: it was changed"),
+            (
+                "UPDATE connection SET address = x'ff' WHERE place = 2",
+                "door: row 2: it was changed",
+            ),
+            (
+                "UPDATE connection SET certificate = CAST(x'ff41' AS TEXT) WHERE place = 2",
+                "door: row 2: it was changed",
+            ),
+            (
+                "UPDATE entry SET received = CAST(received AS BLOB) WHERE place = 1",
+                "entries: entry 1: it was changed",
+            ),
         ):
             ran = audit("check", self.changed(query))
             self.assertEqual((ran.status, ran.err), (1, ""), query)
@@ -358,7 +459,8 @@ class OldDays(unittest.TestCase):
         with folder() as name:
             log = Path(name) / "day.db"
             for number, text in (
-                (2, "the form of its tables is none of 1, 3 and 4"), (3, "no such column: received"),
+                (2, "the form of its tables is none of 1, 3 and 4"),
+                (3, "no such column: received"),
             ):
                 shutil.copyfile(DAY, log)
                 with closing(sqlite3.connect(log, isolation_level=None)) as connection:

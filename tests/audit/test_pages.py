@@ -104,16 +104,19 @@ class Pages(unittest.TestCase):
         witness, requests = self.witness, self.witness.requests
         ends = Counter(asked.end for asked in requests)
         self.assertEqual(len(requests), 40)
-        self.assertEqual(self.figures(), {
-            "Requests": "40",
-            "Awarded": str(ends["awarded"]),
-            "Passed": str(ends["passed"]),
-            "Expired": str(ends["expired"]),
-            "Quotes accepted": str(sum(len(asked.quotes) for asked in requests)),
-            "Messages that came": str(len(witness.came)),
-            "Messages sent": str(len(witness.sent)),
-            "Refused": str(sum(witness.refused().values())),
-        })
+        self.assertEqual(
+            self.figures(),
+            {
+                "Requests": "40",
+                "Awarded": str(ends["awarded"]),
+                "Passed": str(ends["passed"]),
+                "Expired": str(ends["expired"]),
+                "Quotes accepted": str(sum(len(asked.quotes) for asked in requests)),
+                "Messages that came": str(len(witness.came)),
+                "Messages sent": str(len(witness.sent)),
+                "Refused": str(sum(witness.refused().values())),
+            },
+        )
 
     def test_face_value_is_not_added_across_bonds(self) -> None:
         """The bonds of the day have no currency."""
@@ -134,17 +137,32 @@ class Pages(unittest.TestCase):
             price = told.get("133") or told.get("132") or ""
             side = {"1": "buys", "2": "sells"}[asked.message["54"]]
             quantity = format(int(asked.message["38"]), ",").replace(",", " ")
-            self.assertEqual([" ".join(cell.text.split()) for cell in row][:9], [
-                str(number), asked.moment, asked.investor, asked.message["131"], side, quantity,
-                asked.message["48"], str(len(asked.dealers)), str(len(asked.quotes)),
-            ])
+            self.assertEqual(
+                [" ".join(cell.text.split()) for cell in row][:9],
+                [
+                    str(number),
+                    asked.moment,
+                    asked.investor,
+                    asked.message["131"],
+                    side,
+                    quantity,
+                    asked.message["48"],
+                    str(len(asked.dealers)),
+                    str(len(asked.quotes)),
+                ],
+            )
             self.assertTrue(row[9].text.endswith(asked.end))
             cover = asked.dealer_told("4")
             if number in LAPSED_COVERS:
                 cover += " ◔ past its 62"
-            self.assertEqual([cell.text for cell in row[10:]], [
-                asked.dealer_told("1"), price, cover,
-            ])
+            self.assertEqual(
+                [cell.text for cell in row[10:]],
+                [
+                    asked.dealer_told("1"),
+                    price,
+                    cover,
+                ],
+            )
 
     def test_the_firms_of_the_day(self) -> None:
         witness = self.witness
@@ -239,7 +257,8 @@ class Pages(unittest.TestCase):
         price = came.message.get("133") or came.message["132"]
         self.assertEqual(line[:4], [name, shown[0], price, came.moment])
         withdrawn = [
-            row for row in self.witness.sent
+            row
+            for row in self.witness.sent
             if (row.firm, row.message.get("117")) == (came.firm, name)
             and row.message.get("297") == "17"
         ]
@@ -256,8 +275,9 @@ class Pages(unittest.TestCase):
         if until and until <= end:
             expected = ["◔", "past", "its", "62,", "then", *fate.split(), end]
             self.assertEqual(line[4], until)
-            self.assertEqual([word for word in line[5].split() if word.isascii() or word == "◔"],
-                             expected)
+            self.assertEqual(
+                [word for word in line[5].split() if word.isascii() or word == "◔"], expected
+            )
         else:
             self.assertEqual((line[4], line[5].partition(" ")[2]), (end, fate))
 
@@ -267,7 +287,9 @@ class Pages(unittest.TestCase):
         """
         for asked, page in self.request_pages():
             drawing, narrow = page.all("svg", "timeline")
-            lapsed = [row for row in rows_of(table_behind(page, "Quotes")) if "past" in row[-2].text]
+            lapsed = [
+                row for row in rows_of(table_behind(page, "Quotes")) if "past" in row[-2].text
+            ]
             for one in (drawing, narrow):
                 self.assertEqual(len(one.all("rect", "bar")), len(asked.quotes))
                 self.assertEqual(len(one.all("path", "lapse")), len(lapsed))

@@ -72,11 +72,30 @@ class Frames(unittest.TestCase):
 class Prices(unittest.TestCase):
     def test_thirty_seconds(self) -> None:
         for text, expected in (
-            ("99.50390625", "99-161"), ("99.515625", "99-16+"), ("99.5", "99-16"),
-            ("101", "101-00"), ("0.00390625", "0-001"), (".5", "0-16"), ("5.", "5-00"),
-            ("99.501", ""), ("", ""), ("x", ""), ("-1", ""), (".", ""), ("-", ""), ("-.", ""),
-            ("1.2.3", ""), ("1e2", ""), ("1e9999", ""), ("1e999999999", ""), ("1_0", ""),
-            ("+1", ""), ("\u0663", ""), ("NaN", ""), ("Infinity", ""), ("99.5\n", ""),
+            ("99.50390625", "99-161"),
+            ("99.515625", "99-16+"),
+            ("99.5", "99-16"),
+            ("101", "101-00"),
+            ("0.00390625", "0-001"),
+            (".5", "0-16"),
+            ("5.", "5-00"),
+            ("99.501", ""),
+            ("", ""),
+            ("x", ""),
+            ("-1", ""),
+            (".", ""),
+            ("-", ""),
+            ("-.", ""),
+            ("1.2.3", ""),
+            ("1e2", ""),
+            ("1e9999", ""),
+            ("1e999999999", ""),
+            ("1_0", ""),
+            ("+1", ""),
+            ("\u0663", ""),
+            ("NaN", ""),
+            ("Infinity", ""),
+            ("99.5\n", ""),
             ("0" * 16, ""),
         ):
             self.assertEqual(Price(text).thirty_seconds, expected, text)
@@ -102,9 +121,15 @@ class Quantities(unittest.TestCase):
 
     def test_texts(self) -> None:
         for text, expected in (
-            ("2000000", "2\u202f000\u202f000"), ("2000000.", "2\u202f000\u202f000"),
-            ("0002000000.0", "2\u202f000\u202f000"), ("7", "7"),
-            (".5", ".5"), ("", ""), ("x", "x"), ("\u00b2", "\u00b2"), ("1e6", "1e6"),
+            ("2000000", "2\u202f000\u202f000"),
+            ("2000000.", "2\u202f000\u202f000"),
+            ("0002000000.0", "2\u202f000\u202f000"),
+            ("7", "7"),
+            (".5", ".5"),
+            ("", ""),
+            ("x", "x"),
+            ("\u00b2", "\u00b2"),
+            ("1e6", "1e6"),
         ):
             self.assertEqual(quantity_text(text), expected)
         self.assertEqual(date_text("20251109"), "9 November 2025")
@@ -154,8 +179,10 @@ class Holding(unittest.TestCase):
 class Names(unittest.TestCase):
     def test_what_names_a_log(self) -> None:
         for log, connection in (
-            ("postgres:host=db1 dbname=x", "host=db1 dbname=x"), ("postgres:", ""),
-            ("postgres://db1/x", "postgres://db1/x"), ("postgresql://db1/x", "postgresql://db1/x"),
+            ("postgres:host=db1 dbname=x", "host=db1 dbname=x"),
+            ("postgres:", ""),
+            ("postgres://db1/x", "postgres://db1/x"),
+            ("postgresql://db1/x", "postgresql://db1/x"),
         ):
             self.assertEqual(connection_of(log), connection)
             words = parser_of().parse_args(["check", log, "--schema", "day"])
@@ -182,9 +209,13 @@ class Lists(unittest.TestCase):
         dealer = day.firms[0]
         self.assertTrue(is_head([date, b"dealer DLR1 4 10000000 T1\n"], day, dealer))
         others: list[list[bytes]] = [
-            [date, b"dealer DLR11 4 10000000 T1\n"], [date, b"dealer DLR2 4 10000000 T1\n"],
-            [date], [], [b"date 20250315\n", b"dealer DLR1 4 10000000 T1\n"],
-            [date, b"lifted 1\n"], [b"date 20250314"],
+            [date, b"dealer DLR11 4 10000000 T1\n"],
+            [date, b"dealer DLR2 4 10000000 T1\n"],
+            [date],
+            [],
+            [b"date 20250315\n", b"dealer DLR1 4 10000000 T1\n"],
+            [date, b"lifted 1\n"],
+            [b"date 20250314"],
         ]
         for head in others:
             self.assertFalse(is_head(head, day, dealer), head)
@@ -204,8 +235,12 @@ class Words(unittest.TestCase):
             ("AI", "131=A|117=Q1|297=17", False, "Q1 is gone"),
             ("AI", "131=A|297=11|453=1|448=DLR3|447=D|452=35", False, "DLR3 declined"),
             ("AI", "693=h|131=A|117=Q1|297=0", False, "awarded"),
-            ("AI", "693=h|131=A|117=Q1|297=5|300=4|58=Gone", False,
-             "refused: quote replaced or gone"),
+            (
+                "AI",
+                "693=h|131=A|117=Q1|297=5|300=4|58=Gone",
+                False,
+                "refused: quote replaced or gone",
+            ),
             ("AI", "693=p|131=A|297=11", False, "passed"),
             ("AI", "693=h|117=Q9|297=9", False, "not found"),
             ("AI", "131=A|297=7", False, "expired"),
@@ -277,7 +312,10 @@ class Pairs(unittest.TestCase):
         ):
             self.assertEqual(compared_by(lines).lines, lines)
         for wrong in (
-            (), ("row equal", "due equal"), ("x", "y", "z"), ("row equal", "due equal", ""),
+            (),
+            ("row equal", "due equal"),
+            ("x", "y", "z"),
+            ("row equal", "due equal", ""),
             ("due equal", "row equal", "messages equal"),
             ("row equal", "due differs at ", "messages equal"),
             ("row equal", "due equal", "messages differs at 2"),

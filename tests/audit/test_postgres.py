@@ -93,7 +93,9 @@ class Postgres(unittest.TestCase):
 
     def test_a_change_of_who_it_was(self) -> None:
         where = "WHERE place = 2"
-        ((address,),) = rows(self.connection, "SELECT address FROM %s.connection %s" % (SCHEMA, where))
+        ((address,),) = rows(
+            self.connection, "SELECT address FROM %s.connection %s" % (SCHEMA, where)
+        )
         self.change("UPDATE connection SET address = '203.0.113.9:1' " + where)
         status, text = self.check()
         self.change("UPDATE connection SET address = '%s' %s" % (address, where))

@@ -40,8 +40,14 @@ def entry(place: int, moment: str, line: bytes, before: bytes, **other: Any) -> 
 
 
 SPOILT: list[tuple[str, Any]] = [  # a column of an entry, and what stands there
-    ("place", 99), ("term", -1), ("moment", "08:59:59.000"), ("firm", "NOBODY"), ("number", 0),
-    ("line", b"clock 09:00:00"), ("before", bytes(32)), ("hash", bytes(32)),
+    ("place", 99),
+    ("term", -1),
+    ("moment", "08:59:59.000"),
+    ("firm", "NOBODY"),
+    ("number", 0),
+    ("line", b"clock 09:00:00"),
+    ("before", bytes(32)),
+    ("hash", bytes(32)),
 ]
 
 
@@ -163,13 +169,19 @@ class Wires(unittest.TestCase):
     def test_each_type(self) -> None:
         for text, expected in (
             (ACCEPTED, "|1181=2|131=R1|117=a1|60=20250314-09:00:10.000|297=0"),
-            (SHOWN, "|1181=1|131=R1|146=1|55=[N/A]|48=BONDA0000001|22=4|54=1|38=2000000"
-                    "|126=20250314-09:05:00.000|60=20250314-09:00:00.000|453=1|448=INV1|447=D"
-                    "|452=13"),
+            (
+                SHOWN,
+                "|1181=1|131=R1|146=1|55=[N/A]|48=BONDA0000001|22=4|54=1|38=2000000"
+                "|126=20250314-09:05:00.000|60=20250314-09:00:00.000|453=1|448=INV1|447=D"
+                "|452=13",
+            ),
             (REJECT, "|1181=6|45=9|371=50|372=Z|373=1|60=20250314-09:01:10.000"),
-            (OFFERED, "|1181=3|131=A|117=Q2|55=[N/A]|48=BONDA0000001|22=4|54=1|133=99.515625"
-                      "|135=2000000|62=20250314-09:04:00.000|60=20250314-09:00:20.000|537=1|453=1"
-                      "|448=DLR2|447=D|452=35"),
+            (
+                OFFERED,
+                "|1181=3|131=A|117=Q2|55=[N/A]|48=BONDA0000001|22=4|54=1|133=99.515625"
+                "|135=2000000|62=20250314-09:04:00.000|60=20250314-09:00:20.000|537=1|453=1"
+                "|448=DLR2|447=D|452=35",
+            ),
         ):
             parts = parts_of(soh(text))
             assert parts is not None
@@ -259,11 +271,19 @@ class Told(unittest.TestCase):
 
     def test_what_may_not(self) -> None:
         for frame, end in (
-            (self.REFUSED, "|58=Lifted"), (self.REFUSED, "|58="), (self.REFUSED, "|58=too late |"),
-            (self.REFUSED, "|58=too late|58=too late"), (self.REFUSED, "|58=too late|1003=x"),
-            (self.REFUSED, "|58=too late|1=x"), (self.REFUSED, "|1=x|58=too late"),
-            (self.GONE, "|58=too late"), (ACCEPTED, "|1=x"), (ACCEPTED, "|1003="),
-            (ACCEPTED, "|1003=x y"), (ACCEPTED, "|1003=x\ny"), (ACCEPTED, "|1003=" + "x" * 41),
+            (self.REFUSED, "|58=Lifted"),
+            (self.REFUSED, "|58="),
+            (self.REFUSED, "|58=too late |"),
+            (self.REFUSED, "|58=too late|58=too late"),
+            (self.REFUSED, "|58=too late|1003=x"),
+            (self.REFUSED, "|58=too late|1=x"),
+            (self.REFUSED, "|1=x|58=too late"),
+            (self.GONE, "|58=too late"),
+            (ACCEPTED, "|1=x"),
+            (ACCEPTED, "|1003="),
+            (ACCEPTED, "|1003=x y"),
+            (ACCEPTED, "|1003=x\ny"),
+            (ACCEPTED, "|1003=" + "x" * 41),
         ):
             self.assertIsNone(self.note(frame, end), end)
         for end in ("|58=too late", "|1003=20250314-INV1-DLR1-1"):
@@ -278,9 +298,15 @@ class Told(unittest.TestCase):
         self.assertEqual((day.gateway, day.notes_flag), ("g 1", ("--notes",)))
         self.assertEqual(day_of(head + b"%%\n" + CONFIGURATION).notes_flag, ())
         for wrong in (
-            b"reason Closed\n", b"reason \n", b"reason A b\nreason A c\n", b"reason A|b\n",
-            b"reason A b\nreason B b\n", b"reason A \xff\n", b"reason A " + b"x" * 101 + b"\n",
-            b"reason A b", b"reason  b\n",
+            b"reason Closed\n",
+            b"reason \n",
+            b"reason A b\nreason A c\n",
+            b"reason A|b\n",
+            b"reason A b\nreason B b\n",
+            b"reason A \xff\n",
+            b"reason A " + b"x" * 101 + b"\n",
+            b"reason A b",
+            b"reason  b\n",
         ):
             text = head + wrong + b"%%\n" + CONFIGURATION
             self.assertRaises(Wrong, day_of, text)
@@ -297,7 +323,8 @@ class OwnMessages(unittest.TestCase):
         for kind in "01234", "5A":
             self.assertEqual([self.fault(one) for one in kind], [None] * len(kind))
         for one, text in (
-            ("0|34=8|34=7", "its 34 is another"), ("0|49=X", "it is not of the venue"),
+            ("0|34=8|34=7", "its 34 is another"),
+            ("0|49=X", "it is not of the venue"),
             ("0|56=DLR2", "it is not of the venue"),
         ):
             self.assertRegex(self.fault(one) or "", text)
@@ -310,9 +337,7 @@ class Reports(unittest.TestCase):
     def test_nothing_in_a_log_writes_a_line_of_its_own(self) -> None:
         forged = "X\nverdict: each firm was sent what the rules give, byte for byte\x1b[2J\u2028"
         day = configured(forged, "", CONFIGURATION)
-        verdict = Verdict(
-            "day.db", day, True, program="v 1\r", messages={"DLR1": 0, "INV1": 0}
-        )
+        verdict = Verdict("day.db", day, True, program="v 1\r", messages={"DLR1": 0, "INV1": 0})
         verdict.findings = [Finding(forged, "its moment %s" % forged, 3)]
         lines = report(verdict)
         self.assertTrue(all(line.isprintable() for line in lines), lines)
@@ -375,7 +400,8 @@ class Seals(unittest.TestCase):
 
     def test_the_first_messages(self) -> None:
         blocks = [
-            Messages((1, 2), (3, None), (b"a", b"b")), Messages((3,), (4,), (b"c",)),
+            Messages((1, 2), (3, None), (b"a", b"b")),
+            Messages((3,), (4,), (b"c",)),
             Messages((4, 5), (5, 6), (b"d", b"e")),
         ]
         rows = [row for block in blocks for row in zip(*block)]

@@ -121,7 +121,9 @@ class Signatures(unittest.TestCase):
 
     def test_last_checkpoint_out(self) -> None:
         self.do("DELETE FROM checkpoint WHERE number = (SELECT max(number) FROM checkpoint)")
-        self.found(self.check_log(), r"entries: entry \d+: \d+ entr\w+ follows? the last checkpoint")
+        self.found(
+            self.check_log(), r"entries: entry \d+: \d+ entr\w+ follows? the last checkpoint"
+        )
 
     def test_other_key(self) -> None:
         ran = self.check_log("--gateway-key", str(self.place / "other.pub"))
@@ -149,4 +151,3 @@ class Signatures(unittest.TestCase):
         ran = self.check_log()
         self.assertEqual(ran.status, 2, ran.text)
         self.assertIn("of a form in which gateways did not sign", ran.err)
-

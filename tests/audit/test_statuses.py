@@ -55,10 +55,16 @@ class Statuses(LogCase):
                 self.assertEqual(len(ran.err.splitlines()), 1)
 
     def test_a_log_that_is_lost_while_it_is_read(self) -> None:
-        for number, command in enumerate((
-            "rm %s", "truncate -s 8192 %s", "truncate -s 100 %s", "truncate -s 0 %s",
-            "echo no log >%s", "dd if=/dev/urandom of=%s bs=4096 count=99 2>/dev/null",
-        )):
+        for number, command in enumerate(
+            (
+                "rm %s",
+                "truncate -s 8192 %s",
+                "truncate -s 100 %s",
+                "truncate -s 0 %s",
+                "echo no log >%s",
+                "dd if=/dev/urandom of=%s bs=4096 count=99 2>/dev/null",
+            )
+        ):
             with self.subTest(command):
                 self.log = self.place / ("day-%d.db" % number)
                 shutil.copyfile(DAY, self.log)
@@ -137,8 +143,11 @@ class Statuses(LogCase):
     def test_words_of_a_program_that_are_none(self) -> None:
         for words in ("'", "rfq_venue \\", ""):
             done = subprocess.run(
-                [str(AUDIT), "check", str(self.log)], env={**os.environ, "VENUE": words},
-                capture_output=True, text=True, check=False,
+                [str(AUDIT), "check", str(self.log)],
+                env={**os.environ, "VENUE": words},
+                capture_output=True,
+                text=True,
+                check=False,
             )
             self.assertEqual((done.returncode, len(done.stderr.splitlines())), (2, 1), done.stderr)
 
@@ -163,18 +172,30 @@ class Statuses(LogCase):
     def test_another_type_in_a_column_of_names_and_times(self) -> None:
         """Whoever asks for a firm's rows by its name gets none in which the name is no text."""
         for query, text in (
-            ("UPDATE entry SET firm = CAST(firm AS BLOB) WHERE place = 300",
-             "entries: entry 300: it was changed"),
-            ("UPDATE entry SET moment = CAST(moment AS BLOB) WHERE place = 300",
-             "entries: entry 300: it was changed"),
-            ("UPDATE entry SET moment = CAST(x'ff' || moment AS TEXT) WHERE place = 300",
-             "entries: entry 300: it was changed"),
-            ("UPDATE entry SET line = CAST(line || x'ff' AS TEXT) WHERE place = 300",
-             "entries: entry 300: it was changed"),
-            ("INSERT INTO sent VALUES (CAST('ALPHA' AS BLOB), 1, 3, x'00')",
-             "b'ALPHA': the configuration has no such firm"),
-            ("INSERT INTO outgoing VALUES (CAST(x'ff' AS TEXT), 1, NULL, x'00')",
-             "\\xff: the configuration has no such firm"),
+            (
+                "UPDATE entry SET firm = CAST(firm AS BLOB) WHERE place = 300",
+                "entries: entry 300: it was changed",
+            ),
+            (
+                "UPDATE entry SET moment = CAST(moment AS BLOB) WHERE place = 300",
+                "entries: entry 300: it was changed",
+            ),
+            (
+                "UPDATE entry SET moment = CAST(x'ff' || moment AS TEXT) WHERE place = 300",
+                "entries: entry 300: it was changed",
+            ),
+            (
+                "UPDATE entry SET line = CAST(line || x'ff' AS TEXT) WHERE place = 300",
+                "entries: entry 300: it was changed",
+            ),
+            (
+                "INSERT INTO sent VALUES (CAST('ALPHA' AS BLOB), 1, 3, x'00')",
+                "b'ALPHA': the configuration has no such firm",
+            ),
+            (
+                "INSERT INTO outgoing VALUES (CAST(x'ff' AS TEXT), 1, NULL, x'00')",
+                "\\xff: the configuration has no such firm",
+            ),
         ):
             shutil.copyfile(DAY, self.log)
             self.change(query)
@@ -187,8 +208,10 @@ class Statuses(LogCase):
         for query, text in (
             ("UPDATE session SET target = 'x' WHERE firm = 'ALPHA'", "session ALPHA: 'x' stands"),
             ("UPDATE entry SET number = 'x' WHERE place = " + rejected, ": 'x' stands where"),
-            ("UPDATE outgoing SET sent = 'x' WHERE firm = 'ALPHA' AND number = 4",
-             "outgoing ALPHA 4: 'x' stands"),
+            (
+                "UPDATE outgoing SET sent = 'x' WHERE firm = 'ALPHA' AND number = 4",
+                "outgoing ALPHA 4: 'x' stands",
+            ),
         ):
             shutil.copyfile(DAY, self.log)
             self.change(query)
@@ -199,8 +222,10 @@ class Statuses(LogCase):
 
     def test_a_line_feed_in_a_line(self) -> None:
         """An entry is one line for the venue, so that those behind it keep their places."""
-        self.change("UPDATE entry SET line = CAST(line || char(10) || 'clock 09:00:00.000' AS BLOB)"
-                    " WHERE place = 300")
+        self.change(
+            "UPDATE entry SET line = CAST(line || char(10) || 'clock 09:00:00.000' AS BLOB)"
+            " WHERE place = 300"
+        )
         last = [row for row in Witness(DAY).sent if row.firm == "BRAVO"][-1]
         self.change("UPDATE sent SET place = 301 WHERE firm = 'BRAVO' AND number = ?", last.number)
         ran = audit("check", self.log)
@@ -251,7 +276,8 @@ class Statuses(LogCase):
             left.mkdir()
             process = subprocess.Popen(
                 [str(AUDIT), "check", "--venue", venue, str(self.log)],
-                env={**os.environ, "TMPDIR": str(left)}, stderr=subprocess.PIPE,
+                env={**os.environ, "TMPDIR": str(left)},
+                stderr=subprocess.PIPE,
             )
             file = left / "asleep"
             self.wait_until(lambda: file.exists() and file.read_text().strip() != "")

@@ -72,9 +72,14 @@ class Streams(unittest.TestCase):
         """
         mark = b"date "
         days: list[list[bytes]] = [
-            [], [b"x\n"], [b"date 1\n"], [b"date 1\na\n", b"date 2\n"], [b"date 1"],
+            [],
+            [b"x\n"],
+            [b"date 1\n"],
+            [b"date 1\na\n", b"date 2\n"],
+            [b"date 1"],
             [b"a\nxdate \n", b"date 1\n\n dat\ndate\n", b"date 2\nb date \n", b"date 3\nc"],
-            [b"date 1\n", b"date 2\n", b"date 3\n"], [b"\n", b"date \n", b"date \n\n"],
+            [b"date 1\n", b"date 2\n", b"date 3\n"],
+            [b"\n", b"date \n", b"date \n\n"],
         ]
         for texts in days:
             data = b"".join(texts)
@@ -89,8 +94,14 @@ class Streams(unittest.TestCase):
 
     def test_the_last_line(self) -> None:
         for data, last in (
-            (b"", b""), (b"\n", b""), (b"a", b"a"), (b"a\nbb\n", b"bb"), (b"a\nbb", b"bb"),
-            (b"a\n\n", b""), (b"x" * 9 + b"\nyy\n", b"yy"), (b"abcdefgh\n", b"defgh"),
+            (b"", b""),
+            (b"\n", b""),
+            (b"a", b"a"),
+            (b"a\nbb\n", b"bb"),
+            (b"a\nbb", b"bb"),
+            (b"a\n\n", b""),
+            (b"x" * 9 + b"\nyy\n", b"yy"),
+            (b"abcdefgh\n", b"defgh"),
         ):
             with folder() as name, patch.object(streams, "LAST_BYTES", 6):
                 path = Path(name) / "file"
@@ -148,7 +159,8 @@ class Feeding(unittest.TestCase):
     def test_a_program_that_takes_no_more(self) -> None:
         """The run ends, and how many lines there are is known all the same."""
         for words, out in (
-            (["head", "-n", "3"], b"0\n" * 3), (["true"], b""),
+            (["head", "-n", "3"], b"0\n" * 3),
+            (["true"], b""),
             (["sh", "-c", "exec <&-; sleep 0.1"], b""),
         ):
             self.fed(*words)

@@ -35,8 +35,13 @@ SEED = int(os.environ.get("SEED", "1"))
 AT_ONCE = 4
 BLOCKS = ((1024, 1 << 20), (7, 300), (1, 64))  # rows and bytes that are read at one time
 MAKING = (
-    ("stats",), ("export", "--csv"), ("trades",), ("record", "--rts24"), ("stats", "--json"),
-    ("export", "--json", "--for", "FJORD"), ("trades", "--csv", "--for", "ALPHA"),
+    ("stats",),
+    ("export", "--csv"),
+    ("trades",),
+    ("record", "--rts24"),
+    ("stats", "--json"),
+    ("export", "--json", "--for", "FJORD"),
+    ("trades", "--csv", "--for", "ALPHA"),
 )  # the commands that make something of a day
 PRINT = 'cat "$1"; cat "$2" >&2; exit "$(cat "$3")"'
 
@@ -49,9 +54,7 @@ class KeptVenue(Venue):
 
     kept: Path = Path()
 
-    def run(
-        self, arguments: list[str], input_: Path | Growing, output: Path | None = None
-    ) -> Run:
+    def run(self, arguments: list[str], input_: Path | Growing, output: Path | None = None) -> Run:
         text = text_of(input_)
         digest = hashlib.sha256(" ".join(arguments).encode() + b"\0" + text).hexdigest()
         parts = [self.kept / (digest + end) for end in (".out", ".err", ".status")]
@@ -147,7 +150,11 @@ class Sealed:
         if status == 1 and re.search(change.pattern, text):
             return ""
         return "change %d, %s: status %d, without %r:\n%s" % (
-            number, change.what, status, change.pattern, text,
+            number,
+            change.what,
+            status,
+            change.pattern,
+            text,
         )
 
 

@@ -126,7 +126,10 @@ class Witness:
             if came.message["35"] == "R" and not self.is_refused(came):
                 dealers = re.findall(rb"\x01448=(\w+)", self.raw[came.place])
                 asked = Asked(
-                    came.place, came.moment, came.firm, came.message,
+                    came.place,
+                    came.moment,
+                    came.firm,
+                    came.message,
                     [dealer.decode() for dealer in dealers],
                 )
                 found.append(asked)

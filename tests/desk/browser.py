@@ -6,8 +6,13 @@ from pathlib import Path
 from typing import Any
 
 from selenium import webdriver
-from selenium.common.exceptions import (ElementNotInteractableException, JavascriptException, NoSuchElementException,
-                                        StaleElementReferenceException, WebDriverException)
+from selenium.common.exceptions import (
+    ElementNotInteractableException,
+    JavascriptException,
+    NoSuchElementException,
+    StaleElementReferenceException,
+    WebDriverException,
+)
 from selenium.webdriver.chrome.options import Options
 from selenium.webdriver.chrome.service import Service
 from selenium.webdriver.common.action_chains import ActionChains
@@ -18,9 +23,26 @@ from selenium.webdriver.remote.webelement import WebElement
 from tests.desk.desks import PASSWORD, Desk
 from tests.gateway.wait import LONG, TooLong
 
-WORDS = ("--headless=new", "--no-sandbox", "--disable-gpu", "--hide-scrollbars", "--disable-dev-shm-usage", "--no-first-run",
-         "--disable-background-networking", "--disable-component-update", "--disable-sync", "--mute-audio")
-CHANGING = (StaleElementReferenceException, NoSuchElementException, ElementNotInteractableException, JavascriptException, IndexError, StopIteration)
+WORDS = (
+    "--headless=new",
+    "--no-sandbox",
+    "--disable-gpu",
+    "--hide-scrollbars",
+    "--disable-dev-shm-usage",
+    "--no-first-run",
+    "--disable-background-networking",
+    "--disable-component-update",
+    "--disable-sync",
+    "--mute-audio",
+)
+CHANGING = (
+    StaleElementReferenceException,
+    NoSuchElementException,
+    ElementNotInteractableException,
+    JavascriptException,
+    IndexError,
+    StopIteration,
+)
 HEIGHT = 900
 TRIES = 3
 
@@ -38,10 +60,16 @@ def started(options: Options) -> webdriver.Chrome:
 class Browser:
     def __init__(self, profile: Path, width: int = 1280) -> None:
         options = Options()
-        for word in (*WORDS, "--user-data-dir=%s" % profile, "--window-size=%d,%d" % (width, HEIGHT)):
+        for word in (
+            *WORDS,
+            "--user-data-dir=%s" % profile,
+            "--window-size=%d,%d" % (width, HEIGHT),
+        ):
             options.add_argument(word)  # type: ignore[no-untyped-call]
         options.set_capability("goog:loggingPrefs", {"browser": "ALL"})
-        options.add_experimental_option("prefs", {"download.default_directory": str(profile / "downloads")})
+        options.add_experimental_option(
+            "prefs", {"download.default_directory": str(profile / "downloads")}
+        )
         self.profile = profile
         self.pressed = False
         self.driver = started(options)
@@ -77,7 +105,9 @@ class Browser:
             time.sleep(0.05)
 
     def until_says(self, where: str, *words: str) -> None:
-        self.until("%s says %r" % (where, words), lambda: all(word in self.text(where) for word in words))
+        self.until(
+            "%s says %r" % (where, words), lambda: all(word in self.text(where) for word in words)
+        )
 
     def until_silent(self, where: str, word: str) -> None:
         self.until("%s does not say %r" % (where, word), lambda: word not in self.text(where))
@@ -107,6 +137,7 @@ class Browser:
 
     def click(self, where: str, words: str = "") -> None:
         """Clicks the first shown element of these that has such words."""
+
         def done() -> bool:
             for one in self.all(where):
                 if one.is_displayed() and words in one.text:
@@ -122,7 +153,14 @@ class Browser:
 
     # ------------------------------------------------------------ what traders do
 
-    def ask(self, bond: str, side: str, quantity: str, deadline: str = "10:00", dealers: tuple[str, ...] = ("DLR1", "DLR2")) -> None:
+    def ask(
+        self,
+        bond: str,
+        side: str,
+        quantity: str,
+        deadline: str = "10:00",
+        dealers: tuple[str, ...] = ("DLR1", "DLR2"),
+    ) -> None:
         """Fills in the ticket by keys and clicks, and sends it by Enter."""
         self.press(Keys.F2)
         self.until("the ticket has the focus", lambda: self.focused() == "bond")
@@ -140,14 +178,21 @@ class Browser:
         return self.all("article.card")[number]
 
     def card_says(self, *words: str, number: int = -1) -> None:
-        self.until("card %d says %r" % (number, words), lambda: all(word in self.card(number).text for word in words))
+        self.until(
+            "card %d says %r" % (number, words),
+            lambda: all(word in self.card(number).text for word in words),
+        )
 
     def in_card(self, where: str, number: int = -1) -> WebElement:
         """The first shown element of a card, once there is one."""
         found: list[WebElement] = []
 
         def is_shown() -> bool:
-            found[:] = [one for one in self.card(number).find_elements(By.CSS_SELECTOR, where) if one.is_displayed()]
+            found[:] = [
+                one
+                for one in self.card(number).find_elements(By.CSS_SELECTOR, where)
+                if one.is_displayed()
+            ]
             return bool(found)
 
         self.until("card %d shows %s" % (number, where), is_shown)
@@ -155,6 +200,7 @@ class Browser:
 
     def press_in_card(self, where: str, number: int = -1) -> None:
         """Clicks a button of a card, once it can be clicked and has stood there long enough."""
+
         def done() -> bool:
             button = self.in_card(where, number)
             if not button.is_enabled():
@@ -180,12 +226,19 @@ class Browser:
 
     def press_twice(self, where: str, number: int = -1) -> None:
         """The two presses of a button that asks first, by keys; again where the first is forgotten by then."""
+
         def done() -> bool:
-            buttons = [one for one in self.card(number).find_elements(By.CSS_SELECTOR, where) if one.is_displayed()]
+            buttons = [
+                one
+                for one in self.card(number).find_elements(By.CSS_SELECTOR, where)
+                if one.is_displayed()
+            ]
             if not buttons or not buttons[0].is_enabled():
                 return self.pressed
             self.pressed = True
-            self.script("document.activeElement !== arguments[0] && arguments[0].focus()", buttons[0])
+            self.script(
+                "document.activeElement !== arguments[0] && arguments[0].focus()", buttons[0]
+            )
             buttons[0].send_keys(Keys.ENTER)
             return False
 
@@ -202,7 +255,11 @@ class Browser:
         button: list[WebElement] = []
 
         def done() -> bool:
-            row = next(one for one in self.card(number).find_elements(By.CSS_SELECTOR, ".quotes tbody tr") if dealer in one.text)
+            row = next(
+                one
+                for one in self.card(number).find_elements(By.CSS_SELECTOR, ".quotes tbody tr")
+                if dealer in one.text
+            )
             button[:] = row.find_elements(By.CSS_SELECTOR, "button.hit")
             if "?" not in button[0].text:
                 self.script("arguments[0].focus()", button[0])
@@ -214,11 +271,16 @@ class Browser:
 
     def hit(self, dealer: str, number: int = -1) -> None:
         """Both presses of a hit: again where the first is forgotten by then, or a quote changed under one."""
+
         def done() -> bool:
             card = self.card(number)
             if card.get_attribute("data-state") == "done" or "not answered" in card.text:
                 return True
-            row = next(one for one in card.find_elements(By.CSS_SELECTOR, ".quotes tbody tr") if dealer in one.text)
+            row = next(
+                one
+                for one in card.find_elements(By.CSS_SELECTOR, ".quotes tbody tr")
+                if dealer in one.text
+            )
             button = row.find_element(By.CSS_SELECTOR, "button.hit")
             self.script("arguments[0].focus()", button)
             button.send_keys(Keys.ENTER)
@@ -230,10 +292,20 @@ class Browser:
 
     def look(self, width: int, scheme: str, height: int = HEIGHT) -> None:
         """As a window of this width, in a light or a dark scheme."""
-        self.driver.execute_cdp_cmd("Emulation.setDeviceMetricsOverride", {"width": width, "height": height, "deviceScaleFactor": 1, "mobile": False})
-        self.driver.execute_cdp_cmd("Emulation.setEmulatedMedia", {"features": [{"name": "prefers-color-scheme", "value": scheme}]})
-        self.until("the window is %d wide" % width, lambda: self.script("return innerWidth") == width)
-        self.script("return new Promise(done => requestAnimationFrame(() => requestAnimationFrame(done)))")
+        self.driver.execute_cdp_cmd(
+            "Emulation.setDeviceMetricsOverride",
+            {"width": width, "height": height, "deviceScaleFactor": 1, "mobile": False},
+        )
+        self.driver.execute_cdp_cmd(
+            "Emulation.setEmulatedMedia",
+            {"features": [{"name": "prefers-color-scheme", "value": scheme}]},
+        )
+        self.until(
+            "the window is %d wide" % width, lambda: self.script("return innerWidth") == width
+        )
+        self.script(
+            "return new Promise(done => requestAnimationFrame(() => requestAnimationFrame(done)))"
+        )
 
     def picture(self, file: Path) -> None:
         file.parent.mkdir(parents=True, exist_ok=True)

@@ -9,7 +9,17 @@ from pathlib import Path
 import pytest
 
 from tests.desk.browser import Browser
-from tests.desk.desks import DEALER, FIRMS, INVESTOR, OTHER, PASSWORD, Desk, FirmOf, bonds_text, row_text
+from tests.desk.desks import (
+    DEALER,
+    FIRMS,
+    INVESTOR,
+    OTHER,
+    PASSWORD,
+    Desk,
+    FirmOf,
+    bonds_text,
+    row_text,
+)
 from tests.desk.view import View
 from tests.gateway.door import Door, today
 from tests.gateway.firm import Identity
@@ -27,7 +37,9 @@ def desk_program() -> Path:
 @pytest.fixture(scope="session")
 def hashed(desk_program: Path) -> str:
     """The hash of PASSWORD."""
-    run = subprocess.run([desk_program, "--hash"], input=PASSWORD + "\n", capture_output=True, text=True, check=True)
+    run = subprocess.run(
+        [desk_program, "--hash"], input=PASSWORD + "\n", capture_output=True, text=True, check=True
+    )
     return run.stdout.strip()
 
 
@@ -77,11 +89,17 @@ class House:
 
 
 def venue_text() -> str:
-    return 'version = 2\ndate = "%s"\n' % today() + bonds_text() + "".join(map(row_text, sorted(FIRMS, key=lambda firm: firm.role)))
+    return (
+        'version = 2\ndate = "%s"\n' % today()
+        + bonds_text()
+        + "".join(map(row_text, sorted(FIRMS, key=lambda firm: firm.role)))
+    )
 
 
 @pytest.fixture
-def house(make_gateway: Callable[..., Door], desk_program: Path, hashed: str, place: Path) -> Iterator[House]:
+def house(
+    make_gateway: Callable[..., Door], desk_program: Path, hashed: str, place: Path
+) -> Iterator[House]:
     """A gateway with its venue, and three desks that are logged on."""
     identities = {firm.name: Identity(firm.name, firm.trader, firm.password) for firm in FIRMS}
     door = make_gateway([identities["DLR1"], identities["DLR2"]], [identities["INV1"]])

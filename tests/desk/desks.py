@@ -15,7 +15,11 @@ PASSWORD = "a trader's password"
 
 # Texts of the market may be anything: the second bond's name would be markup, if a page took it so.
 MARKUP = "<img src=x onerror=alert(1)>&amp;"
-BONDS = (("BONDA0000001", 256, "Alder 4.125 03/29"), ("BONDB0000002", 128, MARKUP), ("BONDC0000003", 32, "Cedar 4.75 02/34"))
+BONDS = (
+    ("BONDA0000001", 256, "Alder 4.125 03/29"),
+    ("BONDB0000002", 128, MARKUP),
+    ("BONDC0000003", 32, "Cedar 4.75 02/34"),
+)
 
 
 @dataclass(frozen=True)
@@ -29,24 +33,38 @@ class FirmOf:
     limits: dict[str, int]
 
 
-INVESTOR = FirmOf("INV1", "investor", "T8", "fix-inv1", {"requests": 1024, "open": 256, "quantity": 5_000_000})
+INVESTOR = FirmOf(
+    "INV1", "investor", "T8", "fix-inv1", {"requests": 1024, "open": 256, "quantity": 5_000_000}
+)
 DEALER = FirmOf("DLR1", "dealer", "T1", "fix-dlr1", {"quotes": 4096, "exposure": 1_000_000_000})
 OTHER = FirmOf("DLR2", "dealer", "T2", "fix-dlr2", {"quotes": 4096, "exposure": 10_000_000})
 FIRMS = (INVESTOR, DEALER, OTHER)
 
 
 def bonds_text() -> str:
-    return "".join('[[bond]]\nid = "%s"\ngrid = %d\nname = %s\n' % (bond, grid, json.dumps(name)) for bond, grid, name in BONDS)
+    return "".join(
+        '[[bond]]\nid = "%s"\ngrid = %d\nname = %s\n' % (bond, grid, json.dumps(name))
+        for bond, grid, name in BONDS
+    )
 
 
 def row_text(firm: FirmOf) -> str:
     rows = "".join("%s = %d\n" % item for item in firm.limits.items())
-    return '[[%s]]\nname = "%s"\ntraders = ["%s", "T4"]\n%s' % (firm.role, firm.name, firm.trader, rows)
+    return '[[%s]]\nname = "%s"\ntraders = ["%s", "T4"]\n%s' % (
+        firm.role,
+        firm.name,
+        firm.trader,
+        rows,
+    )
 
 
 def market_text(firm: FirmOf) -> str:
     """What the operator hands out to a firm."""
-    dealers = "".join('[[dealer]]\nname = "%s"\n' % one.name for one in FIRMS if one.role == "dealer" and one is not firm)
+    dealers = "".join(
+        '[[dealer]]\nname = "%s"\n' % one.name
+        for one in FIRMS
+        if one.role == "dealer" and one is not firm
+    )
     return "version = 2\n" + bonds_text() + dealers + row_text(firm)
 
 
@@ -75,11 +93,18 @@ class Desk:
     def __post_init__(self) -> None:
         acts = "quote" if self.firm.role == "dealer" else "ask"
         small = {"quantity": 1_000_000}
-        self.traders = [TraderOf("tess", self.firm.trader, acts), TraderOf("tom", "T4", acts, small), TraderOf("lou", "T4", "look")]
+        self.traders = [
+            TraderOf("tess", self.firm.trader, acts),
+            TraderOf("tom", "T4", acts, small),
+            TraderOf("lou", "T4", "look"),
+        ]
 
     @property
     def origin(self) -> str:
-        return "%s://127.0.0.1:%d" % ("https" if "certificate" in self.page else "http", self.port.number)
+        return "%s://127.0.0.1:%d" % (
+            "https" if "certificate" in self.page else "http",
+            self.port.number,
+        )
 
     @property
     def data(self) -> Path:
@@ -95,19 +120,39 @@ class Desk:
         secret = self.folder / ("%s.password" % name)
         secret.write_text(self.firm.password + "\n")
         secret.chmod(0o600)
-        text = 'firm = "%s"\nrole = "%s"\nmarket = "%s.market.toml"\ndata = "%s"\n' % (name, self.firm.role, name, name)
-        text += '[fix]\naddresses = ["127.0.0.1:%d"]\nusername = "%s"\npassword_file = "%s.password"\n' % (self.venue_port, name, name)
-        text += "dictionaries = %s\n[page]\nport = %d\n" % (json.dumps(str(ROOT / "fix")), self.port.number)
+        text = 'firm = "%s"\nrole = "%s"\nmarket = "%s.market.toml"\ndata = "%s"\n' % (
+            name,
+            self.firm.role,
+            name,
+            name,
+        )
+        text += (
+            '[fix]\naddresses = ["127.0.0.1:%d"]\nusername = "%s"\npassword_file = "%s.password"\n'
+            % (self.venue_port, name, name)
+        )
+        text += "dictionaries = %s\n[page]\nport = %d\n" % (
+            json.dumps(str(ROOT / "fix")),
+            self.port.number,
+        )
         text += "".join("%s = %s\n" % item for item in self.page.items())
         for trader in self.traders:
-            text += '[[trader]]\nlogin = "%s"\nname = "%s"\nmay = ["%s"]\npassword = "%s"\n' % (trader.login, trader.name, trader.may, self.hashed)
+            text += '[[trader]]\nlogin = "%s"\nname = "%s"\nmay = ["%s"]\npassword = "%s"\n' % (
+                trader.login,
+                trader.name,
+                trader.may,
+                self.hashed,
+            )
             text += "".join("%s = %d\n" % item for item in trader.limits.items())
         (self.folder / ("%s.toml" % name)).write_text(text)
 
     def start(self) -> None:
         with self.told.open("ab") as told:
-            self.process = subprocess.Popen([self.program, self.folder / ("%s.toml" % self.firm.name)], stdin=subprocess.DEVNULL,
-                                            stdout=subprocess.DEVNULL, stderr=told)
+            self.process = subprocess.Popen(
+                [self.program, self.folder / ("%s.toml" % self.firm.name)],
+                stdin=subprocess.DEVNULL,
+                stdout=subprocess.DEVNULL,
+                stderr=told,
+            )
         until("the desk of %s serves" % self.firm.name, LONG, self.serves)
 
     def serves(self) -> bool:

@@ -27,12 +27,34 @@ def test_hosts_and_paths(house: House) -> None:
     answer = ask(port, "GET", "/", {"Host": "127.0.0.1:%d" % port})
     assert answer.status == 200
     policy = answer.headers["Content-Security-Policy"]
-    assert "default-src 'none'" in policy and "unsafe-inline" not in policy and "frame-ancestors 'none'" in policy
+    assert (
+        "default-src 'none'" in policy
+        and "unsafe-inline" not in policy
+        and "frame-ancestors 'none'" in policy
+    )
     assert answer.headers["X-Content-Type-Options"] == "nosniff"
-    for host in ("evil.example", "evil.example:%d" % port, "127.0.0.1", "127.0.0.1:%d" % (port + 1), ""):
+    for host in (
+        "evil.example",
+        "evil.example:%d" % port,
+        "127.0.0.1",
+        "127.0.0.1:%d" % (port + 1),
+        "",
+    ):
         assert ask(port, "GET", "/", {"Host": host}).status == 403, host
-    for path in ("/../desk.toml", "/%2e%2e/INV1.toml", "//etc/passwd", "/main.js/../../INV1.toml", "/sessions.json", "/.js", "/?x=/../", "/login"):
-        assert ask(port, "GET", path, {"Host": "127.0.0.1:%d" % port}).status in (404, 200 if path == "/?x=/../" else 404), path
+    for path in (
+        "/../desk.toml",
+        "/%2e%2e/INV1.toml",
+        "//etc/passwd",
+        "/main.js/../../INV1.toml",
+        "/sessions.json",
+        "/.js",
+        "/?x=/../",
+        "/login",
+    ):
+        assert ask(port, "GET", path, {"Host": "127.0.0.1:%d" % port}).status in (
+            404,
+            200 if path == "/?x=/../" else 404,
+        ), path
     assert ask(port, "PUT", "/", own(house.investor)).status == 404
 
 
@@ -40,14 +62,23 @@ def test_another_origin_posts_nothing(house: House) -> None:
     """Neither a page of another host or port, nor a form, nor a request without an Origin."""
     desk = house.investor
     port = desk.port.number
-    for origin in ("http://evil.example", "http://127.0.0.1:%d" % (port + 1), "http://localhost:%d" % port, "null", "https://127.0.0.1:%d" % port, None):
+    for origin in (
+        "http://evil.example",
+        "http://127.0.0.1:%d" % (port + 1),
+        "http://localhost:%d" % port,
+        "null",
+        "https://127.0.0.1:%d" % port,
+        None,
+    ):
         headers = {name: value for name, value in own(desk).items() if name != "Origin"}
         if origin is not None:
             headers["Origin"] = origin
         answer = ask(port, "POST", "/login", headers, LOGIN)
         assert answer.status == 403 and "Set-Cookie" not in answer.headers, origin
     for kind in ("text/plain", "application/x-www-form-urlencoded", "multipart/form-data"):
-        assert ask(port, "POST", "/login", {**own(desk), "Content-Type": kind}, LOGIN).status == 404, kind
+        assert (
+            ask(port, "POST", "/login", {**own(desk), "Content-Type": kind}, LOGIN).status == 404
+        ), kind
     assert ask(port, "POST", "/login", own(desk), LOGIN).status == 200
 
 
@@ -56,7 +87,14 @@ def test_another_origins_websocket(house: House) -> None:
     desk = house.investor
     port, ticket = desk.port.number, log_in(desk)
     here = "127.0.0.1:%d" % port
-    for origin in (None, "http://evil.example", "http://127.0.0.1:%d" % (port + 1), "http://localhost:%d" % port, "null", "https://" + here):
+    for origin in (
+        None,
+        "http://evil.example",
+        "http://127.0.0.1:%d" % (port + 1),
+        "http://localhost:%d" % port,
+        "null",
+        "https://" + here,
+    ):
         assert upgrade(port, here, origin, ticket.cookie)[1] == 403, origin
     assert upgrade(port, "evil.example", "http://evil.example", ticket.cookie)[1] == 403
     assert upgrade(port, here, desk.origin, ticket.cookie, "/other")[1] == 403
@@ -72,10 +110,26 @@ def test_a_cookie_alone_is_nothing(house: House) -> None:
     assert name == "desk-INV1-%d" % desk.port.number
     here = "127.0.0.1:%d" % desk.port.number
     other = house.dealer
-    assert upgrade(other.port.number, "127.0.0.1:%d" % other.port.number, other.origin, ticket.cookie)[1] == 403
+    assert (
+        upgrade(other.port.number, "127.0.0.1:%d" % other.port.number, other.origin, ticket.cookie)[
+            1
+        ]
+        == 403
+    )
     for token in ("", "0" * 64, ticket.token[:-1], value):
         view = object.__new__(View)
-        view.__dict__.update(desk=desk, requests={}, hello={}, session={}, said={}, is_whole=False, closed=None, sending=threading.Lock(), _count=0, _parts=b"")
+        view.__dict__.update(
+            desk=desk,
+            requests={},
+            hello={},
+            session={},
+            said={},
+            is_whole=False,
+            closed=None,
+            sending=threading.Lock(),
+            _count=0,
+            _parts=b"",
+        )
         view.link, status = upgrade(desk.port.number, here, desk.origin, ticket.cookie)
         assert status == 101
         view.listen()
@@ -108,7 +162,14 @@ def test_who_may_not_act(house: House) -> None:
     """A trader who may look, one with a limit, and each side's acts on the other's desk."""
     house.view(house.investor)
     lou, tom = house.view(house.investor, "lou"), house.view(house.investor, "tom")
-    ask_two = {"do": "ask", "bond": "BONDA0000001", "side": "buy", "quantity": 2_000_000, "seconds": 60, "dealers": ["DLR1"]}
+    ask_two = {
+        "do": "ask",
+        "bond": "BONDA0000001",
+        "side": "buy",
+        "quantity": 2_000_000,
+        "seconds": 60,
+        "dealers": ["DLR1"],
+    }
     assert lou.act(**ask_two).startswith("You may look")
     assert lou.act(do="save group", name="x", dealers=["DLR1"]).startswith("You may look")
     assert tom.act(**ask_two) == "The quantity has to be from 1 to 1,000,000."
@@ -121,12 +182,26 @@ def test_who_may_not_act(house: House) -> None:
     tom.until("lou sees it", lambda: tom.requests[asked]["trader"] == "T4")
 
 
-@pytest.mark.parametrize("text", ["[]", "{", '{"do":"hit"}', '{"do":"fly","number":1}', '{"do":"pass","request":"A","number":-1}', "x" * 20_000,
-                                  '{"do":"ask","number":1,"bond":"B","side":"buy","quantity":1e99,"seconds":1,"dealers":[]}'])
+@pytest.mark.parametrize(
+    "text",
+    [
+        "[]",
+        "{",
+        '{"do":"hit"}',
+        '{"do":"fly","number":1}',
+        '{"do":"pass","request":"A","number":-1}',
+        "x" * 20_000,
+        '{"do":"ask","number":1,"bond":"B","side":"buy","quantity":1e99,"seconds":1,"dealers":[]}',
+    ],
+)
 def test_what_no_page_sends_ends_the_socket(house: House, text: str) -> None:
     view = house.view(house.investor)
     data = text.encode()
-    head = bytes([0x81, 0xFE]) + len(data).to_bytes(2, "big") if len(data) > 125 else bytes([0x81, 0x80 | len(data)])
+    head = (
+        bytes([0x81, 0xFE]) + len(data).to_bytes(2, "big")
+        if len(data) > 125
+        else bytes([0x81, 0x80 | len(data)])
+    )
     view.link.sendall(head + bytes(4) + data)
     assert view.until_closed() in (1008, 1006, 1009)
     assert house.view(house.investor).session["on"]
@@ -145,11 +220,15 @@ def test_passwords_are_not_guessed(house: House) -> None:
         while (answer := guessed(house.investor, login, "guess %d" % tries)).status == 403:
             assert answer.json()["why"] == "Wrong login or password."
             tries += 1
-            most = 10 * (1 + int((time.monotonic() - began) // 60))  # on a slow machine a minute may be over
+            most = 10 * (
+                1 + int((time.monotonic() - began) // 60)
+            )  # on a slow machine a minute may be over
             assert tries <= most, "%d wrong passwords of %s are judged" % (tries, login)
         assert answer.status == 429 and tries >= 10, (answer, tries)
         answer = guessed(house.investor, login, PASSWORD)
-        assert answer.status == 429 or time.monotonic() - began > 60, "the right one is judged after ten wrong ones"
+        assert (
+            answer.status == 429 or time.monotonic() - began > 60
+        ), "the right one is judged after ten wrong ones"
     assert view.act(do="pass", request="none") == "The request has ended."
 
 
@@ -164,7 +243,9 @@ def test_too_much(house: House) -> None:
         view.send({"do": "pass", "request": "none", "number": count + 1})
     view.until("all are answered", lambda: len(view.said) == 300)
     let_through = 300 - list(view.said.values()).count("Too many at once: nothing was sent.")
-    assert 60 <= let_through <= 61 + 20 * (time.monotonic() - began), "%d of 300 are let through" % let_through
+    assert 60 <= let_through <= 61 + 20 * (time.monotonic() - began), (
+        "%d of 300 are let through" % let_through
+    )
 
 
 @contextmanager
@@ -184,7 +265,9 @@ def evil_site(desk: Desk) -> Iterator[str]:
     frame.src = '%(origin)s/';
     frame.onload = () => { let seen; try { seen = frame.contentDocument; } catch { seen = null; } tell(seen ? 'FRAMED' : 'no frame'); };
     document.documentElement.append(frame);
-    </script>""" % {"origin": desk.origin}
+    </script>""" % {
+        "origin": desk.origin
+    }
 
     class Handler(http.server.BaseHTTPRequestHandler):
         def do_GET(self) -> None:
@@ -220,25 +303,50 @@ def test_tls(house: House) -> None:
     """With a certificate nobody is served in clear, and the cookie is one that no other port or plain page can set."""
     desk, folder = house.investor, house.folder
     names = ["-subj", "/CN=desk", "-addext", "subjectAltName=IP:127.0.0.1"]
-    words = ["openssl", "req", "-x509", "-newkey", "rsa:2048", "-nodes", "-days", "1", "-keyout", "page.key", "-out", "page.pem", *names]
+    words = [
+        "openssl",
+        "req",
+        "-x509",
+        "-newkey",
+        "rsa:2048",
+        "-nodes",
+        "-days",
+        "1",
+        "-keyout",
+        "page.key",
+        "-out",
+        "page.pem",
+        *names,
+    ]
     subprocess.run(words, cwd=folder, capture_output=True, check=True)
     desk.stop()
     desk.page = {"certificate": '"page.pem"', "key": '"page.key"'}
     desk.trust = ssl.create_default_context(cafile=str(folder / "page.pem"))
     desk.write()
     desk.start()
-    link = http.client.HTTPSConnection("127.0.0.1", desk.port.number, timeout=LONG, context=desk.trust)
-    link.request("POST", "/login", LOGIN, {"Origin": desk.origin, "Content-Type": "application/json"})
+    link = http.client.HTTPSConnection(
+        "127.0.0.1", desk.port.number, timeout=LONG, context=desk.trust
+    )
+    link.request(
+        "POST", "/login", LOGIN, {"Origin": desk.origin, "Content-Type": "application/json"}
+    )
     answer = link.getresponse()
     cookie = answer.headers["Set-Cookie"]
-    assert answer.status == 200 and cookie.startswith("__Host-desk-INV1-") and "; Secure" in cookie and "; HttpOnly" in cookie, cookie
+    assert (
+        answer.status == 200
+        and cookie.startswith("__Host-desk-INV1-")
+        and "; Secure" in cookie
+        and "; HttpOnly" in cookie
+    ), cookie
     assert "max-age" in answer.headers["Strict-Transport-Security"]
     with socket.create_connection(("127.0.0.1", desk.port.number), timeout=LONG) as plain:
         plain.sendall(b"GET / HTTP/1.1\r\nHost: 127.0.0.1\r\n\r\n")
         assert b"200" not in plain.recv(100)
     desk.page = {"listen": '"0.0.0.0"'}
     desk.write()
-    told = subprocess.run([desk.program, "--check", folder / "INV1.toml"], capture_output=True, text=True, check=False)
+    told = subprocess.run(
+        [desk.program, "--check", folder / "INV1.toml"], capture_output=True, text=True, check=False
+    )
     assert told.returncode == 1 and "needs a certificate" in told.stderr, told
 
 

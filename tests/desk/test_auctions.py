@@ -11,7 +11,11 @@ POINT = 256
 
 def test_an_auction_by_keys_is_won(house: House) -> None:
     """Ticket, quotes of two dealers, a replacement in 32nds, and a hit by two presses; each side is told its end."""
-    investor, dealer, other = house.browser(house.investor), house.browser(house.dealer), house.browser(house.other)
+    investor, dealer, other = (
+        house.browser(house.investor),
+        house.browser(house.dealer),
+        house.browser(house.other),
+    )
     investor.ask("alder", "buy", "2m")
     for each in (dealer, other):
         each.card_says("OFFER", "2,000,000", "Alder 4.125 03/29", "INV1 buys", "No live quote")
@@ -27,13 +31,18 @@ def test_an_auction_by_keys_is_won(house: House) -> None:
     investor.press(Keys.F4)
     dealer.quote("99-15")
     investor.card_says("99.46875", "best", "+1")
-    investor.until("the first press shows what the second does", lambda: armed(investor, "Once more: buy 2,000,000 at 99.46875 from DLR1"))
+    investor.until(
+        "the first press shows what the second does",
+        lambda: armed(investor, "Once more: buy 2,000,000 at 99.46875 from DLR1"),
+    )
     investor.press(Keys.ESCAPE)
     investor.until_silent("article.card", "Once more")
     investor.hit("DLR1")
     investor.card_says("Bought 2,000,000 at 99.46875 from DLR1", "Cover 99.5, DLR2.")
     dealer.card_says("DONE: sold 2,000,000 at 99.46875 to INV1")
-    other.card_says("Cover: another dealer won, and your quote was the next best", "Your offer was 99.5.")
+    other.card_says(
+        "Cover: another dealer won, and your quote was the next best", "Your offer was 99.5."
+    )
     investor.until_says("#blotter", "DONE", "cover 99.5, DLR2", "1 done: bought 2,000,000, sold 0")
     dealer.until_says("#blotter", "DONE", "bought 0, sold 2,000,000")
     other.until_says("#top", "Exposure 0 of")
@@ -54,17 +63,22 @@ def test_a_key_that_is_held_down_and_a_double_click_hit_nothing(house: House) ->
     dealer.quote(dealer.wait_shown(1), 99 * POINT)
     investor.card_says("99", "Hit")
     button = investor.arm("DLR1")
-    investor.script("""for (let count = 0; count < 40; ++count)
+    investor.script(
+        """for (let count = 0; count < 40; ++count)
         if (arguments[0].dispatchEvent(new KeyboardEvent('keydown', {key: 'Enter', repeat: true, bubbles: true, cancelable: true})))
-            arguments[0].click();""", button)
+            arguments[0].click();""",
+        button,
+    )
     investor.press(Keys.ESCAPE)
     investor.until_silent("article.card", "Once more")
     investor.until("the time of the guard is over", lambda: "?" in investor.arm("DLR1").text)
     investor.press(Keys.ESCAPE)
-    once = investor.script("""const button = document.querySelector('button.hit');
+    once = investor.script(
+        """const button = document.querySelector('button.hit');
         button.click();
         button.click();
-        return document.querySelector('article.card').textContent.includes('Once more');""")
+        return document.querySelector('article.card').textContent.includes('Once more');"""
+    )
     assert once, "two clicks at once are no first press"
     assert investor.text("article.card").count("Bought") == 0
     dealer.until("nothing was hit", lambda: dealer.requests["R1"]["state"] == "open")
@@ -85,7 +99,9 @@ def test_a_quote_that_changes_under_a_press_is_not_hit(house: House) -> None:
         investor.arm("DLR1")
         dealer.quote(request, price)
         investor.card_says(str(price // POINT))
-        return "The quote that you chose is gone." in investor.card().text  # or the press was forgotten before
+        return (
+            "The quote that you chose is gone." in investor.card().text
+        )  # or the press was forgotten before
 
     investor.until("the choice is over", changed)
     assert "Once more" not in investor.card().text
@@ -93,7 +109,11 @@ def test_a_quote_that_changes_under_a_press_is_not_hit(house: House) -> None:
 
 def test_each_way_that_a_request_ends(house: House) -> None:
     """Pass, decline, expiry, withdrawal, cancel of all: on both pages."""
-    investor, dealer, other = house.browser(house.investor), house.browser(house.dealer), house.view(house.other)
+    investor, dealer, other = (
+        house.browser(house.investor),
+        house.browser(house.dealer),
+        house.view(house.other),
+    )
     investor.ask("alder", "sell", "1.5m")
     dealer.card_says("BID", "1,500,000", "INV1 sells")
     dealer.quote("99.25")
@@ -140,13 +160,18 @@ def test_the_dealers_entry(house: House) -> None:
     dealer.quote("99.5")
     dealer.card_says("Live 99.5 (99-16)")
     dealer.press(Keys.F2, Keys.ARROW_UP, Keys.ARROW_UP, Keys.ARROW_DOWN)
-    dealer.until("one step up", lambda: dealer.in_card("input.entry").get_attribute("value") == "99.5078125")
+    dealer.until(
+        "one step up", lambda: dealer.in_card("input.entry").get_attribute("value") == "99.5078125"
+    )
     dealer.press(Keys.ESCAPE)
     dealer.until("it is empty", lambda: dealer.in_card("input.entry").get_attribute("value") == "")
     dealer.quote("97")
     dealer.card_says("2.5 points from your last, 99.5: Enter again if it is meant.", "Live 99.5")
     dealer.until("the second Enter confirms", lambda: confirmed(dealer, "Live 97 (97-00)"))
-    dealer.script("const list = arguments[0]; list.value = '10'; list.dispatchEvent(new Event('change'))", dealer.in_card("select.seconds"))
+    dealer.script(
+        "const list = arguments[0]; list.value = '10'; list.dispatchEvent(new Event('change'))",
+        dealer.in_card("select.seconds"),
+    )
     dealer.quote("97.5")
     dealer.card_says("Live 97.5 (97-16), valid 0:")
     dealer.card_says("validity over: it can\u2019t be hit, and still counts as exposure")
@@ -162,7 +187,11 @@ def confirmed(page: Browser, words: str) -> bool:
 
 def test_presses_that_were_meant_for_what_stood_there_before(house: House) -> None:
     """A double click on Close, on Withdraw, and on a price far off binds nothing; nor does a pass or a decline by one press."""
-    investor, dealer, view = house.browser(house.investor), house.browser(house.dealer), house.view(house.investor)
+    investor, dealer, view = (
+        house.browser(house.investor),
+        house.browser(house.dealer),
+        house.view(house.investor),
+    )
     first, second = view.ask_for(["DLR1"]), view.ask_for(["DLR1"])
     assert view.act(do="pass", request=first) == ""
     for page in (investor, dealer):
@@ -171,12 +200,17 @@ def test_presses_that_were_meant_for_what_stood_there_before(house: House) -> No
         page.click_twice(page.in_card("button.small", 0), 0.25)
         page.until("one card is left", lambda page=page: len(page.all("article.card")) == 1)  # type: ignore[misc]
     dealer.quote("19.5")
-    dealer.card_says("Your first price on this bond is 80.5 points from 100: Enter again if it is meant.", "No live quote")
-    dealer.script("""const entry = arguments[0];
+    dealer.card_says(
+        "Your first price on this bond is 80.5 points from 100: Enter again if it is meant.",
+        "No live quote",
+    )
+    dealer.script(
+        """const entry = arguments[0];
         entry.value = '19.25';
         entry.dispatchEvent(new Event('input'));
         for (let count = 0; count < 5; ++count) entry.dispatchEvent(new KeyboardEvent('keydown', {key: 'Enter', bubbles: true, cancelable: true}));""",
-                  dealer.in_card("input.entry"))
+        dealer.in_card("input.entry"),
+    )
     dealer.card_says("80.75 points from 100", "No live quote")
     dealer.quote("99.5")
     dealer.card_says("Live 99.5")
@@ -223,7 +257,11 @@ def test_the_ticket(house: House) -> None:
     investor.until_says("#bonds", MARKUP)
     assert investor.all("#bonds img") == []
     investor.press(Keys.TAB)
-    for quantity, says in (("x", "A quantity is"), ("9m", "The limit is 5,000,000"), ("1m", "Choose buy or sell")):
+    for quantity, says in (
+        ("x", "A quantity is"),
+        ("9m", "The limit is 5,000,000"),
+        ("1m", "Choose buy or sell"),
+    ):
         investor.one("#quantity").clear()
         if quantity != "1m":
             investor.click("#buy")
@@ -238,7 +276,9 @@ def test_the_ticket(house: House) -> None:
     investor.until_says(".chips", "the best")
     investor.click(".chips button", "none")
     investor.click(".chips button", "the best")
-    assert [box.get_attribute("value") for box in investor.all(".picks input") if box.is_selected()] == ["DLR2"]
+    assert [
+        box.get_attribute("value") for box in investor.all(".picks input") if box.is_selected()
+    ] == ["DLR2"]
     investor.one("#quantity").send_keys(Keys.ENTER)  # the deadline is no time still
     investor.one("#deadline").clear()
     investor.one("#deadline").send_keys("5m", Keys.ENTER)
@@ -246,11 +286,20 @@ def test_the_ticket(house: House) -> None:
     investor.driver.refresh()
     investor.until_says(".chips", "the best")  # the desk keeps it
     investor.until("the request can be repeated", lambda: investor.all("button.again"))
-    investor.script("document.querySelector('button.again').click(); document.querySelector('.ticket button.strong').click()")
-    investor.until("the ticket is filled in", lambda: investor.one("#quantity").get_attribute("value") == "1,500,000")
+    investor.script(
+        "document.querySelector('button.again').click(); document.querySelector('.ticket button.strong').click()"
+    )
+    investor.until(
+        "the ticket is filled in",
+        lambda: investor.one("#quantity").get_attribute("value") == "1,500,000",
+    )
     assert investor.one("#bond").get_attribute("value") == "Cedar 4.75 02/34"
-    assert [box.get_attribute("value") for box in investor.all(".picks input") if box.is_selected()] == ["DLR2"]
-    investor.until_says(".ticket", "Filled in just now")  # so soon it is no look at what stands there
+    assert [
+        box.get_attribute("value") for box in investor.all(".picks input") if box.is_selected()
+    ] == ["DLR2"]
+    investor.until_says(
+        ".ticket", "Filled in just now"
+    )  # so soon it is no look at what stands there
     assert len(investor.all("article.card")) == 1
     investor.until("a later one asks", lambda: asked_again(investor))
     assert investor.complaints() == []
@@ -258,14 +307,20 @@ def test_the_ticket(house: House) -> None:
 
 def asked_again(page: Browser) -> bool:
     """Presses Enter on the ticket's button, until there are two requests."""
-    if len(page.all("article.card")) < 2 and page.driver.switch_to.active_element.text.startswith("Ask"):
+    if len(page.all("article.card")) < 2 and page.driver.switch_to.active_element.text.startswith(
+        "Ask"
+    ):
         page.press(Keys.ENTER)
     return len(page.all("article.card")) == 2
 
 
 def test_blotter_filter_and_export(house: House) -> None:
     """What the filter lets through is what is summed and exported, and no cell is a formula."""
-    investor, view, dealer = house.browser(house.investor), house.view(house.investor), house.view(house.dealer)
+    investor, view, dealer = (
+        house.browser(house.investor),
+        house.view(house.investor),
+        house.view(house.dealer),
+    )
     for count, bond in enumerate(("BONDA0000001", "BONDC0000003", "BONDA0000001")):
         request = view.ask_for(["DLR1"], bond=bond, quantity=1_000_000 * (count + 1))
         dealer.quote(dealer.wait_shown(count + 1), 100 * POINT)
@@ -284,5 +339,7 @@ def test_blotter_filter_and_export(house: House) -> None:
     assert all(",100,DLR1,DONE,T8," in line for line in lines[1:])
     investor.one("#ends").send_keys("open")
     investor.until_says("#blotter", "0 requests, 0 done")
-    made = investor.script("""const {csv} = await import('/csv.js'); return csv([['=1+1', 'a,"b', -5]])""")
-    assert made == "'=1+1,\"a,\"\"b\",-5\r\n"
+    made = investor.script(
+        """const {csv} = await import('/csv.js'); return csv([['=1+1', 'a,"b', -5]])"""
+    )
+    assert made == '\'=1+1,"a,""b",-5\r\n'

@@ -56,9 +56,13 @@ def look(page: Browser, name: str) -> None:
         for scheme in SCHEMES:
             page.look(width, scheme)
             where = "%s, %d, %s" % (name, width, scheme)
-            wide = page.script("return [...document.querySelectorAll('body *')].filter(one => one.checkVisibility() && !one.closest('.unseen') && "
-                               "one.getBoundingClientRect().right > innerWidth + 0.5).map(one => one.outerHTML.slice(0, 80))")
-            assert wide == [] and page.script("return document.documentElement.scrollWidth") <= width, (where, wide)
+            wide = page.script(
+                "return [...document.querySelectorAll('body *')].filter(one => one.checkVisibility() && !one.closest('.unseen') && "
+                "one.getBoundingClientRect().right > innerWidth + 0.5).map(one => one.outerHTML.slice(0, 80))"
+            )
+            assert (
+                wide == [] and page.script("return document.documentElement.scrollWidth") <= width
+            ), (where, wide)
             assert page.script(CONTRASTS) == [], where
             assert page.script(LABELS) == [], where
             folder = pictures()
@@ -70,9 +74,19 @@ def look(page: Browser, name: str) -> None:
 def test_a_busy_minute(house: House) -> None:
     """An investor's and a dealer's page with requests in every state, and the same without the venue."""
     investor, dealer = house.browser(house.investor), house.browser(house.dealer)
-    one, first, second = house.view(house.investor), house.view(house.dealer), house.view(house.other)
-    for count, (side, quantity, bond) in enumerate((("buy", 2_000_000, "BONDA0000001"), ("sell", 1_500_000, "BONDB0000002"),
-                                                   ("buy", 500_000, "BONDC0000003"), ("sell", 5_000_000, "BONDA0000001"))):
+    one, first, second = (
+        house.view(house.investor),
+        house.view(house.dealer),
+        house.view(house.other),
+    )
+    for count, (side, quantity, bond) in enumerate(
+        (
+            ("buy", 2_000_000, "BONDA0000001"),
+            ("sell", 1_500_000, "BONDB0000002"),
+            ("buy", 500_000, "BONDC0000003"),
+            ("sell", 5_000_000, "BONDA0000001"),
+        )
+    ):
         one.ask_for(["DLR1", "DLR2"], side, quantity, bond=bond)
         for view in (first, second):
             view.wait_shown(count + 1)
@@ -105,7 +119,9 @@ def test_a_busy_minute(house: House) -> None:
 def test_without_colours_and_by_keys_alone(house: House) -> None:
     """What a colour says a word says too; a request is asked, and hit, without a pointer."""
     investor, dealer = house.browser(house.investor), house.view(house.dealer)
-    investor.press(Keys.F2, "cedar", Keys.ENTER, Keys.TAB, Keys.SPACE, Keys.TAB, "1m", Keys.TAB, Keys.TAB)
+    investor.press(
+        Keys.F2, "cedar", Keys.ENTER, Keys.TAB, Keys.SPACE, Keys.TAB, "1m", Keys.TAB, Keys.TAB
+    )
     investor.until("the keys lead to the groups", lambda: investor.focused() == "all")
     investor.press(Keys.ENTER)
     investor.until_says(".ticket", "Ask 2 dealers", "Buy 1,000,000 Cedar")

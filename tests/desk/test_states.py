@@ -24,7 +24,9 @@ def one_open(house: House) -> tuple[View, View, str, str]:
 
 def settled(view: View) -> dict[str, Json]:
     """All requests, once nothing is pending."""
-    view.until("nothing is pending", lambda: not any(one["pending"] for one in view.requests.values()))
+    view.until(
+        "nothing is pending", lambda: not any(one["pending"] for one in view.requests.values())
+    )
     return view.requests
 
 
@@ -65,26 +67,52 @@ def test_desks_are_killed_at_random_moments(house: House, seed: int) -> None:
         investor, dealer = house.view(house.investor), house.view(house.dealer)
         investor_day, dealer_day = settled(investor), settled(dealer)
         end = investor_day[asked]["state"]
-        dealer.until("both sides agree", lambda: bool((dealer.requests[shown]["state"] == "done") == (end == "done")))
+        dealer.until(
+            "both sides agree",
+            lambda: bool((dealer.requests[shown]["state"] == "done") == (end == "done")),
+        )
         trades += end == "done"
         if end == "open":
             assert investor.act(do="pass", request=asked) == ""
             investor.until("it is passed", lambda: investor.requests[asked]["state"] == "passed")
         dealer.until("it has ended", lambda: dealer.requests[shown]["state"] != "open")
-        assert dealer_day is not None and not dealer.session["alarm"] and not investor.session["alarm"]
+        assert (
+            dealer_day is not None and not dealer.session["alarm"] and not investor.session["alarm"]
+        )
     assert sum(one["state"] == "done" for one in dealer.requests.values()) == trades
     dealer.until("no quote is live", lambda: dealer.session["exposure"] == 0)
 
 
-def act_and_kill(house: House, draw: random.Random, investor: View, dealer: View, asked: str, shown: str) -> None:
+def act_and_kill(
+    house: House, draw: random.Random, investor: View, dealer: View, asked: str, shown: str
+) -> None:
     """A hit and a replacement at one time, and an end of one of the desks soon after."""
     victim = draw.choice((house.investor, house.dealer))
     live = dealer.live(shown)
     assert live is not None
     quote = investor.requests[asked]["quotes"][-1]
-    dealer.send({"do": "quote", "request": shown, "price": live["price"] - POINT, "seconds": 0, "replaces": live["id"], "number": 1_000_000})
-    investor.send({"do": "hit", "request": asked, "quote": quote["id"], "price": quote["price"], "number": 1_000_000})
-    time.sleep(draw.choice((0, 0.001, 0.003, 0.01, 0.03, 0.1)))  # the moment of the end is drawn: no wait for anything
+    dealer.send(
+        {
+            "do": "quote",
+            "request": shown,
+            "price": live["price"] - POINT,
+            "seconds": 0,
+            "replaces": live["id"],
+            "number": 1_000_000,
+        }
+    )
+    investor.send(
+        {
+            "do": "hit",
+            "request": asked,
+            "quote": quote["id"],
+            "price": quote["price"],
+            "number": 1_000_000,
+        }
+    )
+    time.sleep(
+        draw.choice((0, 0.001, 0.003, 0.01, 0.03, 0.1))
+    )  # the moment of the end is drawn: no wait for anything
     victim.kill()
     victim.start()
 
@@ -100,7 +128,10 @@ def test_what_could_not_be_delivered_never_is(house: House) -> None:
     assert investor.hit(asked, "DLR1") == ""
     live = dealer.live(shown)
     assert live is not None
-    assert dealer.act(do="quote", request=shown, price=98 * POINT, seconds=0, replaces=live["id"]) == ""
+    assert (
+        dealer.act(do="quote", request=shown, price=98 * POINT, seconds=0, replaces=live["id"])
+        == ""
+    )
     assert dealer.act(do="withdraw", request=shown) == ""
     assert "Wait" in investor.hit(asked, "DLR1")
     dealer.until("both are sent", lambda: len(dealer.requests[shown]["pending"]) == 2)
@@ -120,7 +151,9 @@ def test_what_could_not_be_delivered_never_is(house: House) -> None:
     assert "never delivered" in investor.requests[asked]["told"]["text"]
     states = [quote["state"] for quote in dealer.requests[shown]["quotes"]]
     assert states == ["withdrawn", "undelivered"], states
-    investor.until("the quote is gone", lambda: investor.requests[asked]["quotes"][0]["state"] == "gone")
+    investor.until(
+        "the quote is gone", lambda: investor.requests[asked]["quotes"][0]["state"] == "gone"
+    )
 
 
 def test_a_cancel_waits_for_the_venue(house: House) -> None:
@@ -132,7 +165,11 @@ def test_a_cancel_waits_for_the_venue(house: House) -> None:
     investor.until("the quote", lambda: investor.requests[asked]["quotes"])
     house.door.kill()
     page.until_says("#top", "Venue not connected since")
-    page.until_says("#alarm", "may still stand at the venue and be hit", "offer 2,000,000 Alder 4.125 03/29 at 99.5")
+    page.until_says(
+        "#alarm",
+        "may still stand at the venue and be hit",
+        "offer 2,000,000 Alder 4.125 03/29 at 99.5",
+    )
     page.card_says("it may still stand, and be hit")
     assert not page.in_card("button.send").is_enabled()
     page.press(Keys.F9)
@@ -140,7 +177,9 @@ def test_a_cancel_waits_for_the_venue(house: House) -> None:
     house.open_gateway()
     page.until_says("#top", "Venue connected", "Exposure 0 of")
     page.card_says("No live quote")
-    investor.until("the quote is gone", lambda: investor.requests[asked]["quotes"][0]["state"] == "gone")
+    investor.until(
+        "the quote is gone", lambda: investor.requests[asked]["quotes"][0]["state"] == "gone"
+    )
 
 
 def test_a_desk_that_goes_and_comes_back_under_its_page(house: House) -> None:
@@ -169,16 +208,32 @@ def test_a_quote_that_is_withdrawn_at_the_moment_of_the_hit(house: House) -> Non
         quote = investor.requests[asked]["quotes"][0]
         first, second = (dealer, investor) if count % 2 else (investor, dealer)
         for view in (first, second):
-            hit = {"do": "hit", "request": asked, "quote": quote["id"], "price": quote["price"], "number": 900 + count}
-            view.send(hit if view is investor else {"do": "withdraw", "request": shown, "number": 900 + count})
+            hit = {
+                "do": "hit",
+                "request": asked,
+                "quote": quote["id"],
+                "price": quote["price"],
+                "number": 900 + count,
+            }
+            view.send(
+                hit
+                if view is investor
+                else {"do": "withdraw", "request": shown, "number": 900 + count}
+            )
         for view in (first, second):
             view.until("the desk has sent it", lambda: 900 + count in view.said)
         settled(investor)
-        dealer.until("the withdrawal is answered", lambda: not dealer.requests[shown]["pending"] and dealer.live(shown) is None)
+        dealer.until(
+            "the withdrawal is answered",
+            lambda: not dealer.requests[shown]["pending"] and dealer.live(shown) is None,
+        )
         if investor.requests[asked]["state"] == "done":
             dealer.until("the dealer is told", lambda: dealer.requests[shown]["state"] == "done")
         else:
-            assert investor.said[900 + count] == "This quote is gone." or "refused" in investor.requests[asked]["told"]["text"]
+            assert (
+                investor.said[900 + count] == "This quote is gone."
+                or "refused" in investor.requests[asked]["told"]["text"]
+            )
             assert dealer.requests[shown]["quotes"][0]["state"] == "withdrawn"
 
 
@@ -195,13 +250,20 @@ def test_a_quote_that_expires_at_the_moment_of_the_hit(house: House) -> None:
         assert investor.requests[asked]["state"] == "open"
     else:
         told = investor.requests[asked]["told"]["text"]
-        assert investor.requests[asked]["state"] == "done" or told == "Hit refused: the quote's validity is over", told
+        assert (
+            investor.requests[asked]["state"] == "done"
+            or told == "Hit refused: the quote's validity is over"
+        ), told
 
 
 def test_each_refusal_of_the_venue_is_in_words(house: House) -> None:
     """What the desk itself would not send: by a second desk's limits that are wrong."""
     market = house.folder / "DLR2.market.toml"
-    market.write_text(market.read_text().replace("exposure = 10000000", "exposure = 100000000").replace("grid = 32", "grid = 256"))
+    market.write_text(
+        market.read_text()
+        .replace("exposure = 10000000", "exposure = 100000000")
+        .replace("grid = 32", "grid = 256")
+    )
     house.other.stop()
     house.other.start()
     investor, other = house.view(house.investor), house.view(house.other)
@@ -214,7 +276,10 @@ def test_each_refusal_of_the_venue_is_in_words(house: House) -> None:
     assert said.startswith("Quote 99 refused: ") and "exposure" in said, said
     investor.ask_for(["DLR2"], quantity=1, bond="BONDC0000003")
     said = refused(other, other.wait_shown(4), 99 * POINT + 1)
-    assert said.startswith("Quote 99.00390625 refused: the price is ") and "off the bond's grid" in said, said
+    assert (
+        said.startswith("Quote 99.00390625 refused: the price is ")
+        and "off the bond's grid" in said
+    ), said
 
 
 def refused(view: View, request: str, price: int) -> str:
@@ -235,7 +300,7 @@ def test_a_lost_journal_is_told(house: House) -> None:
     program = house.dealer.program
     config = house.folder / "DLR1.toml"
     wrapper = house.folder / "again.sh"
-    wrapper.write_text('#!/bin/sh\nexec %s --next-number %d %s\n' % (program, number + 50, config))
+    wrapper.write_text("#!/bin/sh\nexec %s --next-number %d %s\n" % (program, number + 50, config))
     wrapper.chmod(0o755)
     house.dealer.program = wrapper
     house.dealer.start()

@@ -49,7 +49,11 @@ def ask(port: int, method: str, path: str, headers: dict[str, str], body: bytes 
 
 def own(desk: Desk) -> dict[str, str]:
     """The headers that the desk's own page sends."""
-    return {"Host": "127.0.0.1:%d" % desk.port.number, "Origin": desk.origin, "Content-Type": "application/json"}
+    return {
+        "Host": "127.0.0.1:%d" % desk.port.number,
+        "Origin": desk.origin,
+        "Content-Type": "application/json",
+    }
 
 
 @dataclass(frozen=True)
@@ -67,14 +71,24 @@ def log_in(desk: Desk, login: str = "tess", password: str = PASSWORD) -> Ticket:
 
 def log_out(desk: Desk, ticket: Ticket) -> Answer:
     headers = {**own(desk), "Cookie": ticket.cookie}
-    return ask(desk.port.number, "POST", "/logout", headers, json.dumps({"token": ticket.token}).encode())
+    return ask(
+        desk.port.number, "POST", "/logout", headers, json.dumps({"token": ticket.token}).encode()
+    )
 
 
-def upgrade(port: int, host: str, origin: str | None, cookie: str = "", path: str = "/socket") -> tuple[socket.socket, int]:
+def upgrade(
+    port: int, host: str, origin: str | None, cookie: str = "", path: str = "/socket"
+) -> tuple[socket.socket, int]:
     """Asks for a WebSocket: the connection, and the status of the answer."""
     link = socket.create_connection(("127.0.0.1", port), timeout=LONG)
-    lines = ["GET %s HTTP/1.1" % path, "Host: %s" % host, "Upgrade: websocket", "Connection: Upgrade", "Sec-WebSocket-Version: 13",
-             "Sec-WebSocket-Key: " + base64.b64encode(os.urandom(16)).decode()]
+    lines = [
+        "GET %s HTTP/1.1" % path,
+        "Host: %s" % host,
+        "Upgrade: websocket",
+        "Connection: Upgrade",
+        "Sec-WebSocket-Version: 13",
+        "Sec-WebSocket-Key: " + base64.b64encode(os.urandom(16)).decode(),
+    ]
     lines += ["Origin: %s" % origin] if origin is not None else []
     lines += ["Cookie: %s" % cookie] if cookie else []
     link.sendall(("\r\n".join(lines) + "\r\n\r\n").encode())
@@ -104,7 +118,12 @@ class View:
 
     def __post_init__(self) -> None:
         self.ticket = self.ticket or log_in(self.desk, self.login)
-        self.link, status = upgrade(self.desk.port.number, "127.0.0.1:%d" % self.desk.port.number, self.desk.origin, self.ticket.cookie)
+        self.link, status = upgrade(
+            self.desk.port.number,
+            "127.0.0.1:%d" % self.desk.port.number,
+            self.desk.origin,
+            self.ticket.cookie,
+        )
         assert status == 101, status
         self.listen()
         self.send({"token": self.ticket.token})
@@ -120,7 +139,11 @@ class View:
 
     def send(self, message: Json) -> None:
         data, mask = json.dumps(message).encode(), os.urandom(4)
-        size = bytes([0x80 | len(data)]) if len(data) < 126 else bytes([0xFE]) + struct.pack(">H", len(data))
+        size = (
+            bytes([0x80 | len(data)])
+            if len(data) < 126
+            else bytes([0xFE]) + struct.pack(">H", len(data))
+        )
         self.put(b"\x81" + size + mask + bytes(one ^ mask[at % 4] for at, one in enumerate(data)))
 
     def put(self, data: bytes) -> None:
@@ -142,7 +165,11 @@ class View:
             first = self._take(2)
             length = first[1] & 127
             if length > 125:
-                length = struct.unpack(">H", self._take(2))[0] if length == 126 else struct.unpack(">Q", self._take(8))[0]
+                length = (
+                    struct.unpack(">H", self._take(2))[0]
+                    if length == 126
+                    else struct.unpack(">Q", self._take(8))[0]
+                )
             data = self._take(length)
             kind = first[0] & 15
             if kind == CLOSE:
@@ -162,7 +189,12 @@ class View:
     def take(self, message: Json) -> None:
         kind = message["t"]
         if kind == "hello":
-            self.hello, self.session, self.requests, self.is_whole = message, message["session"], {}, False
+            self.hello, self.session, self.requests, self.is_whole = (
+                message,
+                message["session"],
+                {},
+                False,
+            )
         elif kind == "requests":
             self.requests = {**self.requests, **{one["id"]: one for one in message["requests"]}}
             self.is_whole = self.is_whole or message.get("last", False)
@@ -175,7 +207,16 @@ class View:
         end = time.monotonic() + seconds
         while not holds():
             if time.monotonic() > end or self.closed:
-                raise TooLong("%s (closed: %s): not within %g s\n%s\n%s" % (what, self.closed, seconds, json.dumps(list(self.requests.values())[-2:]), self.session))
+                raise TooLong(
+                    "%s (closed: %s): not within %g s\n%s\n%s"
+                    % (
+                        what,
+                        self.closed,
+                        seconds,
+                        json.dumps(list(self.requests.values())[-2:]),
+                        self.session,
+                    )
+                )
             time.sleep(STEP)
 
     def until_closed(self) -> int:
@@ -201,12 +242,26 @@ class View:
     def open_requests(self) -> list[Json]:
         return [one for one in self.requests.values() if one["state"] == "open"]
 
-    def ask_for(self, dealers: list[str], side: str = "buy", quantity: int = 2_000_000, seconds: int = 600, bond: str = "BONDA0000001") -> str:
+    def ask_for(
+        self,
+        dealers: list[str],
+        side: str = "buy",
+        quantity: int = 2_000_000,
+        seconds: int = 600,
+        bond: str = "BONDA0000001",
+    ) -> str:
         """An accepted request; its name."""
         before = set(self.requests)
-        why = self.act(do="ask", bond=bond, side=side, quantity=quantity, seconds=seconds, dealers=dealers)
+        why = self.act(
+            do="ask", bond=bond, side=side, quantity=quantity, seconds=seconds, dealers=dealers
+        )
         assert why == "", why
-        self.until("the request is accepted", lambda: any(one["state"] == "open" for name, one in self.requests.items() if name not in before))
+        self.until(
+            "the request is accepted",
+            lambda: any(
+                one["state"] == "open" for name, one in self.requests.items() if name not in before
+            ),
+        )
         return next(name for name in self.requests if name not in before)
 
     def wait_shown(self, count: int) -> str:
@@ -215,15 +270,31 @@ class View:
         return list(self.requests)[count - 1]
 
     def live(self, request: str) -> Json | None:
-        return next((quote for quote in self.requests[request]["quotes"] if quote["state"] == "live"), None)
+        return next(
+            (quote for quote in self.requests[request]["quotes"] if quote["state"] == "live"), None
+        )
 
     def quote(self, request: str, price: int, seconds: int = 0) -> None:
         """A quote that is accepted."""
         live = self.live(request)
-        why = self.act(do="quote", request=request, price=price, seconds=seconds, replaces=live["id"] if live else "")
+        why = self.act(
+            do="quote",
+            request=request,
+            price=price,
+            seconds=seconds,
+            replaces=live["id"] if live else "",
+        )
         assert why == "", why
-        self.until("the quote is live", lambda: (self.live(request) or {}).get("price") == price and not self.requests[request]["pending"])
+        self.until(
+            "the quote is live",
+            lambda: (self.live(request) or {}).get("price") == price
+            and not self.requests[request]["pending"],
+        )
 
     def hit(self, request: str, dealer: str) -> str:
-        quote = next(one for one in self.requests[request]["quotes"] if one["dealer"] == dealer and one["state"] == "live")
+        quote = next(
+            one
+            for one in self.requests[request]["quotes"]
+            if one["dealer"] == dealer and one["state"] == "live"
+        )
         return self.act(do="hit", request=request, quote=quote["id"], price=quote["price"])

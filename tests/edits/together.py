@@ -90,7 +90,9 @@ class Twin:
     def goals(self, told: list[str]) -> list[str]:
         """The goals in its source that a check did not prove."""
         found = [(UNPROVED.match(line), line) for line in told]
-        return [line for at, line in found if at and at[1] == self.file and int(at[2]) in self.lines]
+        return [
+            line for at, line in found if at and at[1] == self.file and int(at[2]) in self.lines
+        ]
 
 
 def module_of(crate: Path, file: Path) -> list[str]:

@@ -51,9 +51,15 @@ def free_port() -> int:
 def venue_text(dealers: list[Identity], investors: list[Identity]) -> str:
     text = 'version = 1\ndate = "%s"\n[[bond]]\nid = "BONDA0000001"\n' % today()
     for who in dealers:
-        text += '[[dealer]]\nname = "%s"\ntraders = ["%s"]\nquotes = 4096\nexposure = 60000000\n' % (who.name, who.trader)
+        text += (
+            '[[dealer]]\nname = "%s"\ntraders = ["%s"]\nquotes = 4096\nexposure = 60000000\n'
+            % (who.name, who.trader)
+        )
     for who in investors:
-        text += '[[investor]]\nname = "%s"\ntraders = ["%s"]\nrequests = 1024\nopen = 64\nquantity = 5000000\n' % (who.name, who.trader)
+        text += (
+            '[[investor]]\nname = "%s"\ntraders = ["%s"]\nrequests = 1024\nopen = 64\nquantity = 5000000\n'
+            % (who.name, who.trader)
+        )
     return text
 
 
@@ -65,7 +71,9 @@ def seal_text(gateway: Path, folder: Path) -> str:
     """The part [seal] of a gateway that is the only one of its log, with keys that are made where there are none."""
     if not (folder / "keys").exists():
         subprocess.run([gateway, "--make-keys", folder / "keys"], capture_output=True, check=True)
-    names = 'key = "keys/seal.key"\nsigning_key = "keys/gateway.pem"\ngateways = ["keys/gateway.pub"]\n'
+    names = (
+        'key = "keys/seal.key"\nsigning_key = "keys/gateway.pem"\ngateways = ["keys/gateway.pub"]\n'
+    )
     return "[seal]\n" + names + 'checkpoints = "checkpoints"\n'
 
 
@@ -78,9 +86,13 @@ class Door:
     limits: dict[str, int] = field(default_factory=dict)
     tls: dict[str, str] = field(default_factory=dict)
     environment: dict[str, str] = field(default_factory=dict)
-    cancelled: dict[str, str] = field(default_factory=dict)  # of a dealer: the trader that cancels when it is gone
+    cancelled: dict[str, str] = field(
+        default_factory=dict
+    )  # of a dealer: the trader that cancels when it is gone
     postgres: PostgresLog | None = None  # the log, in the place of a file of SQLite
-    operators: str | None = None  # the group that may use the operator's socket, none where empty; None: no socket
+    operators: str | None = (
+        None  # the group that may use the operator's socket, none where empty; None: no socket
+    )
     process: subprocess.Popen[bytes] | None = None
     _hashes: dict[str, str] = field(default_factory=dict)
     _sessions_port: Port = field(default_factory=Port)
@@ -114,13 +126,17 @@ class Door:
         command = quoted((*self.programs.venue, "live", "--frames", "--marks"))
         text = '[venue]\ncommand = %s\nconfiguration = "venue.toml"\n' % command
         text += "[log]\n" + self.log_text() + self.seal_text()
-        text += '[fix]\nlisten = "127.0.0.1"\nport = %d\ncredentials = "credentials.toml"\n' % self.port
+        text += (
+            '[fix]\nlisten = "127.0.0.1"\nport = %d\ncredentials = "credentials.toml"\n' % self.port
+        )
         if self.tls:
             text += "[tls]\n" + "".join("%s = %s\n" % item for item in self.tls.items())
         text += "[limits]\n" + "".join("%s = %d\n" % item for item in self.limits.items())
         text += "[metrics]\nport = %d\n" % self.metrics
         if self.operators is not None:
-            text += '[operator]\nsocket = "admin.sock"\n' + ('group = "%s"\n' % self.operators if self.operators else "")
+            text += '[operator]\nsocket = "admin.sock"\n' + (
+                'group = "%s"\n' % self.operators if self.operators else ""
+            )
         (self.folder / "gateway.toml").write_text(text)
         venue = self.folder / "venue.toml"
         if not venue.exists():
@@ -130,7 +146,10 @@ class Door:
     def log_text(self) -> str:
         if self.postgres is None:
             return 'sqlite = "day.db"\n'
-        return "postgres = %s\nschema = %s\n" % (json.dumps(self.postgres.connection), json.dumps(self.postgres.schema))
+        return "postgres = %s\nschema = %s\n" % (
+            json.dumps(self.postgres.connection),
+            json.dumps(self.postgres.schema),
+        )
 
     @property
     def keys(self) -> Path:
@@ -149,7 +168,11 @@ class Door:
         for who in self.dealers + self.investors:
             if who.name not in self._hashes:
                 self._hashes[who.name] = self.hashed(who.password)
-            text += '[%s]\nusername = "%s"\npassword = "%s"\n' % (who.name, who.name, self._hashes[who.name])
+            text += '[%s]\nusername = "%s"\npassword = "%s"\n' % (
+                who.name,
+                who.name,
+                self._hashes[who.name],
+            )
             if who.name in self.cancelled:
                 text += 'cancel_on_disconnect = "%s"\n' % self.cancelled[who.name]
         file = self.folder / "credentials.toml"
@@ -157,12 +180,22 @@ class Door:
         file.chmod(0o600)
 
     def hashed(self, password: str) -> str:
-        run = subprocess.run([self.programs.gateway, "--hash"], input=password.encode() + b"\n", capture_output=True, check=True)
+        run = subprocess.run(
+            [self.programs.gateway, "--hash"],
+            input=password.encode() + b"\n",
+            capture_output=True,
+            check=True,
+        )
         return run.stdout.decode().strip()
 
     def start(self) -> None:
-        self.process = subprocess.Popen([self.programs.gateway, self.folder / "gateway.toml"], stdin=subprocess.DEVNULL,
-                                        stdout=self.told.open("ab"), stderr=subprocess.STDOUT, env={**os.environ, **self.environment})
+        self.process = subprocess.Popen(
+            [self.programs.gateway, self.folder / "gateway.toml"],
+            stdin=subprocess.DEVNULL,
+            stdout=self.told.open("ab"),
+            stderr=subprocess.STDOUT,
+            env={**os.environ, **self.environment},
+        )
 
     def is_open(self) -> bool:
         with socket.socket() as probe:
@@ -206,7 +239,11 @@ class Door:
         started = self.children()
         self.running.kill()
         self.running.wait()
-        until("the venue of a gateway that is gone ends", LONG, lambda: not any(is_running(pid) for pid in started))
+        until(
+            "the venue of a gateway that is gone ends",
+            LONG,
+            lambda: not any(is_running(pid) for pid in started),
+        )
 
     def kill_venue(self) -> bool:
         """Ends the venue by SIGKILL; whether there was one."""

@@ -57,7 +57,11 @@ class Received:
     @property
     def body(self) -> tuple[tuple[int, bytes], ...]:
         """The venue's own fields, in their order."""
-        return tuple(item for item in self.fields if item[0] not in SESSION_TAGS + (VENUE_NUMBER, VENUE_MOMENT))
+        return tuple(
+            item
+            for item in self.fields
+            if item[0] not in SESSION_TAGS + (VENUE_NUMBER, VENUE_MOMENT)
+        )
 
 
 def received_of(raw: bytes, moment: int = 0) -> Received:
@@ -101,11 +105,23 @@ class Places:
 def settings_text(places: Places, who: Identity, more: dict[str, str]) -> str:
     transport, messages = places.dictionaries
     values = {
-        "ConnectionType": "initiator", "BeginString": "FIXT.1.1", "DefaultApplVerID": "9", "SenderCompID": who.name,
-        "TargetCompID": "VENUE", "SocketConnectHost": "127.0.0.1", "SocketConnectPort": str(places.port),
-        "SocketNodelay": "Y", "HeartBtInt": "10", "ReconnectInterval": "1", "StartTime": "00:00:00", "EndTime": "23:59:59",
-        "FileStorePath": str(places.folder / who.name), "UseDataDictionary": "Y",
-        "TransportDataDictionary": str(transport), "AppDataDictionary": str(messages), **more,
+        "ConnectionType": "initiator",
+        "BeginString": "FIXT.1.1",
+        "DefaultApplVerID": "9",
+        "SenderCompID": who.name,
+        "TargetCompID": "VENUE",
+        "SocketConnectHost": "127.0.0.1",
+        "SocketConnectPort": str(places.port),
+        "SocketNodelay": "Y",
+        "HeartBtInt": "10",
+        "ReconnectInterval": "1",
+        "StartTime": "00:00:00",
+        "EndTime": "23:59:59",
+        "FileStorePath": str(places.folder / who.name),
+        "UseDataDictionary": "Y",
+        "TransportDataDictionary": str(transport),
+        "AppDataDictionary": str(messages),
+        **more,
     }
     return "[DEFAULT]\n" + "".join("%s=%s\n" % item for item in values.items()) + "[SESSION]\n"
 
@@ -114,12 +130,18 @@ def settings_text(places: Places, who: Identity, more: dict[str, str]) -> str:
 class Firm:
     places: Places
     who: Identity
-    more: dict[str, str] = field(default_factory=dict)  # settings of the engine beside the usual ones
+    more: dict[str, str] = field(
+        default_factory=dict
+    )  # settings of the engine beside the usual ones
     tls: bool = False
     environment: dict[str, str] = field(default_factory=dict)
     received: list[Received] = field(default_factory=list)  # each message that came, also again
-    told: dict[str, Fields] = field(default_factory=dict)  # what it was told to send under a name, with 35
-    sent: dict[str, int] = field(default_factory=dict)  # the session number under which a named message is in the store
+    told: dict[str, Fields] = field(
+        default_factory=dict
+    )  # what it was told to send under a name, with 35
+    sent: dict[str, int] = field(
+        default_factory=dict
+    )  # the session number under which a named message is in the store
     refused: dict[str, str] = field(default_factory=dict)
     admin: list[Received] = field(default_factory=list)  # the engine's own Rejects and Logouts
     is_on: bool = False
@@ -146,10 +168,20 @@ class Firm:
     def start(self) -> None:
         settings = self.places.folder / (self.name + ".cfg")
         settings.write_text(settings_text(self.places, self.who, self.more))
-        words = [str(self.places.player), str(settings), str(self.file), self.name, self.who.password]
-        self.process = subprocess.Popen(words + ["tls"] * self.tls, stdin=subprocess.PIPE, stdout=subprocess.PIPE,
-                                        stderr=(self.places.folder / (self.name + ".told")).open("ab"),
-                                        env={**os.environ, **self.environment})
+        words = [
+            str(self.places.player),
+            str(settings),
+            str(self.file),
+            self.name,
+            self.who.password,
+        ]
+        self.process = subprocess.Popen(
+            words + ["tls"] * self.tls,
+            stdin=subprocess.PIPE,
+            stdout=subprocess.PIPE,
+            stderr=(self.places.folder / (self.name + ".told")).open("ab"),
+            env={**os.environ, **self.environment},
+        )
         os.set_blocking(pipe(self.process.stdout).fileno(), False)
         self.is_on, self._printed = False, b""
 

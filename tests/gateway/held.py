@@ -7,7 +7,11 @@ from tests.gateway.ledger import Ledger, Mark, Told, fields_of
 from tests.model.frames import read_frame, read_time
 
 MOST_LATE = 120_000  # milliseconds that a clock line may be late: the gateway may have been away, and its venue be fed again
-BEHIND_MOMENT = {b"S": 537, b"AI": 297, b"R": 453}  # the field in front of which 60 stands; it is the last one of others
+BEHIND_MOMENT = {
+    b"S": 537,
+    b"AI": 297,
+    b"R": 453,
+}  # the field in front of which 60 stands; it is the last one of others
 APPLICATION_VERSION = 1128
 REF_NUMBER = 45  # of a Reject: the number of the message that is meant
 
@@ -33,7 +37,10 @@ def as_received(frame: bytes, numbers: list[int]) -> tuple[tuple[int, bytes], ..
     body = venue_body(frame)
     if fields_of(frame)[0] != (35, b"3"):
         return body
-    return tuple((tag, b"%d" % numbers[int(value) - 1]) if tag == REF_NUMBER else (tag, value) for tag, value in body)
+    return tuple(
+        (tag, b"%d" % numbers[int(value) - 1]) if tag == REF_NUMBER else (tag, value)
+        for tag, value in body
+    )
 
 
 def is_well_placed(message: Received, told: tuple[int, bytes] | None) -> bool:
@@ -53,20 +60,42 @@ def differences(firm: Firm, answers: list[bytes], ledger: Ledger, told: Told) ->
     for message in firm.received:
         known = by_number.setdefault(message.venue_number, message)
         if known.session_number != message.session_number:
-            yield "%s: %d came under the session's %d and %d" % (firm.name, message.venue_number, known.session_number, message.session_number)
+            yield "%s: %d came under the session's %d and %d" % (
+                firm.name,
+                message.venue_number,
+                known.session_number,
+                message.session_number,
+            )
         if known.body != message.body:
-            yield "%s: %d came with two bodies: %r, %r" % (firm.name, message.venue_number, known.raw, message.raw)
+            yield "%s: %d came with two bodies: %r, %r" % (
+                firm.name,
+                message.venue_number,
+                known.raw,
+                message.raw,
+            )
     for number, frame in enumerate(answers, 1):
         if number not in by_number:
             yield "%s: %d is missing: %r" % (firm.name, number, frame)
             continue
         message, beside = by_number.pop(number), [told[number]] if number in told else []
-        if (message.kind, message.body) != (fields_of(frame)[0][1], (*as_received(frame, numbers), *beside)):
-            yield "%s: %d is another: %r came, %r is the venue's" % (firm.name, number, message.raw, frame)
+        if (message.kind, message.body) != (
+            fields_of(frame)[0][1],
+            (*as_received(frame, numbers), *beside),
+        ):
+            yield "%s: %d is another: %r came, %r is the venue's" % (
+                firm.name,
+                number,
+                message.raw,
+                frame,
+            )
         elif message.value(VENUE_MOMENT) != dict(fields_of(frame))[52]:
             yield "%s: %d has another 60 than the venue's 52" % (firm.name, number)
         elif not is_well_placed(message, told.get(number)):
-            yield "%s: %d has its 1181 or its 60 in another place: %r" % (firm.name, number, message.raw)
+            yield "%s: %d has its 1181 or its 60 in another place: %r" % (
+                firm.name,
+                number,
+                message.raw,
+            )
     for number, message in by_number.items():
         yield "%s: %d is none of the venue's: %r" % (firm.name, number, message.raw)
     sessions = {message.session_number: message.venue_number for message in firm.received}
@@ -90,15 +119,30 @@ def altered(firm: Firm, ledger: Ledger) -> Iterator[str]:
     order; and a log that does not have them in the session's order."""
     messages = {entry.session_number: entry.message for entry in ledger.messages_of(firm.name)}
     if list(messages) != sorted(messages):
-        yield "%s: the log has the session's messages in another order: %r" % (firm.name, list(messages))
+        yield "%s: the log has the session's messages in another order: %r" % (
+            firm.name,
+            list(messages),
+        )
     for name, number in firm.sent.items():
-        if number in messages and told_fields(fields_of(messages[number])) != told_fields(firm.told[name]):
-            yield "%s: %s, the session's %d, is %r in the log, and was %r" % (firm.name, name, number, messages[number], firm.told[name])
+        if number in messages and told_fields(fields_of(messages[number])) != told_fields(
+            firm.told[name]
+        ):
+            yield "%s: %s, the session's %d, is %r in the log, and was %r" % (
+                firm.name,
+                name,
+                number,
+                messages[number],
+                firm.told[name],
+            )
 
 
 def told_fields(fields: Iterable[tuple[int, bytes]]) -> list[tuple[int, bytes]]:
     """35 and what is neither of the session nor put there by the engine."""
-    return sorted(item for item in fields if item[0] == 35 or item[0] not in (*SESSION_TAGS, APPLICATION_VERSION))
+    return sorted(
+        item
+        for item in fields
+        if item[0] == 35 or item[0] not in (*SESSION_TAGS, APPLICATION_VERSION)
+    )
 
 
 def unkept(ledger: Ledger, answers: dict[str, list[bytes]]) -> Iterator[str]:
@@ -112,13 +156,21 @@ def clock_faults(ledger: Ledger, marks: list[Mark]) -> Iterator[str]:
     """Clock lines that nothing is due for, and deadlines that no clock line came for."""
     last = 0
     for entry, before in zip(ledger.entries[1:], marks):
-        now, due = milliseconds(entry.moment), None if before.deadline is None else milliseconds(before.deadline)
+        now, due = milliseconds(entry.moment), None if before.deadline is None else milliseconds(
+            before.deadline
+        )
         if now < last:
             yield "place %d has an earlier moment than the one before" % entry.place
         if entry.is_clock and (due is None or due > now):
-            yield "place %d: a clock line, and nothing is due before %s" % (entry.place, before.deadline)
+            yield "place %d: a clock line, and nothing is due before %s" % (
+                entry.place,
+                before.deadline,
+            )
         if not entry.is_clock and due is not None and due + MOST_LATE < now:
-            yield "place %d: no clock line came for the deadline %s" % (entry.place, before.deadline)
+            yield "place %d: no clock line came for the deadline %s" % (
+                entry.place,
+                before.deadline,
+            )
         last = now
 
 

@@ -10,7 +10,9 @@ from tests.model.frames import SOH, read_frame
 
 
 TEXT, TRADE_ID = 58, 1003
-Told = dict[int, tuple[int, bytes]]  # by the venue's number of a message, the field that tells what is noted beside it
+Told = dict[
+    int, tuple[int, bytes]
+]  # by the venue's number of a message, the field that tells what is noted beside it
 
 
 @dataclass(frozen=True)
@@ -98,17 +100,33 @@ def read_ledger(database: Path | PostgresLog) -> Ledger:
         return read_postgres(database)
     entries = rows(database, "SELECT place, firm, number, line FROM entry ORDER BY place")
     sent: dict[str, list[tuple[int, bytes]]] = {}
-    for firm, number, data in rows(database, "SELECT firm, number, bytes FROM sent ORDER BY firm, number"):
+    for firm, number, data in rows(
+        database, "SELECT firm, number, bytes FROM sent ORDER BY firm, number"
+    ):
         sent.setdefault(firm, []).append((number, bytes(data)))
-    return Ledger(tuple(Entry(place, firm, number, bytes(line)) for place, firm, number, line in entries), sent)
+    return Ledger(
+        tuple(Entry(place, firm, number, bytes(line)) for place, firm, number, line in entries),
+        sent,
+    )
 
 
 def read_postgres(log: PostgresLog) -> Ledger:
     entries = []
-    for place, firm, number, line in log.rows("SELECT place, firm, number, encode(line, 'hex') FROM entry ORDER BY place"):
-        entries.append(Entry(int(place), None if firm == "-" else firm, None if number == "-" else int(number), bytes.fromhex(line)))
+    for place, firm, number, line in log.rows(
+        "SELECT place, firm, number, encode(line, 'hex') FROM entry ORDER BY place"
+    ):
+        entries.append(
+            Entry(
+                int(place),
+                None if firm == "-" else firm,
+                None if number == "-" else int(number),
+                bytes.fromhex(line),
+            )
+        )
     sent: dict[str, list[tuple[int, bytes]]] = {}
-    for firm, number, data in log.rows("SELECT firm, number, encode(bytes, 'hex') FROM sent ORDER BY firm, number"):
+    for firm, number, data in log.rows(
+        "SELECT firm, number, encode(bytes, 'hex') FROM sent ORDER BY firm, number"
+    ):
         sent.setdefault(firm, []).append((int(number), bytes.fromhex(data)))
     return Ledger(tuple(entries), sent)
 
@@ -164,7 +182,9 @@ def marks(program: list[str], day: bytes) -> list[Mark]:
     for line in printed([*program, "live", "--frames", "--marks"], day).splitlines():
         words = line.decode(errors="replace").split(" ")
         if words[0] in ("done", "fault"):
-            found.append(Mark(dict(given), words[2] if words[0] == "done" and len(words) > 2 else None))
+            found.append(
+                Mark(dict(given), words[2] if words[0] == "done" and len(words) > 2 else None)
+            )
         else:
             given[words[0]] = given.get(words[0], 0) + 1
     return found

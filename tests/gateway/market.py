@@ -24,11 +24,17 @@ class Act:
 class DealerView:
     """A dealer's requests that have no notice yet, and the quotes that it may still withdraw."""
 
-    open: dict[bytes, tuple[bytes, bytes]] = field(default_factory=dict)  # of R.. the side and the quantity
+    open: dict[bytes, tuple[bytes, bytes]] = field(
+        default_factory=dict
+    )  # of R.. the side and the quantity
     quotes: list[bytes] = field(default_factory=list)
 
     def take(self, message: Received) -> None:
-        request, quote, status = message.value(131) or b"", message.value(117) or b"", message.value(297)
+        request, quote, status = (
+            message.value(131) or b"",
+            message.value(117) or b"",
+            message.value(297),
+        )
         if message.kind == b"R":
             self.open[request] = message.given(54), message.given(38)
         elif message.kind == b"AJ":
@@ -47,7 +53,11 @@ class InvestorView:
     quotes: dict[bytes, bytes] = field(default_factory=dict)  # of Q.. its request
 
     def take(self, message: Received) -> None:
-        request, quote, status = message.value(131) or b"", message.value(117) or b"", message.value(297)
+        request, quote, status = (
+            message.value(131) or b"",
+            message.value(117) or b"",
+            message.value(297),
+        )
         if message.kind == b"S":
             self.quotes[quote] = request
         elif message.kind == b"AI" and message.value(693) is None and status == b"0":
@@ -115,8 +125,19 @@ class Market:
         self.asked += 1
         chosen = draw.sample(self.dealers, draw.randint(1, len(self.dealers)))
         deadline = moment_in(draw.choice([1.5, 4, 10, 60, 600, 600]))
-        fields = [(131, self.name("A")), (146, b"1"), (55, b"[N/A]"), (48, BOND), (22, b"4"), (54, draw.choice([b"1", b"2"]))]
-        fields += [(38, draw.choice([b"1000000", b"2000000", b"9000000"])), (126, deadline), (453, b"%d" % len(chosen))]
+        fields = [
+            (131, self.name("A")),
+            (146, b"1"),
+            (55, b"[N/A]"),
+            (48, BOND),
+            (22, b"4"),
+            (54, draw.choice([b"1", b"2"])),
+        ]
+        fields += [
+            (38, draw.choice([b"1000000", b"2000000", b"9000000"])),
+            (126, deadline),
+            (453, b"%d" % len(chosen)),
+        ]
         for dealer in chosen:
             fields += [(448, dealer.name.encode()), (447, b"D"), (452, b"35")]
         return self.act(firm, "R", fields)
@@ -134,7 +155,9 @@ class Market:
         requests = self.of_investor[firm.name].open
         if not requests:
             return None
-        return self.act(firm, "AJ", [(693, self.name("p")), (694, b"6"), (131, self.draw.choice(requests))])
+        return self.act(
+            firm, "AJ", [(693, self.name("p")), (694, b"6"), (131, self.draw.choice(requests))]
+        )
 
     # ------------------------------------------------------------ dealers
 
@@ -144,8 +167,17 @@ class Market:
         if not requests:
             return None
         request, (side, _) = draw.choice(requests[-6:])
-        price = b"%d.%s" % (draw.randrange(90, 110), draw.choice([b"5", b"25", b"125", b"00390625", b"501"]))
-        fields = [(117, self.name("q")), (131, request), (48, BOND), (22, b"4"), (133 if side == b"1" else 132, price)]
+        price = b"%d.%s" % (
+            draw.randrange(90, 110),
+            draw.choice([b"5", b"25", b"125", b"00390625", b"501"]),
+        )
+        fields = [
+            (117, self.name("q")),
+            (131, request),
+            (48, BOND),
+            (22, b"4"),
+            (133 if side == b"1" else 132, price),
+        ]
         if draw.random() < 0.1:
             fields.append((62, moment_in(draw.choice([0.5, 5, 300]))))
         return self.act(firm, "S", fields)

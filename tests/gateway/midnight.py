@@ -19,7 +19,9 @@ def left_of_day(now: float) -> float:
     return DAY - now % DAY
 
 
-def wait_for_room(what: str, needs: float = TEST, now: Callable[[], float] = time.time, slack: float = LONG) -> None:
+def wait_for_room(
+    what: str, needs: float = TEST, now: Callable[[], float] = time.time, slack: float = LONG
+) -> None:
     """Waits for the next day in UTC where less than `needs` is left of this one, and says so; TooLong where it does not come
     within `slack` of its time."""
     if not 0 < needs <= DAY:
@@ -27,7 +29,11 @@ def wait_for_room(what: str, needs: float = TEST, now: Callable[[], float] = tim
     left = left_of_day(now())
     if left >= needs:
         return
-    print("%s waits %.0f s for midnight in UTC: it may take %.0f s of one day" % (what, left, needs), file=sys.stderr, flush=True)
+    print(
+        "%s waits %.0f s for midnight in UTC: it may take %.0f s of one day" % (what, left, needs),
+        file=sys.stderr,
+        flush=True,
+    )
     until("the next day in UTC", left + slack, lambda: left_of_day(now()) >= needs)
 
 

@@ -30,7 +30,9 @@ DICTIONARIES = (ROOT / "fix" / "FIXT11.xml", ROOT / "fix" / "MIRESEASON.xml")
 class Day:
     """One drawn day: the gateway, its firms, and where they are ended."""
 
-    def __init__(self, programs: Programs, player: Path, folder: Path, seed: int, postgres: str) -> None:
+    def __init__(
+        self, programs: Programs, player: Path, folder: Path, seed: int, postgres: str
+    ) -> None:
         self.draw = random.Random("ends of %d" % seed)
         log = PostgresLog(postgres, "day_%d_%d" % (seed, os.getpid())) if postgres else None
         self.door = Door(programs, folder, DEALERS, INVESTORS, postgres=log)

@@ -68,7 +68,9 @@ def faults(door: Door, firms: list[Firm], status: int, ledger: Ledger) -> Iterat
     told = told_over(MODEL, ledger)
     for firm in firms:
         firm.look()
-        yield from differences(firm, answers_to(program, day, firm.name), ledger, told.get(firm.name, {}))
+        yield from differences(
+            firm, answers_to(program, day, firm.name), ledger, told.get(firm.name, {})
+        )
         yield from unlogged(firm, ledger)
         yield from altered(firm, ledger)
     yield from unkept(ledger, wanted)

@@ -55,15 +55,26 @@ class Stage:
     _named: int = 0
 
     def __post_init__(self) -> None:
-        self.door = Door(self.tools.programs, self.folder, [DEALER, OTHER], [INVESTOR], limits=self.limits, postgres=self.postgres)
-        self.dealer, self.other, self.investor = [self.firm(who) for who in (DEALER, OTHER, INVESTOR)]
+        self.door = Door(
+            self.tools.programs,
+            self.folder,
+            [DEALER, OTHER],
+            [INVESTOR],
+            limits=self.limits,
+            postgres=self.postgres,
+        )
+        self.dealer, self.other, self.investor = [
+            self.firm(who) for who in (DEALER, OTHER, INVESTOR)
+        ]
 
     @property
     def firms(self) -> list[Firm]:
         return [self.dealer, self.other, self.investor]
 
     def firm(self, who: Identity) -> Firm:
-        return Firm(Places(self.tools.player, self.folder, self.tools.dictionaries, self.door.port), who)
+        return Firm(
+            Places(self.tools.player, self.folder, self.tools.dictionaries, self.door.port), who
+        )
 
     def close(self) -> None:
         for firm in self.firms:
@@ -92,13 +103,18 @@ class Stage:
 
     def refused(self, *patterns: str) -> None:
         """Starts the gateway, which has to end by itself, to say why in such words, and to leave its log alone."""
-        before, told = self.log_as_it_is(), len(self.door.told.read_bytes()) if self.door.told.exists() else 0
+        before, told = (
+            self.log_as_it_is(),
+            len(self.door.told.read_bytes()) if self.door.told.exists() else 0,
+        )
         self.door.start()
         status = self.door.wait_end()
         text = self.door.told.read_bytes()[told:].decode(errors="replace")
         check(status == 1, "the gateway ended with status %d: %s" % (status, text))
         for pattern in patterns:
-            check(re.search(r"\b(?:%s)\b" % pattern, text), "it does not say %r: %s" % (pattern, text))
+            check(
+                re.search(r"\b(?:%s)\b" % pattern, text), "it does not say %r: %s" % (pattern, text)
+            )
         check(self.log_as_it_is() == before, "its log is another")
 
     def log_as_it_is(self) -> object:
@@ -109,9 +125,14 @@ class Stage:
 
     def counters(self) -> dict[str, float]:
         """What the gateway counts, by the names of its page."""
-        with urllib.request.urlopen("http://127.0.0.1:%d/metrics" % self.door.metrics, timeout=LONG) as page:
+        with urllib.request.urlopen(
+            "http://127.0.0.1:%d/metrics" % self.door.metrics, timeout=LONG
+        ) as page:
             lines = page.read().decode().splitlines()
-        return {name: float(value) for name, value in (line.rsplit(" ", 1) for line in lines if line and line[0] != "#")}
+        return {
+            name: float(value)
+            for name, value in (line.rsplit(" ", 1) for line in lines if line and line[0] != "#")
+        }
 
     def memory(self) -> int:
         """The resident bytes of the gateway's process; 0 where they would say nothing."""
@@ -152,7 +173,9 @@ class Stage:
         check(number, "%s refuses to send: %s" % (firm.name, firm.refused.get(name)))
         return number
 
-    def answer(self, firm: Firm, what: str, fits: Callable[[Received], bool], limit: float = LONG) -> Received:
+    def answer(
+        self, firm: Firm, what: str, fits: Callable[[Received], bool], limit: float = LONG
+    ) -> Received:
         """The first message of a firm that fits, which may still have to come."""
         until("%s is sent %s" % (firm.name, what), limit, lambda: any(map(fits, firm.looked())))
         return next(filter(fits, firm.received))
@@ -161,7 +184,15 @@ class Stage:
         """A request of the investor to these dealers."""
         self.asked, deadline = self.name("A"), moment_in(seconds, self.ahead)
         self.deadline = deadline[9:].decode()
-        fields = [(131, self.asked), (146, b"1"), (55, b"[N/A]"), (48, BOND), (22, b"4"), (54, b"1"), (38, b"2000000")]
+        fields = [
+            (131, self.asked),
+            (146, b"1"),
+            (55, b"[N/A]"),
+            (48, BOND),
+            (22, b"4"),
+            (54, b"1"),
+            (38, b"2000000"),
+        ]
         fields += [(126, deadline), (453, b"%d" % len(dealers))]
         for dealer in dealers:
             fields += [(448, dealer.name.encode()), (447, b"D"), (452, b"35")]
@@ -185,11 +216,15 @@ class Stage:
     def quote_fields(self, request: bytes, name: bytes, price: bytes = b"99.5") -> Fields:
         return [(117, name), (131, request), (48, BOND), (22, b"4"), (133, price)]
 
-    def quote(self, firm: Firm, request: bytes, price: bytes = b"99.5", more: Fields | None = None) -> bytes:
+    def quote(
+        self, firm: Firm, request: bytes, price: bytes = b"99.5", more: Fields | None = None
+    ) -> bytes:
         """An accepted quote, with more fields behind the usual ones; its name."""
         name = self.name("q")
         self.say(firm, "S", self.quote_fields(request, name, price) + (more or []))
-        answer = self.answer(firm, "what became of a quote", lambda message: message.value(117) == name)
+        answer = self.answer(
+            firm, "what became of a quote", lambda message: message.value(117) == name
+        )
         check(answer.value(297) == b"0", "a lawful quote is answered %r" % answer.raw)
         return name
 
@@ -197,7 +232,9 @@ class Stage:
         """A cancel of no quote of the dealer, and its answer: what came before it is answered too."""
         name = self.name("x")
         self.say(firm, "Z", [(298, b"5"), (117, name)])
-        answer = self.answer(firm, "what became of a cancel", lambda message: message.value(117) == name)
+        answer = self.answer(
+            firm, "what became of a cancel", lambda message: message.value(117) == name
+        )
         check(answer.value(297) == b"9", "a cancel of no quote is answered %r" % answer.raw)
         return answer
 
@@ -213,12 +250,20 @@ class Stage:
         self.ask(dealers=dealers)
         for dealer in dealers:
             self.quote(dealer, b"R%d" % self.shown(dealer))
-        quote = self.answer(self.investor, "a quote", lambda message: message.kind == b"S" and message.value(131) == self.asked)
+        quote = self.answer(
+            self.investor,
+            "a quote",
+            lambda message: message.kind == b"S" and message.value(131) == self.asked,
+        )
         answer = self.hit(quote.given(117))
         check(answer.value(297) == b"0", "a lawful hit is answered %r" % answer.raw)
         for dealer in dealers:
             request = b"R%d" % self.shown(dealer)
-            self.answer(dealer, "a notice", lambda message: message.kind == b"AJ" and message.value(131) == request)
+            self.answer(
+                dealer,
+                "a notice",
+                lambda message: message.kind == b"AJ" and message.value(131) == request,
+            )
 
     def whole(self) -> None:
         """Waits for all that is still to come, ends the gateway, and holds the initiators' messages against the log."""

@@ -13,11 +13,21 @@ from tests.gateway.wait import LONG, until
 from tests.gateway.wire import Wire, framed, now
 
 NAME = INVESTOR.name.encode()  # in whose name they come
-CLOSED = 60.0  # seconds in which a connection has to have ended, on a machine that has much else to do
+CLOSED = (
+    60.0  # seconds in which a connection has to have ended, on a machine that has much else to do
+)
 STILL = 0.2  # seconds without a change after which strangers are taken to have changed nothing
 CALM = 2.0  # the same after what firms did, so that nothing of theirs is taken for a stranger's
 TABLES = ("entry", "sent", "outgoing", "session")
-COUNTED = ("entries_total", "sent_total", "delivered_total", "logons_total", "sessions", "logged_seconds_count", "answered_seconds_count")
+COUNTED = (
+    "entries_total",
+    "sent_total",
+    "delivered_total",
+    "logons_total",
+    "sessions",
+    "logged_seconds_count",
+    "answered_seconds_count",
+)
 
 Rows = list[tuple[object, ...]]
 
@@ -48,9 +58,17 @@ def with_tls(stage: Stage, certificates: bool) -> None:
 
 WAYS = (
     Way("plain", lambda stage: None, lambda stage: Wire(stage.door.port)),
-    Way("tls", lambda stage: with_tls(stage, False), lambda stage: Wire(stage.door.port, context(stage.folder, None))),
+    Way(
+        "tls",
+        lambda stage: with_tls(stage, False),
+        lambda stage: Wire(stage.door.port, context(stage.folder, None)),
+    ),
     # A dealer by its own certificate, in another firm's name.
-    Way("certificate", lambda stage: with_tls(stage, True), lambda stage: Wire(stage.door.port, context(stage.folder, OTHER.name))),
+    Way(
+        "certificate",
+        lambda stage: with_tls(stage, True),
+        lambda stage: Wire(stage.door.port, context(stage.folder, OTHER.name)),
+    ),
 )
 
 
@@ -68,8 +86,13 @@ class Scene:
 def body_of(text: str, scene: Scene) -> bytes:
     """The bytes of a body that is written with bars: NAME, NOW, QUOTE, NEXT and NEXT+1 stand for what they say."""
     body = text.replace("|", "\x01").encode()
-    for word, value in ((b"NEXT+1", b"%d" % (scene.next + 1)), (b"NEXT", b"%d" % scene.next), (b"NOW", now()),
-                        (b"QUOTE", scene.quote), (b"NAME", NAME)):
+    for word, value in (
+        (b"NEXT+1", b"%d" % (scene.next + 1)),
+        (b"NEXT", b"%d" % scene.next),
+        (b"NOW", now()),
+        (b"QUOTE", scene.quote),
+        (b"NAME", NAME),
+    ):
         body = body.replace(word, value)
     return body
 
@@ -100,10 +123,24 @@ ATTACKS = (
 
 # Each message that there is, for the place of each of an attack's.
 OTHERS = (
-    head("0"), head("1") + "112=x|", head("2") + "7=1|16=0|", head("3") + "45=1|373=5|", head("4") + "123=Y|36=1000000|",
-    head("4") + "123=N|36=1000000|", head("5"), LOGON, LOGON + "553=NAME|554=wrong|", LOGON + "141=Y|", LOGON + "43=Y|122=NOW|",
-    head("AJ") + "50=V1|693=s|694=1|117=QUOTE|", head("AG") + "50=V1|131=R1|658=10|", head("S") + "50=V1|117=s|131=R1|48=B|22=4|133=99|",
-    head("Z") + "50=V1|298=4|", head("R") + "50=V1|131=s|146=1|55=[N/A]|48=B|22=4|54=1|38=1|453=0|", head("AI"), head("U"),
+    head("0"),
+    head("1") + "112=x|",
+    head("2") + "7=1|16=0|",
+    head("3") + "45=1|373=5|",
+    head("4") + "123=Y|36=1000000|",
+    head("4") + "123=N|36=1000000|",
+    head("5"),
+    LOGON,
+    LOGON + "553=NAME|554=wrong|",
+    LOGON + "141=Y|",
+    LOGON + "43=Y|122=NOW|",
+    head("AJ") + "50=V1|693=s|694=1|117=QUOTE|",
+    head("AG") + "50=V1|131=R1|658=10|",
+    head("S") + "50=V1|117=s|131=R1|48=B|22=4|133=99|",
+    head("Z") + "50=V1|298=4|",
+    head("R") + "50=V1|131=s|146=1|55=[N/A]|48=B|22=4|54=1|38=1|453=0|",
+    head("AI"),
+    head("U"),
 )
 
 
@@ -113,8 +150,35 @@ def with_others(attack: Attack, at: int) -> Iterator[tuple[str, ...]]:
         yield attack.messages[:at] + (other,) + attack.messages[at + 1 :]
 
 
-REPEATED = ("8=FIX.4.2", "9=5", "10=000", "35=0", "35=AJ", "34=1", "34=9999", "49=DLR1", "56=NAME", "52=NOW", "43=Y", "97=Y", "122=NOW",
-            "50=V1", "57=X", "553=NAME", "554=wrong", "98=0", "108=30", "141=Y", "789=1", "1137=9", "7=1", "16=0", "36=9", "112=x", "123=Y")
+REPEATED = (
+    "8=FIX.4.2",
+    "9=5",
+    "10=000",
+    "35=0",
+    "35=AJ",
+    "34=1",
+    "34=9999",
+    "49=DLR1",
+    "56=NAME",
+    "52=NOW",
+    "43=Y",
+    "97=Y",
+    "122=NOW",
+    "50=V1",
+    "57=X",
+    "553=NAME",
+    "554=wrong",
+    "98=0",
+    "108=30",
+    "141=Y",
+    "789=1",
+    "1137=9",
+    "7=1",
+    "16=0",
+    "36=9",
+    "112=x",
+    "123=Y",
+)
 
 
 def with_repeats() -> Iterator[tuple[str, ...]]:
@@ -122,7 +186,10 @@ def with_repeats() -> Iterator[tuple[str, ...]]:
     for field in REPEATED:
         for times in (1, 4, 12, 17):
             begin, rest = LOGON.split("|", 1)
-            for logon in (begin + "|" + (field + "|") * times + rest, LOGON + (field + "|") * times):
+            for logon in (
+                begin + "|" + (field + "|") * times + rest,
+                LOGON + (field + "|") * times,
+            ):
                 yield (logon, FAR, TWO_VERSIONS, HIT, ALL_AGAIN)
 
 
@@ -138,7 +205,9 @@ def of_wrong_length(frame: bytes, by: int) -> bytes:
 
 
 def rows_of(stage: Stage, table: str) -> Rows:
-    with closing(sqlite3.connect("file:%s?mode=ro" % stage.door.database, uri=True, timeout=60)) as connection:
+    with closing(
+        sqlite3.connect("file:%s?mode=ro" % stage.door.database, uri=True, timeout=60)
+    ) as connection:
         return list(connection.execute("SELECT * FROM %s ORDER BY 1, 2" % table))
 
 
@@ -148,7 +217,9 @@ class State:
 
     tables: dict[str, Rows]
     counted: dict[str, float]
-    seen: dict[str, tuple[int, int, int]]  # of each firm: how many messages it was sent, and how often it logged on
+    seen: dict[
+        str, tuple[int, int, int]
+    ]  # of each firm: how many messages it was sent, and how often it logged on
 
 
 def state_of(stage: Stage) -> State:
@@ -190,7 +261,11 @@ def changes(before: State, after: State) -> Iterator[str]:
 
 def refusals(stage: Stage) -> float:
     """How many connections and Logons were refused, for whatever reason."""
-    return sum(value for name, value in stage.counters().items() if name.startswith("mireseason_refused_total"))
+    return sum(
+        value
+        for name, value in stage.counters().items()
+        if name.startswith("mireseason_refused_total")
+    )
 
 
 def told_since(stage: Stage, begin: int) -> list[bytes]:
@@ -204,8 +279,13 @@ def told_printable(stage: Stage) -> None:
     lines = stage.door.told.read_bytes().splitlines()
     odd = [line for line in lines if any(not 32 <= byte < 127 for byte in line)]
     check(not odd, "a line has %r" % odd[:1])
-    check(all(line[:4].isdigit() for line in lines), "a line has no moment: %r" % [line for line in lines if not line[:4].isdigit()][:1])
-    texts = [value for row in rows_of(stage, "connection") for value in row if isinstance(value, str)]
+    check(
+        all(line[:4].isdigit() for line in lines),
+        "a line has no moment: %r" % [line for line in lines if not line[:4].isdigit()][:1],
+    )
+    texts = [
+        value for row in rows_of(stage, "connection") for value in row if isinstance(value, str)
+    ]
     check(all(text.isprintable() and text.isascii() for text in texts), "a row has an odd text")
     check(all(len(text) <= 200 for text in texts), "a row has a text past 200 bytes")
 
@@ -229,7 +309,9 @@ def firm_away(stage: Stage, way: Way) -> Scene:
     found = stage.answer(stage.investor, "a quote", lambda message: message.kind == b"S")
     stage.log_off(stage.investor)
     stage.quote(stage.other, b"R%d" % stage.shown(stage.other))
-    until("the investor's session is over", LONG, lambda: stage.counters()["mireseason_sessions"] == 2)
+    until(
+        "the investor's session is over", LONG, lambda: stage.counters()["mireseason_sessions"] == 2
+    )
     still_state(stage, CALM)
     return scene_now(stage, found.value(117) or b"")
 

@@ -16,7 +16,9 @@ from tests.gateway.wait import LONG, until
 from tests.gateway.wire import Wire
 
 SOON = 25  # seconds: less than the gateway waits at most for a firm that fills a gap
-AS_AUCTIONS = 30  # or for so many times what an auction takes, on a machine that is slower than that
+AS_AUCTIONS = (
+    30  # or for so many times what an auction takes, on a machine that is slower than that
+)
 
 SO_ATTACH_FILTER = 26  # of Linux
 
@@ -30,11 +32,15 @@ def test_reject_for_one_away(stage: Stage) -> None:
     number = stage.say(stage.dealer, "Z", [(298, b"4")], trader="T9")
     stage.dealer.kill()
     until("the message is in the log", LONG, lambda: stage.entries_of(stage.dealer) == 1)
-    until("the venue has answered", LONG, lambda: len(stage.door.ledger().sent.get("DLR1", [])) == 1)
+    until(
+        "the venue has answered", LONG, lambda: len(stage.door.ledger().sent.get("DLR1", [])) == 1
+    )
     stage.auction([stage.other])
     stage.log_on(stage.dealer)
     reject = stage.answer(stage.dealer, "a Reject", lambda message: message.kind == b"3")
-    check(reject.value(45) == b"%d" % number, "it is %r, of the session's %d" % (reject.raw, number))
+    check(
+        reject.value(45) == b"%d" % number, "it is %r, of the session's %d" % (reject.raw, number)
+    )
     stage.auction()
     stage.whole()
 
@@ -70,7 +76,11 @@ def test_gaps_on_both_sides(stage: Stage) -> None:
     soon = max(SOON, AS_AUCTIONS * (time.monotonic() - began))
     stage.dealer.kill()
     stage.ask_of([stage.dealer, stage.other])
-    until("the request is in the log", LONG, lambda: len(stage.door.ledger().sent.get("DLR1", [])) == 4)
+    until(
+        "the request is in the log",
+        LONG,
+        lambda: len(stage.door.ledger().sent.get("DLR1", [])) == 4,
+    )
     stage.door.kill()
     stage.dealer.start()
     names = [stage.name("x") for _ in range(5)]
@@ -79,8 +89,17 @@ def test_gaps_on_both_sides(stage: Stage) -> None:
     stage.door.start()
     stage.dealer.wait_on()
     for name in names:
-        stage.answer(stage.dealer, "what became of a cancel", lambda message: message.value(117) == name, limit=soon)
-    stage.answer(stage.dealer, "a request", lambda message: message.kind == b"R" and message.value(131) == b"R2")
+        stage.answer(
+            stage.dealer,
+            "what became of a cancel",
+            lambda message: message.value(117) == name,
+            limit=soon,
+        )
+    stage.answer(
+        stage.dealer,
+        "a request",
+        lambda message: message.kind == b"R" and message.value(131) == b"R2",
+    )
     stage.whole()
 
 
@@ -89,12 +108,16 @@ def test_deadline_passes(stage: Stage) -> None:
     stage.open(*stage.firms)
     stage.ask(600)
     stage.ask(ACCEPTED)
-    end = stage.answer(stage.investor, "that a request expired", lambda message: message.value(297) == b"7")
+    end = stage.answer(
+        stage.investor, "that a request expired", lambda message: message.value(297) == b"7"
+    )
     for dealer in (stage.dealer, stage.other):
         stage.answer(dealer, "that a request expired", lambda message: message.value(694) == b"3")
     clocks = [entry for entry in stage.door.ledger().entries if entry.is_clock]
     check(len(clocks) == 1, "%d clock lines" % len(clocks))
-    before, after = milliseconds(clocks[0].moment) - milliseconds(stage.deadline), milliseconds(end.given(60)[9:].decode())
+    before, after = milliseconds(clocks[0].moment) - milliseconds(stage.deadline), milliseconds(
+        end.given(60)[9:].decode()
+    )
     check(0 <= before < 1000 * LONG, "the clock line is %d ms after the deadline" % before)
     check(after == milliseconds(clocks[0].moment), "60 of the end is %r" % end.value(60))
     stage.whole()
@@ -107,7 +130,9 @@ def test_deadline_while_away(stage: Stage) -> None:
     stage.door.kill()
     until("the deadline has passed", LONG, lambda: moment_in(0)[9:].decode() > stage.deadline)
     stage.door.start()
-    stage.answer(stage.investor, "that a request expired", lambda message: message.value(297) == b"7")
+    stage.answer(
+        stage.investor, "that a request expired", lambda message: message.value(297) == b"7"
+    )
     stage.whole()
 
 
@@ -126,7 +151,8 @@ def clock_of(stage: Stage) -> Callable[[int], None]:
 
 def test_clock_set_to_another_day(stage: Stage) -> None:
     """The machine's clock is set to tomorrow, and to yesterday: the gateway ends with a fault, so that it is started again, and nothing
-    of the day is over. Once the clock is right the day goes on, and once an operator has said so, requests are taken."""
+    of the day is over. Once the clock is right the day goes on, and once an operator has said so, requests are taken.
+    """
     set_clock = clock_of(stage)
     stage.door.operators = ""
     stage.open(*stage.firms)
@@ -134,9 +160,14 @@ def test_clock_set_to_another_day(stage: Stage) -> None:
     for days in (1, -1):
         set_clock(days * 24 * 60 * 60)
         status = stage.door.wait_end()
-        check(status == 1, "the gateway ended with status %d: %s" % (status, stage.door.last_words()))
+        check(
+            status == 1, "the gateway ended with status %d: %s" % (status, stage.door.last_words())
+        )
         other = (datetime.now(timezone.utc) + timedelta(days=days)).strftime("%Y%m%d")
-        check("the clock was set from %s to %s" % (today(), other) in stage.door.last_words(), "it says %s" % stage.door.last_words())
+        check(
+            "the clock was set from %s to %s" % (today(), other) in stage.door.last_words(),
+            "it says %s" % stage.door.last_words(),
+        )
         stage.refused("today")
         for firm in stage.firms:
             until("%s is logged off" % firm.name, LONG, lambda: not firm.logged_on())
@@ -144,7 +175,10 @@ def test_clock_set_to_another_day(stage: Stage) -> None:
         stage.door.start()
         for firm in stage.firms:
             firm.wait_on()
-    check(not any(entry.is_clock for entry in stage.door.ledger().entries), "a deadline of the day has passed")
+    check(
+        not any(entry.is_clock for entry in stage.door.ledger().entries),
+        "a deadline of the day has passed",
+    )
     did(stage, "clock", "accept")
     stage.auction()
     stage.whole()
@@ -156,7 +190,12 @@ def test_clock_set_forward(stage: Stage) -> None:
     stage.open(*stage.firms)
     stage.ask(DEADLINE)
     set_clock(DEADLINE + 2)
-    stage.answer(stage.investor, "that a request expired", lambda message: message.value(297) == b"7", limit=DEADLINE - 20)
+    stage.answer(
+        stage.investor,
+        "that a request expired",
+        lambda message: message.value(297) == b"7",
+        limit=DEADLINE - 20,
+    )
     stage.whole()
 
 
@@ -168,13 +207,20 @@ def test_cancelled_for_one_gone(stage: Stage) -> None:
     for dealer in (stage.dealer, stage.other):
         stage.quote(dealer, request)
     stage.dealer.kill()
-    stage.answer(stage.investor, "that a quote is gone", lambda message: message.value(297) == b"17")
+    stage.answer(
+        stage.investor, "that a quote is gone", lambda message: message.value(297) == b"17"
+    )
     stage.other.kill()
     stage.log_on(stage.dealer, stage.other)
-    gone = stage.answer(stage.dealer, "that its quote is gone", lambda message: message.value(297) == b"17")
+    gone = stage.answer(
+        stage.dealer, "that its quote is gone", lambda message: message.value(297) == b"17"
+    )
     check(gone.kind == b"AI", "it is %r" % gone.raw)
     stage.ping(stage.other)
-    check(not any(message.value(297) == b"17" for message in stage.other.received), "the other dealer's quote is gone too")
+    check(
+        not any(message.value(297) == b"17" for message in stage.other.received),
+        "the other dealer's quote is gone too",
+    )
     stage.door.stop()
     stage.door.cancelled = {}  # else the end of the gateway is one of the dealer too
     stage.door.write_credentials()
@@ -188,7 +234,11 @@ def test_one_that_says_nothing(stage: Stage) -> None:
     with Wire(stage.door.port) as wire:
         wire.logon(DEALER.name.encode(), DEALER.password.encode(), heartbeat=b"1")
         check(wire.closed_within(LONG), "the connection stays")
-    until("it is told", LONG, lambda: b"Timed out waiting for heartbeat" in stage.door.told.read_bytes())
+    until(
+        "it is told",
+        LONG,
+        lambda: b"Timed out waiting for heartbeat" in stage.door.told.read_bytes(),
+    )
     stage.log_on(stage.dealer)
     stage.ping(stage.dealer)
 
@@ -206,8 +256,12 @@ def test_one_whose_line_is_cut(stage: Stage) -> None:
 
 def cut(wire: Wire) -> None:
     """From now on this machine drops what comes for the connection, so that it acknowledges nothing."""
-    drop_all = ctypes.create_string_buffer(struct.pack("=HBBI", 0x06, 0, 0, 0))  # BPF_RET | BPF_K: no byte of it is kept
-    wire.socket.setsockopt(socket.SOL_SOCKET, SO_ATTACH_FILTER, struct.pack("@HP", 1, ctypes.addressof(drop_all)))
+    drop_all = ctypes.create_string_buffer(
+        struct.pack("=HBBI", 0x06, 0, 0, 0)
+    )  # BPF_RET | BPF_K: no byte of it is kept
+    wire.socket.setsockopt(
+        socket.SOL_SOCKET, SO_ATTACH_FILTER, struct.pack("@HP", 1, ctypes.addressof(drop_all))
+    )
 
 
 def logs_on(stage: Stage, number: int) -> bool:

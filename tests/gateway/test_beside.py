@@ -19,7 +19,14 @@ def passed(words: list[str | Path], options: Options, **more: str) -> int:
     """How many passed by the last line `N passed, M failed`, none of which may have failed."""
     environment = {"SEED": str(options.seed), **more}
     command = ["env", *("%s=%s" % item for item in environment.items()), *map(str, words)]
-    done = subprocess.run(command, stdout=subprocess.PIPE, stderr=subprocess.STDOUT, text=True, timeout=LIMIT, check=False)
+    done = subprocess.run(
+        command,
+        stdout=subprocess.PIPE,
+        stderr=subprocess.STDOUT,
+        text=True,
+        timeout=LIMIT,
+        check=False,
+    )
     assert done.returncode == 0, done.stdout[-4000:]
     found = re.search(r"(\d+) passed, 0 failed\s*\Z", done.stdout)
     assert found, done.stdout[-4000:]
@@ -31,10 +38,20 @@ def test_two_gateways_on_one_log(gateway_program: Path, place: Path) -> None:
     """Terms keep one of two writers out, and a server that does not wait for its standby is refused."""
     programs, test = postgres.programs(), gateway_program.parent / "terms_test"
     if programs is None or not test.exists():
-        pytest.skip("PostgreSQL is not installed" if programs is None else "terms_test is not built beside the gateway")
+        pytest.skip(
+            "PostgreSQL is not installed"
+            if programs is None
+            else "terms_test is not built beside the gateway"
+        )
     with postgres.running(programs, place / "server") as server:
-        own = {**os.environ, "TEST_POSTGRES": server.connection("postgres"), "TEST_POSTGRES_OWN": "yes"}
-        done = subprocess.run([test], env=own, capture_output=True, text=True, timeout=LIMIT, check=False)
+        own = {
+            **os.environ,
+            "TEST_POSTGRES": server.connection("postgres"),
+            "TEST_POSTGRES_OWN": "yes",
+        }
+        done = subprocess.run(
+            [test], env=own, capture_output=True, text=True, timeout=LIMIT, check=False
+        )
     assert done.returncode == 0, done.stdout + done.stderr
 
 
@@ -50,6 +67,8 @@ def test_the_proved_reader_reads_the_same(options: Options) -> None:
     """The gateway's reader beside the proved one, on the corpus and on inputs drawn from it."""
     library = ROOT / "crates" / "fix_fields_c" / "out" / "libfix_fields_c.a"
     if shutil.which("rt") is None or not library.exists():
-        pytest.skip("there is no rt" if shutil.which("rt") is None else "crates/fix_fields_c is not built")
+        pytest.skip(
+            "there is no rt" if shutil.which("rt") is None else "crates/fix_fields_c is not built"
+        )
     draws = 20_000 if options.is_short else 200_000
     assert passed([HERE / "yardstick" / "run.sh", str(draws)], options, PROVE="no") > 0

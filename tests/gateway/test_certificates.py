@@ -20,7 +20,9 @@ def signed_anew(folder: Path, name: str, old: bytes, new: bytes) -> None:
     """Changes bytes of a certificate for as many others, and signs it by the authority again."""
     pem = (folder / (name + ".pem")).read_text()
     der = ssl.PEM_cert_to_DER_cert(pem)
-    length = 4 + struct.unpack(">H", der[6:8])[0]  # of the part that is signed, a SEQUENCE of long form
+    length = (
+        4 + struct.unpack(">H", der[6:8])[0]
+    )  # of the part that is signed, a SEQUENCE of long form
     part = der[4 : 4 + length].replace(old, new)
     (folder / "part").write_bytes(part)
     words = ["openssl", "dgst", "-sha256", "-sign", "authority.key", "part"]
@@ -39,7 +41,11 @@ CERTIFICATES = {
     "two bytes a letter": ("ABCDEFGH", b"\x0c\x08ABCDEFGH", b"\x1e\x08\0I\0N\0V\x001"),
     "a space": ("INV1 ", b"", b""),
     "small letters": ("inv1", b"", b""),
-    "no name": ("INV1", b"\x06\x03\x55\x04\x03", b"\x06\x03\x55\x04\x0a"),  # 2.5.4.3 becomes 2.5.4.10
+    "no name": (
+        "INV1",
+        b"\x06\x03\x55\x04\x03",
+        b"\x06\x03\x55\x04\x0a",
+    ),  # 2.5.4.3 becomes 2.5.4.10
     "words of its own": ("x X stop firm=DLR1", b"x X stop", b"x\n\x1b[stop"),
     "quotation marks": ('" firm="DLR1', b"", b""),
 }
@@ -86,15 +92,31 @@ def test_half_handshakes(stage: Stage) -> None:
     """Handshakes that stop, that are none, and such as are begun again: each ends at the limit at the latest, and nobody waits."""
     scene = firm_away(stage, CERTIFICATE)
     first = hello(stage.folder)
-    tries = [b"", first[:3], first[:60], first, first[:-1] + b"x", first * 3, b"\x16\x03\x01\xff\xff" + b"x" * 70000, b"\x15\x03\x03\x00\x02\x01\x00" * 1000,
-             framed(body_of("35=A|49=NAME|56=VENUE|34=NEXT|52=NOW|98=0|108=30|1137=9|553=NAME|554=x|", scene)), b"GET / HTTP/1.1\r\n\r\n"]
+    tries = [
+        b"",
+        first[:3],
+        first[:60],
+        first,
+        first[:-1] + b"x",
+        first * 3,
+        b"\x16\x03\x01\xff\xff" + b"x" * 70000,
+        b"\x15\x03\x03\x00\x02\x01\x00" * 1000,
+        framed(
+            body_of(
+                "35=A|49=NAME|56=VENUE|34=NEXT|52=NOW|98=0|108=30|1137=9|553=NAME|554=x|", scene
+            )
+        ),
+        b"GET / HTTP/1.1\r\n\r\n",
+    ]
 
     def all_of_them() -> int:
         wires = [Wire(stage.door.port) for _ in tries]
         for wire, data in zip(wires, tries):
             wire.raw(data)
         for wire, data in zip(wires, tries):
-            check(wire.closed_within(LOGON_SECONDS + CLOSED), "the connection of %r stays" % data[:20])
+            check(
+                wire.closed_within(LOGON_SECONDS + CLOSED), "the connection of %r stays" % data[:20]
+            )
             check(b"35=" not in wire.waiting, "it is told %r" % wire.waiting)
             wire.socket.close()
         return len(tries)
@@ -116,14 +138,35 @@ def silent_by_certificate(stage: Stage) -> None:
 def begun_again(stage: Stage) -> None:
     """A client that negotiates anew within a connection of TLS 1.2, and one that wants new keys without end in 1.3: no Logon, so it ends."""
     for version, order in (("-tls1_2", b"R\n" * 3), ("-tls1_3", b"K\n" * 2000)):
-        words = ["openssl", "s_client", "-connect", "127.0.0.1:%d" % stage.door.port, version, "-cert", OTHER.name + ".pem", "-key",
-                 OTHER.name + ".key", "-CAfile", "authority.pem"]
-        client = subprocess.Popen(words, cwd=stage.folder, stdin=subprocess.PIPE, stdout=subprocess.DEVNULL, stderr=subprocess.DEVNULL)
+        words = [
+            "openssl",
+            "s_client",
+            "-connect",
+            "127.0.0.1:%d" % stage.door.port,
+            version,
+            "-cert",
+            OTHER.name + ".pem",
+            "-key",
+            OTHER.name + ".key",
+            "-CAfile",
+            "authority.pem",
+        ]
+        client = subprocess.Popen(
+            words,
+            cwd=stage.folder,
+            stdin=subprocess.PIPE,
+            stdout=subprocess.DEVNULL,
+            stderr=subprocess.DEVNULL,
+        )
         assert client.stdin is not None
         try:
             client.stdin.write(order)
             client.stdin.flush()
         except BrokenPipeError:
             pass
-        until("a client that begins again ends", LOGON_SECONDS + LONG, lambda: client.poll() is not None)
+        until(
+            "a client that begins again ends",
+            LOGON_SECONDS + LONG,
+            lambda: client.poll() is not None,
+        )
         client.stdin = None

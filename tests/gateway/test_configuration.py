@@ -36,7 +36,9 @@ def test_password_in_the_clear(stage: Stage) -> None:
     """A password in the place of its hash: it would be right for nobody."""
     stage.door.write()
     file = stage.folder / "credentials.toml"
-    file.write_text(re.sub(r'password = ".*"', 'password = "%s"' % DEALER.password, file.read_text(), count=1))
+    file.write_text(
+        re.sub(r'password = ".*"', 'password = "%s"' % DEALER.password, file.read_text(), count=1)
+    )
     stage.refused("DLR1.*password")
     check(DEALER.password not in stage.door.last_words(), "it tells the password")
 
@@ -84,11 +86,17 @@ def test_password_of_a_shell(stage: Stage) -> None:
     for odd in ("a$HOME", "it's", "a:b", "", "a b"):
         file.write_text(site.replace("change-me-1", odd))
         found = configured(file, folder)
-        check(found.returncode == 1 and "password of gateway" in found.stderr and not folder.exists(), "%r: %r" % (odd, found))
+        check(
+            found.returncode == 1 and "password of gateway" in found.stderr and not folder.exists(),
+            "%r: %r" % (odd, found),
+        )
         check(not odd or odd not in found.stderr, "it tells the password %r" % odd)
     file.write_text(site.replace("change-me-1", "a.B_9~+-"))
     check(configured(file, folder).returncode == 0, "a password is refused")
-    check("PASSWORD 'a.B_9~+-'" in (folder / "make_database.sh").read_text(), "it is not in make_database.sh")
+    check(
+        "PASSWORD 'a.B_9~+-'" in (folder / "make_database.sh").read_text(),
+        "it is not in make_database.sh",
+    )
 
 
 def configured(site: Path, folder: Path) -> subprocess.CompletedProcess[str]:

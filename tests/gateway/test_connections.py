@@ -32,13 +32,24 @@ def test_half_a_logon(stage: Stage) -> None:
 def test_endless_logon(stage: Stage) -> None:
     """Bytes that never become a Logon: the connection ends, and memory does not grow with them."""
     stage.open(stage.other)
-    for begin in (b"8=FIXT.1.1\x019=999999999\x0135=A\x01", b"8=FIXT.1.1\x019=", b"x", b"8=FIXT.1.1\x019=5\x0135=A\x01\x0110="):
+    for begin in (
+        b"8=FIXT.1.1\x019=999999999\x0135=A\x01",
+        b"8=FIXT.1.1\x019=",
+        b"x",
+        b"8=FIXT.1.1\x019=5\x0135=A\x01\x0110=",
+    ):
         before = stage.memory()
         with Wire(stage.door.port) as wire:
             wire.raw(begin)
             taken = sum(wire.raw(b"z" * 65536) for _ in range(1024) if not wire.closed_within(0))
-            check(taken < 1024 or wire.closed_within(LOGON_SECONDS + SLACK), "64 MiB after %r are taken" % begin)
-        check(stage.memory() - before < MOST_GROWTH, "%d bytes of memory more after %r" % (stage.memory() - before, begin))
+            check(
+                taken < 1024 or wire.closed_within(LOGON_SECONDS + SLACK),
+                "64 MiB after %r are taken" % begin,
+            )
+        check(
+            stage.memory() - before < MOST_GROWTH,
+            "%d bytes of memory more after %r" % (stage.memory() - before, begin),
+        )
     stage.ping(stage.other)
 
 
@@ -54,7 +65,11 @@ def test_many_connections(stage: Stage) -> None:
 
     # A firm that has just logged on may have a stranger's place for a moment more: then fewer of these have one.
     until("those past the limit are closed", LONG, lambda: closed() >= 92)
-    until("they are counted", LONG, lambda: stage.counters().get(refused_for("too many strangers of an address")) == closed())
+    until(
+        "they are counted",
+        LONG,
+        lambda: stage.counters().get(refused_for("too many strangers of an address")) == closed(),
+    )
     check(closed() < 100, "nobody has a place")
     stage.ping(stage.other)
     stage.ping(stage.dealer)
@@ -71,7 +86,9 @@ def test_silent_ones_of_another_address(stage: Stage) -> None:
     with ThreadPoolExecutor(1) as attacker:
         done = attacker.submit(knock_until, over, again, stage.door.port)
         try:
-            check(again.wait(LONG), "the gateway ends none of 256 silent connections of one address")
+            check(
+                again.wait(LONG), "the gateway ends none of 256 silent connections of one address"
+            )
             for firm in stage.firms:
                 stage.log_on(firm)
             stage.auction()
@@ -87,7 +104,11 @@ def knock_until(over: threading.Event, again: threading.Event, port: int) -> Non
     rounds = 0
     while not over.wait(0.25):
         for _ in range(256 - len(wires)):
-            wires.append(socket.create_connection(("127.0.0.1", port), timeout=LONG, source_address=("127.0.0.2", 0)))
+            wires.append(
+                socket.create_connection(
+                    ("127.0.0.1", port), timeout=LONG, source_address=("127.0.0.2", 0)
+                )
+            )
         rounds += 1
         if rounds > 1:
             again.set()
@@ -111,7 +132,10 @@ def test_many_passwords(stage: Stage) -> None:
     for wire in wires:
         check(wire.closed_within(SLACK), "a wrong password stays")
         wire.socket.close()
-    check(stage.most_memory() - before < 160 * 2**20, "%d bytes of memory more" % (stage.most_memory() - before))
+    check(
+        stage.most_memory() - before < 160 * 2**20,
+        "%d bytes of memory more" % (stage.most_memory() - before),
+    )
     stage.log_on(stage.dealer)
     stage.ping(stage.dealer)
 
@@ -119,9 +143,14 @@ def test_many_passwords(stage: Stage) -> None:
 def test_no_descriptor_left(stage: Stage) -> None:
     """Connections past what the process may have open: that is told, and a firm logs on once there is room."""
     stage.open(stage.other)
-    for spare in (4, 5):  # a connection takes two: one time none is left for the next one, and one time a single one
+    for spare in (
+        4,
+        5,
+    ):  # a connection takes two: one time none is left for the next one, and one time a single one
         told = len(stage.door.told.read_bytes())
-        without_descriptors(stage, spare, lambda: b"Too many open files" in stage.door.told.read_bytes()[told:])
+        without_descriptors(
+            stage, spare, lambda: b"Too many open files" in stage.door.told.read_bytes()[told:]
+        )
     stage.log_on(stage.dealer)
     stage.ping(stage.dealer)
 
@@ -129,20 +158,28 @@ def test_no_descriptor_left(stage: Stage) -> None:
 def without_descriptors(stage: Stage, spare: int, is_told: Callable[[], bool]) -> None:
     """Waits, while the gateway may open so many more and twenty connections come."""
     pid = stage.door.running.pid
-    limits, used = resource.prlimit(pid, resource.RLIMIT_NOFILE), len(list(Path("/proc/%d/fd" % pid).iterdir()))
+    limits, used = resource.prlimit(pid, resource.RLIMIT_NOFILE), len(
+        list(Path("/proc/%d/fd" % pid).iterdir())
+    )
     resource.prlimit(pid, resource.RLIMIT_NOFILE, (used + spare, limits[1]))
     wires = [Wire(stage.door.port) for _ in range(20)]
     until("it is told", LONG, is_told)
     resource.prlimit(pid, resource.RLIMIT_NOFILE, limits)
     for wire in wires:
         wire.socket.close()
-    until("its connections have ended", LONG, lambda: stage.counters()["mireseason_connections"] == 1)
+    until(
+        "its connections have ended", LONG, lambda: stage.counters()["mireseason_connections"] == 1
+    )
 
 
 def held(stage: Stage) -> tuple[int, int, int]:
     """How many descriptors, threads and processes the gateway has."""
     process = Path("/proc/%d" % stage.door.running.pid)
-    return len(list((process / "fd").iterdir())), len(list((process / "task").iterdir())), len(stage.door.children())
+    return (
+        len(list((process / "fd").iterdir())),
+        len(list((process / "task").iterdir())),
+        len(stage.door.children()),
+    )
 
 
 def test_nothing_left(stage: Stage) -> None:
@@ -153,7 +190,11 @@ def test_nothing_left(stage: Stage) -> None:
     ways_of_ending(stage, number, 40)
     stage.door.kill_venue()
     stage.ping(stage.other)
-    until("what they had is given back: %r" % (before,), LONG, lambda: all(now <= was for now, was in zip(held(stage), before)))
+    until(
+        "what they had is given back: %r" % (before,),
+        LONG,
+        lambda: all(now <= was for now, was in zip(held(stage), before)),
+    )
 
 
 def most_held(stage: Stage) -> tuple[int, int, int]:

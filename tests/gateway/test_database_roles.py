@@ -17,8 +17,14 @@ from tests.gateway.wait import LONG
 from tests.harness import postgres
 from tests.harness.fixtures import MakeGateway
 
-SITE = Site("10.0.0.0/24", {"db1": "10.0.0.1", "db2": "10.0.0.2", "db3": "10.0.0.3"}, {"gw1": "10.0.0.4"},
-            {word: "x" for word in ("GATEWAY", "READER", "REPLICATION", "REWIND", "REST")}, ("rfq_venue",), "")
+SITE = Site(
+    "10.0.0.0/24",
+    {"db1": "10.0.0.1", "db2": "10.0.0.2", "db3": "10.0.0.3"},
+    {"gw1": "10.0.0.4"},
+    {word: "x" for word in ("GATEWAY", "READER", "REPLICATION", "REWIND", "REST")},
+    ("rfq_venue",),
+    "",
+)
 
 
 def said(connection: str, *statements: str) -> subprocess.CompletedProcess[str]:
@@ -48,7 +54,17 @@ def owned(postgres_database: str, place: Path) -> Owned:
     text = SITE.files("db1", Folders("/etc", "/var", "/run"))["database.sql"]
     (place / "database.sql").write_text(text)
     for _ in range(2):
-        words = ["psql", "-X", "-q", "-v", "ON_ERROR_STOP=1", "-d", postgres_database, "-f", str(place / "database.sql")]
+        words = [
+            "psql",
+            "-X",
+            "-q",
+            "-v",
+            "ON_ERROR_STOP=1",
+            "-d",
+            postgres_database,
+            "-f",
+            str(place / "database.sql"),
+        ]
         done = subprocess.run(words, capture_output=True, text=True, check=False)
         assert done.returncode == 0, done.stderr
     return Owned(postgres_database, "day_" + today())
@@ -57,7 +73,9 @@ def owned(postgres_database: str, place: Path) -> Owned:
 @pytest.fixture
 def written(owned: Owned, make_gateway: MakeGateway) -> Iterator[Owned]:
     """The same with a day that a gateway has begun and ended."""
-    door = make_gateway([DEALER, OTHER], [INVESTOR], log=PostgresLog(owned.of("gateway"), owned.schema))
+    door = make_gateway(
+        [DEALER, OTHER], [INVESTOR], log=PostgresLog(owned.of("gateway"), owned.schema)
+    )
     door.write()
     door.start()
     door.wait_open()
@@ -67,28 +85,67 @@ def written(owned: Owned, make_gateway: MakeGateway) -> Iterator[Owned]:
 
 def test_a_day_is_written(written: Owned) -> None:
     """The tables belong to the owner, which nobody can connect as."""
-    owners = said(written.superuser, "SELECT DISTINCT tableowner FROM pg_tables WHERE schemaname = '%s'" % written.schema)
+    owners = said(
+        written.superuser,
+        "SELECT DISTINCT tableowner FROM pg_tables WHERE schemaname = '%s'" % written.schema,
+    )
     assert owners.stdout.split() == ["log_owner"]
-    assert said(written.superuser, "SELECT rolcanlogin FROM pg_roles WHERE rolname = 'log_owner'").stdout.strip() == "f"
+    assert (
+        said(
+            written.superuser, "SELECT rolcanlogin FROM pg_roles WHERE rolname = 'log_owner'"
+        ).stdout.strip()
+        == "f"
+    )
     count = said(written.of("reader"), "SELECT count(*) FROM %s.entry" % written.schema)
     assert count.stdout.strip() == "1", count.stderr
 
 
 GATEWAY_MAY_NOT = [
-    "UPDATE entry SET moment = moment", "DELETE FROM entry", "TRUNCATE entry", "DROP TABLE entry", "ALTER TABLE entry ADD COLUMN x INT",
-    "DELETE FROM seal", "UPDATE seal SET mac = mac", "UPDATE checkpoint SET signature = signature", "UPDATE sent SET bytes = bytes",
-    "UPDATE outgoing SET bytes = bytes", "UPDATE connection SET why = why", "DELETE FROM session", "DELETE FROM speaker",
-    "UPDATE form SET number = 3", "INSERT INTO form VALUES (3)", "DROP TRIGGER one_term ON entry", "CREATE SCHEMA other",
-    "CREATE FUNCTION speak(other BIGINT) RETURNS VOID LANGUAGE sql AS ''", "SET ROLE log_owner", "CREATE TABLE other (x INT)",
-    "CREATE TEMP TABLE other (x INT)", "SELECT mireseason.make_log('pg_evil')", "SELECT rolpassword FROM pg_authid",
+    "UPDATE entry SET moment = moment",
+    "DELETE FROM entry",
+    "TRUNCATE entry",
+    "DROP TABLE entry",
+    "ALTER TABLE entry ADD COLUMN x INT",
+    "DELETE FROM seal",
+    "UPDATE seal SET mac = mac",
+    "UPDATE checkpoint SET signature = signature",
+    "UPDATE sent SET bytes = bytes",
+    "UPDATE outgoing SET bytes = bytes",
+    "UPDATE connection SET why = why",
+    "DELETE FROM session",
+    "DELETE FROM speaker",
+    "UPDATE form SET number = 3",
+    "INSERT INTO form VALUES (3)",
+    "DROP TRIGGER one_term ON entry",
+    "CREATE SCHEMA other",
+    "CREATE FUNCTION speak(other BIGINT) RETURNS VOID LANGUAGE sql AS ''",
+    "SET ROLE log_owner",
+    "CREATE TABLE other (x INT)",
+    "CREATE TEMP TABLE other (x INT)",
+    "SELECT mireseason.make_log('pg_evil')",
+    "SELECT rolpassword FROM pg_authid",
     "CREATE TABLE public.other (x INT)",
 ]
 READER_MAY_NOT = [
-    "INSERT INTO entry SELECT * FROM entry", "UPDATE speaker SET term = 99", "SELECT * FROM entry FOR UPDATE", "SELECT * FROM speaker FOR SHARE",
-    "BEGIN; LOCK TABLE entry IN ACCESS EXCLUSIVE MODE", "SELECT rolpassword FROM pg_authid", "SELECT lo_create(0)", "SELECT lo_from_bytea(0, '')",
-    "SELECT lo_import('/etc/passwd')", "SELECT pg_logical_emit_message(false, 'x', 'x')", "SELECT pg_logical_emit_message(true, 'x', 'x'::bytea)",
-    "SELECT pg_advisory_lock(1)", "SELECT pg_advisory_lock(1, 1)", "SELECT pg_try_advisory_xact_lock_shared(1)", "SELECT pg_read_file('/etc/passwd')",
-    "SELECT mireseason.make_log('day_20990101')", "CREATE SCHEMA other", "CREATE TEMP TABLE other (x INT)", "SELECT * FROM take_over('reader')",
+    "INSERT INTO entry SELECT * FROM entry",
+    "UPDATE speaker SET term = 99",
+    "SELECT * FROM entry FOR UPDATE",
+    "SELECT * FROM speaker FOR SHARE",
+    "BEGIN; LOCK TABLE entry IN ACCESS EXCLUSIVE MODE",
+    "SELECT rolpassword FROM pg_authid",
+    "SELECT lo_create(0)",
+    "SELECT lo_from_bytea(0, '')",
+    "SELECT lo_import('/etc/passwd')",
+    "SELECT pg_logical_emit_message(false, 'x', 'x')",
+    "SELECT pg_logical_emit_message(true, 'x', 'x'::bytea)",
+    "SELECT pg_advisory_lock(1)",
+    "SELECT pg_advisory_lock(1, 1)",
+    "SELECT pg_try_advisory_xact_lock_shared(1)",
+    "SELECT pg_read_file('/etc/passwd')",
+    "SELECT mireseason.make_log('day_20990101')",
+    "CREATE SCHEMA other",
+    "CREATE TEMP TABLE other (x INT)",
+    "SELECT * FROM take_over('reader')",
     "COPY entry TO PROGRAM 'true'",
 ]
 
@@ -96,7 +153,9 @@ READER_MAY_NOT = [
 def refused(connection: str, *statements: str) -> None:
     """The last of some statements is refused, by who may do it or by its name."""
     found = said(connection, *statements)
-    because = any(words in found.stderr for words in ("permission denied", "must be", "no log is called"))
+    because = any(
+        words in found.stderr for words in ("permission denied", "must be", "no log is called")
+    )
     assert found.returncode != 0 and because, (statements[-1], found.stdout, found.stderr)
 
 
@@ -113,8 +172,13 @@ def test_what_a_reader_may_not(written: Owned) -> None:
 
 
 def test_limits_of_a_reader(written: Owned) -> None:
-    shown = said(written.of("reader"), "SHOW statement_timeout", "SHOW lock_timeout", "SHOW idle_in_transaction_session_timeout",
-                 "SHOW default_transaction_read_only")
+    shown = said(
+        written.of("reader"),
+        "SHOW statement_timeout",
+        "SHOW lock_timeout",
+        "SHOW idle_in_transaction_session_timeout",
+        "SHOW default_transaction_read_only",
+    )
     assert shown.stdout.split() == ["10min", "5s", "10min", "on"]
     limit = said(written.superuser, "SELECT rolconnlimit FROM pg_roles WHERE rolname = 'reader'")
     assert limit.stdout.strip() == "5"
@@ -123,13 +187,19 @@ def test_limits_of_a_reader(written: Owned) -> None:
 def test_a_lock_that_is_held_keeps_no_day(owned: Owned, make_gateway: MakeGateway) -> None:
     """The lock that gateways once took, held by the superuser himself: the day begins all the same."""
     words = ["psql", "-X", "-q", "-A", "-t", "-d", owned.superuser]
-    with subprocess.Popen(words, stdin=subprocess.PIPE, stdout=subprocess.PIPE, text=True) as holder:
+    with subprocess.Popen(
+        words, stdin=subprocess.PIPE, stdout=subprocess.PIPE, text=True
+    ) as holder:
         assert holder.stdin is not None and holder.stdout is not None
-        holder.stdin.write("SELECT pg_advisory_lock(hashtext('mireseason %s'));\n\\echo held\n" % owned.schema)
+        holder.stdin.write(
+            "SELECT pg_advisory_lock(hashtext('mireseason %s'));\n\\echo held\n" % owned.schema
+        )
         holder.stdin.flush()
         while holder.stdout.readline().strip() != "held":
             pass
-        door = make_gateway([DEALER, OTHER], [INVESTOR], log=PostgresLog(owned.of("gateway"), owned.schema))
+        door = make_gateway(
+            [DEALER, OTHER], [INVESTOR], log=PostgresLog(owned.of("gateway"), owned.schema)
+        )
         door.write()
         door.start()
         door.wait_open()

@@ -37,8 +37,10 @@ def play(tools: Tools, folder: Path, seed: int, length: Length, postgres: str = 
         faults = settled(day.door, day.firms, SHORT_DEADLINE)
         count = sum(count_of(firm) for firm in day.firms)
         again = sum(len(firm.received) for firm in day.firms) - count
-        print("day %d: %d messages of 6 firms, %d distinct ones to them, %d came again; ended %s; %.0f s" % (
-            seed, length.messages, count, again, day.ends, time.monotonic() - began))
+        print(
+            "day %d: %d messages of 6 firms, %d distinct ones to them, %d came again; ended %s; %.0f s"
+            % (seed, length.messages, count, again, day.ends, time.monotonic() - began)
+        )
         assert not faults, "\n".join(faults[:TOLD_FAULTS])
     finally:
         day.close()
@@ -50,6 +52,8 @@ def test_a_day_in_sqlite(tools: Tools, place: Path, options: Options, nth: int) 
     play(tools, place, options.seed + nth, SQLITE if options.is_short else LONG)
 
 
-def test_a_day_in_postgres(tools: Tools, place: Path, options: Options, postgres_database: str) -> None:
+def test_a_day_in_postgres(
+    tools: Tools, place: Path, options: Options, postgres_database: str
+) -> None:
     wait_for_room("a day")
     play(tools, place, options.seed, POSTGRES if options.is_short else LONG, postgres_database)

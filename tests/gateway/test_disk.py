@@ -50,7 +50,8 @@ def send(act: Act, name: str, wait: float = ANSWERED) -> None:
 
 
 @pytest.mark.parametrize(
-    "at", [pytest.param(at, marks=() if at in QUICK_FULL_AT else pytest.mark.long) for at in FULL_AT]
+    "at",
+    [pytest.param(at, marks=() if at in QUICK_FULL_AT else pytest.mark.long) for at in FULL_AT],
 )
 def test_full_disk_at_commit(stage: Stage, at: int) -> None:
     """From the commit `at` on nothing can be written: the gateway ends and says so, and with room again nothing was lost."""
@@ -60,8 +61,14 @@ def test_full_disk_at_commit(stage: Stage, at: int) -> None:
     for firm in stage.firms:
         firm.start()
     traded(stage, at, lambda: not stage.door.has_ended())
-    check(stage.door.wait_end() == 1, "the gateway ended with status %s" % stage.door.running.returncode)
-    check("full" in stage.door.last_words() or "disk" in stage.door.last_words(), "it does not say why: %s" % stage.door.last_words())
+    check(
+        stage.door.wait_end() == 1,
+        "the gateway ended with status %s" % stage.door.running.returncode,
+    )
+    check(
+        "full" in stage.door.last_words() or "disk" in stage.door.last_words(),
+        "it does not say why: %s" % stage.door.last_words(),
+    )
     stage.door.environment = {}
     stage.door.start()
     faults = settled(stage.door, stage.firms)
@@ -106,7 +113,10 @@ def cuts(stage: Stage, copies: Path) -> int:
     ends = [sync.ended for sync in all_syncs[1:]] + [2**63]
     for sync, end in zip(all_syncs, ends):
         state[sync.kind] = copies / ("%d.%s" % (sync.number, sync.kind))
-        known = {firm.name: [message for message in firm.received if message.moment < end] for firm in stage.firms}
+        known = {
+            firm.name: [message for message in firm.received if message.moment < end]
+            for firm in stage.firms
+        }
         database = left(stage.folder / "left", state)
         if database is None:
             check(not any(known.values()), "a firm was sent something before there was a log")
@@ -123,35 +133,60 @@ def left(folder: Path, state: dict[str, Path]) -> Path | None:
     for kind, name in (("db", "day.db"), ("wal", "day.db-wal")):
         (folder / name).write_bytes(state[kind].read_bytes() if kind in state else b"")
     connection = sqlite3.connect(folder / "day.db")
-    tables = connection.execute("SELECT count(*) FROM sqlite_master WHERE name IN ('entry', 'sent', 'outgoing')").fetchone()[0]
-    check(connection.execute("PRAGMA integrity_check").fetchone()[0] == "ok", "the database that is left is broken")
+    tables = connection.execute(
+        "SELECT count(*) FROM sqlite_master WHERE name IN ('entry', 'sent', 'outgoing')"
+    ).fetchone()[0]
+    check(
+        connection.execute("PRAGMA integrity_check").fetchone()[0] == "ok",
+        "the database that is left is broken",
+    )
     connection.close()
     return folder / "day.db" if tables == 3 else None
 
 
-def cut(sync: Sync, database: Path, final: Ledger, counts: list[dict[str, int]], known: dict[str, list[Received]]) -> None:
+def cut(
+    sync: Sync,
+    database: Path,
+    final: Ledger,
+    counts: list[dict[str, int]],
+    known: dict[str, list[Received]],
+) -> None:
     ledger = read_ledger(database)
     places = len(ledger.entries)
-    check(ledger.entries == final.entries[:places], "sync %d: the log that is left is no beginning of the log" % sync.number)
+    check(
+        ledger.entries == final.entries[:places],
+        "sync %d: the log that is left is no beginning of the log" % sync.number,
+    )
     numbers = {name: Numbers(database, name) for name in known}
     for name, messages in known.items():
         for message in messages:
             given = counts[places - 1].get(name, 0) if places else 0
-            check(message.venue_number <= given, "sync %d: %s had %d, and the log that is left gives %d" % (
-                sync.number, name, message.venue_number, given))
+            check(
+                message.venue_number <= given,
+                "sync %d: %s had %d, and the log that is left gives %d"
+                % (sync.number, name, message.venue_number, given),
+            )
             number = numbers[name].of(message.venue_number)
-            check(number == message.session_number, "sync %d: %s had %d under the session's %d, and would get it under %d" % (
-                sync.number, name, message.venue_number, message.session_number, number))
+            check(
+                number == message.session_number,
+                "sync %d: %s had %d under the session's %d, and would get it under %d"
+                % (sync.number, name, message.venue_number, message.session_number, number),
+            )
 
 
 class Numbers:
     """Under which number of a session the store that is left sends each message of the venue: those that it lacks come
-    after all that it has, in their order, since nothing of the session itself is sent before it is synced."""
+    after all that it has, in their order, since nothing of the session itself is sent before it is synced.
+    """
 
     def __init__(self, database: Path, firm: str) -> None:
-        stored = rows(database, "SELECT number, sent FROM outgoing WHERE firm = '%s' ORDER BY number" % firm)
+        stored = rows(
+            database, "SELECT number, sent FROM outgoing WHERE firm = '%s' ORDER BY number" % firm
+        )
         self.known = {sent: number for number, sent in stored if sent is not None}
-        self.last, self.last_sent = max((row[0] for row in stored), default=0), max(self.known, default=0)
+        self.last, self.last_sent = max((row[0] for row in stored), default=0), max(
+            self.known, default=0
+        )
 
     def of(self, venue_number: int) -> int:
         return self.known.get(venue_number, self.last + venue_number - self.last_sent)
@@ -207,5 +242,9 @@ def test_slow_commits(stage: Stage) -> None:
     with Wire(stage.door.port) as wire:
         wire.logon(DEALER.name.encode(), DEALER.password.encode())
         until("it is told", LONG, lambda: b"log does not answer" in stage.door.told.read_bytes())
-        until("that it goes on is told", LONG, lambda: b"log answers again" in stage.door.told.read_bytes())
+        until(
+            "that it goes on is told",
+            LONG,
+            lambda: b"log answers again" in stage.door.told.read_bytes(),
+        )
         check(wire.read_kind(b"A") is not None, "it is not logged on")

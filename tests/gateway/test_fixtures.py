@@ -46,13 +46,18 @@ def test_a_clock_that_is_set(stage: Stage, clock: Clock) -> None:
     until("the firms are on again", LONG, lambda: all(firm.logged_on() for firm in stage.firms))
     did(stage, "clock", "accept")
     stage.auction()
-    check(answers(list(stage.tools.programs.venue), stage.door.ledger().day()), "the venue answers nothing")
+    check(
+        answers(list(stage.tools.programs.venue), stage.door.ledger().day()),
+        "the venue answers nothing",
+    )
     stage.whole()
 
 
 def test_a_page_in_a_browser(browser: Browser, stage: Stage) -> None:
     page = stage.folder / "page.html"
-    page.write_text("<title>before</title><p id=word></p><script>document.getElementById('word').textContent = 6 * 7</script>")
+    page.write_text(
+        "<title>before</title><p id=word></p><script>document.getElementById('word').textContent = 6 * 7</script>"
+    )
     shown = browser.show(page.as_uri())
     assert '<p id="word">42</p>' in shown.dom
     assert not shown.complaints

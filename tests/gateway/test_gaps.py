@@ -19,7 +19,10 @@ def test_number_without_end(stage: Stage) -> None:
             number = wire.number
             wire.raw(wire.message(b"4", b"DLR1", [(36, b"%d" % past)]))
             reject = wire.got_until(lambda message: message.value(45) == b"%d" % number)
-            check(reject is not None and (reject.value(371), reject.value(373)) == (b"36", b"6"), "no Reject of 36=%d" % past)
+            check(
+                reject is not None and (reject.value(371), reject.value(373)) == (b"36", b"6"),
+                "no Reject of 36=%d" % past,
+            )
             number = wire.number
             wire.raw(wire.message(b"Z", b"DLR1", cancel(b"far"), number=past))
             check(wire.read_kind(b"5") is not None, "no Logout")
@@ -78,9 +81,17 @@ def test_gap_without_end(stage: Stage) -> None:
     with on_a_wire(stage) as wire:
         before = stage.memory()
         wire.number += 1
-        check(wire.raw(b"".join(wire.message(b"1", b"DLR1", [(112, b"x" * 1000)]) for _ in range(count))), "they are not read")
+        check(
+            wire.raw(
+                b"".join(wire.message(b"1", b"DLR1", [(112, b"x" * 1000)]) for _ in range(count))
+            ),
+            "they are not read",
+        )
         until("they are dropped", LONG, lambda: stage.counters().get(GAP, 0) == count)
-        check(stage.memory() - before < 16 * 2**20, "%d bytes of memory more" % (stage.memory() - before))
+        check(
+            stage.memory() - before < 16 * 2**20,
+            "%d bytes of memory more" % (stage.memory() - before),
+        )
     stage.ping(stage.other)
     stage.whole()
 
@@ -99,11 +110,23 @@ def check_sent_again(wire: Wire, first: list[Received]) -> None:
     """A ResendRequest of all: each message of the venue comes again under its number with 43=Y, its body, and its first 52 in 122."""
     wire.raw(wire.message(b"2", b"DLR1", [(7, b"1"), (16, b"0")]))
     for was in first:
-        message = wire.got_until(lambda message: message.session_number == was.session_number and message.value(43) == b"Y")
+        message = wire.got_until(
+            lambda message: message.session_number == was.session_number
+            and message.value(43) == b"Y"
+        )
         check(message is not None, "%d does not come again" % was.session_number)
-        check((message.kind, message.body) == (was.kind, was.body), "%r is sent again as %r" % (was.raw, message.raw))
-        check(message.venue_number == was.venue_number and message.value(60) == was.value(60), "%r is sent again as %r" % (was.raw, message.raw))
-        check(message.value(122) == was.value(52), "122 of %r is not the 52 of %r" % (message.raw, was.raw))
+        check(
+            (message.kind, message.body) == (was.kind, was.body),
+            "%r is sent again as %r" % (was.raw, message.raw),
+        )
+        check(
+            message.venue_number == was.venue_number and message.value(60) == was.value(60),
+            "%r is sent again as %r" % (was.raw, message.raw),
+        )
+        check(
+            message.value(122) == was.value(52),
+            "122 of %r is not the 52 of %r" % (message.raw, was.raw),
+        )
 
 
 def test_resent_as_it_was(stage: Stage) -> None:
@@ -118,7 +141,11 @@ def test_resent_after_a_crash(stage: Stage) -> None:
     stage.open(stage.other, stage.investor)
     with on_a_wire(stage) as wire:
         first, number = answered_messages(wire), wire.number
-        until("all of it is in the log", LONG, lambda: len(stage.door.ledger().sent.get("DLR1", [])) == len(first))
+        until(
+            "all of it is in the log",
+            LONG,
+            lambda: len(stage.door.ledger().sent.get("DLR1", [])) == len(first),
+        )
         stage.door.kill()
     stage.door.start()
     stage.door.wait_open()
@@ -139,7 +166,10 @@ def test_sent_on_another_day(stage: Stage) -> None:
             old = [(43, b"Y"), (122, b"20250314-09:00:00.000"), *cancel(b"old")]
             wire.raw(wire.message(b"Z", b"DLR1", old, number=number))
             reject = wire.got_until(lambda message: message.value(45) == b"%d" % number)
-            check(reject is not None and (reject.kind, reject.value(1181)) == (b"3", None), "no Reject of the session")
+            check(
+                reject is not None and (reject.kind, reject.value(1181)) == (b"3", None),
+                "no Reject of the session",
+            )
             check((reject.value(371), reject.value(373)) == (b"122", b"5"), "it is %r" % reject.raw)
         again(wire, b"4", 3, [(123, b"Y"), (36, b"%d" % wire.number)])
         wire.raw(wire.message(b"Z", b"DLR1", cancel(b"new")))
@@ -179,7 +209,10 @@ def test_asked_for_no_gap(stage: Stage) -> None:
             number = wire.number
             wire.raw(wire.message(b"2", b"DLR1", [(7, b"%d" % first), (16, b"%d" % last)]))
             reject = wire.got_until(lambda message: message.value(45) == b"%d" % number)
-            check(reject is not None and (reject.kind, reject.value(1181)) == (b"3", None), "%d to %d: no Reject of the session" % (first, last))
+            check(
+                reject is not None and (reject.kind, reject.value(1181)) == (b"3", None),
+                "%d to %d: no Reject of the session" % (first, last),
+            )
             check((reject.value(371), reject.value(373)) == (tag, b"5"), "it is %r" % reject.raw)
             sent = reject.session_number
         wire.raw(wire.message(b"Z", b"DLR1", cancel(b"next")))

@@ -16,7 +16,9 @@ THRESHOLD = "20"  # tenths: systemd's measure, of which 100 is the worst
 
 
 def printed(*words: str | Path) -> str:
-    return subprocess.run([str(word) for word in words], capture_output=True, text=True, check=True, timeout=LONG).stdout
+    return subprocess.run(
+        [str(word) for word in words], capture_output=True, text=True, check=True, timeout=LONG
+    ).stdout
 
 
 # ------------------------------------------------------------ the binary
@@ -24,7 +26,10 @@ def printed(*words: str | Path) -> str:
 
 def test_addresses_are_not_known_beforehand(gateway_program: Path) -> None:
     """A position-independent executable."""
-    assert re.search(r"Type:\s+DYN \(Position-Independent Executable file\)", printed("readelf", "-hW", gateway_program))
+    assert re.search(
+        r"Type:\s+DYN \(Position-Independent Executable file\)",
+        printed("readelf", "-hW", gateway_program),
+    )
 
 
 def test_tables_are_read_only(gateway_program: Path) -> None:
@@ -55,20 +60,38 @@ def test_jumps_land_where_a_function_begins(gateway_program: Path) -> None:
 
 def test_exposure_of_the_unit() -> None:
     """By systemd's own measure at most 2.0, of 10."""
-    words = ["systemd-analyze", "security", "--offline=true", "--no-pager", "--threshold=" + THRESHOLD, str(UNIT)]
+    words = [
+        "systemd-analyze",
+        "security",
+        "--offline=true",
+        "--no-pager",
+        "--threshold=" + THRESHOLD,
+        str(UNIT),
+    ]
     done = subprocess.run(words, capture_output=True, text=True, check=False, timeout=LONG)
     assert done.returncode == 0, done.stdout[-2000:] + done.stderr
 
 
 SETTINGS = {
-    "CapabilityBoundingSet": "", "AmbientCapabilities": "", "NoNewPrivileges": "yes", "LimitCORE": "0", "RestrictNamespaces": "yes",
-    "PrivateDevices": "yes", "ProtectSystem": "strict", "MemoryDenyWriteExecute": "yes", "RestartPreventExitStatus": "2 3",
+    "CapabilityBoundingSet": "",
+    "AmbientCapabilities": "",
+    "NoNewPrivileges": "yes",
+    "LimitCORE": "0",
+    "RestrictNamespaces": "yes",
+    "PrivateDevices": "yes",
+    "ProtectSystem": "strict",
+    "MemoryDenyWriteExecute": "yes",
+    "RestartPreventExitStatus": "2 3",
 }
 
 
 def test_settings_of_the_unit() -> None:
     """No capability, no core, no namespaces, a limit of memory; and adjtimex, by which the clock is asked, is left."""
-    pairs = [line.split("=", 1) for line in UNIT.read_text().splitlines() if "=" in line and not line.startswith("#")]
+    pairs = [
+        line.split("=", 1)
+        for line in UNIT.read_text().splitlines()
+        if "=" in line and not line.startswith("#")
+    ]
     found = dict(pairs)
     assert {key: found.get(key) for key in SETTINGS} == SETTINGS
     assert re.fullmatch(r"\d+G", found["MemoryMax"])
@@ -92,7 +115,11 @@ TRIES = {
     "lists a folder": "import os; os.listdir({folder!r})",
 }
 # And what it has to be able to do.
-NEEDS = {"reads its libraries": "import json, decimal", "reads its own file": "open({own!r}).read()", "raises a signal": "import os; os.kill(os.getpid(), 0)"}
+NEEDS = {
+    "reads its libraries": "import json, decimal",
+    "reads its own file": "open({own!r}).read()",
+    "raises a signal": "import os; os.kill(os.getpid(), 0)",
+}
 
 
 def outcome(gateway_program: Path, place: Path, text: str) -> str:
@@ -100,10 +127,19 @@ def outcome(gateway_program: Path, place: Path, text: str) -> str:
     own = place / "program"
     own.mkdir(exist_ok=True)
     script = own / "tried.py"
-    values = {"key": str(place / "seal.key"), "log": str(place / "day.db"), "new": str(own / "new"), "port": 1, "folder": str(place), "own": str(script)}
+    values = {
+        "key": str(place / "seal.key"),
+        "log": str(place / "day.db"),
+        "new": str(own / "new"),
+        "port": 1,
+        "folder": str(place),
+        "own": str(script),
+    }
     script.write_text(text.format(**values) + "\nprint('done')\n")
     words = [gateway_program, "--confined", "/usr/bin/python3", "-B", script]
-    run = subprocess.run([str(word) for word in words], capture_output=True, text=True, check=False, timeout=LONG)
+    run = subprocess.run(
+        [str(word) for word in words], capture_output=True, text=True, check=False, timeout=LONG
+    )
     return run.stdout.strip() or run.stderr.strip().splitlines()[-1]
 
 

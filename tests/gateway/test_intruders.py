@@ -49,7 +49,10 @@ def test_logon_in_pieces(stage: Stage) -> None:
             if slow.closed_within(LOGON_SECONDS / 20) or time.monotonic() > end:
                 break
             slow.raw(bytes([byte]))
-        check(slow.is_over and slow.waiting == b"", "a Logon of %d bytes that takes its time is waited for" % len(data))
+        check(
+            slow.is_over and slow.waiting == b"",
+            "a Logon of %d bytes that takes its time is waited for" % len(data),
+        )
     with Wire(stage.door.port) as wire:
         wire.number = number
         wire.logon(NAME, PASSWORD)
@@ -64,8 +67,21 @@ def logon_bytes(wire: Wire, more: Fields | None = None) -> bytes:
 def test_odd_names(stage: Stage) -> None:
     """Names that are nearly a firm's, or more than a name: of nobody, whatever the password."""
     scene = firm_away(stage, PLAIN)
-    names = [b"INV1 ", b" INV1", b"INV1\x00", b"inv1", b"/INV1", b"INV1/", b"VENUE", b"'; DROP TABLE entry; --", b"%s%n{}", b"\xc2\x9b2J", b"I" * 3900,
-             b"INV1\xe2\x80\xa8stop", b'" firm="DLR1']
+    names = [
+        b"INV1 ",
+        b" INV1",
+        b"INV1\x00",
+        b"inv1",
+        b"/INV1",
+        b"INV1/",
+        b"VENUE",
+        b"'; DROP TABLE entry; --",
+        b"%s%n{}",
+        b"\xc2\x9b2J",
+        b"I" * 3900,
+        b"INV1\xe2\x80\xa8stop",
+        b'" firm="DLR1',
+    ]
 
     def all_of_them() -> int:
         for name in names:
@@ -85,15 +101,36 @@ def test_odd_names(stage: Stage) -> None:
 def test_odd_passwords(stage: Stage) -> None:
     """Passwords that hold the right one: with a zero byte, a blank or a line feed behind it, longer than a hash takes, or as its hash."""
     scene = firm_away(stage, PLAIN)
-    stored = (stage.folder / "credentials.toml").read_text().split("[INV1]", 1)[1].split('password = "', 1)[1].split('"', 1)[0].encode()
-    words = [PASSWORD + b"\x00", PASSWORD + b"\x00x", PASSWORD + b" ", PASSWORD + b"\n", PASSWORD[:-1], PASSWORD.upper(), PASSWORD * 40, stored, b"*0", b"\x00"]
+    stored = (
+        (stage.folder / "credentials.toml")
+        .read_text()
+        .split("[INV1]", 1)[1]
+        .split('password = "', 1)[1]
+        .split('"', 1)[0]
+        .encode()
+    )
+    words = [
+        PASSWORD + b"\x00",
+        PASSWORD + b"\x00x",
+        PASSWORD + b" ",
+        PASSWORD + b"\n",
+        PASSWORD[:-1],
+        PASSWORD.upper(),
+        PASSWORD * 40,
+        stored,
+        b"*0",
+        b"\x00",
+    ]
 
     def all_of_them() -> int:
         for word in words:
             with Wire(stage.door.port) as wire:
                 wire.number = scene.next
                 wire.logon(NAME, word)
-                check(wire.closed_within(CLOSED) and wire.waiting == b"", "%r is told %r" % (word, wire.waiting))
+                check(
+                    wire.closed_within(CLOSED) and wire.waiting == b"",
+                    "%r is told %r" % (word, wire.waiting),
+                )
         return len(words)
 
     unchanged(stage, all_of_them)
@@ -105,8 +142,15 @@ def test_odd_passwords(stage: Stage) -> None:
 
 # Fields of a Logon with the right password, and whether it is accepted.
 LOGONS: list[tuple[Fields, bool]] = [
-    ([(43, b"Y"), (122, b"20250314-09:00:00")], True), ([(43, b"Y")], True), ([(97, b"Y")], True), ([(57, b"ELSEWHERE")], True),
-    ([(141, b"Y")], False), ([(789, b"4294967297")], False), ([(789, b"999999999")], False), ([(789, b"1")], True), ([(95, b"3"), (96, b"a=b")], True),
+    ([(43, b"Y"), (122, b"20250314-09:00:00")], True),
+    ([(43, b"Y")], True),
+    ([(97, b"Y")], True),
+    ([(57, b"ELSEWHERE")], True),
+    ([(141, b"Y")], False),
+    ([(789, b"4294967297")], False),
+    ([(789, b"999999999")], False),
+    ([(789, b"1")], True),
+    ([(95, b"3"), (96, b"a=b")], True),
 ]
 
 
@@ -119,10 +163,19 @@ def test_odd_logons(stage: Stage) -> None:
             wire.name, wire.number = NAME, number
             wire.raw(logon_bytes(wire, fields))
             answer = wire.read(limit=CLOSED)
-            check((answer is not None and answer.kind == b"A") == is_accepted, "%r is answered %r" % (fields, answer))
-        until("its connection has ended", LONG, lambda: stage.counters()["mireseason_sessions"] == 2)
+            check(
+                (answer is not None and answer.kind == b"A") == is_accepted,
+                "%r is answered %r" % (fields, answer),
+            )
+        until(
+            "its connection has ended", LONG, lambda: stage.counters()["mireseason_sessions"] == 2
+        )
         least = number + is_accepted
-        until("%r behind %d is counted" % (fields, number), LONG, lambda: scene_now(stage, scene.quote).next >= least)
+        until(
+            "%r behind %d is counted" % (fields, number),
+            LONG,
+            lambda: scene_now(stage, scene.quote).next >= least,
+        )
         number = scene_now(stage, scene.quote).next
     stage.log_off(stage.dealer)
     stage.log_on(stage.dealer)
@@ -140,7 +193,15 @@ def test_second_with_words(stage: Stage) -> None:
     def once() -> int:
         with Wire(stage.door.port) as wire:
             wire.name, wire.number = NAME, scene.next
-            wire.raw(logon_bytes(wire) + framed(body_of("35=AJ|49=NAME|56=VENUE|34=NEXT+1|52=NOW|50=V1|693=second|694=6|131=x|", scene)))
+            wire.raw(
+                logon_bytes(wire)
+                + framed(
+                    body_of(
+                        "35=AJ|49=NAME|56=VENUE|34=NEXT+1|52=NOW|50=V1|693=second|694=6|131=x|",
+                        scene,
+                    )
+                )
+            )
             check(wire.closed_within(CLOSED), "a second connection stays")
             check(wire.waiting == b"", "it is told %r" % wire.waiting)
         return 1
@@ -160,13 +221,23 @@ def test_races(stage: Stage) -> None:
         wires = [Wire(stage.door.port) for _ in range(8)]
         for place, wire in enumerate(wires):
             wire.number = number
-            threading.Thread(target=wire.logon, args=(NAME, PASSWORD if place in (3, 5) else b"wrong")).start()
-        found = [wire for place, wire in enumerate(wires) if place in (3, 5) and wire.read_kind(b"A") is not None]
+            threading.Thread(
+                target=wire.logon, args=(NAME, PASSWORD if place in (3, 5) else b"wrong")
+            ).start()
+        found = [
+            wire
+            for place, wire in enumerate(wires)
+            if place in (3, 5) and wire.read_kind(b"A") is not None
+        ]
         check(len(found) <= 1, "two connections have the session at once")
         answers += len(found)
         for wire in wires:
             wire.socket.close()
-        until("their connections have ended", LONG, lambda: stage.counters()["mireseason_connections"] == 1)
+        until(
+            "their connections have ended",
+            LONG,
+            lambda: stage.counters()["mireseason_connections"] == 1,
+        )
         number = scene_number(stage, number)
     check(answers >= rounds // 2, "%d of %d rounds had a session" % (answers, rounds))
     one_at_a_time(stage)
@@ -174,14 +245,19 @@ def test_races(stage: Stage) -> None:
 
 
 def scene_number(stage: Stage, number: int) -> int:
-    return next((int(str(row[1])) for row in rows_of(stage, "session") if row[0] == INVESTOR.name), number)
+    return next(
+        (int(str(row[1])) for row in rows_of(stage, "session") if row[0] == INVESTOR.name), number
+    )
 
 
 def one_at_a_time(stage: Stage) -> None:
     """Of the firm each Logon that was accepted ends in the log before the next one."""
+
     def kinds() -> list[str]:
         rows = [row for row in rows_of(stage, "connection") if INVESTOR.name in row]
-        return ["logon" if "logon" in row else "end" for row in rows if "logon" in row or "end" in row]
+        return [
+            "logon" if "logon" in row else "end" for row in rows if "logon" in row or "end" in row
+        ]
 
     until("the last one has ended in the log", LONG, lambda: kinds()[-1] == "end")
     check(kinds() == ["logon", "end"] * (len(kinds()) // 2), "the log has %r" % kinds())
@@ -207,13 +283,21 @@ def test_cut_off_at_each_place(stage: Stage) -> None:
             wire = Wire(stage.door.port, source="127.0.0.%d" % (2 + place % 8))
             wire.number = scene.next
             if place % 4:
-                wire.raw(logon_bytes(wire).replace(PASSWORD, b"x" * len(PASSWORD))[: (None, 40, 100, None)[place % 4]])
+                wire.raw(
+                    logon_bytes(wire).replace(PASSWORD, b"x" * len(PASSWORD))[
+                        : (None, 40, 100, None)[place % 4]
+                    ]
+                )
             cut_off(wire)
         until("each is counted", LONG, lambda: refusals(stage) - refused >= 120)
         return 120
 
     unchanged(stage, all_of_them)
-    until("what they had is given back", LONG, lambda: all(now_has <= had for now_has, had in zip(held(stage), before)))
+    until(
+        "what they had is given back",
+        LONG,
+        lambda: all(now_has <= had for now_has, had in zip(held(stage), before)),
+    )
     trades(stage, stage.investor, scene.quote)
 
 
@@ -222,7 +306,9 @@ def test_crowd_of_many_addresses(stage: Stage) -> None:
     stage.door.limits["logon_seconds"] = int(LONG)
     quiet_firms(stage)
     stage.open(stage.other)
-    wires = [Wire(stage.door.port, source="127.0.0.%d" % (2 + place % 12)) for place in range(12 * 16)]
+    wires = [
+        Wire(stage.door.port, source="127.0.0.%d" % (2 + place % 12)) for place in range(12 * 16)
+    ]
     stage.log_on(stage.dealer)
     stage.ping(stage.dealer)
     ended = sum(wire.closed_within(0) for wire in wires)
@@ -237,15 +323,23 @@ def test_storm_of_addresses(stage: Stage) -> None:
     stage.door.limits["logon_seconds"] = 30
     quiet_firms(stage)
     stage.open(stage.other)
-    crowds = [Crowd(stage.door.port, "127.2.%d.%d" % (place // 250, 1 + place % 250), 1) for place in range(300)]
+    crowds = [
+        Crowd(stage.door.port, "127.2.%d.%d" % (place // 250, 1 + place % 250), 1)
+        for place in range(300)
+    ]
     number = 1
     try:
-        until("all slots are taken", LONG, lambda: stage.counters()["mireseason_connections"] >= 256)
+        until(
+            "all slots are taken", LONG, lambda: stage.counters()["mireseason_connections"] >= 256
+        )
         for turn in range(5):
             with Wire(stage.door.port) as wire:
                 wire.number = number
                 wire.logon(NAME, PASSWORD)
-                check(wire.read_kind(b"A", limit=CLOSED) is not None, "Logon %d of 5 is not answered" % (turn + 1))
+                check(
+                    wire.read_kind(b"A", limit=CLOSED) is not None,
+                    "Logon %d of 5 is not answered" % (turn + 1),
+                )
                 number = wire.number
     finally:
         for crowd in crowds:
@@ -274,7 +368,10 @@ def test_passwords_of_one_address(stage: Stage) -> None:
             with Wire(stage.door.port) as wire:
                 wire.number = number
                 wire.logon(NAME, PASSWORD)
-                check(wire.read_kind(b"A", limit=CLOSED) is not None, "the right password waits for %g s" % CLOSED)
+                check(
+                    wire.read_kind(b"A", limit=CLOSED) is not None,
+                    "the right password waits for %g s" % CLOSED,
+                )
                 number = wire.number
     finally:
         goes_on = False

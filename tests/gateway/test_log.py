@@ -11,7 +11,11 @@ from tests.gateway.stage import DEALER, Stage, Wrong, check
 from tests.gateway.wait import LONG, until, within
 from tests.gateway.wire import Wire
 
-BEFORE_MIDNIGHT = (20, 120, 600)  # seconds: where a busy machine has not all firms on by then, so many more
+BEFORE_MIDNIGHT = (
+    20,
+    120,
+    600,
+)  # seconds: where a busy machine has not all firms on by then, so many more
 
 
 def ended_day(stage: Stage) -> None:
@@ -29,7 +33,10 @@ def nothing_sent(stage: Stage, act: Callable[[], None]) -> None:
     act()
     for firm, was in zip(stage.firms, before):
         firm.look()
-        check((firm.times_on, len(firm.received)) == was, "%s was logged on or was sent something" % firm.name)
+        check(
+            (firm.times_on, len(firm.received)) == was,
+            "%s was logged on or was sent something" % firm.name,
+        )
 
 
 def changed(stage: Stage, query: str, *values: object) -> None:
@@ -41,7 +48,11 @@ def changed(stage: Stage, query: str, *values: object) -> None:
 
 
 def place_of_a_quote(stage: Stage) -> int:
-    return [entry.place for entry in stage.door.ledger().messages_of("DLR1") if b"\x0135=S\x01" in entry.message][0]
+    return [
+        entry.place
+        for entry in stage.door.ledger().messages_of("DLR1")
+        if b"\x0135=S\x01" in entry.message
+    ][0]
 
 
 def test_changed_configuration(stage: Stage) -> None:
@@ -79,21 +90,33 @@ def test_last_entry_taken_out(stage: Stage) -> None:
     ended_day(stage)
     last = stage.door.ledger().entries[-1]
     changed(stage, "DELETE FROM entry WHERE place = ?", last.place)
-    nothing_sent(stage, lambda: stage.refused("the log was changed at or before entry %d" % last.place))
+    nothing_sent(
+        stage, lambda: stage.refused("the log was changed at or before entry %d" % last.place)
+    )
 
 
 def test_byte_of_an_entry(stage: Stage) -> None:
     ended_day(stage)
     place = place_of_a_quote(stage)
     line = stage.door.ledger().entries[place].line
-    changed(stage, "UPDATE entry SET line = ? WHERE place = ?", line[:-20] + bytes([line[-20] ^ 1]) + line[-19:], place)
+    changed(
+        stage,
+        "UPDATE entry SET line = ? WHERE place = ?",
+        line[:-20] + bytes([line[-20] ^ 1]) + line[-19:],
+        place,
+    )
     nothing_sent(stage, lambda: stage.refused(str(place)))
 
 
 def test_byte_of_sent(stage: Stage) -> None:
     ended_day(stage)
     number, frame = stage.door.ledger().sent["DLR1"][1]
-    changed(stage, "UPDATE sent SET bytes = ? WHERE firm = 'DLR1' AND number = ?", frame.replace(b"297=0", b"297=5"), number)
+    changed(
+        stage,
+        "UPDATE sent SET bytes = ? WHERE firm = 'DLR1' AND number = ?",
+        frame.replace(b"297=0", b"297=5"),
+        number,
+    )
     nothing_sent(stage, lambda: stage.refused("DLR1", str(number)))
 
 
@@ -102,7 +125,9 @@ def test_byte_of_outgoing(stage: Stage) -> None:
     ended_day(stage)
     number, _ = stage.door.ledger().sent["DLR1"][1]
     other = "CAST(replace(CAST(bytes AS TEXT), '297=0', '297=5') AS BLOB)"
-    changed(stage, "UPDATE outgoing SET bytes = %s WHERE firm = 'DLR1' AND sent = ?" % other, number)
+    changed(
+        stage, "UPDATE outgoing SET bytes = %s WHERE firm = 'DLR1' AND sent = ?" % other, number
+    )
     nothing_sent(stage, lambda: stage.refused("DLR1", str(number)))
 
 
@@ -180,11 +205,16 @@ def test_venue_that_ends(stage: Stage) -> None:
 def test_venue_that_says_something(stage: Stage) -> None:
     """A venue that can't go on: its last words are the gateway's."""
     words = "import sys; sys.stderr.write('the last words of a venue\\n'); sys.exit(9)"
-    stage.door.programs = type(stage.door.programs)(stage.door.programs.gateway, ("python3", "-c", words))
+    stage.door.programs = type(stage.door.programs)(
+        stage.door.programs.gateway, ("python3", "-c", words)
+    )
     stage.door.write()
     stage.door.start()
     check(stage.door.wait_end() == 1, "the gateway ended with another status")
-    check("the last words of a venue" in stage.door.last_words(), "it does not tell the venue's last words")
+    check(
+        "the last words of a venue" in stage.door.last_words(),
+        "it does not tell the venue's last words",
+    )
 
 
 def test_another_date(stage: Stage) -> None:
@@ -204,13 +234,19 @@ def on_before_midnight(stage: Stage, seconds: int) -> bool:
     stage.door.environment = clock
     for firm in stage.firms:
         firm.environment = clock
-        firm.more = {"StartTime": "12:00:01", "EndTime": "12:00:00"}  # so that it does not end at midnight by itself
+        firm.more = {
+            "StartTime": "12:00:01",
+            "EndTime": "12:00:00",
+        }  # so that it does not end at midnight by itself
     stage.door.write()
     stage.door.start()
     for firm in stage.firms:
         firm.start()
     # In the half of the time: they have to settle before its end.
-    all_on = within(seconds / 2, lambda: stage.door.has_ended() or all([firm.logged_on() for firm in stage.firms]))
+    all_on = within(
+        seconds / 2,
+        lambda: stage.door.has_ended() or all([firm.logged_on() for firm in stage.firms]),
+    )
     return all_on and not stage.door.has_ended()
 
 
@@ -225,23 +261,33 @@ def test_midnight(stage: Stage) -> None:
                 return ended_at_midnight(day, seconds)
         finally:
             day.close()
-    raise Wrong("not all firms are logged on %d s after the start: %s" % (BEFORE_MIDNIGHT[-1], day.door.last_words()))
+    raise Wrong(
+        "not all firms are logged on %d s after the start: %s"
+        % (BEFORE_MIDNIGHT[-1], day.door.last_words())
+    )
 
 
 def ended_at_midnight(stage: Stage, seconds: int) -> None:
     """A gateway whose firms are logged on, so long before midnight at most."""
     check(stage.door.wait_end(seconds + LONG) == 0, "the gateway ended with another status")
-    check("the day is over" in stage.door.last_words(), "it does not say why: %s" % stage.door.last_words())
+    check(
+        "the day is over" in stage.door.last_words(),
+        "it does not say why: %s" % stage.door.last_words(),
+    )
     for firm in stage.firms:
         until("%s is logged off" % firm.name, LONG, lambda: not firm.logged_on())
-        check(any(message.kind == b"5" for message in firm.admin), "%s was not logged out" % firm.name)
+        check(
+            any(message.kind == b"5" for message in firm.admin), "%s was not logged out" % firm.name
+        )
 
 
 def test_asked_to_end(stage: Stage) -> None:
     """SIGTERM logs the sessions out; at the next start the day goes on."""
     ended_day(stage)
     for firm in stage.firms:
-        check(any(message.kind == b"5" for message in firm.admin), "%s was not logged out" % firm.name)
+        check(
+            any(message.kind == b"5" for message in firm.admin), "%s was not logged out" % firm.name
+        )
     goes_on(stage)
 
 
@@ -293,11 +339,17 @@ def test_venue_that_hangs(stage: Stage) -> None:
     stage.say(stage.dealer, "Z", [(298, b"4")])
     before = stage.dealer.times_on
     until("the message is in the log", LONG, lambda: stage.entries_of(stage.dealer) == 1)
-    until("it is told", LONG, lambda: b"venue does not answer place=1 " in stage.door.told.read_bytes())
+    until(
+        "it is told",
+        LONG,
+        lambda: b"venue does not answer place=1 " in stage.door.told.read_bytes(),
+    )
     for pid in venues:
         os.kill(pid, signal.SIGCONT)
     stage.answer(stage.dealer, "297=9", lambda message: message.value(297) == b"9")
-    until("it is told", LONG, lambda: b"venue answers again place=1" in stage.door.told.read_bytes())
+    until(
+        "it is told", LONG, lambda: b"venue answers again place=1" in stage.door.told.read_bytes()
+    )
     check(stage.dealer.times_on == before, "the session did not stand")
     stage.auction()
     stage.whole()

@@ -17,7 +17,11 @@ def refused_for(reason: str) -> str:
     return 'mireseason_refused_total{reason="%s"}' % reason
 
 
-WRONG_PASSWORD, NO_LOGON, SECOND = refused_for("wrong password"), refused_for("no Logon"), refused_for("second connection")
+WRONG_PASSWORD, NO_LOGON, SECOND = (
+    refused_for("wrong password"),
+    refused_for("no Logon"),
+    refused_for("second connection"),
+)
 
 
 def test_wrong_password(stage: Stage) -> None:
@@ -28,7 +32,10 @@ def test_wrong_password(stage: Stage) -> None:
     until("it is refused again", LONG, lambda: stage.counters().get(WRONG_PASSWORD, 0) >= 2)
     stage.dealer.look()
     check(stage.dealer.times_on == 0, "it was logged on")
-    check(not any(message.kind in (b"5", b"A") for message in stage.dealer.admin), "it is told something")
+    check(
+        not any(message.kind in (b"5", b"A") for message in stage.dealer.admin),
+        "it is told something",
+    )
     check(stage.entries_of(stage.dealer) == 0, "something of it is in the log")
     stage.dealer.kill()
     stage.dealer = stage.firm(DEALER)
@@ -55,7 +62,11 @@ def test_wrong_password_of_one_away(stage: Stage) -> None:
 
 def grown(before: dict[str, float], after: dict[str, float]) -> list[str]:
     """Counters of logons that were refused, by what is in their names, that have grown."""
-    names = [name for name in after if any(word in name for word in ("refused", "reject", "failed", "wrong"))]
+    names = [
+        name
+        for name in after
+        if any(word in name for word in ("refused", "reject", "failed", "wrong"))
+    ]
     return [name for name in names if after[name] > before.get(name, 0)]
 
 
@@ -82,7 +93,11 @@ def test_wrong_passwords_cost_nothing(stage: Stage) -> None:
     for waits in (False, True):
         if waits:
             stage.ask_of([stage.dealer, stage.other])
-            until("the dealer's is in the log", LONG, lambda: len(stage.door.ledger().sent.get(DEALER.name, [])) == 1)
+            until(
+                "the dealer's is in the log",
+                LONG,
+                lambda: len(stage.door.ledger().sent.get(DEALER.name, [])) == 1,
+            )
         for _ in range(12):
             with Wire(stage.door.port) as wire:
                 wire.logon(DEALER.name.encode(), b"wrong")
@@ -91,21 +106,36 @@ def test_wrong_passwords_cost_nothing(stage: Stage) -> None:
     with Wire(stage.door.port) as wire:
         wire.logon(DEALER.name.encode(), DEALER.password.encode())
         answer = wire.read_kind(b"A")
-        check(answer is not None and answer.session_number == 2, "a wrong password has used up a number")
+        check(
+            answer is not None and answer.session_number == 2,
+            "a wrong password has used up a number",
+        )
     until("all are counted", LONG, lambda: stage.counters().get(WRONG_PASSWORD) == 24)
 
 
 def test_wrong_words(stage: Stage) -> None:
     """A wrong user, no password, an empty one, and one with any bytes."""
     stage.open(stage.other)
-    tries = [(b"secret", b"other"), (None, None), (b"", None), (bytes(range(2, 256)), None), (OTHER.password.encode(), None)]
+    tries = [
+        (b"secret", b"other"),
+        (None, None),
+        (b"", None),
+        (bytes(range(2, 256)), None),
+        (OTHER.password.encode(), None),
+    ]
     for password, user in tries:
         with Wire(stage.door.port) as wire:
             wire.logon(DEALER.name.encode(), password, user)
             check(wire.closed_within(SLACK), "the connection stays for %r" % password)
             check(wire.waiting == b"", "it is told %r for %r" % (wire.waiting, password))
     counted = {"wrong password": 3, "wrong name": 2}
-    until("the operator is told which it was", LONG, lambda: all(stage.counters().get(refused_for(why)) == count for why, count in counted.items()))
+    until(
+        "the operator is told which it was",
+        LONG,
+        lambda: all(
+            stage.counters().get(refused_for(why)) == count for why, count in counted.items()
+        ),
+    )
     stage.ping(stage.other)
     stage.log_on(stage.dealer)
     stage.ping(stage.dealer)
@@ -119,7 +149,9 @@ def test_unknown_firm(stage: Stage) -> None:
             wire.logon(name, b"secret")
             check(wire.closed_within(LOGON_SECONDS + SLACK), "the connection of %r stays" % name)
             check(wire.waiting == b"", "%r was told %r" % (name, wire.waiting))
-        until("a counter has grown for %r" % name, LONG, lambda: bool(grown(before, stage.counters())))
+        until(
+            "a counter has grown for %r" % name, LONG, lambda: bool(grown(before, stage.counters()))
+        )
     stage.ping(stage.other)
 
 
@@ -130,7 +162,10 @@ def test_words_of_a_stranger(stage: Stage) -> None:
         wire.logon(b"NOBODY\nstop \x1b[2J", b"secret")
         check(wire.closed_within(LOGON_SECONDS + SLACK), "the connection stays")
     until("it is told", LONG, lambda: b"NOBODY?stop ?[2J" in stage.door.told.read_bytes())
-    check(not any(line.startswith(b"stop") for line in stage.door.told.read_bytes().split(b"\n")), "a line of a stranger")
+    check(
+        not any(line.startswith(b"stop") for line in stage.door.told.read_bytes().split(b"\n")),
+        "a line of a stranger",
+    )
 
 
 def test_stranger_in_a_firms_name(stage: Stage) -> None:
@@ -138,8 +173,12 @@ def test_stranger_in_a_firms_name(stage: Stage) -> None:
     half a one keeps the firm out for no time."""
     stage.door.limits["logon_seconds"] = int(3 * LONG)
     stage.open(stage.other)
-    with Wire(stage.door.port) as wrong_sum, Wire(stage.door.port) as no_field, Wire(stage.door.port) as half, Wire(stage.door.port) as wrong:
-        frame = wrong_sum.message(b"A", DEALER.name.encode(), [(98, b"0"), (108, b"30"), (1137, b"9")])
+    with Wire(stage.door.port) as wrong_sum, Wire(stage.door.port) as no_field, Wire(
+        stage.door.port
+    ) as half, Wire(stage.door.port) as wrong:
+        frame = wrong_sum.message(
+            b"A", DEALER.name.encode(), [(98, b"0"), (108, b"30"), (1137, b"9")]
+        )
         half.raw(frame[:-8])
         wrong_sum.raw(frame[:-4] + b"999\x01")
         no_field.raw(framed(b"35=A\x0149=DLR1\x0156=VENUE\x0134=1\x0152=%s\x01nothing\x01" % now()))
@@ -163,7 +202,9 @@ def test_second_connection(stage: Stage) -> None:
             check(wire.closed_within(LOGON_SECONDS + SLACK), "the second connection stays")
             check(b"\x0135=A\x01" not in wire.waiting, "the second connection was logged on")
         stage.ping(stage.dealer)
-    check(stage.dealer.is_on and stage.dealer.times_on == times, "the first connection was disturbed")
+    check(
+        stage.dealer.is_on and stage.dealer.times_on == times, "the first connection was disturbed"
+    )
 
 
 def test_numbers_are_not_reset(stage: Stage) -> None:
@@ -198,7 +239,11 @@ def test_reset_behind_messages(stage: Stage) -> None:
     stage.open(stage.other, stage.investor)
     stage.ask_of([stage.dealer, stage.other])
     stage.answer(stage.other, "a request", lambda message: message.kind == b"R")
-    until("the dealer's is in the log", LONG, lambda: len(stage.door.ledger().sent.get(DEALER.name, [])) == 1)
+    until(
+        "the dealer's is in the log",
+        LONG,
+        lambda: len(stage.door.ledger().sent.get(DEALER.name, [])) == 1,
+    )
     stage.dealer.more = {"ResetOnLogon": "Y"}
     stage.log_on(stage.dealer)
     stage.answer(stage.dealer, "a request", lambda message: message.kind == b"R")
@@ -212,7 +257,9 @@ def test_reset_behind_a_refusal(stage: Stage) -> None:
     """The first Logon of the day was refused: one with 141=Y is still an ordinary Logon, for a stock engine too."""
     stage.open(stage.other)
     with Wire(stage.door.port) as wire:
-        wire.logon(DEALER.name.encode(), DEALER.password.encode(), more=[(141, b"Y")], heartbeat=b"0")
+        wire.logon(
+            DEALER.name.encode(), DEALER.password.encode(), more=[(141, b"Y")], heartbeat=b"0"
+        )
         check(wire.read_kind(b"5") is not None, "no Logout")
         check(wire.closed_within(SLACK), "the connection stays")
     with Wire(stage.door.port) as wire:
@@ -234,7 +281,9 @@ def test_heartbeats(stage: Stage) -> None:
         with Wire(stage.door.port) as wire:
             wire.logon(DEALER.name.encode(), DEALER.password.encode(), heartbeat=interval)
             message = wire.read_kind(b"5")
-            check(message is not None and message.value(58), "no Logout with a text for %r" % interval)
+            check(
+                message is not None and message.value(58), "no Logout with a text for %r" % interval
+            )
             check(wire.closed_within(SLACK), "the connection stays for %r" % interval)
     with Wire(stage.door.port) as wire:
         wire.logon(DEALER.name.encode(), DEALER.password.encode(), heartbeat=b"300")
@@ -260,15 +309,32 @@ def test_logon_at_fault(stage: Stage) -> None:
     """A Logon that the engine would leave without an answer: 1137 is not 9, or 52 is no moment. Its number is not used up."""
     stage.open(stage.other)
     header = {35: b"A", 49: DEALER.name.encode(), 56: b"VENUE", 34: b"1", 52: b""}
-    body = {98: b"0", 108: b"30", 553: DEALER.name.encode(), 554: DEALER.password.encode(), 1137: b"9"}
+    body = {
+        98: b"0",
+        108: b"30",
+        553: DEALER.name.encode(),
+        554: DEALER.password.encode(),
+        1137: b"9",
+    }
     for tag, value in ((1137, None), (1137, b"7"), (52, None), (52, b"yesterday")):
         before, fields = stage.counters(), header | {52: now()} | body | {tag: value}
         with Wire(stage.door.port) as wire:
-            wire.raw(framed(b"".join(b"%d=%s\x01" % item for item in fields.items() if item[1] is not None)))
+            wire.raw(
+                framed(
+                    b"".join(b"%d=%s\x01" % item for item in fields.items() if item[1] is not None)
+                )
+            )
             message = wire.read_kind(b"5")
-            check(message is not None and message.value(58), "no Logout with a text where %d is %r" % (tag, value))
+            check(
+                message is not None and message.value(58),
+                "no Logout with a text where %d is %r" % (tag, value),
+            )
             check(wire.closed_within(SLACK), "the connection stays where %d is %r" % (tag, value))
-        until("a counter has grown where %d is %r" % (tag, value), LONG, lambda: bool(grown(before, stage.counters())))
+        until(
+            "a counter has grown where %d is %r" % (tag, value),
+            LONG,
+            lambda: bool(grown(before, stage.counters())),
+        )
     stage.log_on(stage.dealer)
     stage.ping(stage.dealer)
 
@@ -281,15 +347,55 @@ def openssl(folder: Path, *words: str) -> None:
 
 
 def authority(folder: Path, name: str) -> None:
-    openssl(folder, "req", "-x509", "-newkey", "rsa:2048", "-nodes", "-keyout", name + ".key", "-out", name + ".pem", "-days", "2",
-            "-subj", "/CN=" + name)
+    openssl(
+        folder,
+        "req",
+        "-x509",
+        "-newkey",
+        "rsa:2048",
+        "-nodes",
+        "-keyout",
+        name + ".key",
+        "-out",
+        name + ".pem",
+        "-days",
+        "2",
+        "-subj",
+        "/CN=" + name,
+    )
 
 
 def certificate(folder: Path, name: str, common: str, signer: str) -> None:
     """A key and a certificate of this common name by an authority."""
-    openssl(folder, "req", "-newkey", "rsa:2048", "-nodes", "-keyout", name + ".key", "-out", name + ".csr", "-subj", "/CN=" + common)
-    openssl(folder, "x509", "-req", "-in", name + ".csr", "-CA", signer + ".pem", "-CAkey", signer + ".key", "-CAcreateserial",
-            "-days", "2", "-out", name + ".pem")
+    openssl(
+        folder,
+        "req",
+        "-newkey",
+        "rsa:2048",
+        "-nodes",
+        "-keyout",
+        name + ".key",
+        "-out",
+        name + ".csr",
+        "-subj",
+        "/CN=" + common,
+    )
+    openssl(
+        folder,
+        "x509",
+        "-req",
+        "-in",
+        name + ".csr",
+        "-CA",
+        signer + ".pem",
+        "-CAkey",
+        signer + ".key",
+        "-CAcreateserial",
+        "-days",
+        "2",
+        "-out",
+        name + ".pem",
+    )
 
 
 def with_tls(stage: Stage) -> None:
@@ -302,13 +408,22 @@ def with_tls(stage: Stage) -> None:
         certificate(folder, firm.name, firm.name, "authority")
         secured(firm, folder, firm.name)
     certificate(folder, "strange", DEALER.name, "stranger")
-    stage.door.tls = {"certificate": '"venue.pem"', "key": '"venue.key"', "authorities": '"authority.pem"', "client_certificates": "true"}
+    stage.door.tls = {
+        "certificate": '"venue.pem"',
+        "key": '"venue.key"',
+        "authorities": '"authority.pem"',
+        "client_certificates": "true",
+    }
 
 
 def secured(firm: Firm, folder: Path, name: str) -> None:
     firm.tls = True
-    firm.more = {"CertificationAuthoritiesFile": str(folder / "authority.pem"), "ClientCertificateFile": str(folder / (name + ".pem")),
-                 "ClientCertificateKeyFile": str(folder / (name + ".key")), "SSLProtocol": "TLSv1_2"}
+    firm.more = {
+        "CertificationAuthoritiesFile": str(folder / "authority.pem"),
+        "ClientCertificateFile": str(folder / (name + ".pem")),
+        "ClientCertificateKeyFile": str(folder / (name + ".key")),
+        "SSLProtocol": "TLSv1_2",
+    }
 
 
 def context(folder: Path, name: str | None) -> ssl.SSLContext:
@@ -353,7 +468,9 @@ def test_certificate_of_another_firm(stage: Stage) -> None:
         wire.logon(DEALER.name.encode(), DEALER.password.encode())
         check(wire.closed_within(LOGON_SECONDS + SLACK), "the connection stays")
         check(wire.waiting == b"", "it is told %r" % wire.waiting)
-    until("it is counted", LONG, lambda: stage.counters().get(refused_for("wrong certificate")) == 1)
+    until(
+        "it is counted", LONG, lambda: stage.counters().get(refused_for("wrong certificate")) == 1
+    )
     stage.log_on(stage.dealer, stage.other)
     stage.auction()
 
@@ -389,11 +506,17 @@ def test_plain_to_tls(stage: Stage) -> None:
     with Wire(stage.door.port) as plain:
         plain.logon(DEALER.name.encode(), DEALER.password.encode())
         stage.dealer.start()
-        check(within(longest - 1, stage.dealer.logged_on), "a handshake waits for connections that begin none")
+        check(
+            within(longest - 1, stage.dealer.logged_on),
+            "a handshake waits for connections that begin none",
+        )
         check(plain.closed_within(longest + SLACK), "a plain connection stays")
         check(b"35=A" not in plain.waiting, "a plain Logon was answered")
     for wire in silent:
         check(wire.closed_within(longest + SLACK), "a connection without a handshake stays")
         wire.socket.close()
     quiet(stage, [stage.investor], lambda: stage.ping(stage.dealer))
-    check(INVESTOR.name == stage.investor.name and stage.investor.is_on, "another session was disturbed")
+    check(
+        INVESTOR.name == stage.investor.name and stage.investor.is_on,
+        "another session was disturbed",
+    )

@@ -37,12 +37,22 @@ def test_every_byte_in_text(stage: Stage) -> None:
                 continue
             text = b"a" + bytes([byte]) + b"z"
             number = stage.say(stage.dealer, "Z", cancel + [(TEXT, text)])
-            until("an entry for the byte %d" % byte, LONG, lambda: stage.has_entry(stage.dealer, number))
-            check(text_of(logged(stage, number)) == text, "58 with the byte %d is %r in the log" % (byte, logged(stage, number)))
+            until(
+                "an entry for the byte %d" % byte,
+                LONG,
+                lambda: stage.has_entry(stage.dealer, number),
+            )
+            check(
+                text_of(logged(stage, number)) == text,
+                "58 with the byte %d is %r in the log" % (byte, logged(stage, number)),
+            )
 
     quiet(stage, [stage.other, stage.investor], send_all)
     until("255 answers", LONG, lambda: len(stage.dealer.looked()) >= 255)
-    check({message.value(297) for message in stage.dealer.received} == {b"9"}, "one of 255 cancels is answered otherwise")
+    check(
+        {message.value(297) for message in stage.dealer.received} == {b"9"},
+        "one of 255 cancels is answered otherwise",
+    )
     stage.whole()
 
 
@@ -58,7 +68,15 @@ def test_another_firms_words(stage: Stage) -> None:
         return sum(message.kind == b"S" for message in stage.investor.received)
 
     until("the investor is shown both quotes", LONG, lambda: quotes() == 2)
-    texts = [b"x\nhex DLR2 09:00:00 00", b"x\nsay DLR2 T2 09:00:00 Z 298=4", b"x|34=7|", b"x\r\n%%\r\n", b"\n\n\n", b"# x\n#", b"x\nclock 23:59:59\n"]
+    texts = [
+        b"x\nhex DLR2 09:00:00 00",
+        b"x\nsay DLR2 T2 09:00:00 Z 298=4",
+        b"x|34=7|",
+        b"x\r\n%%\r\n",
+        b"\n\n\n",
+        b"# x\n#",
+        b"x\nclock 23:59:59\n",
+    ]
 
     def send_all() -> None:
         for text in texts:
@@ -72,7 +90,10 @@ def test_another_firms_words(stage: Stage) -> None:
 def rejected(stage: Stage, number: int) -> bool:
     """Whether the gateway itself has rejected DLR1's message under this number of the session."""
     stage.dealer.look()
-    return any(message.kind == b"3" and message.value(45) == b"%d" % number for message in stage.dealer.admin)
+    return any(
+        message.kind == b"3" and message.value(45) == b"%d" % number
+        for message in stage.dealer.admin
+    )
 
 
 def test_five_thousand_bytes(stage: Stage) -> None:
@@ -82,7 +103,10 @@ def test_five_thousand_bytes(stage: Stage) -> None:
         number = stage.say(stage.dealer, "Z", [(298, b"5"), (117, b"none"), (TEXT, b"x" * size)])
         stage.ping(stage.dealer)
         check(rejected(stage, number), "the message with a 58 of %d bytes is not rejected" % size)
-        check(all(entry.number != number for entry in stage.door.ledger().messages_of("DLR1")), "it is in the log")
+        check(
+            all(entry.number != number for entry in stage.door.ledger().messages_of("DLR1")),
+            "it is in the log",
+        )
     stage.ping(stage.other)
     stage.whole()
 
@@ -90,11 +114,18 @@ def test_five_thousand_bytes(stage: Stage) -> None:
 def test_about_the_longest_frame(stage: Stage) -> None:
     """Messages that the gateway's framing makes a frame, or no frame any more: the venue's number follows the venue."""
     stage.open(*stage.firms)
-    numbers = [stage.say(stage.dealer, "Z", [(298, b"5"), (117, b"none"), (TEXT, b"x" * size)]) for size in range(3950, 4030)]
+    numbers = [
+        stage.say(stage.dealer, "Z", [(298, b"5"), (117, b"none"), (TEXT, b"x" * size)])
+        for size in range(3950, 4030)
+    ]
     stage.ping(stage.dealer)
     answers_to = sum(message.value(117) == b"none" for message in stage.dealer.received)
     check(0 < answers_to < 80, "%d of 80 were answered" % answers_to)
-    check([rejected(stage, number) for number in numbers] == [False] * answers_to + [True] * (80 - answers_to), "others were rejected")
+    check(
+        [rejected(stage, number) for number in numbers]
+        == [False] * answers_to + [True] * (80 - answers_to),
+        "others were rejected",
+    )
     longest = max(len(entry.message) for entry in stage.door.ledger().messages_of("DLR1"))
     check(longest == 4096, "the longest that was taken has %d bytes" % longest)
     stage.door.kill()
@@ -135,7 +166,10 @@ def test_unknown_trader(stage: Stage) -> None:
     stage.say(stage.dealer, "Z", [(298, b"5"), (117, b"none"), (TEXT, b"x" * 5000)])
     number = stage.say(stage.dealer, "Z", [(298, b"4")], trader="T9")
     reject = stage.answer(stage.dealer, "a Reject", lambda message: message.kind == b"3")
-    check((reject.value(45), reject.value(371)) == (b"%d" % number, b"50"), "it is %r, of the session's %d" % (reject.raw, number))
+    check(
+        (reject.value(45), reject.value(371)) == (b"%d" % number, b"50"),
+        "it is %r, of the session's %d" % (reject.raw, number),
+    )
     stage.whole()
 
 
@@ -186,7 +220,10 @@ def test_wrong_clock(stage: Stage) -> None:
         wire.raw(wire.message(b"Z", b"DLR1", cancel(b"late"), sending=a_while_ago()))
         reject = wire.got(b"3")
         check(reject is not None and reject.value(1181) is None, "no Reject of the session")
-        check((reject.value(45), reject.value(373)) == (b"%d" % number, b"10"), "it is %r" % reject.raw)
+        check(
+            (reject.value(45), reject.value(373)) == (b"%d" % number, b"10"),
+            "it is %r" % reject.raw,
+        )
         check(wire.read_kind(b"5") is not None, "no Logout")
         number = wire.number
     check(stage.entries_of(stage.dealer) == 0, "it is in the log")
@@ -201,14 +238,25 @@ def test_fields_of_no_use(stage: Stage) -> None:
     stage.open(stage.other, stage.investor)
     with on_a_wire(stage) as wire:
         number = wire.number
-        wire.raw(wire.message(b"Z", b"DLR1", [(1128, b"9"), *cancel(b"one"), (60, now()), (TEXT, b"text")]))
+        wire.raw(
+            wire.message(
+                b"Z", b"DLR1", [(1128, b"9"), *cancel(b"one"), (60, now()), (TEXT, b"text")]
+            )
+        )
         check(answered(wire, b"one").value(297) == b"9", "it is not answered as ever")
-        check({58, 60, 1128} <= set(dict(fields_of(logged(stage, number)))), "a field is not in the log")
+        check(
+            {58, 60, 1128} <= set(dict(fields_of(logged(stage, number)))),
+            "a field is not in the log",
+        )
         number = wire.number
         wire.raw(wire.message(b"Z", b"DLR1", [(298, b"4")]))
         reject = wire.got(b"3")
         check(reject is not None and reject.value(1181), "no Reject of the venue")
-        check((reject.value(45), reject.value(371), reject.value(373)) == (b"%d" % number, b"50", b"1"), "it is %r" % reject.raw)
+        check(
+            (reject.value(45), reject.value(371), reject.value(373))
+            == (b"%d" % number, b"50", b"1"),
+            "it is %r" % reject.raw,
+        )
     stage.whole()
 
 
@@ -218,18 +266,29 @@ def test_no_frames(stage: Stage) -> None:
     stage.open(stage.other, stage.investor)
     head = b"35=Z\x0149=DLR1\x0156=VENUE\x0134=%d\x0152=%s\x01"
     odd: list[tuple[bytes, tuple[bytes | None, bytes]]] = [
-        (b"nothing\x01", (b"52", b"17")), (b"=x\x01", (None, b"0")), (b"58=a\x01b\x01", (b"58", b"17")), (b"35=0\x01", (b"35", b"13")),
-        (b"8=FIX.4.2\x01", (b"8", b"13")), (b"58=x", (b"58", b"6"))]
+        (b"nothing\x01", (b"52", b"17")),
+        (b"=x\x01", (None, b"0")),
+        (b"58=a\x01b\x01", (b"58", b"17")),
+        (b"35=0\x01", (b"35", b"13")),
+        (b"8=FIX.4.2\x01", (b"8", b"13")),
+        (b"58=x", (b"58", b"6")),
+    ]
     with on_a_wire(stage) as wire:
         wire.raw(wire.message(b"Z", b"DLR1", cancel(b"x"), number=wire.number)[:-4] + b"999\x01")
         for place, (tail, fault) in enumerate(odd):
             number, wire.number = wire.number, wire.number + 1
             wire.raw(framed(head % (number, now()) + tail))
             reject = wire.got_until(lambda message: message.value(45) == b"%d" % number)
-            check(reject is not None and (reject.kind, reject.value(1181)) == (b"3", None), "no Reject of the session for %r" % tail)
+            check(
+                reject is not None and (reject.kind, reject.value(1181)) == (b"3", None),
+                "no Reject of the session for %r" % tail,
+            )
             check((reject.value(371), reject.value(373)) == fault, "it is %r" % reject.raw)
             wire.raw(wire.message(b"Z", b"DLR1", cancel(b"n%d" % place)))
-            check(answered(wire, b"n%d" % place).value(297) == b"9", "the message after %r is not answered" % tail)
+            check(
+                answered(wire, b"n%d" % place).value(297) == b"9",
+                "the message after %r is not answered" % tail,
+            )
     check(stage.entries_of(stage.dealer) == len(odd), "%d entries" % stage.entries_of(stage.dealer))
     stage.whole()
 
@@ -247,7 +306,10 @@ def test_no_numbers_of_the_venue(stage: Stage) -> None:
             check(message.value(297) == b"9", "after %r the answer is %r" % (tail, message.raw))
     ledger = stage.door.ledger()
     wanted = answers(list(stage.door.programs.venue), ledger.day())["DLR1"]
-    check(not any(b"\x01371=34\x01" in frame for frame in wanted), "the venue was given a number that it does not expect")
+    check(
+        not any(b"\x01371=34\x01" in frame for frame in wanted),
+        "the venue was given a number that it does not expect",
+    )
     stage.whole()
 
 
@@ -255,11 +317,23 @@ def test_no_number(stage: Stage) -> None:
     """A message without a number, with two, or with one that is none: the session is logged out with a text, and no number is used."""
     stage.open(stage.other, stage.investor)
     number = 1
-    for numbers in (b"", b"34=%d\x0134=%d\x01", b"34=x%d\x01", b"34=429496729%d\x01", b"34=-%d\x01"):
+    for numbers in (
+        b"",
+        b"34=%d\x0134=%d\x01",
+        b"34=x%d\x01",
+        b"34=429496729%d\x01",
+        b"34=-%d\x01",
+    ):
         with on_a_wire(stage, number) as wire:
             number = wire.number
             told = numbers % ((number,) * numbers.count(b"%d"))
-            wire.raw(framed(b"35=Z\x0149=DLR1\x0156=VENUE\x01" + told + b"52=%s\x0150=T1\x01298=4\x01" % now()))
+            wire.raw(
+                framed(
+                    b"35=Z\x0149=DLR1\x0156=VENUE\x01"
+                    + told
+                    + b"52=%s\x0150=T1\x01298=4\x01" % now()
+                )
+            )
             wire.raw(wire.message(b"Z", b"DLR1", cancel(b"behind"), number=number))
             message = wire.got(b"5")
             check(message is not None and message.value(58), "no Logout with a text for %r" % told)
@@ -276,8 +350,14 @@ def test_no_header_field(stage: Stage) -> None:
             number, fields = wire.number, fields_of(wire.message(b"Z", b"DLR1", cancel(b"x")))
             wire.raw(framed(b"".join(b"%d=%s\x01" % item for item in fields if item[0] != tag)))
             reject = wire.got_until(lambda message: message.value(45) == b"%d" % number)
-            check(reject is not None and (reject.kind, reject.value(1181)) == (b"3", None), "without %d: no Reject of the session" % tag)
-            check((reject.value(371), reject.value(373)) == (b"%d" % tag, b"1"), "it is %r" % reject.raw)
+            check(
+                reject is not None and (reject.kind, reject.value(1181)) == (b"3", None),
+                "without %d: no Reject of the session" % tag,
+            )
+            check(
+                (reject.value(371), reject.value(373)) == (b"%d" % tag, b"1"),
+                "it is %r" % reject.raw,
+            )
         wire.raw(wire.message(b"Z", b"DLR1", cancel(b"next")))
         check(answered(wire, b"next").value(297) == b"9", "the next is not answered as ever")
         check(stage.entries_of(stage.dealer) == 1, "%d entries" % stage.entries_of(stage.dealer))
@@ -287,18 +367,36 @@ def test_no_header_field(stage: Stage) -> None:
 def test_faster_than_the_log(stage: Stage) -> None:
     """Thousands of messages at once, on a slow disk: read no faster than they are committed, and others are served."""
     stage.door.environment = {"LD_PRELOAD": str(stage.tools.shim), "DISK_SLOW": "20"}
-    stage.door.limits["bytes_burst"] = 2**26  # else it is the firm's rate that holds it, and not the log
+    stage.door.limits["bytes_burst"] = (
+        2**26
+    )  # else it is the firm's rate that holds it, and not the log
     stage.open(stage.other, stage.investor)
     with on_a_wire(stage) as wire:
-        before, count = stage.memory(), 8000  # 50 MB of lines, of which a gateway keeps some four times 4 MiB, and more of a slow venue
-        data = b"".join(wire.message(b"Z", b"DLR1", cancel(b"c%d" % number) + [(TEXT, b"x" * 3000)]) for number in range(count))
+        before, count = (
+            stage.memory(),
+            8000,
+        )  # 50 MB of lines, of which a gateway keeps some four times 4 MiB, and more of a slow venue
+        data = b"".join(
+            wire.message(b"Z", b"DLR1", cancel(b"c%d" % number) + [(TEXT, b"x" * 3000)])
+            for number in range(count)
+        )
         sender = threading.Thread(target=wire.raw, args=(data,))
         sender.start()
         stage.ping(stage.other)
-        check(wire.read_until(lambda message: message.value(117) == b"c%d" % (count - 1), 5 * LONG) is not None, "the last is not answered")
+        check(
+            wire.read_until(lambda message: message.value(117) == b"c%d" % (count - 1), 5 * LONG)
+            is not None,
+            "the last is not answered",
+        )
         sender.join()
-        check(stage.memory() - before < 60 * 2**20, "%d bytes of memory more" % (stage.memory() - before))
-    check(stage.entries_of(stage.dealer) == count, "%d of %d are in the log" % (stage.entries_of(stage.dealer), count))
+        check(
+            stage.memory() - before < 60 * 2**20,
+            "%d bytes of memory more" % (stage.memory() - before),
+        )
+    check(
+        stage.entries_of(stage.dealer) == count,
+        "%d of %d are in the log" % (stage.entries_of(stage.dealer), count),
+    )
     stage.whole()
 
 
@@ -310,7 +408,10 @@ def test_longer_than_may_be(stage: Stage) -> None:
         wire.raw(b"8=FIXT.1.1\x019=900000000\x0135=Z\x0149=DLR1\x01")
         taken = sum(wire.raw(b"z" * 65536) for _ in range(1024) if not wire.closed_within(0))
         check(taken < 1024 or wire.closed_within(LONG), "64 MiB are taken")
-        check(stage.memory() - before < 24 * 2**20, "%d bytes of memory more" % (stage.memory() - before))
+        check(
+            stage.memory() - before < 24 * 2**20,
+            "%d bytes of memory more" % (stage.memory() - before),
+        )
     stage.log_on(stage.dealer)
     stage.ping(stage.other)
 
@@ -336,14 +437,28 @@ def test_asks_and_does_not_read(stage: Stage) -> None:
     stage.door.limits["send_seconds"] = seconds
     stage.open(stage.other, stage.investor)
     with on_a_wire(stage) as wire:
-        wire.raw(b"".join(wire.message(b"Z", b"DLR1", cancel(b"c%d" % number)) for number in range(count)))
+        wire.raw(
+            b"".join(
+                wire.message(b"Z", b"DLR1", cancel(b"c%d" % number)) for number in range(count)
+            )
+        )
         last = b"c%d" % (count - 1)
-        check(wire.read_until(lambda message: message.value(117) == last) is not None, "the last is not answered")
+        check(
+            wire.read_until(lambda message: message.value(117) == last) is not None,
+            "the last is not answered",
+        )
         wire.socket.setsockopt(socket.SOL_SOCKET, socket.SO_RCVBUF, 2048)
         before = stage.worked()
         wire.raw(b"".join(wire.message(b"2", b"DLR1", [(7, b"1"), (16, b"0")]) for _ in range(100)))
         wire.raw(b"".join(wire.message(b"0", b"DLR1", []) for _ in range(200)))
-        until("its connection has ended", LONG, lambda: stage.counters()["mireseason_connections"] == 2)
+        until(
+            "its connection has ended",
+            LONG,
+            lambda: stage.counters()["mireseason_connections"] == 2,
+        )
         worked = stage.worked() - before
-        check(worked < seconds / 2 or not stage.tools.measures, "the gateway has worked for %.1f s" % worked)
+        check(
+            worked < seconds / 2 or not stage.tools.measures,
+            "the gateway has worked for %.1f s" % worked,
+        )
     stage.whole()

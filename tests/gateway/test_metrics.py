@@ -9,7 +9,10 @@ GAUGES = ("connections", "sessions", "speaks", "next_configuration_faulty")
 HISTOGRAMS = ("commit", "logged", "answered", "handed_over")
 BY_REASON = ("refused", "dropped")
 IN_OTHER_FILES = {  # tests/limits: test_clock.py, test_renewal.py; tests/operating: test_service.py, test_monitoring.py
-    *("mireseason_firm_%s_total" % name for name in ("messages", "requests", "quotes", "hits", "refusals")),
+    *(
+        "mireseason_firm_%s_total" % name
+        for name in ("messages", "requests", "quotes", "hits", "refusals")
+    ),
     "mireseason_firm_logged_on",
     "mireseason_firm_waiting_bytes",
     "mireseason_ready",
@@ -31,7 +34,11 @@ NAMES = {
     *IN_OTHER_FILES,
     *("mireseason_%s_total" % name for name in (*COUNTERS, *BY_REASON)),
     *("mireseason_" + name for name in GAUGES),
-    *("mireseason_%s_seconds_%s" % (name, part) for name in HISTOGRAMS for part in ("count", "sum", "bucket")),
+    *(
+        "mireseason_%s_seconds_%s" % (name, part)
+        for name in HISTOGRAMS
+        for part in ("count", "sum", "bucket")
+    ),
 }
 
 
@@ -46,7 +53,11 @@ def sent_in_log(stage: Stage) -> int:
 
 def counts(stage: Stage, name: str, wanted: float) -> None:
     """A metric comes to this value, and to no other."""
-    until("%s is %g, and not %g" % (name, wanted, metric(stage, name)), LONG, lambda: metric(stage, name) == wanted)
+    until(
+        "%s is %g, and not %g" % (name, wanted, metric(stage, name)),
+        LONG,
+        lambda: metric(stage, name) == wanted,
+    )
 
 
 def test_what_a_day_counts(stage: Stage) -> None:
@@ -60,10 +71,15 @@ def test_what_a_day_counts(stage: Stage) -> None:
     counts(stage, "logged_seconds_count", messages)
     counts(stage, "answered_seconds_count", messages)
     for name in ("delivered_total", "sent_total"):
-        until("%s is %g, and %d are in the log" % (name, metric(stage, name), sent_in_log(stage)), LONG,
-              lambda: metric(stage, name) == sent_in_log(stage))
+        until(
+            "%s is %g, and %d are in the log" % (name, metric(stage, name), sent_in_log(stage)),
+            LONG,
+            lambda: metric(stage, name) == sent_in_log(stage),
+        )
     commits = metric(stage, "commits_total")
-    check(commits >= messages, "%g commits of %d messages that came one by one" % (commits, messages))
+    check(
+        commits >= messages, "%g commits of %d messages that came one by one" % (commits, messages)
+    )
     until("each commit is timed", LONG, lambda: each_commit_is_timed(stage))
     for name in HISTOGRAMS:
         took = metric(stage, name + "_seconds_sum")
@@ -141,8 +157,16 @@ def test_no_metric_is_unknown(stage: Stage) -> None:
     with Wire(stage.door.port) as wire:
         wire.logon(b"NOBODY", b"secret")
         check(wire.closed_within(LONG), "it stays")
-    until("a refusal is counted", LONG, lambda: any("refused_total" in name for name in stage.counters()))
+    until(
+        "a refusal is counted",
+        LONG,
+        lambda: any("refused_total" in name for name in stage.counters()),
+    )
     found = {name.split("{")[0] for name in stage.counters() if name.startswith("mireseason_")}
     assert found - NAMES == set()
-    none = {"mireseason_dropped_total", "mireseason_wrong_passwords_total", "mireseason_certificate_expiry_timestamp_seconds"}
+    none = {
+        "mireseason_dropped_total",
+        "mireseason_wrong_passwords_total",
+        "mireseason_certificate_expiry_timestamp_seconds",
+    }
     assert NAMES - found <= none  # there was none

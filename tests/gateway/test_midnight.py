@@ -31,13 +31,26 @@ def told(needs: float, now: Callable[[], float]) -> str:
 
 class Midnight(unittest.TestCase):
     def test_what_is_left_of_a_day(self) -> None:
-        for text, left in (("2026-11-26 00:00:00", 86400), ("2026-11-26 12:00:00", 43200), ("2026-11-26 23:59:00", 60),
-                           ("2026-11-26 23:59:59.500", 0.5), ("2026-11-27 00:00:00", 86400), ("2024-02-29 23:00:00", 3600)):
+        for text, left in (
+            ("2026-11-26 00:00:00", 86400),
+            ("2026-11-26 12:00:00", 43200),
+            ("2026-11-26 23:59:00", 60),
+            ("2026-11-26 23:59:59.500", 0.5),
+            ("2026-11-27 00:00:00", 86400),
+            ("2024-02-29 23:00:00", 3600),
+        ):
             self.assertEqual(left_of_day(moment(text)), left, text)
 
     def test_a_minute_before_midnight_it_waits_for_it(self) -> None:
-        now = clock("2026-11-26 23:59:00", "2026-11-26 23:59:30", "2026-11-26 23:59:59.999", "2026-11-27 00:00:00")
-        self.assertEqual(told(900, now), "a test waits 60 s for midnight in UTC: it may take 900 s of one day\n")
+        now = clock(
+            "2026-11-26 23:59:00",
+            "2026-11-26 23:59:30",
+            "2026-11-26 23:59:59.999",
+            "2026-11-27 00:00:00",
+        )
+        self.assertEqual(
+            told(900, now), "a test waits 60 s for midnight in UTC: it may take 900 s of one day\n"
+        )
         self.assertRaises(StopIteration, now)
 
     def test_at_midnight_it_does_not_wait(self) -> None:
@@ -45,7 +58,9 @@ class Midnight(unittest.TestCase):
 
     def test_it_waits_for_the_last_second_alone(self) -> None:
         self.assertEqual(told(900, clock("2026-11-26 23:45:00")), "")
-        self.assertIn("waits 899 s", told(900, clock("2026-11-26 23:45:01", "2026-11-27 00:00:00.001")))
+        self.assertIn(
+            "waits 899 s", told(900, clock("2026-11-26 23:45:01", "2026-11-27 00:00:00.001"))
+        )
 
     def test_a_whole_day_begins_at_midnight_alone(self) -> None:
         self.assertEqual(told(86400, clock("2026-11-27 00:00:00")), "")

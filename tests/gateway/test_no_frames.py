@@ -30,11 +30,20 @@ class Odd:
 
 
 REJECTED = (
-    Odd("58=a|b|", b"58", b"17"), Odd("58=a|=b|", None, None), Odd("058=a|", None, None), Odd("1234567890=a|", None, None),
-    Odd("8=FIXT.1.1|", b"8", b"13"), Odd("9=5|", b"9", b"13"), Odd("10=000|", b"10", b"13"),
-    *(Odd("%d=x|%d=x|" % (tag, tag), b"%d" % tag, b"13") for tag in (43, 97, 122, 50, 57, 553, 554, 98, 108, 141, 789, 1137, 7, 16, 36, 112, 123)),
+    Odd("58=a|b|", b"58", b"17"),
+    Odd("58=a|=b|", None, None),
+    Odd("058=a|", None, None),
+    Odd("1234567890=a|", None, None),
+    Odd("8=FIXT.1.1|", b"8", b"13"),
+    Odd("9=5|", b"9", b"13"),
+    Odd("10=000|", b"10", b"13"),
+    *(
+        Odd("%d=x|%d=x|" % (tag, tag), b"%d" % tag, b"13")
+        for tag in (43, 97, 122, 50, 57, 553, 554, 98, 108, 141, 789, 1137, 7, 16, 36, 112, 123)
+    ),
     *(Odd("%d=x|" % tag, b"%d" % tag, b"13") for tag in (35, 49, 56, 52)),
-    Odd("112=%s|" % ("x" * 1025), b"112", b"5"), Odd("58=%s|" % ("x" * 4096), None, b"5"),
+    Odd("112=%s|" % ("x" * 1025), b"112", b"5"),
+    Odd("58=%s|" % ("x" * 4096), None, b"5"),
 )
 
 
@@ -66,7 +75,10 @@ def goes_on(wire: Wire) -> None:
 
 def reject_of(wire: Wire, number: int) -> Received:
     found = wire.read_until(lambda message: message.kind in (b"3", b"5"), SOON)
-    check(found is not None and found.kind == b"3", "no Reject of %d, but %r" % (number, found and found.raw))
+    check(
+        found is not None and found.kind == b"3",
+        "no Reject of %d, but %r" % (number, found and found.raw),
+    )
     assert found is not None
     check(found.value(45) == b"%d" % number and found.value(1181) is None, "it is %r" % found.raw)
     return found
@@ -78,13 +90,22 @@ def test_rejected_and_counted(stage: Stage) -> None:
         for odd in REJECTED:
             wire.raw(odd_message(odd, wire.number))
             found = reject_of(wire, wire.number)
-            check(odd.tag is None or found.value(371) == odd.tag, "%r is rejected by %r" % (odd.text[:40], found.raw))
-            check(odd.reason is None or found.value(373) == odd.reason, "%r is rejected by %r" % (odd.text[:40], found.raw))
+            check(
+                odd.tag is None or found.value(371) == odd.tag,
+                "%r is rejected by %r" % (odd.text[:40], found.raw),
+            )
+            check(
+                odd.reason is None or found.value(373) == odd.reason,
+                "%r is rejected by %r" % (odd.text[:40], found.raw),
+            )
             wire.number += 1
         for kind in (b"ABCDE", b"A-", b"", b"\xc3\xa9"):
             wire.raw(odd_message(Odd("58=x|", None, None), wire.number, kind))
             found = reject_of(wire, wire.number)
-            check((found.value(371), found.value(373)) == (b"35", b"11"), "35=%r is rejected by %r" % (kind, found.raw))
+            check(
+                (found.value(371), found.value(373)) == (b"35", b"11"),
+                "35=%r is rejected by %r" % (kind, found.raw),
+            )
             wire.number += 1
         goes_on(wire)
         check(stage.entries_of(stage.dealer) == 1, "%d entries" % stage.entries_of(stage.dealer))
@@ -129,15 +150,31 @@ def test_no_number(stage: Stage) -> None:
     """34 is missing, stands twice, or is no number of 1 to 999,999,999: a Logout says why, and nothing is counted."""
     stage.open(stage.other, stage.investor)
     number = 1
-    for text in ("", "34=%d|34=%d|", "34=0|", "34=-1|", "34=|", "34=x|", "34=1000000000|", "34=%d|" % (TWO_32 + 3), "34=1 |", "34=+1|"):
+    for text in (
+        "",
+        "34=%d|34=%d|",
+        "34=0|",
+        "34=-1|",
+        "34=|",
+        "34=x|",
+        "34=1000000000|",
+        "34=%d|" % (TWO_32 + 3),
+        "34=1 |",
+        "34=+1|",
+    ):
         with on_a_wire(stage, number) as wire:
             number = wire.number
             field = text.replace("%d", str(number)).replace("|", "\x01").encode()
-            wire.raw(framed(b"35=Z\x0149=%s\x0156=VENUE\x01%s52=%s\x01298=4\x01" % (NAME, field, now())))
+            wire.raw(
+                framed(b"35=Z\x0149=%s\x0156=VENUE\x01%s52=%s\x01298=4\x01" % (NAME, field, now()))
+            )
             logout = wire.read_kind(b"5", SOON)
             check(logout is not None and logout.value(58), "no Logout with a text for %r" % text)
             check(wire.closed_within(LONG), "the connection stays for %r" % text)
-        check(target_of(stage) == number, "%r moves the number from %d to %r" % (text, number, target_of(stage)))
+        check(
+            target_of(stage) == number,
+            "%r moves the number from %d to %r" % (text, number, target_of(stage)),
+        )
     with on_a_wire(stage, number) as wire:
         goes_on(wire)
     stage.whole()
@@ -146,11 +183,18 @@ def test_no_number(stage: Stage) -> None:
 def test_numbers_past_32_bits(stage: Stage) -> None:
     """36, 7, 16 and 108 that are small numbers modulo 2^32: no number is taken for another."""
     with a_session(stage) as wire:
-        for kind, fields in ((b"4", [(36, b"%d" % (TWO_32 + 100))]), (b"4", [(123, b"Y"), (36, b"%d" % (TWO_32 + 100))]),
-                             (b"2", [(7, b"%d" % (TWO_32 + 1)), (16, b"0")]), (b"2", [(7, b"1"), (16, b"%d" % (TWO_32 + 1))])):
+        for kind, fields in (
+            (b"4", [(36, b"%d" % (TWO_32 + 100))]),
+            (b"4", [(123, b"Y"), (36, b"%d" % (TWO_32 + 100))]),
+            (b"2", [(7, b"%d" % (TWO_32 + 1)), (16, b"0")]),
+            (b"2", [(7, b"1"), (16, b"%d" % (TWO_32 + 1))]),
+        ):
             wire.raw(wire.message(kind, NAME, fields))
             reject_of(wire, wire.number - 1)
-            check(target_of(stage) == wire.number, "%r moves the number to %r" % (fields, target_of(stage)))
+            check(
+                target_of(stage) == wire.number,
+                "%r moves the number to %r" % (fields, target_of(stage)),
+            )
 
 
 def test_heartbeat_past_32_bits(stage: Stage) -> None:
@@ -160,7 +204,9 @@ def test_heartbeat_past_32_bits(stage: Stage) -> None:
         wire.logon(NAME, DEALER.password.encode(), heartbeat=b"%d" % (TWO_32 + 30))
         logout = wire.read_kind(b"5")
         check(logout is not None and logout.value(58), "no Logout with a text")
-        check(b"4294967326" not in wire.waiting and wire.closed_within(LONG), "the connection stays")
+        check(
+            b"4294967326" not in wire.waiting and wire.closed_within(LONG), "the connection stays"
+        )
     stage.log_on(stage.dealer)
     stage.ping(stage.dealer)
 
@@ -191,7 +237,11 @@ def test_without_end(stage: Stage) -> None:
         check(wire.closed_within(LONG), "the connection stays")
     check(target_of(stage) == number + 1, "it is not counted")
     with on_a_wire(stage, number + 1) as wire:
-        wire.raw(wire.message(b"Z", NAME, [*cancel(b"long"), (58, b"x" * 70_000)], number=wire.number + 5))
+        wire.raw(
+            wire.message(
+                b"Z", NAME, [*cancel(b"long"), (58, b"x" * 70_000)], number=wire.number + 5
+            )
+        )
         check(wire.closed_within(LONG), "the connection stays")
         number = wire.number
     check(target_of(stage) == number, "one ahead of a gap is counted")
@@ -204,9 +254,16 @@ def test_as_long_as_may_be(stage: Stage) -> None:
     """A message of 4,096 bytes is taken when it comes again, too, with 43 and 122 beside."""
     with a_session(stage) as wire:
         number = wire.number
-        room = 4096 - len(wire.message(b"Z", NAME, [*cancel(b"longest"), (58, b"")], number=number)) - 2
+        room = (
+            4096
+            - len(wire.message(b"Z", NAME, [*cancel(b"longest"), (58, b"")], number=number))
+            - 2
+        )
         fields: Fields = [*cancel(b"longest"), (58, b"x" * room)]
-        check(4094 <= len(wire.message(b"Z", NAME, fields, number=number)) <= 4096, "it is not as long as may be")
+        check(
+            4094 <= len(wire.message(b"Z", NAME, fields, number=number)) <= 4096,
+            "it is not as long as may be",
+        )
         wire.raw(wire.message(b"1", NAME, [(112, b"ahead")], number=number + 1))
         check(asked_from(wire) == number, "it is not asked for")
         again(wire, b"Z", number, fields)
@@ -229,7 +286,11 @@ def test_garbled(stage: Stage) -> None:
 def test_glued_trailer(stage: Stage) -> None:
     """A `10=` without a SOH before it is no trailer: its field is not lost, the message is not taken."""
     with a_session(stage) as wire:
-        body = b"35=Z\x0149=%s\x0156=VENUE\x0134=%d\x0152=%s\x0150=T1\x01298=5\x01117=glued" % (NAME, wire.number, now())
+        body = b"35=Z\x0149=%s\x0156=VENUE\x0134=%d\x0152=%s\x0150=T1\x01298=5\x01117=glued" % (
+            NAME,
+            wire.number,
+            now(),
+        )
         wire.raw(framed(body))
         reject_of(wire, wire.number)
         wire.number += 1
@@ -253,7 +314,11 @@ def test_judged_when_it_came(stage: Stage) -> None:
 def came_in_time(stage: Stage, wire: Wire, lost: int, frames: list[bytes]) -> bool:
     """Fills the gap as an engine does that sends all again: each with its first 52 in 122. Whether all are answered."""
     later = moment_after(LATER)
-    wire.raw(wire.message(b"Z", NAME, [(43, b"Y"), (122, now()), *cancel(b"lost")], sending=later, number=lost))
+    wire.raw(
+        wire.message(
+            b"Z", NAME, [(43, b"Y"), (122, now()), *cancel(b"lost")], sending=later, number=lost
+        )
+    )
     for place, frame in enumerate(frames):
         first = frame.split(b"\x0152=", 1)[1].split(b"\x01", 1)[0]
         fields: Fields = [(43, b"Y"), (122, first), *cancel(b"in-time-%d" % place)]
@@ -264,4 +329,8 @@ def came_in_time(stage: Stage, wire: Wire, lost: int, frames: list[bytes]) -> bo
 
 
 def moment_after(seconds: int) -> bytes:
-    return (datetime.now(timezone.utc) + timedelta(seconds=seconds)).strftime("%Y%m%d-%H:%M:%S.000").encode()
+    return (
+        (datetime.now(timezone.utc) + timedelta(seconds=seconds))
+        .strftime("%Y%m%d-%H:%M:%S.000")
+        .encode()
+    )

@@ -19,16 +19,39 @@ SLOW_SYNC = 2000  # milliseconds
 ACCEPTED = 8.0  # seconds in which a request has come to the dealers, on a busy machine too
 NAME, PASSWORD = DEALER.name.encode(), DEALER.password.encode()
 
-SETTLING = Budget("what waits for a firm comes ten seconds after a Logon whose TestRequest is not answered", most=10, least=9)
-SETTLED = Budget("what waits for a firm comes once the TestRequest is answered, and not ten seconds after its Logon", most=5, slack=4)
+SETTLING = Budget(
+    "what waits for a firm comes ten seconds after a Logon whose TestRequest is not answered",
+    most=10,
+    least=9,
+)
+SETTLED = Budget(
+    "what waits for a firm comes once the TestRequest is answered, and not ten seconds after its Logon",
+    most=5,
+    slack=4,
+)
 GAP = Budget("a gap that is not filled is asked for again after ten seconds", most=11, least=9.5)
 LEAVES = Budget("a connection is closed two seconds after a Logout at most", most=2.5)
-SECOND = Budget("a second connection of a firm waits for two seconds, and is closed", most=2.5, least=1.5)
+SECOND = Budget(
+    "a second connection of a firm waits for two seconds, and is closed", most=2.5, least=1.5
+)
 EXPIRES = Budget("a request ends at its deadline", most=1, slack=8)
-SILENT = Budget("the operator is told after five seconds that the venue does not answer", most=6, least=4, slack=20)
-STALLED = Budget("the operator is told after five seconds that the log does not answer", most=6, least=4, slack=20)
+SILENT = Budget(
+    "the operator is told after five seconds that the venue does not answer",
+    most=6,
+    least=4,
+    slack=20,
+)
+STALLED = Budget(
+    "the operator is told after five seconds that the log does not answer",
+    most=6,
+    least=4,
+    slack=20,
+)
 GONE = Budget("the quotes of a dealer that is gone are cancelled", most=1)
-GONE_BEFORE = Budget("the quotes of a dealer that was on when the gateway was killed are cancelled at its next start", most=5)
+GONE_BEFORE = Budget(
+    "the quotes of a dealer that was on when the gateway was killed are cancelled at its next start",
+    most=5,
+)
 
 
 def on(stage: Stage, number: int = 1, answers: bool = True) -> Wire:
@@ -50,7 +73,10 @@ def quoted_by_one_gone(stage: Stage, dealer_ends: Callable[[], object]) -> float
 
     def is_gone() -> bool:
         stage.investor.look()
-        return any(each.value(297) == b"17" and each.value(131) == stage.asked for each in stage.investor.received)
+        return any(
+            each.value(297) == b"17" and each.value(131) == stage.asked
+            for each in stage.investor.received
+        )
 
     return seconds_until(is_gone, GONE_BEFORE.limit)
 
@@ -68,7 +94,10 @@ def test_own_messages_are_on_disk_before_they_leave(stage: Stage) -> None:
         wire.logon(NAME, PASSWORD)
         check(wire.read_kind(b"A") is not None, "the Logon is not answered")
         stored = rows(stage.door.database, "SELECT number, bytes FROM outgoing WHERE firm = 'DLR1'")
-        check(any(number == 1 and b"\x0135=A\x01" in data for number, data in stored), "it left before its row was on disk")
+        check(
+            any(number == 1 and b"\x0135=A\x01" in data for number, data in stored),
+            "it left before its row was on disk",
+        )
 
 
 def test_entries_are_on_disk_before_they_are_answered(stage: Stage) -> None:
@@ -80,8 +109,11 @@ def test_entries_are_on_disk_before_they_are_answered(stage: Stage) -> None:
     with on(stage) as wire:
         wire.raw(wire.message(b"Z", NAME, [(50, DEALER.trader.encode()), (298, b"5"), (117, b"x")]))
         check(wire.read_kind(b"AI") is not None, "the cancel is not answered")
-        found = rows(stage.door.database, "SELECT count(*) FROM entry JOIN connection ON entry.connection = connection.number "
-                     "WHERE entry.firm = 'DLR1' AND event = 'logon'")
+        found = rows(
+            stage.door.database,
+            "SELECT count(*) FROM entry JOIN connection ON entry.connection = connection.number "
+            "WHERE entry.firm = 'DLR1' AND event = 'logon'",
+        )
         check(found == [(1,)], "it was answered before it was on disk")
 
 
@@ -197,7 +229,11 @@ def test_a_request_ends_at_its_deadline(stage: Stage) -> None:
         until("the deadline has passed", LONG, lambda: moment_in(0)[9:].decode() >= stage.deadline)
         within(EXPIRES.limit, lambda: len(clock_lines(stage)) >= ended)
         lines = clock_lines(stage)
-        late = milliseconds(lines[-1]) - milliseconds(stage.deadline) if len(lines) >= ended else 1000 * (EXPIRES.limit + 1)
+        late = (
+            milliseconds(lines[-1]) - milliseconds(stage.deadline)
+            if len(lines) >= ended
+            else 1000 * (EXPIRES.limit + 1)
+        )
         return late / 1000
 
     EXPIRES.hold(measure)
@@ -277,7 +313,9 @@ def test_a_slow_log_is_told(stage: Stage) -> None:
         with Wire(stage.door.port) as wire:
             began = time.monotonic()
             wire.logon(NAME, PASSWORD)
-            is_told = within(STALLED.limit, lambda: told_since(stage, begin, b"log does not answer"))
+            is_told = within(
+                STALLED.limit, lambda: told_since(stage, begin, b"log does not answer")
+            )
             took = time.monotonic() - began if is_told else math.inf
         stage.door.kill()
         return took

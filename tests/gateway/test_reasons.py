@@ -23,7 +23,12 @@ from tests.harness.options import ROOT, SECOND
 MARKET = (ROOT / "docs" / "MARKET.md").read_text()
 CONNECTING = (ROOT / "docs" / "CONNECTING.md").read_text()
 OTHER_BOND = b"BONDB0000002"
-TABLES = {"A quote": "S", "A cancel": "Z", "A decline": "AG", "Asking": "R"}  # the parts of MARKET.md that have them
+TABLES = {
+    "A quote": "S",
+    "A cancel": "Z",
+    "A decline": "AG",
+    "Asking": "R",
+}  # the parts of MARKET.md that have them
 REFUSED, NOT_FOUND = b"5", b"9"  # 297
 # The venue's program, which calls a refusal of what has the QuoteID `as-NAME` by that name.
 RENAMING = r"""#!/bin/sh
@@ -38,7 +43,11 @@ exec "$@"
 
 def table() -> dict[str, bytes]:
     """The words for each name."""
-    lines = [line for line in (ROOT / "fix" / "reasons.txt").read_text().splitlines() if line and not line.startswith("#")]
+    lines = [
+        line
+        for line in (ROOT / "fix" / "reasons.txt").read_text().splitlines()
+        if line and not line.startswith("#")
+    ]
     return {name: words.encode() for name, _, words in (line.partition(" ") for line in lines)}
 
 
@@ -50,7 +59,12 @@ def names_in(part: str) -> list[str]:
 
 def has_notes(venue: tuple[str, ...]) -> bool:
     """Whether the program has the flag --notes: one that has not calls it a wrong argument."""
-    return subprocess.run([*venue, "live", "--notes"], input=b"", capture_output=True, check=False).returncode != 2
+    return (
+        subprocess.run(
+            [*venue, "live", "--notes"], input=b"", capture_output=True, check=False
+        ).returncode
+        != 2
+    )
 
 
 @pytest.fixture(scope="session")
@@ -86,7 +100,11 @@ def limited(stage: Stage, dealer: str, investor: str) -> None:
     """Gives all dealers and the investor other limits, and the venue another bond and seven dealers more."""
     text = 'version = 1\ndate = "%s"\n' % today()
     text += "".join('[[bond]]\nid = "%s"\n' % bond.decode() for bond in (BOND, OTHER_BOND))
-    for name, trader in [("DLR1", "T1"), ("DLR2", "T2"), *(("D%d" % at, "T") for at in range(3, 10))]:
+    for name, trader in [
+        ("DLR1", "T1"),
+        ("DLR2", "T2"),
+        *(("D%d" % at, "T") for at in range(3, 10)),
+    ]:
         text += '[[dealer]]\nname = "%s"\ntraders = ["%s"]\n%s\n' % (name, trader, dealer)
     text += '[[investor]]\nname = "INV1"\ntraders = ["V1"]\n%s\n' % investor
     (stage.folder / "venue.toml").write_text(text)
@@ -103,7 +121,15 @@ def answered(stage: Stage, firm: Firm, kind: str, fields: Fields) -> Received:
     return firm.received[before]
 
 
-def refuses(stage: Stage, firm: Firm, kind: str, fields: Fields, name: str, code: bytes, status: bytes = REFUSED) -> None:
+def refuses(
+    stage: Stage,
+    firm: Firm,
+    kind: str,
+    fields: Fields,
+    name: str,
+    code: bytes,
+    status: bytes = REFUSED,
+) -> None:
     """A message that has to be refused: with 297 and 300, or 658, as MARKET.md has them, and the words of the name in 58."""
     answer = answered(stage, firm, kind, fields)
     codes = [answer.value(658)] if kind == "R" else [answer.value(297), answer.value(300) or b""]
@@ -117,7 +143,9 @@ def refuses(stage: Stage, firm: Firm, kind: str, fields: Fields, name: str, code
 def takes(stage: Stage, firm: Firm, kind: str, fields: Fields, status: bytes) -> None:
     """A message that is taken, and told no reason."""
     answer = answered(stage, firm, kind, fields)
-    check(answer.value(297) == status and answer.value(58) is None, "it is answered %r" % answer.raw)
+    check(
+        answer.value(297) == status and answer.value(58) is None, "it is answered %r" % answer.raw
+    )
 
 
 def passed(stage: Stage) -> bytes:
@@ -125,13 +153,24 @@ def passed(stage: Stage) -> bytes:
     request = stage.ask()
     stage.say(stage.investor, "AJ", [(693, stage.name("p")), (694, b"6"), (131, stage.asked)])
     for dealer in (stage.dealer, stage.other):
-        stage.answer(dealer, "the end of a request", lambda message: message.kind == b"AJ" and message.value(131) == request)
+        stage.answer(
+            dealer,
+            "the end of a request",
+            lambda message: message.kind == b"AJ" and message.value(131) == request,
+        )
     return request
 
 
 def request_fields(stage: Stage, name: bytes, dealers: list[bytes], **other: bytes) -> Fields:
     values = {"bond": BOND, "quantity": b"2000000", "until": moment_in(600), "role": b"35", **other}
-    fields = [(131, name), (146, b"1"), (55, b"[N/A]"), (48, values["bond"]), (22, b"4"), (54, b"1")]
+    fields = [
+        (131, name),
+        (146, b"1"),
+        (55, b"[N/A]"),
+        (48, values["bond"]),
+        (22, b"4"),
+        (54, b"1"),
+    ]
     fields += [(38, values["quantity"]), (126, values["until"]), (453, b"%d" % len(dealers))]
     for dealer in dealers:
         fields += [(448, dealer), (447, b"D"), (452, values["role"])]
@@ -164,8 +203,13 @@ def test_each_reason_of_a_quote(stage: Stage) -> None:
         fields = dict(stage.quote_fields(request, stage.name("q"))) | dict(other)
         refuses(stage, stage.dealer, "S", list(fields.items()), name, code)
     stage.quote(stage.dealer, quoted)
-    refuses(stage, stage.dealer, "S", stage.quote_fields(asked, stage.name("q")), "QuotesUsedUp", b"3")
-    assert {name for name, *_ in cases} | {"QuotesUsedUp"} == set(names_in("A quote")) - {"DeadlinePassed", "Lifted"}
+    refuses(
+        stage, stage.dealer, "S", stage.quote_fields(asked, stage.name("q")), "QuotesUsedUp", b"3"
+    )
+    assert {name for name, *_ in cases} | {"QuotesUsedUp"} == set(names_in("A quote")) - {
+        "DeadlinePassed",
+        "Lifted",
+    }
     stage.whole()
 
 
@@ -195,7 +239,12 @@ def test_each_reason_of_a_decline(stage: Stage) -> None:
     closed, declined, quoted = passed(stage), stage.ask(), stage.ask()
     takes(stage, stage.dealer, "AG", [(131, declined), (658, b"10")], b"11")
     stage.quote(stage.dealer, quoted)
-    cases = [("UnknownRequest", b"99", b"R99"), ("Declined", b"99", declined), ("Closed", b"4", closed), ("LiveQuote", b"99", quoted)]
+    cases = [
+        ("UnknownRequest", b"99", b"R99"),
+        ("Declined", b"99", declined),
+        ("Closed", b"4", closed),
+        ("LiveQuote", b"99", quoted),
+    ]
     for name, code, request in cases:
         refuses(stage, stage.dealer, "AG", [(131, request), (658, b"10")], name, code)
     assert [name for name, *_ in cases] == names_in("A decline")
@@ -206,7 +255,11 @@ def test_each_reason_of_a_request(stage: Stage) -> None:
     limited(stage, "quotes = 9\nexposure = 60000000", "requests = 3\nopen = 2\nquantity = 5000000")
     stage.open(*stage.firms)
     stage.ask()
-    first, both, many = stage.asked, [b"DLR1", b"DLR2"], [b"DLR1", b"DLR2", *(b"D%d" % at for at in range(3, 10))]
+    first, both, many = (
+        stage.asked,
+        [b"DLR1", b"DLR2"],
+        [b"DLR1", b"DLR2", *(b"D%d" % at for at in range(3, 10))],
+    )
     new = stage.name("A")
     cases: list[tuple[str, bytes, Fields]] = [
         ("DuplicateRequest", b"99", request_fields(stage, first, both)),
@@ -225,12 +278,16 @@ def test_each_reason_of_a_request(stage: Stage) -> None:
     takes(stage, stage.investor, "AJ", [(693, stage.name("p")), (694, b"6"), (131, first)], b"11")
     stage.ask()
     refuses(stage, stage.investor, "R", request_fields(stage, new, both), "RequestsUsedUp", b"3")
-    assert {name for name, *_ in cases} | {"TooManyOpen", "RequestsUsedUp"} == set(names_in("Asking"))
+    assert {name for name, *_ in cases} | {"TooManyOpen", "RequestsUsedUp"} == set(
+        names_in("Asking")
+    )
     stage.whole()
 
 
 @pytest.mark.parametrize("kind, part", [("S", "A quote"), ("Z", "A cancel")])
-def test_each_name_that_the_program_may_say(noting: Tools, place: Path, kind: str, part: str) -> None:
+def test_each_name_that_the_program_may_say(
+    noting: Tools, place: Path, kind: str, part: str
+) -> None:
     """Also those that a day line by line does not come to: each refusal is called by the name that its QuoteID has."""
     made = Stage(behind(RENAMING, place, noting), place)
     try:
@@ -251,7 +308,10 @@ def test_a_name_without_words(noting: Tools, place: Path) -> None:
         made.open(made.dealer)
         made.say(made.dealer, "Z", [(298, b"5"), (117, b"as-Foreign")])
         check(made.door.wait_end() == 1, "the gateway goes on")
-        check("for a reason that has no text: Foreign" in made.door.last_words(), made.door.last_words())
+        check(
+            "for a reason that has no text: Foreign" in made.door.last_words(),
+            made.door.last_words(),
+        )
         check(not made.dealer.looked(), "the dealer is told something")
     finally:
         made.close()
@@ -262,7 +322,11 @@ def test_a_name_without_words(noting: Tools, place: Path) -> None:
 
 def names_told(firm: Firm) -> dict[int, bytes]:
     """The names of trades that a firm was told, by the venue's numbers of the messages."""
-    return {message.venue_number: message.given(1003) for message in firm.looked() if message.value(1003) is not None}
+    return {
+        message.venue_number: message.given(1003)
+        for message in firm.looked()
+        if message.value(1003) is not None
+    }
 
 
 def trade_told(stage: Stage, count: int) -> None:
@@ -270,7 +334,9 @@ def trade_told(stage: Stage, count: int) -> None:
     before = {firm.name: set(names_told(firm)) for firm in stage.firms}
     stage.auction()
     for firm in stage.firms:
-        told = [name for number, name in names_told(firm).items() if number not in before[firm.name]]
+        told = [
+            name for number, name in names_told(firm).items() if number not in before[firm.name]
+        ]
         wanted = [b"%s-INV1-DLR1-%d" % (today().encode(), count)] if firm is not stage.other else []
         check(told == wanted, "%s is told %r" % (firm.name, told))
 
@@ -300,14 +366,20 @@ def told_on(stage: Stage, wire: Wire) -> list[Received]:
     cancel: Fields = [(50, b"T1"), (298, b"4")]
     wire.raw(wire.message(b"Z", b"DLR1", cancel))
     told = [wire.got(b"AI")]
-    check(told[0].value(58) == table()["NothingToCancel"], "a cancel of nothing is answered %r" % told[0].raw)
+    check(
+        told[0].value(58) == table()["NothingToCancel"],
+        "a cancel of nothing is answered %r" % told[0].raw,
+    )
     stage.ask_of([stage.dealer])
     request = wire.got(b"R").given(131)
     wire.raw(wire.message(b"S", b"DLR1", [(50, b"T1"), *stage.quote_fields(request, b"q")]))
     shown = stage.answer(stage.investor, "a quote", lambda message: message.kind == b"S")
     stage.say(stage.investor, "AJ", [(693, b"h"), (694, b"1"), (117, shown.given(117))])
     told.append(wire.got(b"AJ"))
-    check(told[1].value(1003) == b"%s-INV1-DLR1-1" % today().encode(), "a trade is told as %r" % told[1].raw)
+    check(
+        told[1].value(1003) == b"%s-INV1-DLR1-1" % today().encode(),
+        "a trade is told as %r" % told[1].raw,
+    )
     return told
 
 
@@ -315,8 +387,14 @@ def check_again(wire: Wire, told: list[Received]) -> None:
     """A ResendRequest of all: what was told comes again with the same bytes behind 1181."""
     wire.raw(wire.message(b"2", b"DLR1", [(7, b"1"), (16, b"0")]))
     for was in told:
-        again = wire.got_until(lambda message: message.session_number == was.session_number and message.value(43) == b"Y")
-        bodies = [message.raw.partition(b"\x011181=")[2].rpartition(b"\x0110=")[0] for message in (was, again)]
+        again = wire.got_until(
+            lambda message: message.session_number == was.session_number
+            and message.value(43) == b"Y"
+        )
+        bodies = [
+            message.raw.partition(b"\x011181=")[2].rpartition(b"\x0110=")[0]
+            for message in (was, again)
+        ]
         check(bodies[0] == bodies[1], "%r is sent again as %r" % (was.raw, again.raw))
 
 
@@ -329,9 +407,18 @@ def test_what_is_told_comes_again(stage: Stage) -> None:
         check_again(wire, told)
         # Behind a message that is in the log no number of the session is lost.
         wire.raw(wire.message(b"Z", b"DLR1", [(50, b"T1"), (298, b"4")]))
-        told.append(wire.got_until(lambda message: message.session_number > told[-1].session_number and message.kind == b"AI"))
+        told.append(
+            wire.got_until(
+                lambda message: message.session_number > told[-1].session_number
+                and message.kind == b"AI"
+            )
+        )
         number = wire.number
-        until("all of it is in the log", LONG, lambda: len(stage.door.ledger().sent.get("DLR1", [])) == 5)
+        until(
+            "all of it is in the log",
+            LONG,
+            lambda: len(stage.door.ledger().sent.get("DLR1", [])) == 5,
+        )
         stage.door.kill()
     stage.door.start()
     stage.door.wait_open()
@@ -350,13 +437,17 @@ def refused_cancel(stage: Stage) -> Received:
 
 
 @pytest.fixture
-def followed(noting: Tools, place: Path, postgres_database: str, request: pytest.FixtureRequest) -> Iterator[tuple[Stage, Door]]:
+def followed(
+    noting: Tools, place: Path, postgres_database: str, request: pytest.FixtureRequest
+) -> Iterator[tuple[Stage, Door]]:
     """A stage on a log in PostgreSQL, and a second gateway of it, which its firms know too and nobody has started."""
     wait_for_room(request.node.name)
     log = PostgresLog(postgres_database, "day")
     made, folder = Stage(noting, place, log), place / "second"
     folder.mkdir()
-    first, second = made.door, Door(noting.programs, folder, [DEALER, OTHER], [INVESTOR], limits=made.limits, postgres=log)
+    first, second = made.door, Door(
+        noting.programs, folder, [DEALER, OTHER], [INVESTOR], limits=made.limits, postgres=log
+    )
     for firm in made.firms:
         firm.more |= {"SocketConnectHost1": "127.0.0.1", "SocketConnectPort1": str(second.port)}
     yield made, second
@@ -384,7 +475,10 @@ def test_another_gateway_tells_the_same(followed: tuple[Stage, Door]) -> None:
     stage.door = second
     all_on(stage)
     trade_told(stage, 2)
-    check(refused_cancel(stage).value(58) == table()["NothingToCancel"], "another gateway tells another reason")
+    check(
+        refused_cancel(stage).value(58) == table()["NothingToCancel"],
+        "another gateway tells another reason",
+    )
     stage.whole()
 
 
@@ -419,7 +513,10 @@ def test_a_program_without_the_flag(noting: Tools, place: Path) -> None:
         made.door.wait_open()
         all_on(made)
         check(refused_cancel(made).value(58) is None, "a reason is told on a day without")
-        check(not any(message.value(1003) for firm in made.firms for message in firm.looked()), "a trade is named")
+        check(
+            not any(message.value(1003) for firm in made.firms for message in firm.looked()),
+            "a trade is named",
+        )
         made.whole()
     finally:
         made.close()
@@ -448,4 +545,6 @@ def test_pages_and_table_agree() -> None:
     assert len(set(table().values())) == len(table())
     part = re.split(r"\n##+ ", CONNECTING.split("\n### The words of a refusal\n")[1])[0]
     rows = re.findall(r"^\| `(\w+)` \| `([^`]+)` \|", part, re.MULTILINE)
-    assert dict(rows) == {name: words.decode() for name, words in table().items()} and len(rows) == len(names)
+    assert dict(rows) == {name: words.decode() for name, words in table().items()} and len(
+        rows
+    ) == len(names)

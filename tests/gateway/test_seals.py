@@ -46,21 +46,40 @@ class Intruder:
     def put_in(self, firm: str, moment: str, message: bytes) -> int:
         """Puts an entry behind the last one: a message of a firm, on the connection that it had, with everything right that
         one can know; its place."""
-        (term, connection, number), = self.rows(
-            "SELECT max(term), max(connection), max(number) + 1 FROM entry WHERE firm = '%s'" % firm)
-        (place, before), = self.rows("SELECT place, HEX(hash) FROM entry ORDER BY place DESC LIMIT 1")
+        ((term, connection, number),) = self.rows(
+            "SELECT max(term), max(connection), max(number) + 1 FROM entry WHERE firm = '%s'" % firm
+        )
+        ((place, before),) = self.rows(
+            "SELECT place, HEX(hash) FROM entry ORDER BY place DESC LIMIT 1"
+        )
         line = b"hex %s %s %s" % (firm.encode(), moment.encode(), message.hex().upper().encode())
         row = int(place) + 1, term, moment, moment + "000", firm, number, connection
         text = " ".join([before.lower(), *map(str, row), str(len(line))]).encode() + b"\n" + line
-        values = ["%d" % row[0], term, "'%s'" % row[2], "'%s'" % row[3], "'%s'" % firm, number, connection]
-        values += [self.literal(line), self.literal(bytes.fromhex(before)), self.literal(hashlib.sha256(text).digest())]
-        self.rows("INSERT INTO entry (%s, line, before, hash) VALUES (%s)" % (COLUMNS, ", ".join(values)))
+        values = [
+            "%d" % row[0],
+            term,
+            "'%s'" % row[2],
+            "'%s'" % row[3],
+            "'%s'" % firm,
+            number,
+            connection,
+        ]
+        values += [
+            self.literal(line),
+            self.literal(bytes.fromhex(before)),
+            self.literal(hashlib.sha256(text).digest()),
+        ]
+        self.rows(
+            "INSERT INTO entry (%s, line, before, hash) VALUES (%s)" % (COLUMNS, ", ".join(values))
+        )
         return row[0]
 
     def put_seal(self, place: int) -> None:
         """A seal for it, whose bytes nobody without the secret can know."""
-        self.rows("INSERT INTO seal (number, term, place, event, mac) SELECT max(number) + 1, max(term), %d, max(event), %s FROM seal" % (
-            place, self.literal(hashlib.sha256(b"guessed").digest())))
+        self.rows(
+            "INSERT INTO seal (number, term, place, event, mac) SELECT max(number) + 1, max(term), %d, max(event), %s FROM seal"
+            % (place, self.literal(hashlib.sha256(b"guessed").digest()))
+        )
 
 
 def asked_and_quoted(stage: Stage) -> bytes:
@@ -68,7 +87,11 @@ def asked_and_quoted(stage: Stage) -> bytes:
     stage.open(*stage.firms)
     request = stage.ask()
     stage.quote(stage.dealer, request)
-    quote = stage.answer(stage.investor, "a quote", lambda message: message.kind == b"S" and message.value(131) == stage.asked)
+    quote = stage.answer(
+        stage.investor,
+        "a quote",
+        lambda message: message.kind == b"S" and message.value(131) == stage.asked,
+    )
     check(stage.door.stop() == 0, "the gateway does not end well")
     return quote.value(117) or b""
 
@@ -76,7 +99,13 @@ def asked_and_quoted(stage: Stage) -> bytes:
 def hit_of(stage: Stage, quote: bytes, moment: str) -> bytes:
     """The investor's hit of a quote, as the gateway writes it."""
     count = stage.entries_of(stage.investor) + 1
-    fields = [(35, b"AJ"), (49, b"INV1"), (56, b"VENUE"), (34, b"%d" % count), (52, b"%s-%s" % (moment_in(0)[:8], moment.encode()))]
+    fields = [
+        (35, b"AJ"),
+        (49, b"INV1"),
+        (56, b"VENUE"),
+        (34, b"%d" % count),
+        (52, b"%s-%s" % (moment_in(0)[:8], moment.encode())),
+    ]
     fields += [(50, b"V1"), (693, b"stolen"), (694, b"1"), (117, quote)]
     return bytes(write_frame(fields))
 
@@ -88,7 +117,11 @@ def now_text() -> str:
 def audited(stage: Stage, *words: str) -> subprocess.CompletedProcess[str]:
     """The audit's check of the log as it stands."""
     door = stage.door
-    log = [str(door.database)] if door.postgres is None else ["postgres:" + door.postgres.connection, "--schema", door.postgres.schema]
+    log = (
+        [str(door.database)]
+        if door.postgres is None
+        else ["postgres:" + door.postgres.connection, "--schema", door.postgres.schema]
+    )
     program = " ".join(stage.tools.programs.venue)
     command = [str(ROOT / "audit" / "mireseason-audit"), "check", *log, "--venue", program, *words]
     return subprocess.run(command, capture_output=True, text=True, check=False)
@@ -100,15 +133,24 @@ def test_an_entry_that_is_put_in(stage_of_log: Stage, with_seal: bool) -> None:
     stage = stage_of_log
     quote = asked_and_quoted(stage)
     key = str(stage.door.keys / "gateway.pub")
-    check(audited(stage, "--gateway-key", key).returncode == 0, "the log is not whole before: %s" % audited(stage).stdout)
+    check(
+        audited(stage, "--gateway-key", key).returncode == 0,
+        "the log is not whole before: %s" % audited(stage).stdout,
+    )
     intruder, moment = Intruder(stage.door), now_text()
     place = intruder.put_in("INV1", moment, hit_of(stage, quote, moment))
     if with_seal:
         intruder.put_seal(place)
-    words = "entry %d is not sealed" if not with_seal else "the log was changed at or before entry %d"
+    words = (
+        "entry %d is not sealed" if not with_seal else "the log was changed at or before entry %d"
+    )
     nothing_sent(stage, lambda: stage.refused(words % place))
     found = audited(stage, "--gateway-key", key)
-    check(found.returncode == 1 and "entry %d: 1 entry follows the last checkpoint" % place in found.stdout, found.stdout)
+    check(
+        found.returncode == 1
+        and "entry %d: 1 entry follows the last checkpoint" % place in found.stdout,
+        found.stdout,
+    )
 
 
 def kept_aside(stage: Stage) -> Path:
@@ -157,7 +199,9 @@ def test_a_backup_that_is_put_back(stage: Stage) -> None:
     last = backup_put_back(stage)
     end = stage.door.ledger().entries[-1].place
     check(end < last, "the backup lacks nothing")
-    nothing_sent(stage, lambda: not_accepted(stage, "the log ends at entry %d" % end, "had entry %d" % last))
+    nothing_sent(
+        stage, lambda: not_accepted(stage, "the log ends at entry %d" % end, "had entry %d" % last)
+    )
     said = accept(stage)
     check("entry %d" % last in said and "entry %d" % end in said, said)
     stage.door.start()
@@ -194,7 +238,10 @@ SPOILT: list[tuple[str, Callable[[Path], object]]] = [
     ("gateway.pem: has the mode 0604", lambda keys: (keys / "gateway.pem").chmod(0o604)),
     ("seal.key: No such file", lambda keys: (keys / "seal.key").unlink()),
     ("seal.key: is no key", lambda keys: (keys / "seal.key").write_text("00" * 31)),
-    ("gateway.pub: is no public key of Ed25519", lambda keys: (keys / "gateway.pub").write_text("none")),
+    (
+        "gateway.pub: is no public key of Ed25519",
+        lambda keys: (keys / "gateway.pub").write_text("none"),
+    ),
 ]
 
 

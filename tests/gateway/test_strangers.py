@@ -42,7 +42,10 @@ def unchanged(stage: Stage, act: Callable[[], int]) -> None:
     found = list(changes(before, still_state(stage)))
     check(not found, "; ".join(found[:4]))
     within(LONG, lambda: refusals(stage) - refused >= count)
-    check(refusals(stage) - refused == count, "%g of %d are counted as refused" % (refusals(stage) - refused, count))
+    check(
+        refusals(stage) - refused == count,
+        "%g of %d are counted as refused" % (refusals(stage) - refused, count),
+    )
 
 
 def told(stage: Stage, act: Callable[[], object]) -> None:
@@ -105,7 +108,10 @@ def test_wrong_passwords_tell_nothing(stage: Stage) -> None:
 
     def ten_of_each() -> int:
         for _ in range(10):
-            for name in (DEALER.name, INVESTOR.name):  # one that has never been on, and one for which a quote waits
+            for name in (
+                DEALER.name,
+                INVESTOR.name,
+            ):  # one that has never been on, and one for which a quote waits
                 with Wire(stage.door.port) as wire:
                     wire.logon(name.encode(), b"wrong")
                     check(wire.closed_within(CLOSED), "the connection stays")
@@ -137,8 +143,12 @@ def test_time_tells_nothing(stage: Stage) -> None:
     stage.open(stage.other)
     password = DEALER.password
     tries = {
-        "nobody": ("NOBODY", "NOBODY", password), "no name": ("", "", password), "away": (DEALER.name, DEALER.name, "wrong"),
-        "on": (stage.other.name, stage.other.name, "wrong"), "user": (DEALER.name, "nobody", password), "long": (DEALER.name, DEALER.name, "w" * 400),
+        "nobody": ("NOBODY", "NOBODY", password),
+        "no name": ("", "", password),
+        "away": (DEALER.name, DEALER.name, "wrong"),
+        "on": (stage.other.name, stage.other.name, "wrong"),
+        "user": (DEALER.name, "nobody", password),
+        "long": (DEALER.name, DEALER.name, "w" * 400),
         "no password": (DEALER.name, DEALER.name, ""),
     }
     sources = ("127.0.%d.%d" % (row, place) for row in range(1, 255) for place in range(1, 255))
@@ -151,7 +161,10 @@ def test_time_tells_nothing(stage: Stage) -> None:
         # A password that is not hashed is refused in a twentieth of the time, in each round.
         if max(medians.values()) < 1.6 * min(medians.values()) + 0.003:
             return
-    raise Wrong("times tell who is known: " + ", ".join("%s %.1f ms" % (what, 1000 * value) for what, value in medians.items()))
+    raise Wrong(
+        "times tell who is known: "
+        + ", ".join("%s %.1f ms" % (what, 1000 * value) for what, value in medians.items())
+    )
 
 
 def test_words_behind_a_refusal(stage: Stage) -> None:
@@ -161,12 +174,18 @@ def test_words_behind_a_refusal(stage: Stage) -> None:
         with Wire(stage.door.port) as wire:
             wire.raw(logon_and_cancel(wire, password, heartbeat))
             check(wire.closed_within(CLOSED), "the connection stays")
-            check(b"35=AI" not in wire.waiting, "a message behind a refused Logon is answered: %r" % wire.waiting)
+            check(
+                b"35=AI" not in wire.waiting,
+                "a message behind a refused Logon is answered: %r" % wire.waiting,
+            )
     check(stage.entries_of(stage.dealer) == 0, "a message behind a refused Logon is in the log")
     with Wire(stage.door.port) as wire:
         wire.raw(logon_and_cancel(wire, DEALER.password.encode(), b"30"))
         first = wire.read()
-        check(first is not None and first.kind == b"A", "the first answer is %r" % (first and first.raw))
+        check(
+            first is not None and first.kind == b"A",
+            "the first answer is %r" % (first and first.raw),
+        )
         check(wire.read_kind(b"AI") is not None, "a message behind a Logon is not answered")
 
 
@@ -215,7 +234,9 @@ def test_silent_crowd(stage: Stage) -> None:
             with Wire(stage.door.port) as wire:
                 wire.number = number
                 wire.logon(DEALER.name.encode(), DEALER.password.encode())
-                check(wire.read_kind(b"A") is not None, "Logon %d of 20 is not answered" % (turn + 1))
+                check(
+                    wire.read_kind(b"A") is not None, "Logon %d of 20 is not answered" % (turn + 1)
+                )
                 number = wire.number
         stage.ping(stage.other)
     finally:
@@ -230,7 +251,11 @@ def test_firms_of_one_address(stage: Stage) -> None:
         wire.logon(b"NOBODY", b"secret")
     ended = [wire.closed_within(CLOSED) for wire in wires]
     check(all(ended), "%d of 16 stay" % ended.count(False))
-    until("all are judged", LONG, lambda: stage.counters().get('mireseason_refused_total{reason="unknown name"}', 0) == 16)
+    until(
+        "all are judged",
+        LONG,
+        lambda: stage.counters().get('mireseason_refused_total{reason="unknown name"}', 0) == 16,
+    )
     stage.ping(stage.other)
 
 
@@ -276,9 +301,15 @@ def test_noise(stage: Stage) -> None:
     for kind, lines in kinds_of(told).items():
         check(len(lines) <= most, "%d lines of %s, and not %d" % (len(lines), kind, most))
     others = [line for line in told if not OF_A_KIND.search(line) and not OF_GUESSES.search(line)]
-    check(not any(b"address=127.0.0.1" in line for line in others), "strangers are told in other lines: %r" % others[:3])
+    check(
+        not any(b"address=127.0.0.1" in line for line in others),
+        "strangers are told in other lines: %r" % others[:3],
+    )
     counted = reasons(stage)
-    check(len(counted) >= 3 and sum(counted.values()) > 10 * PER_MINUTE, "there is no noise: %r" % counted)
+    check(
+        len(counted) >= 3 and sum(counted.values()) > 10 * PER_MINUTE,
+        "there is no noise: %r" % counted,
+    )
     stage.door.stop()
     text = stage.door.told.read_bytes()[begin:]
     stood_for = {kind: sum(lines) for kind, lines in kinds_of(text.splitlines()).items()}
@@ -286,7 +317,9 @@ def test_noise(stage: Stage) -> None:
     check(not missing, "%r are counted, and the lines stand for %r" % (counted, stood_for))
     longest = max(text.splitlines(), key=len)
     check(len(longest) <= LONGEST, "a line of %d bytes: %r" % (len(longest), longest))
-    check(not any(byte < 32 and byte != 10 or byte == 127 for byte in text), "a control byte is told")
+    check(
+        not any(byte < 32 and byte != 10 or byte == 127 for byte in text), "a control byte is told"
+    )
 
 
 def reasons(stage: Stage) -> dict[str, float]:
@@ -315,7 +348,9 @@ def test_frames_before_a_logon(stage: Stage) -> None:
     scene = firm_away(stage, WAYS[0])
 
     def many() -> int:
-        hit = framed(body_of("35=AJ|49=NAME|56=VENUE|34=NEXT|52=NOW|50=V1|693=s|694=1|117=QUOTE|", scene))
+        hit = framed(
+            body_of("35=AJ|49=NAME|56=VENUE|34=NEXT|52=NOW|50=V1|693=s|694=1|117=QUOTE|", scene)
+        )
         said(stage, WAYS[0], [hit * 1000])
         return 1
 

@@ -20,7 +20,11 @@ def now() -> bytes:
 
 def a_while_ago() -> bytes:
     """A moment that is too long ago for a 52."""
-    return (datetime.now(timezone.utc) - timedelta(seconds=150)).strftime("%Y%m%d-%H:%M:%S.000").encode()
+    return (
+        (datetime.now(timezone.utc) - timedelta(seconds=150))
+        .strftime("%Y%m%d-%H:%M:%S.000")
+        .encode()
+    )
 
 
 def framed(body: bytes) -> bytes:
@@ -30,13 +34,24 @@ def framed(body: bytes) -> bytes:
 
 
 class Wire:
-    def __init__(self, port: int, context: ssl.SSLContext | None = None, begun: ssl.SSLSession | None = None,
-                 source: str = "127.0.0.1") -> None:
+    def __init__(
+        self,
+        port: int,
+        context: ssl.SSLContext | None = None,
+        begun: ssl.SSLSession | None = None,
+        source: str = "127.0.0.1",
+    ) -> None:
         """`begun` is a session of TLS that it would resume, `source` the address of the loopback that it comes from."""
         # Of sendall() this is the limit for all bytes together.
-        plain = socket.create_connection(("127.0.0.1", port), timeout=2 * LONG, source_address=(source, 0))
+        plain = socket.create_connection(
+            ("127.0.0.1", port), timeout=2 * LONG, source_address=(source, 0)
+        )
         plain.setsockopt(socket.IPPROTO_TCP, socket.TCP_NODELAY, 1)
-        self.socket = context.wrap_socket(plain, server_hostname="localhost", session=begun) if context else plain
+        self.socket = (
+            context.wrap_socket(plain, server_hostname="localhost", session=begun)
+            if context
+            else plain
+        )
         self.name, self.number, self.waiting, self.is_over = b"", 1, b"", False
         self.answers = True  # TestRequests, on the way
 
@@ -54,16 +69,36 @@ class Wire:
         except OSError:
             return False
 
-    def message(self, kind: bytes, name: bytes, fields: Fields, sending: bytes | None = None, number: int | None = None,
-                tail: bytes = b"") -> bytes:
+    def message(
+        self,
+        kind: bytes,
+        name: bytes,
+        fields: Fields,
+        sending: bytes | None = None,
+        number: int | None = None,
+        tail: bytes = b"",
+    ) -> bytes:
         """A message in the session's next number; `tail` is bytes after the fields, as they are."""
         if number is None:
             number, self.number = self.number, self.number + 1
-        head = [(35, kind), (49, name), (56, b"VENUE"), (34, b"%d" % number), (52, sending or now())]
+        head = [
+            (35, kind),
+            (49, name),
+            (56, b"VENUE"),
+            (34, b"%d" % number),
+            (52, sending or now()),
+        ]
         return framed(b"".join(b"%d=%s\x01" % item for item in head + fields) + tail)
 
-    def logon(self, name: bytes, password: bytes | None, user: bytes | None = None, more: Fields | None = None,
-              heartbeat: bytes = b"30", sending: bytes | None = None) -> bool:
+    def logon(
+        self,
+        name: bytes,
+        password: bytes | None,
+        user: bytes | None = None,
+        more: Fields | None = None,
+        heartbeat: bytes = b"30",
+        sending: bytes | None = None,
+    ) -> bool:
         self.name, fields = name, [(98, b"0"), (108, heartbeat), *(more or [])]
         if password is not None:
             fields += [(553, name if user is None else user), (554, password)]

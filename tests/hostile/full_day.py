@@ -290,7 +290,9 @@ def taken(lines: Iterable[str], requests: int) -> Market:
     """What was sent, message by message, each firm's numbers from 1."""
     dealers = [Dealer(number, asked) for number, asked in enumerate(asked_of(requests))]
     investors = [Investor(number, requests) for number in range(INVESTORS)]
-    firms: dict[str, Dealer | Investor] = {"DLR%d" % number: dealer for number, dealer in enumerate(dealers)}
+    firms: dict[str, Dealer | Investor] = {
+        "DLR%d" % number: dealer for number, dealer in enumerate(dealers)
+    }
     firms |= {"INV%d" % number: investor for number, investor in enumerate(investors)}
     numbers = dict.fromkeys(firms, 0)
     for line in lines:

@@ -92,7 +92,10 @@ def configuration() -> Iterator[str]:
     traders = ", ".join('"T%d"' % trader for trader in range(16))
     for dealer in range(DEALERS):
         yield '[[dealer]]\nname = "DLR%d"\ntraders = [%s]' % (dealer, traders)
-        yield "quotes = %d\nexposure = %d" % (OTHERS_QUOTES if dealer < OTHERS else QUOTES, 10**15)
+        yield "quotes = %d\nexposure = %d" % (
+            OTHERS_QUOTES if dealer < OTHERS else QUOTES,
+            10**15,
+        )
     for investor in range(INVESTORS):
         yield '[[investor]]\nname = "INV%d"\ntraders = ["T1"]' % investor
         yield "requests = %d\nopen = 1024\nquantity = %d" % (REQUESTS, 10**12)

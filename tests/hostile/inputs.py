@@ -40,7 +40,13 @@ def limited() -> None:
 def answered(program: list[str], words: list[str], text: bytes) -> tuple[str | None, str | None]:
     """Runs the program; answers what became of it in a word, or ends with what went wrong."""
     try:
-        run = subprocess.run([*program, *words], input=text, capture_output=True, timeout=PATIENCE, preexec_fn=limited)
+        run = subprocess.run(
+            [*program, *words],
+            input=text,
+            capture_output=True,
+            timeout=PATIENCE,
+            preexec_fn=limited,
+        )
     except subprocess.TimeoutExpired:
         return None, "no end after %d seconds" % PATIENCE
     if run.returncode == -signal.SIGXCPU:
@@ -51,7 +57,12 @@ def answered(program: list[str], words: list[str], text: bytes) -> tuple[str | N
     if run.returncode == 1 and FAULT.fullmatch(told):
         if told == b"memory\n" and len(text) < 1_000_000:
             return None, "memory"
-        return told.split(b":")[-1].decode().strip() if told.startswith(b"line") else told.split(b":")[0].decode().strip(), None
+        return (
+            told.split(b":")[-1].decode().strip()
+            if told.startswith(b"line")
+            else told.split(b":")[0].decode().strip(),
+            None,
+        )
     return None, "status %d, %r" % (run.returncode, told[-200:])
 
 
@@ -185,6 +196,11 @@ def large_cases() -> list[Large]:
         Large("bonds", ["replay"], "", '[[bond]]\nid = "BONDA0000001"'),
         Large("traders", ["replay"], "version = 1\n", "x%d = [1, 2, 3]"),
         Large("one line", ["replay"], "", "x" * (MOST_INPUT - 1)),
-        Large("one step line", ["replay"], VENUE, "say DLR1 T1 09:00:00 S 58=" + "x" * (MOST_INPUT - len(VENUE) - 40)),
+        Large(
+            "one step line",
+            ["replay"],
+            VENUE,
+            "say DLR1 T1 09:00:00 S 58=" + "x" * (MOST_INPUT - len(VENUE) - 40),
+        ),
         Large("a byte too much", ["replay"], "", None),
     ]

@@ -13,7 +13,9 @@ def test_a_spoilt_input_is_answered(first_program: list[str], drawn: int) -> Non
 
 
 @pytest.mark.long
-@pytest.mark.parametrize("case", inputs.large_cases(), ids=[case.name for case in inputs.large_cases()])
+@pytest.mark.parametrize(
+    "case", inputs.large_cases(), ids=[case.name for case in inputs.large_cases()]
+)
 def test_the_longest_input(first_program: list[str], case: inputs.Large) -> None:
     """16 MiB of one kind of line, and a byte more."""
     _, wrong = inputs.answered(first_program, case.words, case.text())

@@ -39,7 +39,9 @@ class Request:
         self.quantity = draw.randrange(1, 5_000_000)
         self.deadline = draw.choice([CLOSING, moment + draw.randrange(10_000, 90_000)])
         self.closed = self.declined = False
-        self.live: tuple[str, int] | None = None  # the dealer's live quote on it: its QuoteID and price
+        self.live: tuple[
+            str, int
+        ] | None = None  # the dealer's live quote on it: its QuoteID and price
 
 
 class Story:
@@ -71,7 +73,10 @@ class Story:
             self.put("ask", request)
             return None
         request = draw.choice(open_ones)
-        word = draw.choice(["quote"] * 6 + ["cancel", "cancel_all", "decline", "nonsense", "hit", "hit", "leave", "expire"])
+        word = draw.choice(
+            ["quote"] * 6
+            + ["cancel", "cancel_all", "decline", "nonsense", "hit", "hit", "leave", "expire"]
+        )
         closed: Request | None = getattr(self, word)(request)
         return closed
 
@@ -144,38 +149,60 @@ class Day:
         text += ['[[bond]]\nid = "%s"' % bond for bond in bonds]
         for dealer in dealers:
             self.traders[dealer] = "T1" if dealer == "DLR1" else "T%d" % draw.randrange(2, 99)
-            text.append('[[dealer]]\nname = "%s"\ntraders = ["%s"]' % (dealer, self.traders[dealer]))
+            text.append(
+                '[[dealer]]\nname = "%s"\ntraders = ["%s"]' % (dealer, self.traders[dealer])
+            )
             text.append("exposure = %d" % (1 if dealer in self.poor else 10**15))
             text.append("quotes = %d" % (400 if dealer == "DLR1" else draw.randrange(300, 4000)))
         for investor in investors:
             self.traders[investor] = "V%d" % draw.randrange(1, 99)
-            text.append('[[investor]]\nname = "%s"\ntraders = ["%s"]' % (investor, self.traders[investor]))
-            text.append("requests = %d\nopen = 500\nquantity = %d" % (draw.randrange(500, 800), draw.randrange(5 * 10**6, 10**9)))
+            text.append(
+                '[[investor]]\nname = "%s"\ntraders = ["%s"]' % (investor, self.traders[investor])
+            )
+            text.append(
+                "requests = %d\nopen = 500\nquantity = %d"
+                % (draw.randrange(500, 800), draw.randrange(5 * 10**6, 10**9))
+            )
         return "\n".join(text)
 
-    def say(self, firm: str, kind: str, body: str, trader: str | None=None) -> None:
-        self.steps.append("say %s %s %s %s %s" % (firm, trader or self.traders[firm], time_text(self.moment), kind, body))
+    def say(self, firm: str, kind: str, body: str, trader: str | None = None) -> None:
+        self.steps.append(
+            "say %s %s %s %s %s"
+            % (firm, trader or self.traders[firm], time_text(self.moment), kind, body)
+        )
 
     def turn(self, actor: str, times: int) -> None:
         self.steps.append("turn %s %d" % (actor, times))
 
-    def ask(self, investor: str, bond: str, side: int, quantity: int, deadline: int, dealers: list[str]) -> str:
+    def ask(
+        self, investor: str, bond: str, side: int, quantity: int, deadline: int, dealers: list[str]
+    ) -> str:
         """A request to these dealers, in this order, which is shown to each; answers its id."""
         name = "%s%d" % (self.draw.choice("qrs"), self.draw.randrange(10**9))
         parties = "|".join("448=%s|447=D|452=35" % dealer for dealer in dealers)
         fields = "131=%s|146=1|48=%s|22=4|54=%d|38=%d|126=20250314-%s|453=%d|%s"
-        self.say(investor, "R", fields % (name, bond, side, quantity, time_text(deadline), len(dealers), parties))
+        self.say(
+            investor,
+            "R",
+            fields % (name, bond, side, quantity, time_text(deadline), len(dealers), parties),
+        )
         self.turn(investor, len(dealers) + 2)
         self.made[investor] = self.made.get(investor, 0) + 1
         for dealer in dealers:
             self.seen[dealer] = self.seen.get(dealer, 0) + 1
         return name
 
-    def offer(self, investor: str, dealer: str, request: int, bond: str, side: int, ticks: int) -> int:
+    def offer(
+        self, investor: str, dealer: str, request: int, bond: str, side: int, ticks: int
+    ) -> int:
         """Another dealer's quote, shown to the investor; answers its number there."""
         tag = 133 if side == 1 else 132
         name = "b%d" % self.draw.randrange(10**9)
-        self.say(dealer, "S", "117=%s|131=R%d|48=%s|22=4|%d=%s" % (name, request, bond, tag, price_text(ticks)))
+        self.say(
+            dealer,
+            "S",
+            "117=%s|131=R%d|48=%s|22=4|%d=%s" % (name, request, bond, tag, price_text(ticks)),
+        )
         self.turn(dealer, 2)
         if dealer in self.rich:
             self.offers[investor] = self.offers.get(investor, 0) + 1
@@ -193,7 +220,14 @@ class Day:
                 bond, side = draw.choice(BONDS), draw.choice([1, 2])
                 self.ask(investor, bond, side, draw.randrange(2, 5 * 10**6), CLOSING, dealers)
                 for dealer in dealers:
-                    self.offer(investor, dealer, self.seen[dealer], bond, side, draw.randrange(20_000, 30_000))
+                    self.offer(
+                        investor,
+                        dealer,
+                        self.seen[dealer],
+                        bond,
+                        side,
+                        draw.randrange(20_000, 30_000),
+                    )
             elif what == 1:
                 self.say(draw.choice(self.rich), "Z", "298=5|117=none")
             elif what == 2:
@@ -217,9 +251,21 @@ class Day:
         others += self.draw.sample(self.poor, self.draw.randrange(len(self.poor) + 1))
         dealers = ["DLR1"] + others[:7]
         self.draw.shuffle(dealers)
-        name = self.ask(request.investor, request.bond, request.side, request.quantity, request.deadline, dealers)
+        name = self.ask(
+            request.investor,
+            request.bond,
+            request.side,
+            request.quantity,
+            request.deadline,
+            dealers,
+        )
         asked = {dealer: self.seen[dealer] for dealer in dealers if dealer != "DLR1"}
-        self.rooms[request.number] = {"n": self.made[request.investor], "id": name, "asked": asked, "own": None}
+        self.rooms[request.number] = {
+            "n": self.made[request.investor],
+            "id": name,
+            "asked": asked,
+            "own": None,
+        }
         for dealer in asked:
             if self.draw.random() < 0.5:
                 self.counter(request, dealer, self.draw.randrange(20_000, 30_000))
@@ -231,7 +277,12 @@ class Day:
 
     def tell_quote(self, request: Request, name: str, ticks: int, accepted: bool) -> None:
         tag = 133 if request.side == 1 else 132
-        self.say("DLR1", "S", "117=%s|131=R%d|48=%s|22=4|%d=%s" % (name, request.number, request.bond, tag, price_text(ticks)))
+        self.say(
+            "DLR1",
+            "S",
+            "117=%s|131=R%d|48=%s|22=4|%d=%s"
+            % (name, request.number, request.bond, tag, price_text(ticks)),
+        )
         self.turn("DLR1", 2)
         if accepted:
             self.offers[request.investor] = self.offers.get(request.investor, 0) + 1
@@ -272,7 +323,9 @@ class Day:
                 self.counter(request, dealer, price + worse * self.draw.randrange(1, 100))
             if end == "away" and live:
                 self.counter(request, able[1], price - worse * self.draw.randrange(1, 100))
-        self.say(request.investor, "AJ", "693=h%d|117=Q%d|694=1" % (self.draw.randrange(10**9), hit))
+        self.say(
+            request.investor, "AJ", "693=h%d|117=Q%d|694=1" % (self.draw.randrange(10**9), hit)
+        )
         if end == "late cancel":
             self.turn(request.investor, 1)
             assert live is not None
@@ -281,7 +334,11 @@ class Day:
 
     def tell_leave(self, request: Request) -> None:
         room = self.rooms[request.number]
-        self.say(request.investor, "AJ", "693=p%d|694=6|131=%s" % (self.draw.randrange(10**9), room["id"]))
+        self.say(
+            request.investor,
+            "AJ",
+            "693=p%d|694=6|131=%s" % (self.draw.randrange(10**9), room["id"]),
+        )
         self.turn(request.investor, len(room["asked"]) + 3)
 
     def tell_expire(self, request: Request) -> None:

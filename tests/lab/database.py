@@ -32,8 +32,9 @@ class DatabaseHost(Place):
     images: Path  # the folder of the disks
 
     def __post_init__(self) -> None:
-        self.disk = Disk(self.images / (self.name + ".img"), self.folder / self.name / "disk",
-                         DISK_MEGABYTES)
+        self.disk = Disk(
+            self.images / (self.name + ".img"), self.folder / self.name / "disk", DISK_MEGABYTES
+        )
 
     def make(self) -> None:
         self.own.mkdir(parents=True, exist_ok=True)
@@ -42,8 +43,9 @@ class DatabaseHost(Place):
         os.chown(self.own, owner.pw_uid, owner.pw_gid)
         for folder, user in ((self.tls, "postgres"), (self.etcd_tls, "etcd")):
             put_certificate(self.folder / "certificates", self.name, folder, user)
-        folders = Folders(str(self.own), str(self.disk.mount), str(self.own), str(self.tls),
-                          str(self.etcd_tls))
+        folders = Folders(
+            str(self.own), str(self.disk.mount), str(self.own), str(self.tls), str(self.etcd_tls)
+        )
         for name, text in self.site.files(self.name, folders).items():
             (self.own / name).write_text(text)
             (self.own / name).chmod(0o755)
@@ -59,23 +61,43 @@ class DatabaseHost(Place):
     def etcdctl(self, *words: str, limit: float = 15) -> str:
         """What the command of etcd prints on this host, which asks its own etcd."""
         tls = self.etcd_tls
-        return run(*self.network.words(self.name), "etcdctl", "--endpoints",
-                   "https://%s:2379" % self.host.address, "--cacert", str(tls / "authority.pem"),
-                   "--cert", str(tls / "host.pem"), "--key", str(tls / "host.key"), *words,
-                   limit=limit)
+        return run(
+            *self.network.words(self.name),
+            "etcdctl",
+            "--endpoints",
+            "https://%s:2379" % self.host.address,
+            "--cacert",
+            str(tls / "authority.pem"),
+            "--cert",
+            str(tls / "host.pem"),
+            "--key",
+            str(tls / "host.key"),
+            *words,
+            limit=limit,
+        )
 
     def start(self) -> None:
         self.logs.mkdir(exist_ok=True)
         inside = self.network.words(self.name)
-        self.supervisor.add(Service(
-            self.name + ".etcd",
-            inside + as_user("etcd") + ["etcd", "--config-file", str(self.own / "etcd.yml")],
-            self.logs / (self.name + ".etcd")))
-        self.supervisor.add(Service(
-            self.name + ".patroni",
-            inside + as_user("postgres") + ["/usr/bin/patroni", str(self.own / "patroni.yml")],
-            self.logs / (self.name + ".patroni"),
-            {"PATRONI_LOG_LEVEL": "INFO", "HOME": str(self.own), "PYTHONDONTWRITEBYTECODE": "1"}))
+        self.supervisor.add(
+            Service(
+                self.name + ".etcd",
+                inside + as_user("etcd") + ["etcd", "--config-file", str(self.own / "etcd.yml")],
+                self.logs / (self.name + ".etcd"),
+            )
+        )
+        self.supervisor.add(
+            Service(
+                self.name + ".patroni",
+                inside + as_user("postgres") + ["/usr/bin/patroni", str(self.own / "patroni.yml")],
+                self.logs / (self.name + ".patroni"),
+                {
+                    "PATRONI_LOG_LEVEL": "INFO",
+                    "HOME": str(self.own),
+                    "PYTHONDONTWRITEBYTECODE": "1",
+                },
+            )
+        )
 
     def services(self) -> list[Service]:
         return [self.supervisor.services[self.name + end] for end in (".etcd", ".patroni")]
@@ -95,9 +117,22 @@ class DatabaseHost(Place):
     def asked(self, query: str, limit: float = 15) -> str | None:
         """The answer of this host's PostgreSQL to its superuser, nothing where it gives none."""
         try:
-            return run(*as_user("postgres"), PSQL, "--no-psqlrc", "-AtX", "-h", str(self.own), "-U",
-                       "postgres", "-v", "ON_ERROR_STOP=1", "-c", query, DATABASE,
-                       limit=limit).strip()
+            return run(
+                *as_user("postgres"),
+                PSQL,
+                "--no-psqlrc",
+                "-AtX",
+                "-h",
+                str(self.own),
+                "-U",
+                "postgres",
+                "-v",
+                "ON_ERROR_STOP=1",
+                "-c",
+                query,
+                DATABASE,
+                limit=limit,
+            ).strip()
         except Fault:
             return None
 
@@ -106,15 +141,18 @@ class DatabaseHost(Place):
 
     def standbys(self) -> dict[str, str]:
         """Of a primary: the standbys that stream, and what each is: sync, async, ..."""
-        text = self.asked("SELECT application_name, sync_state FROM pg_stat_replication "
-                          "WHERE state = 'streaming'")
+        text = self.asked(
+            "SELECT application_name, sync_state FROM pg_stat_replication "
+            "WHERE state = 'streaming'"
+        )
         rows = [line.split("|") for line in (text or "").splitlines()]
         return {row[0]: row[1] for row in rows}
 
     def leads_etcd(self) -> bool:
         try:
-            text = self.etcdctl("--command-timeout=2s", "endpoint", "status", "-w", "simple",
-                                limit=5)
+            text = self.etcdctl(
+                "--command-timeout=2s", "endpoint", "status", "-w", "simple", limit=5
+            )
         except Fault:
             return False
         return text.split(", ")[4] == "true"
@@ -178,5 +216,8 @@ class DatabaseHost(Place):
             return
         with suppress(ProcessLookupError, Fault):  # one that does not end is killed with the others
             os.kill(pid, signal.SIGQUIT)
-            until("%s's PostgreSQL ends" % self.name, ENDS_WITHIN,
-                  lambda: pid not in self.network.processes(self.name))
+            until(
+                "%s's PostgreSQL ends" % self.name,
+                ENDS_WITHIN,
+                lambda: pid not in self.network.processes(self.name),
+            )

@@ -37,12 +37,18 @@ class Machine:
 
     def __post_init__(self) -> None:
         self.network = network_of(self.prefix)
-        self.cluster = Cluster([
-            DatabaseHost(host, self.network, self.folder, self.supervisor, self.site, self.images)
-            for host in DATABASES])
+        self.cluster = Cluster(
+            [
+                DatabaseHost(
+                    host, self.network, self.folder, self.supervisor, self.site, self.images
+                )
+                for host in DATABASES
+            ]
+        )
         self.gateways = [
             GatewayHost(host, self.network, self.folder, self.supervisor, self.site, self.gateway)
-            for host in GATEWAYS]
+            for host in GATEWAYS
+        ]
 
     def bring_up_databases(self) -> None:
         """Makes the hosts, and starts the database ones."""
@@ -50,7 +56,9 @@ class Machine:
         self.network.up()
         self.folder.mkdir(parents=True, exist_ok=True)
         self.images.mkdir(parents=True, exist_ok=True)
-        make_certificates({**self.site.databases, **self.site.gateways}, self.folder / "certificates")
+        make_certificates(
+            {**self.site.databases, **self.site.gateways}, self.folder / "certificates"
+        )
         self.cluster.up()
         self.cluster.wait_ready()
 
@@ -84,14 +92,20 @@ class Machine:
         remove(self.prefix, self.folder, self.images)
 
 
-def site_here(command: tuple[str, ...], venues: tuple[str, ...] = (ALONE,),
-              synchronous: str = "on") -> Site:
+def site_here(
+    command: tuple[str, ...], venues: tuple[str, ...] = (ALONE,), synchronous: str = "on"
+) -> Site:
     """An installation on this machine alone, with the words of the venue's program."""
     return Site(
-        NETWORK, {host.name: host.address for host in DATABASES},
+        NETWORK,
+        {host.name: host.address for host in DATABASES},
         {host.name: host.address for host in GATEWAYS},
-        {word: "%s-secret" % word.lower() for word in WORDS}, command,
-        "plain_tcp_beyond_loopback = true # on this machine alone", venues, synchronous)
+        {word: "%s-secret" % word.lower() for word in WORDS},
+        command,
+        "plain_tcp_beyond_loopback = true # on this machine alone",
+        venues,
+        synchronous,
+    )
 
 
 def network_of(prefix: str) -> Network:

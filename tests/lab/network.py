@@ -46,8 +46,10 @@ class Network:
     def up(self) -> None:
         switch = self.space("switch")
         if any(self.processes(name) for name in self.hosts):
-            raise Fault("there are namespaces %s-*, with processes in them: another runs here, or "
-                        "`down` was not done" % self.prefix)
+            raise Fault(
+                "there are namespaces %s-*, with processes in them: another runs here, or "
+                "`down` was not done" % self.prefix
+            )
         self.down()  # what is left of one that was killed
         run("ip", "netns", "add", switch)
         run("ip", "-n", switch, "link", "add", "switch", "type", "bridge")
@@ -58,8 +60,23 @@ class Network:
     def _add(self, host: Host, switch: str) -> None:
         space = self.space(host.name)
         run("ip", "netns", "add", space)
-        run("ip", "link", "add", LINK, "netns", space, "address", host.hardware,
-            "type", "veth", "peer", "name", host.name, "netns", switch)
+        run(
+            "ip",
+            "link",
+            "add",
+            LINK,
+            "netns",
+            space,
+            "address",
+            host.hardware,
+            "type",
+            "veth",
+            "peer",
+            "name",
+            host.name,
+            "netns",
+            switch,
+        )
         run("ip", "-n", switch, "link", "set", host.name, "master", "switch", "up")
         run("ip", "-n", space, "address", "add", host.address + "/24", "dev", LINK)
         run("ip", "-n", space, "link", "set", "lo", "up")
@@ -67,13 +84,26 @@ class Network:
 
     def cut(self, one: str, other: str) -> None:
         for here, there in ((one, other), (other, one)):
-            run("ip", "-n", self.space(here), "neigh", "replace", self.hosts[there].address,
-                "lladdr", NOBODY, "dev", LINK, "nud", "permanent")
+            run(
+                "ip",
+                "-n",
+                self.space(here),
+                "neigh",
+                "replace",
+                self.hosts[there].address,
+                "lladdr",
+                NOBODY,
+                "dev",
+                LINK,
+                "nud",
+                "permanent",
+            )
 
     def heal(self, one: str, other: str) -> None:
         for here, there in ((one, other), (other, one)):
-            tried("ip", "-n", self.space(here), "neigh", "del", self.hosts[there].address,
-                  "dev", LINK)
+            tried(
+                "ip", "-n", self.space(here), "neigh", "del", self.hosts[there].address, "dev", LINK
+            )
 
     def cut_off(self, name: str) -> None:
         """The host reaches nobody."""
@@ -91,6 +121,7 @@ class Network:
 
     def end_all(self, name: str) -> None:
         """Kills what runs on a host, and waits until it is gone."""
+
         def none_left() -> bool:
             left = self.processes(name)
             for pid in left:

@@ -42,7 +42,7 @@ def read_words() -> argparse.Namespace:
 
 def today(venue: str) -> str:
     date = datetime.now(timezone.utc).strftime("%Y%m%d")
-    return re.sub(r'(?m)^date = .*$', 'date = "%s"' % date, venue)
+    return re.sub(r"(?m)^date = .*$", 'date = "%s"' % date, venue)
 
 
 def stay(machine: Machine) -> NoReturn:
@@ -61,11 +61,20 @@ def up(words: argparse.Namespace, images: Path) -> None:
     site = site_here(whole_paths(words.venue.split()))
     machine = Machine(words.folder.resolve(), images, words.gateway.resolve(), site)
     try:
-        machine.up({ALONE: today((words.day / "venue.toml").read_text())},
-                   (words.day / "credentials.toml").read_text())
+        machine.up(
+            {ALONE: today((words.day / "venue.toml").read_text())},
+            (words.day / "credentials.toml").read_text(),
+        )
         for gateway in machine.gateways:
-            print("%s is %s:%d, from `%s`" % (gateway.name, gateway.host.address, PORT,
-                                              " ".join(machine.network.words(FIRMS.name))))
+            print(
+                "%s is %s:%d, from `%s`"
+                % (
+                    gateway.name,
+                    gateway.host.address,
+                    PORT,
+                    " ".join(machine.network.words(FIRMS.name)),
+                )
+            )
         stay(machine)
     finally:
         machine.down()

@@ -38,4 +38,3 @@ def found_in(what: str, limit: float, look: Callable[[], Found | None]) -> Found
 def whole_paths(words: Iterable[str]) -> tuple[str, ...]:
     """The words of a program that is started in another folder: those that are files whole."""
     return tuple(str(Path(word).resolve()) if Path(word).exists() else word for word in words)
-

@@ -32,8 +32,13 @@ class Service:
         self.starts += 1
         with self.log.open("ab") as log:
             self._process = subprocess.Popen(
-                self.words, stdin=subprocess.DEVNULL, stdout=log, stderr=subprocess.STDOUT,
-                env={**os.environ, **self.environment}, start_new_session=True)
+                self.words,
+                stdin=subprocess.DEVNULL,
+                stdout=log,
+                stderr=subprocess.STDOUT,
+                env={**os.environ, **self.environment},
+                start_new_session=True,
+            )
 
     def look(self) -> None:
         """Starts it again a little after its end."""

@@ -10,13 +10,19 @@ from tests.gateway.wait import LONG, until
 from tests.gateway.wire import Wire, framed, now
 
 
-def logged_on(stage: Stage, who: Identity, heartbeat: bytes = b"30", settles: bool = True, number: int = 1) -> Wire:
+def logged_on(
+    stage: Stage, who: Identity, heartbeat: bytes = b"30", settles: bool = True, number: int = 1
+) -> Wire:
     """A connection of this firm, whose Logon was answered; its TestRequest too, if it settles. `number` is its Logon's."""
     before = stage.counters()["mireseason_logons_total"]
     wire = Wire(stage.door.port)
     wire.number = number
     assert wire.logon(who.name.encode(), who.password.encode(), heartbeat=heartbeat)
-    until("%s is logged on" % who.name, LONG, lambda: stage.counters()["mireseason_logons_total"] > before)
+    until(
+        "%s is logged on" % who.name,
+        LONG,
+        lambda: stage.counters()["mireseason_logons_total"] > before,
+    )
     if settles:
         # Reading answers it.
         assert wire.read_kind(b"1") is not None
@@ -33,7 +39,12 @@ def hang_up(stage: Stage) -> None:
 def cancel(wire: Wire, number: int, name: bytes = b"x") -> bytes:
     """A cancel of no quote: the smallest message of the application."""
     trader = {b"DLR1": b"T1", b"DLR2": b"T2"}[wire.name]
-    head = b"35=Z\x0149=%s\x0156=VENUE\x0134=%d\x0152=%s\x0150=%s\x01" % (wire.name, number, now(), trader)
+    head = b"35=Z\x0149=%s\x0156=VENUE\x0134=%d\x0152=%s\x0150=%s\x01" % (
+        wire.name,
+        number,
+        now(),
+        trader,
+    )
     body = head + b"298=5\x01117=%s\x01" % name
     return framed(body)
 
@@ -45,14 +56,22 @@ class Flood:
         self.wire, self.sent, self.came = wire, 0, b""
         self.over = threading.Event()
         wire.socket.settimeout(0.5)
-        self._threads = [threading.Thread(target=self._send, args=(piece,)), threading.Thread(target=self._read)]
+        self._threads = [
+            threading.Thread(target=self._send, args=(piece,)),
+            threading.Thread(target=self._read),
+        ]
 
     def __enter__(self) -> "Flood":
         for thread in self._threads:
             thread.start()
         return self
 
-    def __exit__(self, kind: type[BaseException] | None, fault: BaseException | None, trace: TracebackType | None) -> None:
+    def __exit__(
+        self,
+        kind: type[BaseException] | None,
+        fault: BaseException | None,
+        trace: TracebackType | None,
+    ) -> None:
         self.over.set()
         for thread in self._threads:
             thread.join()
@@ -68,7 +87,7 @@ class Flood:
                 self.wire.number += piece
                 self.sent += piece
             try:
-                waiting = waiting[self.wire.socket.send(waiting):]
+                waiting = waiting[self.wire.socket.send(waiting) :]
             except TimeoutError:
                 continue
             except OSError:

@@ -25,17 +25,33 @@ def test_a_clock_that_is_set_back(stage: Stage, clock: Clock) -> None:
         entries = stage.entries_of(stage.dealer)
         clock.set(-40)
         Budget("that the clock was set", most=2).hold(
-            lambda: seconds_of(lambda: until("it is told", LONG, lambda: tells(stage, r"clock was set by=-(39\.[5-9]|40\.[0-4])"))))
+            lambda: seconds_of(
+                lambda: until(
+                    "it is told",
+                    LONG,
+                    lambda: tells(stage, r"clock was set by=-(39\.[5-9]|40\.[0-4])"),
+                )
+            )
+        )
         assert stage.counters()[STEPS] == 1
         fields = [(50, b"T1"), (117, b"q1"), (131, b"R1"), (48, BOND), (22, b"4"), (133, b"99.5")]
         assert wire.raw(wire.message(b"S", wire.name, fields))
         logout = wire.read_kind(b"5")
-        assert logout is not None and b"the clock of the venue was set" in (logout.value(58) or b""), "it is told %r" % logout
+        assert logout is not None and b"the clock of the venue was set" in (
+            logout.value(58) or b""
+        ), ("it is told %r" % logout)
         number = wire.number
-    assert stage.entries_of(stage.dealer) == entries, "a quote is in the log after the clock was set"
+    assert (
+        stage.entries_of(stage.dealer) == entries
+    ), "a quote is in the log after the clock was set"
     with logged_on(stage, DEALER, number=number) as wire:
         assert wire.raw(cancel(wire, wire.number, b"x1"))
-        assert wire.read_until(lambda message: message.value(117) == b"x1" and message.value(297) == b"9") is not None
+        assert (
+            wire.read_until(
+                lambda message: message.value(117) == b"x1" and message.value(297) == b"9"
+            )
+            is not None
+        )
 
 
 def test_a_small_step_is_told_and_no_more(stage: Stage, clock: Clock) -> None:

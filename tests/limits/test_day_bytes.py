@@ -18,7 +18,10 @@ def cancelled(wire: Wire, name: bytes) -> bool:
     """Whether a cancel of no quote is answered."""
     assert wire.raw(cancel(wire, wire.number, name))
     wire.number += 1
-    return wire.read_until(lambda message: message.value(117) == name and message.value(297) == b"9") is not None
+    return (
+        wire.read_until(lambda message: message.value(117) == name and message.value(297) == b"9")
+        is not None
+    )
 
 
 def refused(wire: Wire, name: bytes) -> None:
@@ -39,12 +42,19 @@ def test_at_the_limit_of_a_day(stage: Stage) -> None:
         for at in range(MOST // 200):
             assert wire.raw(cancel(wire, wire.number, b"c%d" % at))
             wire.number += 1
-        assert wire.read_until(lambda message: message.value(117) == b"c%d" % (MOST // 200 - 1)) is not None
+        assert (
+            wire.read_until(lambda message: message.value(117) == b"c%d" % (MOST // 200 - 1))
+            is not None
+        )
         entries = stage.entries_of(stage.dealer)
         refused(wire, b"q1")
         number = wire.number
     assert stage.entries_of(stage.dealer) == entries, "a quote beyond the limit is in the log"
-    until("the operator is told", LONG, lambda: "day's bytes used up firm=DLR1" in stage.door.told.read_text())
+    until(
+        "the operator is told",
+        LONG,
+        lambda: "day's bytes used up firm=DLR1" in stage.door.told.read_text(),
+    )
     with logged_on(stage, DEALER, number=number) as wire:
         assert cancelled(wire, b"x1"), "no cancel is taken"
         refused(wire, b"q2")
@@ -62,4 +72,6 @@ def test_at_the_limit_of_a_day(stage: Stage) -> None:
     with logged_on(stage, DEALER, number=number) as wire:
         assert wire.raw(wire.message(b"S", wire.name, quote(b"q4")))
         answer = wire.read_until(lambda message: message.value(117) == b"q4")
-        assert answer is not None and answer.value(297) == b"0", "a quote below the new limit is answered %r" % answer
+        assert answer is not None and answer.value(297) == b"0", (
+            "a quote below the new limit is answered %r" % answer
+        )

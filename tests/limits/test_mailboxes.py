@@ -19,7 +19,9 @@ def test_a_firm_that_does_not_settle_keeps_nobody_waiting(stage: Stage) -> None:
         with logged_on(stage, DEALER, settles=False, number=number) as wire:
             asked = stage.entries_of(stage.investor)
             stage.ask_of([stage.dealer, stage.other])
-            until("the request is in the log", LONG, lambda: stage.entries_of(stage.investor) > asked)
+            until(
+                "the request is in the log", LONG, lambda: stage.entries_of(stage.investor) > asked
+            )
             stage.ping(stage.other)
             assert stage.door.kill_venue()
             took = seconds_of(lambda: stage.ping(stage.other))
@@ -28,6 +30,8 @@ def test_a_firm_that_does_not_settle_keeps_nobody_waiting(stage: Stage) -> None:
             number = wire.number
             return took
 
-    Budget("the answer of a venue that was killed, while another firm settles", most=1, slack=6).hold(measure)
+    Budget(
+        "the answer of a venue that was killed, while another firm settles", most=1, slack=6
+    ).hold(measure)
     stage.log_on(stage.dealer)
     stage.whole()

@@ -39,4 +39,6 @@ def test_what_it_makes_is_nobody_elses(stage: Stage) -> None:
     stage.ping(stage.dealer)
     files = list(stage.folder.glob("day.db*"))
     assert len(files) >= 2, "there are %r" % files
-    assert not any(open_to_others(file) for file in files), [(file.name, oct(file.stat().st_mode)) for file in files]
+    assert not any(open_to_others(file) for file in files), [
+        (file.name, oct(file.stat().st_mode)) for file in files
+    ]

@@ -27,15 +27,23 @@ def test_a_flood_is_read_at_its_rate_and_ends(stage: Stage) -> None:
     began = time.monotonic()
     with logged_on(stage, DEALER, heartbeat=b"1") as wire, Flood(wire) as flood:
         seen = entries_within(stage, 2)
-        allowed = 500 + 500 * (time.monotonic() - began) + 1000  # what is read at once before anything is counted
+        allowed = (
+            500 + 500 * (time.monotonic() - began) + 1000
+        )  # what is read at once before anything is counted
         assert seen <= allowed, "%d entries, and %d are allowed" % (seen, allowed)
         stage.ping(stage.other)
         until("the flood is ended", LONG, flood.has_ended)
         held = time.monotonic() - began
         assert held >= 5, "it is ended after %.1f s" % held
         assert TOLD in flood.came, "it is not told why: %r" % flood.came[-300:]
-    until("its quotes are cancelled", LONG, lambda: "cancel of all firm=DLR1" in stage.door.told.read_text())
-    until("the operator is told", LONG, lambda: "rate of a firm allows" in stage.door.told.read_text())
+    until(
+        "its quotes are cancelled",
+        LONG,
+        lambda: "cancel of all firm=DLR1" in stage.door.told.read_text(),
+    )
+    until(
+        "the operator is told", LONG, lambda: "rate of a firm allows" in stage.door.told.read_text()
+    )
     entries = stage.entries_of(stage.dealer)
     assert entries < flood.sent, "all %d messages of a flood are in the log" % flood.sent
     stage.auction([stage.other])
@@ -67,4 +75,6 @@ def test_the_sessions_own_messages_count(stage: Stage) -> None:
         assert wire.raw(wire.message(b"1", wire.name, [(112, b"last")]))
         assert wire.read_until(lambda message: message.value(112) == b"last") is not None
         took = time.monotonic() - began
-        assert took >= 1, "210,000 bytes at 65,536 a second after a burst of as many, in %.2f s" % took
+        assert took >= 1, (
+            "210,000 bytes at 65,536 a second after a burst of as many, in %.2f s" % took
+        )

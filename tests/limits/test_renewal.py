@@ -14,7 +14,9 @@ from tests.gateway.wait import LONG, until
 from tests.gateway.wire import Wire
 from tests.limits.flood import hang_up, logged_on
 
-PAUSES = 0.01 + 0.02 + 0.04 + 0.08 + 0.16 + 4 * 0.25  # seconds: what the first nine wrong passwords make those after them wait
+PAUSES = (
+    0.01 + 0.02 + 0.04 + 0.08 + 0.16 + 4 * 0.25
+)  # seconds: what the first nine wrong passwords make those after them wait
 GONE = b"the credentials of this session are not valid any more"
 
 
@@ -78,7 +80,11 @@ def test_credentials_end_on_a_date(stage: Stage) -> None:
         again.number = number
         again.logon(b"DLR1", DEALER.password.encode())
         assert again.closed_within(LONG) and not again.waiting
-    until("it is told", LONG, lambda: 'refused what="credentials have ended" firm=DLR1' in stage.door.told.read_text())
+    until(
+        "it is told",
+        LONG,
+        lambda: 'refused what="credentials have ended" firm=DLR1' in stage.door.told.read_text(),
+    )
     stage.ping(stage.other)
 
 
@@ -94,7 +100,9 @@ def test_addresses_that_are_no_firms(stage: Stage) -> None:
     stage.door.wait_open()
     with Wire(stage.door.port, source="127.0.0.1") as wire:
         wire.logon(b"DLR1", DEALER.password.encode())
-        assert wire.closed_within(LONG) and not wire.waiting, "DLR1 comes from an address that is not its own"
+        assert (
+            wire.closed_within(LONG) and not wire.waiting
+        ), "DLR1 comes from an address that is not its own"
     with Wire(stage.door.port, source="127.0.0.9") as wire:
         wire.logon(b"DLR1", DEALER.password.encode())
         assert wire.read_kind(b"A") is not None, "DLR1 does not come from its own address"
@@ -104,8 +112,14 @@ def test_addresses_that_are_no_firms(stage: Stage) -> None:
             wire.logon(b"DLR2", b"guess")
             assert wire.closed_within(LONG) and not wire.waiting
     spent = stage.worked() - worked
-    assert spent < 1.5 or not stage.tools.measures, "100 strangers cost %.1f s of a processor: their passwords are hashed" % spent
-    until("they are counted", LONG, lambda: stage.counters().get(refused_for("wrong address"), 0) >= 101)
+    assert spent < 1.5 or not stage.tools.measures, (
+        "100 strangers cost %.1f s of a processor: their passwords are hashed" % spent
+    )
+    until(
+        "they are counted",
+        LONG,
+        lambda: stage.counters().get(refused_for("wrong address"), 0) >= 101,
+    )
     stage.log_on(stage.other)
     stage.ping(stage.other)
 
@@ -119,8 +133,17 @@ def test_wrong_passwords_are_counted_and_cost_time(stage: Stage) -> None:
             wire.logon(b"DLR1", b"guess")
             assert wire.closed_within(LONG) and not wire.waiting
     took = time.monotonic() - began
-    until("they are counted", LONG, lambda: stage.counters().get('mireseason_wrong_passwords_total{firm="DLR1"}') == 10)
-    until("it is told", LONG, lambda: "wrong passwords address=127.0.0.1 count=10 firm=DLR1" in stage.door.told.read_text())
+    until(
+        "they are counted",
+        LONG,
+        lambda: stage.counters().get('mireseason_wrong_passwords_total{firm="DLR1"}') == 10,
+    )
+    until(
+        "it is told",
+        LONG,
+        lambda: "wrong passwords address=127.0.0.1 count=10 firm=DLR1"
+        in stage.door.told.read_text(),
+    )
     assert took >= PAUSES, "ten wrong passwords after each other took %.2f s" % took
     stage.log_on(stage.dealer)
     stage.ping(stage.dealer)
@@ -132,8 +155,10 @@ def openssl(folder: Path, *words: str) -> None:
 
 def revoked_list(folder: Path, *names: str) -> None:
     """A list of the authority's that takes these certificates back."""
-    (folder / "ca.cnf").write_text("[ca]\ndefault_ca = own\n[own]\ndatabase = index.txt\ndefault_md = sha256\n"
-                                   "default_crl_days = 2\ncrlnumber = crlnumber\ncertificate = authority.pem\nprivate_key = authority.key\n")
+    (folder / "ca.cnf").write_text(
+        "[ca]\ndefault_ca = own\n[own]\ndatabase = index.txt\ndefault_md = sha256\n"
+        "default_crl_days = 2\ncrlnumber = crlnumber\ncertificate = authority.pem\nprivate_key = authority.key\n"
+    )
     if not (folder / "index.txt").exists():
         (folder / "index.txt").write_text("")
         (folder / "crlnumber").write_text("01\n")
@@ -152,25 +177,44 @@ def test_a_certificate_that_is_taken_back(stage: Stage) -> None:
     on = stage.other.times_on
     revoked_list(stage.folder, DEALER.name)
     renew(stage)
-    until("its session ends", LONG, lambda: "the certificate is not valid any more" in stage.door.told.read_text())
+    until(
+        "its session ends",
+        LONG,
+        lambda: "the certificate is not valid any more" in stage.door.told.read_text(),
+    )
     until("it can't come again", LONG, lambda: stage.counters().get(refused_for("no TLS"), 0) >= 1)
     stage.ping(stage.other)
     assert stage.other.times_on == on, "another firm's session was ended"
 
 
-@pytest.mark.parametrize(("words", "is_taken"), [
-    (("-tls1_3",), True),
-    (("-tls1_2", "-cipher", "ECDHE-RSA-AES256-GCM-SHA384"), True),
-    (("-tls1_2", "-cipher", "AES256-GCM-SHA384"), False),
-    (("-tls1_2", "-cipher", "ECDHE-RSA-AES256-SHA384"), False),
-    (("-tls1_2", "-cipher", "DHE-RSA-AES256-GCM-SHA384"), False),
-])
+@pytest.mark.parametrize(
+    ("words", "is_taken"),
+    [
+        (("-tls1_3",), True),
+        (("-tls1_2", "-cipher", "ECDHE-RSA-AES256-GCM-SHA384"), True),
+        (("-tls1_2", "-cipher", "AES256-GCM-SHA384"), False),
+        (("-tls1_2", "-cipher", "ECDHE-RSA-AES256-SHA384"), False),
+        (("-tls1_2", "-cipher", "DHE-RSA-AES256-GCM-SHA384"), False),
+    ],
+)
 def test_suites(stage: Stage, words: tuple[str, ...], is_taken: bool) -> None:
     """TLS 1.3, and of TLS 1.2 what nobody can read later who is given the key."""
     with_tls(stage, False)
     stage.open()
-    run = subprocess.run(["openssl", "s_client", "-connect", "127.0.0.1:%d" % stage.door.port, *words, "-CAfile", "authority.pem"],
-                         cwd=stage.folder, stdin=subprocess.DEVNULL, capture_output=True, timeout=LONG, check=False)
+    run = subprocess.run(
+        [
+            "openssl",
+            "s_client",
+            "-connect",
+            "127.0.0.1:%d" % stage.door.port,
+            *words,
+            "-CAfile",
+            "authority.pem",
+        ],
+        cwd=stage.folder,
+        stdin=subprocess.DEVNULL,
+        capture_output=True,
+        timeout=LONG,
+        check=False,
+    )
     assert (b"Cipher is (NONE)" not in run.stdout) == is_taken, run.stdout[-500:]
-
-

@@ -27,7 +27,12 @@ def ask_again(wire: Wire) -> None:
 def has_again(wire: Wire, count: int) -> bool:
     """Waits for the last of so many messages."""
     last = b"x%d" % (count - 1)
-    return wire.read_until(lambda message: message.value(117) == last and message.value(43) == b"Y", LONG) is not None
+    return (
+        wire.read_until(
+            lambda message: message.value(117) == last and message.value(43) == b"Y", LONG
+        )
+        is not None
+    )
 
 
 def test_resends_have_a_rate_of_their_firm(stage: Stage) -> None:

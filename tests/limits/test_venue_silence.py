@@ -83,7 +83,9 @@ def test_a_venue_that_hangs_while_it_is_fed(stage: Stage) -> None:
 def test_another_gateway_takes_over(make_gateway: MakeGateway, postgres_database: str) -> None:
     """Of two gateways on one log the first one's venue hangs as it begins again: the other one speaks."""
     log = PostgresLog(postgres_database, "day")
-    first, second = [make_gateway([DEALER], [INVESTOR], {"venue_seconds": SECONDS}, log) for _ in range(2)]
+    first, second = [
+        make_gateway([DEALER], [INVESTOR], {"venue_seconds": SECONDS}, log) for _ in range(2)
+    ]
     first.programs = hanging(first.programs, first.folder)
     first.write()
     shutil.copytree(first.keys, second.keys)
@@ -94,7 +96,9 @@ def test_another_gateway_takes_over(make_gateway: MakeGateway, postgres_database
     until("the second one stands by", LONG, lambda: tells(second, "stands by"))
     (first.folder / "hang").touch()
     assert first.kill_venue()
-    took = seconds_of(lambda: until("the second one speaks", LONG, lambda: tells(second, " speaks ")))
+    took = seconds_of(
+        lambda: until("the second one speaks", LONG, lambda: tells(second, " speaks "))
+    )
     assert took <= SECONDS + LONG / 2, "it takes over after %.1f s" % took
     assert first.wait_end() == 1
     second.wait_open()

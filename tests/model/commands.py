@@ -79,7 +79,9 @@ def replayed(configuration: Configuration, part: Part) -> Venue:
     return venue
 
 
-def a_day(streams: Streams, live: bool, word: bytes | None = None, role: str | None = None) -> tuple[Venue, int | None]:
+def a_day(
+    streams: Streams, live: bool, word: bytes | None = None, role: str | None = None
+) -> tuple[Venue, int | None]:
     """The venue after the steps of the input, and the number of the firm that the word names."""
     if live:
         lines = numbered_lines(streams.input)
@@ -136,7 +138,9 @@ def desk_alone(part: Part) -> Desk:
     return alone(*read_due_text(part.lines, part.first))
 
 
-def do_replay(streams: Streams, frames: bool, live: bool, notes: bool, word: bytes | None = None) -> Iterable[bytes]:
+def do_replay(
+    streams: Streams, frames: bool, live: bool, notes: bool, word: bytes | None = None
+) -> Iterable[bytes]:
     venue, firm = a_day(streams, live or notes, word)
     desks = venue.desks if firm is None else [venue.desks[firm]]
     return [line for desk in desks for line in desk_lines(desk, frames, notes)]
@@ -170,7 +174,11 @@ def do_compare(streams: Streams, live: bool, investor: bool, word: bytes) -> Ite
     days = []
     for venue, firm in two_days(streams, live, word, role_by(investor)):
         configuration = venue.configuration
-        row: object = seen_by(configuration, firm) if investor else (configuration.date, configuration.dealer(firm))
+        row: object = (
+            seen_by(configuration, firm)
+            if investor
+            else (configuration.date, configuration.dealer(firm))
+        )
         days.append((row, venue.due[firm], venue.desks[firm].frames()))
     (row_a, due_a, sent_a), (row_b, due_b, sent_b) = days
     yield b"row equal" if row_a == row_b else b"row differs"

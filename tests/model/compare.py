@@ -36,7 +36,9 @@ if TYPE_CHECKING:
 
 Input = tuple[list[str], bytes]  # arguments, and standard input
 Answer = tuple[int, bytes, bytes]  # status, output, standard error
-Difference = tuple[int, list[str], bytes, Answer, Answer]  # an input by its number, and both answers to it
+Difference = tuple[
+    int, list[str], bytes, Answer, Answer
+]  # an input by its number, and both answers to it
 
 # ---------------------------------------------------------------- the inputs of a seed
 
@@ -44,15 +46,34 @@ Difference = tuple[int, list[str], bytes, Answer, Answer]  # an input by its num
 def inputs(seed: int) -> list[Input]:
     """Pairs of arguments and standard input."""
     draw = Draw(seed)
-    kinds = [a_day] * 10 + [two_days] * 2 + [due_list] * 3 + [investor_list] * 2 + [made_up] * 4 + [spoilt] * 3 + [configurations] * 2 + [streams] * 2 + [rarely]
+    kinds = (
+        [a_day] * 10
+        + [two_days] * 2
+        + [due_list] * 3
+        + [investor_list] * 2
+        + [made_up] * 4
+        + [spoilt] * 3
+        + [configurations] * 2
+        + [streams] * 2
+        + [rarely]
+    )
     return draw.choice(kinds)(draw)
 
 
 def noted_inputs(seed: int) -> list[tuple[list[str], bytes]]:
     """The same of the commands that have --notes, each with it; about as many of each."""
     draw = Draw(seed)
-    kinds = [noted_day] * 6 + [due_list] * 3 + [investor_list] * 2 + [made_up] * 2 + [spoilt] * 2 + [streams]
-    return [(with_notes(words), data) for words, data in draw.choice(kinds)(draw) if has_notes(words)]
+    kinds = (
+        [noted_day] * 6
+        + [due_list] * 3
+        + [investor_list] * 2
+        + [made_up] * 2
+        + [spoilt] * 2
+        + [streams]
+    )
+    return [
+        (with_notes(words), data) for words, data in draw.choice(kinds)(draw) if has_notes(words)
+    ]
 
 
 def joined(*parts: bytes) -> bytes:
@@ -70,7 +91,11 @@ def head(day: Day) -> bytes:
 
 def firm_word(draw: Draw, day: Day, dealer: bool = False) -> str:
     """A firm of the day, for the most part."""
-    return word_among(draw, day.configuration.dealers) if dealer else word_among(draw, day.configuration.firms)
+    return (
+        word_among(draw, day.configuration.dealers)
+        if dealer
+        else word_among(draw, day.configuration.firms)
+    )
 
 
 def investor_words(draw: Draw, day: Day) -> list[str]:
@@ -87,9 +112,15 @@ def word_among(draw: Draw, rows: Sequence[Dealer | Investor]) -> str:
 
 def commands(draw: Draw, day: Day) -> list[list[str]]:
     """Some commands that read a day."""
-    all_of_them = [["replay"], ["replay", firm_word(draw, day)], ["replay", "--frames"], ["dues"],
-                   ["due", firm_word(draw, day, True)], ["blotter", firm_word(draw, day)],
-                   ["due", *investor_words(draw, day)]]
+    all_of_them = [
+        ["replay"],
+        ["replay", firm_word(draw, day)],
+        ["replay", "--frames"],
+        ["dues"],
+        ["due", firm_word(draw, day, True)],
+        ["blotter", firm_word(draw, day)],
+        ["due", *investor_words(draw, day)],
+    ]
     return draw.sample(all_of_them, draw.of(2, 3, 5))
 
 
@@ -108,7 +139,11 @@ def noted_day(draw: Draw) -> list[tuple[list[str], bytes]]:
     """A day as `live` answers it, and as `replay --live` prints it of all firms and of one."""
     day = Day(draw)
     data = ended(draw, joined(head(day), without_turns(draw, day.text())))
-    after = [["replay", "--live"], ["replay", firm_word(draw, day), "--live"], ["replay", "--live", "--frames"]]
+    after = [
+        ["replay", "--live"],
+        ["replay", firm_word(draw, day), "--live"],
+        ["replay", "--live", "--frames"],
+    ]
     return [(live_words(draw), data), (draw.choice(after), data)]
 
 
@@ -118,15 +153,25 @@ def live_words(draw: Draw) -> list[str]:
 
 def audits(draw: Draw, day: Day) -> list[list[str]]:
     """Commands that read a day of `live`."""
-    found = [["replay", "--live"], ["replay", firm_word(draw, day), "--live"], ["replay", "--live", "--frames"],
-             ["dues", "--live"], ["due", firm_word(draw, day, True), "--live"], ["blotter", "--live", firm_word(draw, day)],
-             ["due", "--live", *investor_words(draw, day)]]
+    found = [
+        ["replay", "--live"],
+        ["replay", firm_word(draw, day), "--live"],
+        ["replay", "--live", "--frames"],
+        ["dues", "--live"],
+        ["due", firm_word(draw, day, True), "--live"],
+        ["blotter", "--live", firm_word(draw, day)],
+        ["due", "--live", *investor_words(draw, day)],
+    ]
     return draw.sample(found, draw.of(1, 2, 3))
 
 
 def without_turns(draw: Draw, data: bytes) -> bytes:
     """For the most part without the lines `turn`, which the answer line by line has no use for."""
-    return data if draw.chance(0.05) else b"\n".join(line for line in data.split(b"\n") if not line.startswith(b"turn "))
+    return (
+        data
+        if draw.chance(0.05)
+        else b"\n".join(line for line in data.split(b"\n") if not line.startswith(b"turn "))
+    )
 
 
 def two_days(draw: Draw) -> list[Input]:
@@ -150,9 +195,18 @@ def two_days(draw: Draw) -> list[Input]:
             lines = lines[:place]
         second = b"\n".join(lines)
     if draw.chance(0.3):
-        other = re.sub(rb"exposure = [0-9]+", b"exposure = %d" % draw.of(5, 2_000_000), other, count=draw.of(0, 1))
+        other = re.sub(
+            rb"exposure = [0-9]+",
+            b"exposure = %d" % draw.of(5, 2_000_000),
+            other,
+            count=draw.of(0, 1),
+        )
     data = ended(draw, joined(head(day), first, other, second))
-    words = ["compare", firm_word(draw, day, True)] if draw.chance(0.7) else ["compare", *investor_words(draw, day)]
+    words = (
+        ["compare", firm_word(draw, day, True)]
+        if draw.chance(0.7)
+        else ["compare", *investor_words(draw, day)]
+    )
     if draw.chance(0.4):
         return [(words + ["--live"], data if draw.chance(0.1) else without_turns(draw, data))]
     return [(words, data)]
@@ -165,8 +219,14 @@ def due_list(draw: Draw) -> list[Input]:
         return []
     dealer = draw.choice(day.dealers())
     configuration = day.configuration
-    data = b"\n".join(due_text(configuration.date, configuration.dealer(dealer), day.venue.due[dealer]))
-    found: list[Input] = [(["alone"], data + b"\n"), (["alone", "--frames"], data), ([], ended(draw, faults.spoilt_input(draw, data)))]
+    data = b"\n".join(
+        due_text(configuration.date, configuration.dealer(dealer), day.venue.due[dealer])
+    )
+    found: list[Input] = [
+        (["alone"], data + b"\n"),
+        (["alone", "--frames"], data),
+        ([], ended(draw, faults.spoilt_input(draw, data))),
+    ]
     return draw.sample(found, draw.of(1, 2))
 
 
@@ -177,7 +237,11 @@ def investor_list(draw: Draw) -> list[Input]:
         return []
     investor = draw.choice(day.investors())
     data = b"\n".join(investor_text(seen_by(day.configuration, investor), day.venue.due[investor]))
-    found: list[Input] = [(["alone"], data + b"\n"), (["alone", "--frames"], data), ([], ended(draw, faults.spoilt_input(draw, data)))]
+    found: list[Input] = [
+        (["alone"], data + b"\n"),
+        (["alone", "--frames"], data),
+        ([], ended(draw, faults.spoilt_input(draw, data))),
+    ]
     return draw.sample(found, draw.of(1, 2))
 
 
@@ -199,7 +263,14 @@ def spoilt(draw: Draw) -> list[Input]:
             steps += b"\n" + faults.exact_frames(draw, day)
         steps = faults.spoilt_input(draw, steps)
         top = head(day) if draw.chance(0.9) else faults.spoilt_input(draw, head(day))
-        words = draw.of(["replay"], ["replay"], ["replay"], ["due", firm_word(draw, day, True)], live_words(draw), ["blotter", firm_word(draw, day)])
+        words = draw.of(
+            ["replay"],
+            ["replay"],
+            ["replay"],
+            ["due", firm_word(draw, day, True)],
+            live_words(draw),
+            ["blotter", firm_word(draw, day)],
+        )
         if draw.chance(0.3):
             words = draw.choice(audits(draw, day))
         found.append((words, ended(draw, joined(top, steps))))
@@ -209,9 +280,15 @@ def spoilt(draw: Draw) -> list[Input]:
 def configurations(draw: Draw) -> list[Input]:
     day, found = Day(draw, length=2), []
     for _ in range(4):
-        lines = faults.crowded_configuration(draw) if draw.chance(0.05) else faults.spoilt_configuration(draw)
+        lines = (
+            faults.crowded_configuration(draw)
+            if draw.chance(0.05)
+            else faults.spoilt_configuration(draw)
+        )
         data = joined("\n".join(lines).encode(), day.text() if draw.chance(0.3) else b"")
-        found.append((draw.of(["replay"], ["replay", "DLR1"], ["live"], ["due", "DLR1"]), ended(draw, data)))
+        found.append(
+            (draw.of(["replay"], ["replay", "DLR1"], ["live"], ["due", "DLR1"]), ended(draw, data))
+        )
     return found
 
 
@@ -219,7 +296,9 @@ def streams(draw: Draw) -> list[Input]:
     """Streams in pieces, lawful or not."""
     top, found = "\n".join(faults.STREAM_FIRMS).encode(), []
     for _ in range(3):
-        words = draw.of(["replay"], ["replay"], live_words(draw), ["due", "DLR1"], ["replay", "--frames"])
+        words = draw.of(
+            ["replay"], ["replay"], live_words(draw), ["due", "DLR1"], ["replay", "--frames"]
+        )
         found.append((words, ended(draw, joined(top, faults.stream_lines(draw)))))
     return found
 
@@ -227,10 +306,20 @@ def streams(draw: Draw) -> list[Input]:
 def rarely(draw: Draw) -> list[Input]:
     day = Day(draw, length=3)
     parts = [head(day), day.text()] * draw.of(0, 1, 2, 3) + draw.of([], [b""], [b"x"])
-    words = draw.of(["replay"], ["alone"], ["compare", "DLR1"], ["due", "DLR1"], live_words(draw), ["blotter", "INV1"])
+    words = draw.of(
+        ["replay"],
+        ["alone"],
+        ["compare", "DLR1"],
+        ["due", "DLR1"],
+        live_words(draw),
+        ["blotter", "INV1"],
+    )
     if words[0] in ("replay", "compare", "due", "blotter") and draw.chance(0.5):
         words = words + ["--live"]
-    found = [(words, ended(draw, joined(*parts))), (draw.choice(faults.WRONG_ARGUMENTS), joined(head(day), day.text()))]
+    found = [
+        (words, ended(draw, joined(*parts))),
+        (draw.choice(faults.WRONG_ARGUMENTS), joined(head(day), day.text())),
+    ]
     if draw.chance(0.01):
         data = b"#" * draw.of(16_777_215, 16_777_216, 16_777_217)
         found.append((draw.of(["alone"], ["replay"]), data))
@@ -263,11 +352,20 @@ def same(mine: tuple[int, bytes, bytes], other: tuple[int, bytes, bytes]) -> boo
 def kinds_of(words: list[str], answer: tuple[int, bytes, bytes]) -> collections.Counter[str]:
     """What kinds of answers there are: for the count behind a run."""
     status, out, err = answer
-    kinds = collections.Counter({"%s, status %d" % (words[0] if words and words[0] in model.COMMANDS else "other", status): 1})
+    kinds = collections.Counter(
+        {
+            "%s, status %d"
+            % (words[0] if words and words[0] in model.COMMANDS else "other", status): 1
+        }
+    )
     if "--live" in words and status == 0:
         kinds["%s --live" % words[0]] += 1
     for line in err.decode(errors="replace").splitlines() if status != 2 else []:
-        kinds["fault " + re.sub(r"line \d+", "line K", line) if not line.startswith("firm") else "fault firm"] += 1
+        kinds[
+            "fault " + re.sub(r"line \d+", "line K", line)
+            if not line.startswith("firm")
+            else "fault firm"
+        ] += 1
     if words and words[0] in ("replay", "live") or not words or words[0] == "alone":
         for said in out.splitlines():
             if "--notes" in words and said.startswith((b"why ", b"trade ")):
@@ -284,7 +382,9 @@ def kinds_of(words: list[str], answer: tuple[int, bytes, bytes]) -> collections.
 
 def has_notes(words: list[str]) -> bool:
     """Whether the command of the words has the flag --notes."""
-    return not words or words[0] in ("alone", "live") or (words[0] == "replay" and "--live" in words)
+    return (
+        not words or words[0] in ("alone", "live") or (words[0] == "replay" and "--live" in words)
+    )
 
 
 def with_notes(words: list[str]) -> list[str]:
@@ -303,7 +403,9 @@ def noted_kind(line: bytes) -> str:
     return "why %s" % name if word == "why" else "trade %s" % name.rsplit("-", 1)[1]
 
 
-def compared(work: tuple[list[str], int, bool]) -> tuple[int, Difference | str | None, int, collections.Counter[str]]:
+def compared(
+    work: tuple[list[str], int, bool]
+) -> tuple[int, Difference | str | None, int, collections.Counter[str]]:
     """The first difference of a seed's inputs, if any; how many there are; the kinds of their answers."""
     program, seed, notes = work
     count, kinds = 0, collections.Counter[str]()
@@ -315,7 +417,10 @@ def compared(work: tuple[list[str], int, bool]) -> tuple[int, Difference | str |
                 kinds[NOTED + noted_command(words)] += 1
             other = program_answer(program, words, data)
             if mine != other and b"config: Toml\n" in (mine[2], other[2]):
-                kinds["TOML that one reader takes and the other not: seed %d, input %d" % (seed, number)] += 1
+                kinds[
+                    "TOML that one reader takes and the other not: seed %d, input %d"
+                    % (seed, number)
+                ] += 1
             elif not same(mine, other):
                 return seed, (number, words, data, mine, other), count, kinds
     except Exception:
@@ -331,7 +436,12 @@ def report(seed: int, difference: Difference | str) -> str:
         file.write(data)
     text = "seed %d, input %d, written to %d-%d.in: %r\n" % (seed, number, seed, number, words)
     for name, answer in (("model", mine), ("program", other)):
-        text += "%s: status %d, %d bytes, standard error %r\n" % (name, answer[0], len(answer[1]), answer[2][:300])
+        text += "%s: status %d, %d bytes, standard error %r\n" % (
+            name,
+            answer[0],
+            len(answer[1]),
+            answer[2][:300],
+        )
     for position, (a, b) in enumerate(zip(mine[1].split(b"\n"), other[1].split(b"\n")), 1):
         if a != b:
             return text + "line %d\n  model   %r\n  program %r" % (position, a, b)
@@ -359,13 +469,17 @@ def main() -> None:
         seeds = ((program, seed, notes) for seed in range(first, 2**62))
         for seed, difference, count, found in pool.imap(compared, seeds, 16):
             if total // 1000 < (total + count) // 1000:
-                print("%d inputs, up to seed %d" % (total + count, seed), file=sys.stderr, flush=True)
+                print(
+                    "%d inputs, up to seed %d" % (total + count, seed), file=sys.stderr, flush=True
+                )
             total += count
             kinds += found
             done = min(kinds[NOTED + command] for command in NOTED_COMMANDS) if notes else total
             if difference:
                 pool.terminate()
-                sys.exit(report(seed, difference) + "\n%d inputs, seeds %d to %d" % (total, first, seed))
+                sys.exit(
+                    report(seed, difference) + "\n%d inputs, seeds %d to %d" % (total, first, seed)
+                )
             if done >= wanted:
                 pool.terminate()
                 break

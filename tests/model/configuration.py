@@ -53,7 +53,9 @@ class Investor:
 
 
 class Configuration:
-    def __init__(self, date: bytes, bonds: list[Bond], dealers: list[Dealer], investors: list[Investor]) -> None:
+    def __init__(
+        self, date: bytes, bonds: list[Bond], dealers: list[Dealer], investors: list[Investor]
+    ) -> None:
         self.date, self.bonds, self.dealers, self.investors = date, bonds, dealers, investors
         self.firms: list[Dealer | Investor] = [*dealers, *investors]
         self.numbers = {row.name: number for number, row in enumerate(self.firms)}
@@ -199,7 +201,9 @@ def read_configuration(data: bytes) -> Configuration:
         traders = traders_of(row)
         requests = integer(row, "requests", MOST_REQUESTS)
         opened = integer(row, "open", MOST_OPEN)
-        investors.append(Investor(name, traders, requests, opened, integer(row, "quantity", MOST_QUANTITY)))
+        investors.append(
+            Investor(name, traders, requests, opened, integer(row, "quantity", MOST_QUANTITY))
+        )
     if sum(dealer.quotes for dealer in dealers) > ALL_QUOTES:
         raise ConfigFault("Limit")
     if sum(investor.requests for investor in investors) > ALL_REQUESTS:

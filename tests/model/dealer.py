@@ -103,13 +103,17 @@ class DealerDesk(Desk):
         return next((quote for quote in self.quotes if quote.id == name), None)
 
     def live_quote(self, request: Request) -> Quote | None:
-        return next((quote for quote in self.quotes if quote.request is request and quote.is_live()), None)
+        return next(
+            (quote for quote in self.quotes if quote.request is request and quote.is_live()), None
+        )
 
     def is_known_lifted(self, request: Request) -> bool:
         return any(quote.request is request and quote.known_lifted for quote in self.quotes)
 
     def exposure_without(self, request: Request) -> int:
-        others = [quote for quote in self.quotes if quote.is_live() and quote.request is not request]
+        others = [
+            quote for quote in self.quotes if quote.is_live() and quote.request is not request
+        ]
         return sum(quote.request.ask.quantity for quote in others)
 
     def found_lifted(self, quote: Quote, ended: str) -> bool:
@@ -126,7 +130,11 @@ class DealerDesk(Desk):
         if message[35] == b"S":
             return self.take_quote(moment, message)
         if message[35] == b"Z":
-            return self.take_cancel_all(moment, message) if message[298] == 4 else self.take_cancel(moment, message)
+            return (
+                self.take_cancel_all(moment, message)
+                if message[298] == 4
+                else self.take_cancel(moment, message)
+            )
         return self.take_decline(moment, message)
 
     def take_quote(self, moment: int, message: Message) -> list[Duty]:
@@ -142,7 +150,9 @@ class DealerDesk(Desk):
         self.send(moment, b"AI", answer + [(297, b"0")])
         return [("Post", request.room, quote.q, ticks, until, moment)]
 
-    def quote_refusals(self, moment: int, message: Message, request: Request | None) -> Iterator[tuple[bool, str]]:
+    def quote_refusals(
+        self, moment: int, message: Message, request: Request | None
+    ) -> Iterator[tuple[bool, str]]:
         yield request is None, "UnknownRequest"
         assert request is not None
         ask = request.ask
@@ -151,7 +161,9 @@ class DealerDesk(Desk):
         yield moment >= ask.deadline, "DeadlinePassed"
         yield message[48] != ask.bond, "OtherBond"
         yield not is_asked_price(message, ask), "InvalidPrice"
-        yield any(message.get(tag, ask.quantity) != ask.quantity for tag in (134, 135)), "OtherQuantity"
+        yield any(
+            message.get(tag, ask.quantity) != ask.quantity for tag in (134, 135)
+        ), "OtherQuantity"
         yield message.get(537, 1) != 1, "NotTradeable"
         yield self.quote(message[117]) is not None, "DuplicateQuote"
         yield 62 in message and message[62] <= moment, "ValidityPassed"
@@ -235,7 +247,10 @@ class DealerDesk(Desk):
             return False
         quote = self.live_quote(request) if close == HIT else None
         self.notices += 1
-        fields: list[tuple[int, bytes | None]] = [(693, b"N%d" % self.notices), (131, b"R%d" % request.k)]
+        fields: list[tuple[int, bytes | None]] = [
+            (693, b"N%d" % self.notices),
+            (131, b"R%d" % request.k),
+        ]
         fields += [(117, quote.id if quote else None), (694, b"%d" % close), *terms(request.ask)]
         if quote:
             fields.append(price_field(request.ask.side, quote.ticks))
@@ -243,10 +258,18 @@ class DealerDesk(Desk):
         request.closed = close
         return True
 
-    def refuse(self, moment: int, answer: list[tuple[int, bytes | None]], name: str, reasons: Mapping[str, int | None]) -> None:
+    def refuse(
+        self,
+        moment: int,
+        answer: list[tuple[int, bytes | None]],
+        name: str,
+        reasons: Mapping[str, int | None],
+    ) -> None:
         """Refuses a message by the line of this name: 297=5 with its value of 300, or 297=9 where it has none."""
         reason = reasons[name]
-        status: list[tuple[int, bytes | None]] = [(297, b"9")] if reason is None else [(297, b"5"), (300, b"%d" % reason)]
+        status: list[tuple[int, bytes | None]] = (
+            [(297, b"9")] if reason is None else [(297, b"5"), (300, b"%d" % reason)]
+        )
         self.send(moment, b"AI", answer + status, Reason(name))
 
     def sides(self, other: bytes) -> tuple[bytes, bytes]:

@@ -65,7 +65,13 @@ class Desk:
         self.sent: list[list[tuple[int, bytes]]] = []
         self.notes: list[Reason | Trade | None] = []
 
-    def send(self, moment: int, kind: bytes, fields: Sequence[tuple[int, bytes | None]], note: Reason | Trade | None = None) -> None:
+    def send(
+        self,
+        moment: int,
+        kind: bytes,
+        fields: Sequence[tuple[int, bytes | None]],
+        note: Reason | Trade | None = None,
+    ) -> None:
         """Sends a message, beside which this is noted; fields without a value are left out."""
         self.notes.append(note)
         head = [(35, kind), (49, b"VENUE"), (56, self.row.name), (34, b"%d" % (len(self.sent) + 1))]
@@ -100,7 +106,10 @@ class Desk:
             return b"why %s %s" % (about, note.name.encode())
         if isinstance(note, Trade):
             k = self.notes[:number].count(note)
-            return b"trade %s %s" % (about, b"-".join([self.date, *self.sides(note.other), b"%d" % k]))
+            return b"trade %s %s" % (
+                about,
+                b"-".join([self.date, *self.sides(note.other), b"%d" % k]),
+            )
         return None
 
     def frames(self) -> list[bytes]:

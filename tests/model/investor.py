@@ -88,13 +88,17 @@ class InvestorDesk(Desk):
     def take_message(self, moment: int, message: Message) -> list[Duty]:
         if message[35] == b"R":
             return self.take_request(moment, message)
-        return self.take_hit(moment, message) if message[694] == 1 else self.take_pass(moment, message)
+        return (
+            self.take_hit(moment, message) if message[694] == 1 else self.take_pass(moment, message)
+        )
 
     def take_request(self, moment: int, message: Message) -> list[Duty]:
         refusal = first(self.request_refusals(moment, message))
         answer = [(131, message[131])]
         if refusal is not None:
-            answer += [(658, b"%d" % REQUEST_REASONS[refusal]), (146, b"1")] + instrument(message[48])
+            answer += [(658, b"%d" % REQUEST_REASONS[refusal]), (146, b"1")] + instrument(
+                message[48]
+            )
             self.send(moment, b"AG", answer, Reason(refusal))
             return []
         bond = self.bond(message[48])
@@ -139,7 +143,15 @@ class InvestorDesk(Desk):
         """The quotes on a request that are not gone."""
         return [quote for quote in self.shown if quote.request is request and not quote.gone]
 
-    def quote_came(self, n: int, dealer: bytes, word: tuple[int, int] | int, ticks: int, until: int | None, moment: int) -> None:
+    def quote_came(
+        self,
+        n: int,
+        dealer: bytes,
+        word: tuple[int, int] | int,
+        ticks: int,
+        until: int | None,
+        moment: int,
+    ) -> None:
         request = self.requests[n - 1]
         if not request.is_open():
             return
@@ -149,7 +161,11 @@ class InvestorDesk(Desk):
         quote = Shown(len(self.shown) + 1, request, dealer, word, ticks)
         self.shown.append(quote)
         ask = request.ask
-        fields: list[tuple[int, bytes | None]] = [(131, request.id), (117, b"Q%d" % quote.k), *instrument(ask.bond)]
+        fields: list[tuple[int, bytes | None]] = [
+            (131, request.id),
+            (117, b"Q%d" % quote.k),
+            *instrument(ask.bond),
+        ]
         fields += [(54, b"%d" % ask.side), price_field(ask.side, ticks)]
         fields.append((135 if ask.side == 1 else 134, b"%d" % ask.quantity))
         fields.append((62, None if until is None else moment_text(self.date, until)))
@@ -174,11 +190,17 @@ class InvestorDesk(Desk):
         """The room's answer to a hit or a pass."""
         request, (name, k) = self.requests[n - 1], response
         note: Trade | None = None
-        fields: list[tuple[int, bytes | None]] = [(693, name), (131, request.id), (117, None if k is None else b"Q%d" % k)]
+        fields: list[tuple[int, bytes | None]] = [
+            (693, name),
+            (131, request.id),
+            (117, None if k is None else b"Q%d" % k),
+        ]
         if reply == "Awarded":
             assert k is not None
             quote = self.shown[k - 1]
-            self.close(request, "won %s %s" % (quote.dealer.decode(), thirty_seconds(quote.ticks).decode()))
+            self.close(
+                request, "won %s %s" % (quote.dealer.decode(), thirty_seconds(quote.ticks).decode())
+            )
             fields.append((297, b"0"))
             note = Trade(quote.dealer)
         elif reply == "Passed":

@@ -84,7 +84,11 @@ def read_row(line: bytes) -> Investor:
         named(trader, is_name)
     if len(traders) > MOST_TRADERS or len(set(traders)) < len(traders):
         raise LineFault("form")
-    limits = limited(requests, MOST_REQUESTS), limited(opened, MOST_OPEN), limited(quantity, MOST_QUANTITY, 16)
+    limits = (
+        limited(requests, MOST_REQUESTS),
+        limited(opened, MOST_OPEN),
+        limited(quantity, MOST_QUANTITY, 16),
+    )
     return Investor(name, tuple(traders), *limits)
 
 
@@ -158,7 +162,9 @@ def read_answered(line: bytes) -> Item:
 def investor_text(seen: Seen, due: list[Item]) -> Iterator[bytes]:
     date, row, bonds, dealers = seen
     yield b"date " + date
-    yield b" ".join([b"investor", row.name, b"%d %d %d" % (row.requests, row.open, row.quantity), *row.traders])
+    yield b" ".join(
+        [b"investor", row.name, b"%d %d %d" % (row.requests, row.open, row.quantity), *row.traders]
+    )
     for bond in bonds:
         yield b"bond %s %d" % (bond.id, bond.grid)
     for name in dealers:

@@ -47,7 +47,13 @@ def views(seed: int) -> tuple[int, list[str]]:
 class Story:
     """Lines of some firms of a venue: each a firm and its line, in the order of their moments."""
 
-    def __init__(self, draw: Draw, configuration: Configuration, asked: Callable[[int], list[int]], hits: bool) -> None:
+    def __init__(
+        self,
+        draw: Draw,
+        configuration: Configuration,
+        asked: Callable[[int], list[int]],
+        hits: bool,
+    ) -> None:
         self.draw, self.configuration, self.asked, self.hits = draw, configuration, asked, hits
         self.counts: dict[int, int] = {}
         self.lines: list[tuple[float, int, bytes]] = []
@@ -68,7 +74,9 @@ class Story:
 
     def say(self, firm: int, time: str, kind: str, body: str) -> bytes:
         row = self.configuration.firms[firm]
-        return ("say %s %s %s %s %s" % (row.name.decode(), row.traders[0].decode(), time, kind, body)).encode()
+        return (
+            "say %s %s %s %s %s" % (row.name.decode(), row.traders[0].decode(), time, kind, body)
+        ).encode()
 
     def count(self, firm: int) -> int:
         self.counts[firm] = self.counts.get(firm, 0) + 1
@@ -78,7 +86,14 @@ class Story:
         draw, n, k = self.draw, self.draw.randint(1, 3), self.count(firm)
         until = draw.of("", "", "", "|62=20250314-09:00:20")
         price = price_text(25_600 - draw.randint(0, 3) * 8).decode()
-        quote = "117=q%d|131=R%d|48=%s|22=4|13%d=%s%s" % (k, n, draw.of(*BONDS), draw.of(2, 3), price, until)
+        quote = "117=q%d|131=R%d|48=%s|22=4|13%d=%s%s" % (
+            k,
+            n,
+            draw.of(*BONDS),
+            draw.of(2, 3),
+            price,
+            until,
+        )
         what = draw.choice(["S"] * 8 + ["Z", "Z", "A", "AG", "x"])
         if what == "S":
             return self.say(firm, time, "S", quote)
@@ -103,7 +118,12 @@ class Story:
         chosen = draw.sample(names, draw.randint(1, len(names)))
         parties = "".join("|448=%s|447=D|452=35" % name for name in chosen)
         body = "131=a%d|146=1|48=%s|22=4|54=%d|38=1000000|126=20250314-09:00:%02d|453=%d%s"
-        return self.say(firm, time, "R", body % (k, draw.of(*BONDS), draw.of(1, 2), draw.of(15, 30, 55), len(chosen), parties))
+        return self.say(
+            firm,
+            time,
+            "R",
+            body % (k, draw.of(*BONDS), draw.of(1, 2), draw.of(15, 30, 55), len(chosen), parties),
+        )
 
 
 def dealer_limits(draw: Draw) -> tuple[int, int]:
@@ -119,7 +139,11 @@ def drawn_head(draw: Draw, limits: list[tuple[int, int]], investors: int) -> Lin
         lines += ["quotes = %d" % quotes, "exposure = %d" % exposure]
     for n in range(1, investors + 1):
         lines += ["[[investor]]", 'name = "INV%d"' % n, 'traders = ["T1"]']
-        lines += ["requests = %d" % draw.of(3, 20), "open = %d" % draw.of(1, 2, 20), "quantity = 5000000"]
+        lines += [
+            "requests = %d" % draw.of(3, 20),
+            "open = %d" % draw.of(1, 2, 20),
+            "quantity = 5000000",
+        ]
     return [line.encode() for line in lines]
 
 
@@ -148,7 +172,10 @@ def with_turns(draw: Draw, configuration: Configuration, story: Story, firms: li
     """Turns of firms, at moments of their own."""
     for firm in firms:
         name = configuration.firms[firm].name
-        story.lines += [(draw.random(), firm, b"turn %s %d" % (name, draw.of(1, 2, 9))) for _ in range(draw.randint(2, 9))]
+        story.lines += [
+            (draw.random(), firm, b"turn %s %d" % (name, draw.of(1, 2, 9)))
+            for _ in range(draw.randint(2, 9))
+        ]
 
 
 def silence(seed: int) -> tuple[int, list[str]]:
@@ -175,7 +202,9 @@ def silence(seed: int) -> tuple[int, list[str]]:
     differ = days[0] != days[1] and venues[0].due[one] != []
     lists = [venue.due[one] for venue in venues]
     sent = [venue.desks[one].frames() for venue in venues]
-    return int(differ), ["lists differ"] * (lists[0] != lists[1]) + ["messages differ"] * (sent[0] != sent[1])
+    return int(differ), ["lists differ"] * (lists[0] != lists[1]) + ["messages differ"] * (
+        sent[0] != sent[1]
+    )
 
 
 # ---------------------------------------------------------------- apart
@@ -231,7 +260,11 @@ ENDS = "say %s T1 09:00:06 AJ 693=h|694=%s"
 
 
 def asks(investor: str, *dealers: str) -> str:
-    return ASKS % (investor, len(dealers), "".join("|448=%s|447=D|452=35" % name for name in dealers))
+    return ASKS % (
+        investor,
+        len(dealers),
+        "".join("|448=%s|447=D|452=35" % name for name in dealers),
+    )
 
 
 def through_a_third(passes: bool) -> list[str]:
@@ -265,7 +298,10 @@ def channels(_seed: int) -> tuple[int, list[str]]:
     investor, faults = configuration.firm(b"INV2"), []
     assert investor is not None
     for days, run in ((through_a_third, lived), (through_the_clock, told)):
-        lists = [run(configuration, [line.encode() for line in days(yes)]).due[investor] for yes in (True, False)]
+        lists = [
+            run(configuration, [line.encode() for line in days(yes)]).due[investor]
+            for yes in (True, False)
+        ]
         if lists[0] == lists[1]:
             faults.append("no channel " + days.__name__.replace("_", " "))
     return 2, faults
@@ -313,4 +349,9 @@ def threads(program: list[str], seed: int) -> tuple[int, list[str]]:
     return sent, faults
 
 
-TRIALS: dict[str, Callable[[int], tuple[int, list[str]]]] = {"views": views, "silence": silence, "apart": apart, "channels": channels}
+TRIALS: dict[str, Callable[[int], tuple[int, list[str]]]] = {
+    "views": views,
+    "silence": silence,
+    "apart": apart,
+    "channels": channels,
+}

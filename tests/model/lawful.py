@@ -28,7 +28,9 @@ Place = tuple[str, object]
 Step = tuple[Actor, Duty]
 Inboxes = dict[Actor, list[Duty]]
 
-MOST_ACTIONS = 2_000_000  # that are tried in the search for one day; a lawful day takes some hundreds
+MOST_ACTIONS = (
+    2_000_000  # that are tried in the search for one day; a lawful day takes some hundreds
+)
 
 ROOM_DUTIES = ("Open", "Ready", "Post", "Unpost", "Decline", "Hit", "Pass")
 DEALER_DUTIES = ("Show", "Tell")  # their first operand is the dealer
@@ -152,7 +154,11 @@ class Search:
     def is_end(self, venue: Threads) -> bool:
         done = all(not queue for queue in venue.queues.values())
         taken = all(venue.taken[actor] == len(inbox) for actor, inbox in self.inboxes.items())
-        return done and taken and all(len(desk.sent) == len(wanted) for desk, wanted in zip(venue.desks, self.wanted))
+        return (
+            done
+            and taken
+            and all(len(desk.sent) == len(wanted) for desk, wanted in zip(venue.desks, self.wanted))
+        )
 
     def ways_on(self, venue: Threads) -> Iterator[Threads]:
         """The states behind each action that sends what was sent; first behind those that send something."""
@@ -207,7 +213,9 @@ def told_as(desk: DealerDesk, room: tuple[int, int], close: int) -> set[tuple[in
     return {(131, b"R%d" % request.k), (694, b"%d" % close)} if request else {(694, b"%d" % close)}
 
 
-def answered_as(desk: InvestorDesk, name: str, room: tuple[int, int], *rest: Any) -> set[tuple[int, bytes]]:
+def answered_as(
+    desk: InvestorDesk, name: str, room: tuple[int, int], *rest: Any
+) -> set[tuple[int, bytes]]:
     request = (131, desk.requests[room[1] - 1].id)
     if name == "Close":
         return {request, (297, b"7")}
@@ -229,16 +237,34 @@ def fought_over(draw: Draw) -> tuple[list[str], list[bytes]]:
     dealers, hits = ["DLR%d" % n for n in range(1, draw.randint(2, 4))], draw.randint(3, 8)
     head = ["version = 1", 'date = "20250314"', "[[bond]]", 'id = "BONDA0000001"']
     for name in dealers:
-        head += ["[[dealer]]", 'name = "%s"' % name, 'traders = ["T1"]', "quotes = 4096", "exposure = 1000000000000"]
-    head += ["[[investor]]", 'name = "INV1"', 'traders = ["T1"]', "requests = 8", "open = 8", "quantity = 5000000"]
+        head += [
+            "[[dealer]]",
+            'name = "%s"' % name,
+            'traders = ["T1"]',
+            "quotes = 4096",
+            "exposure = 1000000000000",
+        ]
+    head += [
+        "[[investor]]",
+        'name = "INV1"',
+        'traders = ["T1"]',
+        "requests = 8",
+        "open = 8",
+        "quantity = 5000000",
+    ]
     requests, lines = draw.randint(1, 3), []
     for n in range(1, requests + 1):
         asked = draw.sample(dealers, draw.randint(1, len(dealers)))
         parties = "".join("|448=%s|447=D|452=35" % name for name in asked)
-        lines.append("say INV1 T1 09:00:00 R 131=a%d|146=1|48=BONDA0000001|22=4|54=%d|38=1000|126=20250314-09:00:30|453=%d%s"
-                     % (n, draw.of(1, 2), len(asked), parties))
+        lines.append(
+            "say INV1 T1 09:00:00 R 131=a%d|146=1|48=BONDA0000001|22=4|54=%d|38=1000|126=20250314-09:00:30|453=%d%s"
+            % (n, draw.of(1, 2), len(asked), parties)
+        )
     for n in range(1, hits + 1):
-        kind = draw.choice(["694=1|117=Q%d" % draw.randint(1, hits)] * 5 + ["694=6|131=a%d" % draw.randint(1, requests)])
+        kind = draw.choice(
+            ["694=1|117=Q%d" % draw.randint(1, hits)] * 5
+            + ["694=6|131=a%d" % draw.randint(1, requests)]
+        )
         lines.append("say INV1 T1 09:00:10 AJ 693=h%d|%s" % (n, kind))
     for name in dealers:
         lines += list(pressed(draw, name, requests))
@@ -253,8 +279,15 @@ def pressed(draw: Draw, name: str, requests: int) -> Iterator[str]:
         price = draw.of("99.5", "99.5", "99.4375", "99.53125")
         until = draw.of("", "", "", "|62=20250314-09:00:10")
         yield draw.choice(
-            ["say %s T1 09:00:05 S 117=q%d|131=R%d|48=BONDA0000001|22=4|13%d=%s%s" % (name, n, request, draw.of(2, 3), price, until)] * 6
-            + ["say %s T1 09:00:05 Z 117=q%d|298=5" % (name, draw.randint(1, n)), "say %s T1 09:00:05 Z 298=4" % name]
+            [
+                "say %s T1 09:00:05 S 117=q%d|131=R%d|48=BONDA0000001|22=4|13%d=%s%s"
+                % (name, n, request, draw.of(2, 3), price, until)
+            ]
+            * 6
+            + [
+                "say %s T1 09:00:05 Z 117=q%d|298=5" % (name, draw.randint(1, n)),
+                "say %s T1 09:00:05 Z 298=4" % name,
+            ]
             + ["say %s T1 09:00:05 AG 131=R%d|658=10" % (name, request)]
         )
 
@@ -296,7 +329,9 @@ def ran(program: list[str], seed: int) -> tuple[Configuration, Inboxes, list[lis
     head, lines = day_of(seed)
     configuration = read_configuration("\n".join(head).encode())
     text = joined("\n".join(head).encode(), b"\n".join(lines))
-    run = subprocess.run([*program, "day", "--frames"], input=text, capture_output=True, timeout=600)
+    run = subprocess.run(
+        [*program, "day", "--frames"], input=text, capture_output=True, timeout=600
+    )
     if run.returncode != 0:
         raise ValueError("status %d: %s" % (run.returncode, run.stderr.decode()))
     return configuration, inboxes_of(configuration, lines), sent_in(configuration, run.stdout)

@@ -45,32 +45,49 @@ def with_expire_lines(day: Day, steps: bytes) -> bytes:
             lines.append(line)
             continue
         firms = day.configuration.firms
-        lines += [b"expire %s %d %s" % (firms[firm].name, n, found.group(1)) for firm, n in day.configuration.rooms()]
+        lines += [
+            b"expire %s %d %s" % (firms[firm].name, n, found.group(1))
+            for firm, n in day.configuration.rooms()
+        ]
     return b"\n".join(lines)
 
 
 def broken(day: Day, ask: Ask) -> Iterator[str]:
     """The laws that this day breaks."""
-    steps = b"\n".join(line for line in day.lines if not line.startswith(b"turn ")) + b"\nno line of a day\n# none\n"
+    steps = (
+        b"\n".join(line for line in day.lines if not line.startswith(b"turn "))
+        + b"\nno line of a day\n# none\n"
+    )
     data, marked = joined(head(day), steps), steps.count(b"\n")
     status, out, told = ask(["live", "--marks", "--frames"], data)
     lines = out.splitlines()
     if status != 0 or sum(line.startswith((b"done ", b"fault ")) for line in lines) != marked:
         yield "one mark behind each line"
-    if ask(["live", "--frames"], data) != (0, b"".join(line + b"\n" for line in lines if not line.startswith((b"done ", b"fault "))), told):
+    if ask(["live", "--frames"], data) != (
+        0,
+        b"".join(line + b"\n" for line in lines if not line.startswith((b"done ", b"fault "))),
+        told,
+    ):
         yield "what the marks are left out of"
-    if ask(["replay", "--frames"], joined(head(day), with_expire_lines(day, day.text()))) != ask(["replay", "--frames"], joined(head(day), day.text())):
+    if ask(["replay", "--frames"], joined(head(day), with_expire_lines(day, day.text()))) != ask(
+        ["replay", "--frames"], joined(head(day), day.text())
+    ):
         yield "clock is its expire lines"
     unswept = joined(head(day), with_expire_lines(day, steps))
     texts = []
     for row in day.configuration.firms:
-        wanted, name = b"".join(line + b"\n" for line in of_firm(lines, row.name)), row.name.decode()
+        wanted, name = (
+            b"".join(line + b"\n" for line in of_firm(lines, row.name)),
+            row.name.decode(),
+        )
         if ask(["replay", "--live", name, "--frames"], data) != (0, wanted, told):
             yield "replay --live %s" % name
         if ask(["replay", "--live", name, "--frames"], unswept)[1] != wanted:
             yield "clock is its expire lines to %s" % name
         is_dealer = row in day.configuration.dealers
-        due = ask(["due", "--live", name] if is_dealer else ["due", "--live", "--investor", name], data)
+        due = ask(
+            ["due", "--live", name] if is_dealer else ["due", "--live", "--investor", name], data
+        )
         if is_dealer:
             texts.append(due[1])
         if due[::2] != (0, told) or ask(["alone", "--frames"], due[1]) != (0, wanted, b""):
@@ -83,7 +100,11 @@ def unread(day: Day) -> Iterator[str]:
     """Due lists of the model whose text is read back as another."""
     for firm, row in enumerate(day.configuration.dealers):
         due = day.venue.due[firm]
-        if read_due_text(list(due_text(day.configuration.date, row, due)), 1) != (day.configuration.date, row, due):
+        if read_due_text(list(due_text(day.configuration.date, row, due)), 1) != (
+            day.configuration.date,
+            row,
+            due,
+        ):
             yield "the due text of %s" % row.name.decode()
     for firm in day.investors():
         due, seen = day.venue.due[firm], seen_by(day.configuration, firm)

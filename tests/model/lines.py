@@ -130,19 +130,25 @@ class Framer:
         self.date = date
         self.counts: dict[bytes, int] = {}
 
-    def frame(self, firm: bytes, trader: bytes, time: bytes, kind: bytes, body: bytes) -> tuple[int, bytes, bool]:
+    def frame(
+        self, firm: bytes, trader: bytes, time: bytes, kind: bytes, body: bytes
+    ) -> tuple[int, bytes, bool]:
         """The moment, the message, and whether it used a number of the firm's count."""
         moment = time_of(time)
         for word in (trader, kind):
             if b"|" in word or SOH in word:
                 raise LineFault("form")
-        fields = None if SOH in body else read_fields(body if body.endswith(b"|") else body + b"|", b"|")
+        fields = (
+            None if SOH in body else read_fields(body if body.endswith(b"|") else body + b"|", b"|")
+        )
         if fields is None:
             raise LineFault("form")
         there = {tag for tag, _ in fields}
         own = [(49, firm), (56, b"VENUE"), (34, b"%d" % (self.counts.get(firm, 0) + 1))]
         own += [(52, moment_text(self.date, moment)), (50, trader)]
-        data = write_frame([(35, kind)] + [field for field in own if field[0] not in there] + fields)
+        data = write_frame(
+            [(35, kind)] + [field for field in own if field[0] not in there] + fields
+        )
         if len(data) > LONGEST:
             raise LineFault("form")
         return moment, data, 34 not in there
@@ -217,7 +223,9 @@ class StepReader:
 # ---------------------------------------------------------------- due text
 
 
-def read_due_text(lines: tuple[bytes, ...] | list[bytes], first: int) -> tuple[bytes, Dealer, list[Item]]:
+def read_due_text(
+    lines: tuple[bytes, ...] | list[bytes], first: int
+) -> tuple[bytes, Dealer, list[Item]]:
     """The date, the dealer and the due list; LineFault and the number of the line at fault."""
     said, number = list(numbered(lines, first)), first + len(lines)
     try:
@@ -246,7 +254,9 @@ def read_dealer_line(line: bytes) -> Dealer:
         named(trader, is_name)
     if len(traders) > MOST_TRADERS or len(set(traders)) < len(traders):
         raise LineFault("form")
-    return Dealer(name, tuple(traders), limited(quotes, MOST_QUOTES), limited(exposure, MOST_EXPOSURE, 16))
+    return Dealer(
+        name, tuple(traders), limited(quotes, MOST_QUOTES), limited(exposure, MOST_EXPOSURE, 16)
+    )
 
 
 def read_due_line(line: bytes, name: bytes, framer: Framer) -> Item:
@@ -268,7 +278,12 @@ def read_due_line(line: bytes, name: bytes, framer: Framer) -> Item:
         return "lifted", number_of(parts_of(line, 2)[1])
     if keyword == b"closed":
         _, k, close, time = parts_of(line, 4)
-        return "closed", number_of(k), int(one_of(close, (b"1", b"3", b"4", b"5", b"6"))), time_of(time)
+        return (
+            "closed",
+            number_of(k),
+            int(one_of(close, (b"1", b"3", b"4", b"5", b"6"))),
+            time_of(time),
+        )
     if keyword == b"drop":
         _, last, time = parts_of(line, 3)
         return "drop", number_of(last), time_of(time)
@@ -286,7 +301,9 @@ def read_shown(line: bytes) -> tuple[str, Ask, int]:
     named(investor, is_firm_name)
     named(bond, is_bond)
     one_of(side, (b"1", b"2"))
-    ask = Ask(investor, bond, int(side), limited(quantity, MOST_QUANTITY, 16), time_of(deadline), steps)
+    ask = Ask(
+        investor, bond, int(side), limited(quantity, MOST_QUANTITY, 16), time_of(deadline), steps
+    )
     return "shown", ask, time_of(time)
 
 
@@ -305,7 +322,15 @@ def due_line(kind: str, *item: Any) -> bytes:
         return b"hex %s %s" % (time_text(moment), data.hex().encode())
     if kind == "shown":
         ask, moment = item
-        words = [b"shown", ask.investor, ask.bond, b"%d" % ask.side, b"%d" % ask.quantity, time_text(ask.deadline), time_text(moment)]
+        words = [
+            b"shown",
+            ask.investor,
+            ask.bond,
+            b"%d" % ask.side,
+            b"%d" % ask.quantity,
+            time_text(ask.deadline),
+            time_text(moment),
+        ]
         return b" ".join(words + ([] if ask.grid == 256 else [b"%d" % ask.grid]))
     if kind == "lifted":
         return b"lifted %d" % item[0]

@@ -43,7 +43,9 @@ def sent_lines(desk: Desk, fields: Fields, frames: bool, notes: bool) -> list[by
     return [line] if note is None else [line, note]
 
 
-def live(stream: BinaryIO, frames: bool, marks: bool, notes: bool, out: BinaryIO, err: BinaryIO) -> None:
+def live(
+    stream: BinaryIO, frames: bool, marks: bool, notes: bool, out: BinaryIO, err: BinaryIO
+) -> None:
     """Answers each line as soon as it came, before more is read."""
     lines = numbered_lines(stream)
     day = LiveDay(read_head(lines))
@@ -56,7 +58,9 @@ def live(stream: BinaryIO, frames: bool, marks: bool, notes: bool, out: BinaryIO
             sent = []
             tell(err, number, fault)
             mark = fault_mark(number, fault.args[0])
-        answer = [line for firm, fields in sent for line in sent_lines(desks[firm], fields, frames, notes)]
+        answer = [
+            line for firm, fields in sent for line in sent_lines(desks[firm], fields, frames, notes)
+        ]
         if marks:
             answer.append(mark)
         if answer:

@@ -23,15 +23,30 @@ from .venue_command import words_of
 
 DATE = b"20250314"
 DEALERS, INVESTORS = [b"DLR%d" % n for n in range(1, 9)], [b"INV%d" % n for n in range(1, 5)]
-FAULTY = [b"turn DLR1 1", b"%%", b"say NOBODY T1 09:00:00 Z 298=4", b"hex DLR1 09:00:00 0", b"expire DLR1 1 09:00:00", b"", b"# a comment", b"\xff"]
+FAULTY = [
+    b"turn DLR1 1",
+    b"%%",
+    b"say NOBODY T1 09:00:00 Z 298=4",
+    b"hex DLR1 09:00:00 0",
+    b"expire DLR1 1 09:00:00",
+    b"",
+    b"# a comment",
+    b"\xff",
+]
 
 
 def configuration() -> bytes:
     text = 'version = 1\ndate = "20250314"\n[[bond]]\nid = "BONDA0000001"\n'
     for name in DEALERS:
-        text += '[[dealer]]\nname = "%s"\ntraders = ["T1"]\nquotes = 4096\nexposure = 1000000000000\n' % name.decode()
+        text += (
+            '[[dealer]]\nname = "%s"\ntraders = ["T1"]\nquotes = 4096\nexposure = 1000000000000\n'
+            % name.decode()
+        )
     for name in INVESTORS:
-        text += '[[investor]]\nname = "%s"\ntraders = ["T1"]\nrequests = 1024\nopen = 1024\nquantity = 5000000\n' % name.decode()
+        text += (
+            '[[investor]]\nname = "%s"\ntraders = ["T1"]\nrequests = 1024\nopen = 1024\nquantity = 5000000\n'
+            % name.decode()
+        )
     return text.encode() + b"%%\n"
 
 
@@ -41,14 +56,23 @@ class Writer:
 
     draw: random.Random
     numbers: dict[bytes, int] = field(default_factory=dict)
-    waiting: dict[bytes, bytes] = field(default_factory=dict)  # bytes of a firm's stream that are not said yet
+    waiting: dict[bytes, bytes] = field(
+        default_factory=dict
+    )  # bytes of a firm's stream that are not said yet
     asked: int = 0
     quoted: int = 0
     moment: int = 28_800_000
 
     def frame(self, firm: bytes, kind: bytes, fields: list[tuple[int, bytes]]) -> bytes:
         self.numbers[firm] = self.numbers.get(firm, 0) + 1
-        head = [(35, kind), (49, firm), (56, b"VENUE"), (34, b"%d" % self.numbers[firm]), (52, moment_text(DATE, self.moment)), (50, b"T1")]
+        head = [
+            (35, kind),
+            (49, firm),
+            (56, b"VENUE"),
+            (34, b"%d" % self.numbers[firm]),
+            (52, moment_text(DATE, self.moment)),
+            (50, b"T1"),
+        ]
         return write_frame(head + fields)
 
     def message(self) -> tuple[bytes, bytes]:
@@ -57,21 +81,43 @@ class Writer:
             return self.ask(draw.choice(INVESTORS))
         if what < 0.16:
             firm = draw.choice(INVESTORS)
-            return firm, self.frame(firm, b"AJ", [(693, b"h"), (694, b"1"), (117, b"Q%d" % draw.randint(1, self.quoted // 3 + 1))])
+            return firm, self.frame(
+                firm,
+                b"AJ",
+                [(693, b"h"), (694, b"1"), (117, b"Q%d" % draw.randint(1, self.quoted // 3 + 1))],
+            )
         firm = draw.choice(DEALERS)
         if what < 0.75:
             self.quoted += 1
-            fields = [(117, b"q%d" % self.quoted), (131, b"R%d" % draw.randint(1, self.asked // 3 + 1)), (48, b"BONDA0000001"), (22, b"4"), (133, b"99.5")]
+            fields = [
+                (117, b"q%d" % self.quoted),
+                (131, b"R%d" % draw.randint(1, self.asked // 3 + 1)),
+                (48, b"BONDA0000001"),
+                (22, b"4"),
+                (133, b"99.5"),
+            ]
             return firm, self.frame(firm, b"S", fields)
         if what < 0.97:
-            return firm, self.frame(firm, b"Z", [(298, b"5"), (117, b"q%d" % draw.randint(1, self.quoted + 1))])
+            return firm, self.frame(
+                firm, b"Z", [(298, b"5"), (117, b"q%d" % draw.randint(1, self.quoted + 1))]
+            )
         return firm, self.frame(firm, b"Z", [(298, b"4")])
 
     def ask(self, firm: bytes) -> tuple[bytes, bytes]:
         self.asked += 1
         dealers = self.draw.sample(DEALERS, 3)
-        fields = [(131, b"A%d" % self.asked), (146, b"1"), (48, b"BONDA0000001"), (22, b"4"), (54, b"1"), (38, b"1000000")]
-        fields += [(126, moment_text(DATE, self.moment + self.draw.choice([2_000, 60_000, 600_000]))), (453, b"3")]
+        fields = [
+            (131, b"A%d" % self.asked),
+            (146, b"1"),
+            (48, b"BONDA0000001"),
+            (22, b"4"),
+            (54, b"1"),
+            (38, b"1000000"),
+        ]
+        fields += [
+            (126, moment_text(DATE, self.moment + self.draw.choice([2_000, 60_000, 600_000]))),
+            (453, b"3"),
+        ]
         for dealer in dealers:
             fields += [(448, dealer), (447, b"D"), (452, b"35")]
         return firm, self.frame(firm, b"R", fields)
@@ -138,7 +184,9 @@ class Told:
 
 def run(words: list[str], day: Path) -> Told:
     told = Told()
-    with day.open("rb") as file, subprocess.Popen(words, stdin=file, stdout=subprocess.PIPE, stderr=subprocess.DEVNULL) as process:
+    with day.open("rb") as file, subprocess.Popen(
+        words, stdin=file, stdout=subprocess.PIPE, stderr=subprocess.DEVNULL
+    ) as process:
         assert process.stdout is not None
         for line in process.stdout:
             told.take(line)
@@ -156,9 +204,23 @@ def main() -> None:
         live = run([*program, "live", "--frames", "--marks"], Path(file.name))
         replay = run([*program, "replay", "--live", "--frames"], Path(file.name))
     sent = sum(live.counts.values())
-    print("%d lines, %d messages to %d firms; live took %d MB, replay --live %d MB, %d bytes a message" % (
-        count, sent, len(live.counts), live.memory // 1000, replay.memory // 1000, (replay.memory - live.memory) * 1000 // max(1, sent)))
-    passed = [live.status == replay.status == 0, live.marks == count, replay.marks == 0, live.messages() == replay.messages()]
+    print(
+        "%d lines, %d messages to %d firms; live took %d MB, replay --live %d MB, %d bytes a message"
+        % (
+            count,
+            sent,
+            len(live.counts),
+            live.memory // 1000,
+            replay.memory // 1000,
+            (replay.memory - live.memory) * 1000 // max(1, sent),
+        )
+    )
+    passed = [
+        live.status == replay.status == 0,
+        live.marks == count,
+        replay.marks == 0,
+        live.messages() == replay.messages(),
+    ]
     print("%d passed, %d failed" % (sum(passed), len(passed) - sum(passed)))
     sys.exit(0 if all(passed) else 1)
 

@@ -53,7 +53,9 @@ def read_arguments(words: list[str]) -> tuple[Command | None, list[bool], list[b
     if rest and rest[-1] == "--":
         rest.pop()
     command = COMMANDS[name]
-    flags, words = [word for word in rest if word.startswith("-")], [word for word in rest if not word.startswith("-")]
+    flags, words = [word for word in rest if word.startswith("-")], [
+        word for word in rest if not word.startswith("-")
+    ]
     if any(flag not in command.flags for flag in flags) or len(set(flags)) < len(flags):
         raise Usage
     if not command.fewest <= len(words) <= command.most:
@@ -76,7 +78,9 @@ def run(words: list[str], stream: BinaryIO, out: BinaryIO, err: BinaryIO) -> int
             frames, marks, notes = flags
             live(stream, frames, marks, notes, out, err)
         else:
-            out.write(b"".join(line + b"\n" for line in command.act(Streams(stream, err), *flags, *names)))
+            out.write(
+                b"".join(line + b"\n" for line in command.act(Streams(stream, err), *flags, *names))
+            )
         return 0
     except Fault as fault:
         err.write(str(fault).encode() + b"\n")

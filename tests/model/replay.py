@@ -17,7 +17,9 @@ if TYPE_CHECKING:
 CLOCK = "CLOCK"
 Actor = int | str  # a firm, or the clock
 Item = tuple[Any, ...]  # of what was due to a firm: its kind, and what it says
-Seen = tuple[bytes, Investor, list[Bond], list[bytes]]  # the day, its row, the bonds, the names of the dealers
+Seen = tuple[
+    bytes, Investor, list[Bond], list[bytes]
+]  # the day, its row, the bonds, the names of the dealers
 
 
 class Words:
@@ -38,14 +40,20 @@ class Venue:
         self.configuration, self.words = configuration, Words()
         self.desks = [self.desk(firm) for firm in range(len(configuration.firms))]
         self.rooms: dict[tuple[int, int], Room] = {}
-        self.queues: dict[Actor, list[Duty]] = {actor: [] for actor in [*range(len(self.desks)), CLOCK]}
+        self.queues: dict[Actor, list[Duty]] = {
+            actor: [] for actor in [*range(len(self.desks)), CLOCK]
+        }
         self.due: dict[int, list[Item]] = {firm: [] for firm in range(len(self.desks))}
-        self.log: list[tuple[int, list[tuple[int, bytes]]]] = []  # (firm, fields) of each message, in the order in which they were sent
+        self.log: list[
+            tuple[int, list[tuple[int, bytes]]]
+        ] = []  # (firm, fields) of each message, in the order in which they were sent
 
     def desk(self, firm: int) -> DealerDesk | InvestorDesk:
         row = self.configuration.firms[firm]
         if isinstance(row, Dealer):
-            return DealerDesk(self.configuration.date, row, lambda q: self.words.withdraw((firm, q)))
+            return DealerDesk(
+                self.configuration.date, row, lambda q: self.words.withdraw((firm, q))
+            )
         return InvestorDesk(self.configuration, firm)
 
     def dealer_desk(self, firm: int) -> DealerDesk:
@@ -89,30 +97,46 @@ class Venue:
 
     def first_deadline(self) -> int | None:
         """The earliest deadline of the rooms that are opening or open, or None."""
-        return min((room.asked().deadline for room in self.rooms.values() if room.takes()), default=None)
+        return min(
+            (room.asked().deadline for room in self.rooms.values() if room.takes()), default=None
+        )
 
     def notices(self, room: tuple[int, int], moment: int) -> list[Duty]:
         return [("Tell", dealer, room, close, moment) for dealer, close in self.room(room).notices]
 
     # ------------------------------------------------------------ duties; each answers those that follow
 
-    def do_open(self, _actor: Actor, room: tuple[int, int], ask: Ask, dealers: list[int], moment: int) -> list[Duty]:
+    def do_open(
+        self, _actor: Actor, room: tuple[int, int], ask: Ask, dealers: list[int], moment: int
+    ) -> list[Duty]:
         self.room(room).open(ask, dealers)
         return [("Show", dealer, room, ask, moment) for dealer in dealers] + [("Ready", room)]
 
-    def do_show(self, _actor: int, dealer: int, room: tuple[int, int], ask: Ask, moment: int) -> None:
+    def do_show(
+        self, _actor: int, dealer: int, room: tuple[int, int], ask: Ask, moment: int
+    ) -> None:
         self.due[dealer].append(("shown", ask, moment))
         self.logged(dealer, lambda desk: desk.show(room, ask, moment))
 
     def do_ready(self, _actor: Actor, room: tuple[int, int]) -> None:
         self.room(room).ready()
 
-    def do_post(self, dealer: int, room: tuple[int, int], q: int, ticks: int, until: int | None, moment: int) -> list[Duty]:
+    def do_post(
+        self, dealer: int, room: tuple[int, int], q: int, ticks: int, until: int | None, moment: int
+    ) -> list[Duty]:
         if self.room(room).post(dealer, (dealer, q), ticks, until):
             return [("Relay", room, (dealer, q), ticks, until, moment)]
         return []
 
-    def do_relay(self, dealer: int, room: tuple[int, int], word: tuple[int, int], ticks: int, until: int | None, moment: int) -> None:
+    def do_relay(
+        self,
+        dealer: int,
+        room: tuple[int, int],
+        word: tuple[int, int],
+        ticks: int,
+        until: int | None,
+        moment: int,
+    ) -> None:
         name, (investor, n) = self.configuration.firms[dealer].name, room
         self.due[investor].append(("quoted", n, name, ticks, until, moment))
         self.logged(investor, lambda desk: desk.quote_came(n, name, word, ticks, until, moment))
@@ -122,7 +146,9 @@ class Venue:
             return [("Gone", room, (dealer, q), moment)]
         return []
 
-    def do_gone(self, _dealer: int, room: tuple[int, int], word: tuple[int, int], moment: int) -> None:
+    def do_gone(
+        self, _dealer: int, room: tuple[int, int], word: tuple[int, int], moment: int
+    ) -> None:
         investor, n = room
         self.due[investor].append(("gone", n, self.number_of(investor, n, word), moment))
         self.logged(investor, lambda desk: desk.quote_gone(n, word, moment))
@@ -148,7 +174,14 @@ class Venue:
         self.due[dealer].append(("drop", last, moment))
         return list(self.logged(dealer, lambda desk: desk.drop(last, moment)))
 
-    def do_hit(self, _investor: int, room: tuple[int, int], response: tuple[bytes, int], word: tuple[int, int], moment: int) -> list[Duty]:
+    def do_hit(
+        self,
+        _investor: int,
+        room: tuple[int, int],
+        response: tuple[bytes, int],
+        word: tuple[int, int],
+        moment: int,
+    ) -> list[Duty]:
         reply = self.room(room).hit(word, moment, self.lift)
         duties = [("Answer", room, response, reply, moment)]
         return duties + (self.notices(room, moment) if reply == "Awarded" else [])
@@ -161,12 +194,21 @@ class Venue:
             self.due[dealer].append(("lifted", q))
         return answer
 
-    def do_pass(self, _investor: int, room: tuple[int, int], response: tuple[bytes, None], moment: int) -> list[Duty]:
+    def do_pass(
+        self, _investor: int, room: tuple[int, int], response: tuple[bytes, None], moment: int
+    ) -> list[Duty]:
         reply = self.room(room).leave()
         duties = [("Answer", room, response, reply, moment)]
         return duties + (self.notices(room, moment) if reply == "Passed" else [])
 
-    def do_answer(self, _investor: int, room: tuple[int, int], response: tuple[bytes, int | None], reply: str, moment: int) -> None:
+    def do_answer(
+        self,
+        _investor: int,
+        room: tuple[int, int],
+        response: tuple[bytes, int | None],
+        reply: str,
+        moment: int,
+    ) -> None:
         investor, n = room
         self.due[investor].append(("answered", n, response, reply, moment))
         self.logged(investor, lambda desk: desk.answered(n, response, reply, moment))
@@ -176,7 +218,9 @@ class Venue:
         self.due[investor].append(("expired", n, moment))
         self.logged(investor, lambda desk: desk.closed(n, moment))
 
-    def do_tell(self, _actor: Actor, dealer: int, room: tuple[int, int], close: int, moment: int) -> None:
+    def do_tell(
+        self, _actor: Actor, dealer: int, room: tuple[int, int], close: int, moment: int
+    ) -> None:
         request = self.dealer_desk(dealer).request_in(room)
         if self.logged(dealer, lambda desk: desk.tell(request, close, moment)):
             assert request is not None
@@ -201,7 +245,9 @@ def fits(desk: InvestorDesk, kind: str, item: list[Any]) -> bool:
     (_name, k), reply = item[1:3]
     if k is None:
         return reply in ("Passed", "NotOpen")
-    return bool(1 <= k <= len(desk.shown) and desk.shown[k - 1].request.n == n and reply != "Passed")
+    return bool(
+        1 <= k <= len(desk.shown) and desk.shown[k - 1].request.n == n and reply != "Passed"
+    )
 
 
 def investor_alone(seen: Seen, due: list[Item]) -> InvestorDesk:
@@ -218,7 +264,11 @@ def investor_alone(seen: Seen, due: list[Item]) -> InvestorDesk:
             n, dealer, ticks, until, moment = item
             desk.quote_came(n, dealer, len(desk.shown) + 1, ticks, until, moment)
         else:
-            act: dict[str, Callable[..., None]] = {"gone": desk.quote_gone, "declined": desk.dealer_declined, "answered": desk.answered}
+            act: dict[str, Callable[..., None]] = {
+                "gone": desk.quote_gone,
+                "declined": desk.dealer_declined,
+                "answered": desk.answered,
+            }
             act.get(kind, desk.closed)(*item)
     return desk
 

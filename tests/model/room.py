@@ -25,7 +25,9 @@ class Room:
         self.phase = "vacant"
         self.ask: Ask | None = None
         self.dealers: list[int] = []
-        self.book: list[Posted] = []  # the quotes that stand, in the order in which they were posted
+        self.book: list[
+            Posted
+        ] = []  # the quotes that stand, in the order in which they were posted
         self.notices: list[tuple[int, int]] = []  # of a room that ended: each dealer and its 694
 
     def open(self, ask: Ask, dealers: list[int]) -> None:
@@ -60,7 +62,9 @@ class Room:
     def standing(self, word: tuple[int, int]) -> Posted | None:
         return next((quote for quote in self.book if quote.word == word), None)
 
-    def hit(self, word: tuple[int, int], moment: int, lift: Callable[[tuple[int, int]], str]) -> str:
+    def hit(
+        self, word: tuple[int, int], moment: int, lift: Callable[[tuple[int, int]], str]
+    ) -> str:
         """Awarded, or the name of the first refusal; the word is asked by `lift` where none was before it."""
         if self.phase != "open":
             return "NotOpen"
@@ -79,7 +83,9 @@ class Room:
     def award(self, winner: Posted) -> None:
         others = [quote for quote in self.book if quote is not winner]
         sign = 1 if self.asked().side == 1 else -1
-        cover = min(others, key=lambda quote: sign * quote.ticks, default=None)  # of equals the first posted
+        cover = min(
+            others, key=lambda quote: sign * quote.ticks, default=None
+        )  # of equals the first posted
         kinds = {dealer: DONE_AWAY for dealer in self.dealers}
         if cover:
             kinds[cover.dealer] = COVER

@@ -23,7 +23,9 @@ MOST_QUANTITY = 10**12
 GROUP_TAGS = (448, 447, 452)
 
 
-Message = dict[Any, Any]  # values by their tags, each as its form has it, and the dealers under 'dealers'
+Message = dict[
+    Any, Any
+]  # values by their tags, each as its form has it, and the dealers under 'dealers'
 Lawful = tuple[Callable[[Any], bool], int]  # whether a value is, and the reason where it is not
 Table = list[tuple[int, Callable[[bytes, bytes], Any], Callable[[Message], bool], Lawful]]
 Types = dict[bytes, Table]
@@ -162,7 +164,9 @@ def header(row: Investor | Dealer, types: Types) -> Table:
     ]
 
 
-def check_table(table: Table, fields: list[tuple[int, bytes]], date: bytes, message: Message) -> None:
+def check_table(
+    table: Table, fields: list[tuple[int, bytes]], date: bytes, message: Message
+) -> None:
     """Puts the value of each tag that is present into the message; SessionFault at the first fault."""
     values: dict[int, list[bytes]] = {}
     for tag, value in fields:
@@ -222,7 +226,9 @@ def party(entry: list[tuple[int, bytes]]) -> bytes | None:
     return values[448] if values[447] == b"D" and values[452] == b"35" else None
 
 
-def read_message(fields: list[tuple[int, bytes]], date: bytes, row: Investor | Dealer, types: Types) -> Message:
+def read_message(
+    fields: list[tuple[int, bytes]], date: bytes, row: Investor | Dealer, types: Types
+) -> Message:
     """The values of a message by tag, its dealers under 'dealers'; SessionFault with the first fault."""
     message: Message = {}
     head = header(row, types)
@@ -244,11 +250,23 @@ class Inbox:
     def __init__(self) -> None:
         self.expected = 1
 
-    def receive(self, data: bytes, read_fields: Callable[[bytes], list[tuple[int, bytes]] | None], date: bytes, row: Investor | Dealer, types: Types) -> Message | Reject | None:
+    def receive(
+        self,
+        data: bytes,
+        read_fields: Callable[[bytes], list[tuple[int, bytes]] | None],
+        date: bytes,
+        row: Investor | Dealer,
+        types: Types,
+    ) -> Message | Reject | None:
         """None where the bytes are dropped; else the message, or the fields of a Reject."""
         fields = read_fields(data)
         numbers = [value for tag, value in fields or [] if tag == 34]
-        if fields is None or len(numbers) != 1 or not NUMBER.match(numbers[0]) or int(numbers[0]) < 1:
+        if (
+            fields is None
+            or len(numbers) != 1
+            or not NUMBER.match(numbers[0])
+            or int(numbers[0]) < 1
+        ):
             return None
         try:
             if int(numbers[0]) != self.expected:

@@ -33,14 +33,20 @@ def has_notes(first_program: list[str]) -> bool:
 
 @pytest.mark.draws(short=350, long=20_000)
 def test_inputs_of_a_seed(
-    first_program: list[str], has_notes: bool, drawn: int, place: Path, monkeypatch: pytest.MonkeyPatch
+    first_program: list[str],
+    has_notes: bool,
+    drawn: int,
+    place: Path,
+    monkeypatch: pytest.MonkeyPatch,
 ) -> None:
     """Status, output and standard error of all inputs of a seed; those of an even seed with --notes."""
     monkeypatch.chdir(place)  # an input at fault is written there
     notes = has_notes and drawn % 2 == 0
     seed, difference, count, _ = compared((first_program, drawn, notes))
     assert difference is None, report(seed, difference)
-    assert count > 0 or not (noted_inputs(drawn) if notes else inputs(drawn))  # the list of a dealer or investor of a day that has none
+    assert count > 0 or not (
+        noted_inputs(drawn) if notes else inputs(drawn)
+    )  # the list of a dealer or investor of a day that has none
 
 
 @st.composite
@@ -54,7 +60,11 @@ def days(draw: st.DrawFn) -> bytes:
 @given(days(), st.sampled_from(COMMANDS))
 def test_days_with_lines_left_out(first_program: list[str], day: bytes, words: list[str]) -> None:
     mine, other = model_answer(words, day), program_answer(first_program, words, day)
-    assert same(mine, other), "%r prints %r, and the second implementation %r" % (words, other, mine)
+    assert same(mine, other), "%r prints %r, and the second implementation %r" % (
+        words,
+        other,
+        mine,
+    )
 
 
 @given(days())

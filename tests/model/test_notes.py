@@ -33,7 +33,11 @@ class Case:
 
     @property
     def data(self) -> bytes:
-        return "".join(line + "\n" for line in self.lines).encode().replace(b"8=FIXT.1.1|\n", b"8=FIXT.1.1\x01\n")
+        return (
+            "".join(line + "\n" for line in self.lines)
+            .encode()
+            .replace(b"8=FIXT.1.1|\n", b"8=FIXT.1.1\x01\n")
+        )
 
 
 def cases() -> Iterator[Case]:
@@ -86,7 +90,9 @@ def test_a_case_after_its_day(case: Case) -> None:
 
 
 def test_each_name_has_a_case() -> None:
-    noted = {line.split(" ")[3] for case in ALL_CASES for line in case.notes if line.startswith("why ")}
+    noted = {
+        line.split(" ")[3] for case in ALL_CASES for line in case.notes if line.startswith("why ")
+    }
     assert noted == NAMES
 
 
@@ -95,7 +101,9 @@ def test_each_note_stands_behind_its_message(seed: int) -> None:
     noted = 0
     for number in range(seed, seed + DAYS):
         day = Day(Draw(number))
-        data = joined(head(day), b"\n".join(line for line in day.lines if not line.startswith(b"turn ")))
+        data = joined(
+            head(day), b"\n".join(line for line in day.lines if not line.startswith(b"turn "))
+        )
         lines = model_answer(["live", "--notes"], data)[1].splitlines()
         for before, line in zip(lines, lines[1:], strict=False):
             if is_note(line):
@@ -109,7 +117,9 @@ def test_both_sides_name_a_trade_alike(seed: int) -> None:
     trades = 0
     for number in range(seed, seed + DAYS):
         day = Day(Draw(number))
-        data = joined(head(day), b"\n".join(line for line in day.lines if not line.startswith(b"turn ")))
+        data = joined(
+            head(day), b"\n".join(line for line in day.lines if not line.startswith(b"turn "))
+        )
         named = collections.defaultdict(list)
         for line in model_answer(["live", "--notes"], data)[1].splitlines():
             if line.startswith(b"trade "):

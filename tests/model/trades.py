@@ -61,9 +61,13 @@ class Auction:
     deadline: str  # 126, to the millisecond
     request: bytes  # 131 of the investor's
     told: bytes = b""  # 131 of the dealer's, empty until it is shown
-    quotes: list[tuple[bytes, list[Shown]]] = field(default_factory=list)  # the QuoteID of each that was accepted, and
+    quotes: list[tuple[bytes, list[Shown]]] = field(
+        default_factory=list
+    )  # the QuoteID of each that was accepted, and
     # how it may have been written, where the dealer sent more than one message with it at that moment
-    shown: list[tuple[bytes, Shown]] = field(default_factory=list)  # the investor's 117, and the quote
+    shown: list[tuple[bytes, Shown]] = field(
+        default_factory=list
+    )  # the investor's 117, and the quote
 
 
 @dataclass(frozen=True)
@@ -108,7 +112,9 @@ class Played:
     written: Inboxes
     sent: list[list[Message]]
     is_done: bool  # no duty is left
-    read: dict[int, list[tuple[int, list[tuple[int, bytes]]]]] = field(default_factory=dict)  # the frames of each firm
+    read: dict[int, list[tuple[int, list[tuple[int, bytes]]]]] = field(
+        default_factory=dict
+    )  # the frames of each firm
 
     def name(self, firm: int) -> bytes:
         name: bytes = self.configuration.firms[firm].name
@@ -117,7 +123,11 @@ class Played:
     def wrote(self, firm: int, kind: bytes) -> Iterator[tuple[int, list[tuple[int, bytes]]]]:
         """The frames of this type that the firm sent, with their moments."""
         if firm not in self.read:
-            came = [(moment, read_frame(data)) for word, _, moment, data in self.written[firm] if word == "came"]
+            came = [
+                (moment, read_frame(data))
+                for word, _, moment, data in self.written[firm]
+                if word == "came"
+            ]
             self.read[firm] = [(moment, fields) for moment, fields in came if fields]
         return ((moment, fields) for moment, fields in self.read[firm] if fields[0] == (35, kind))
 
@@ -166,7 +176,11 @@ class Pair:
             if answer[297] != b"0" or 693 in answer:
                 continue
             at = to_the_millisecond(answer[52])[9:]
-            ways = [fields for moment, fields in written[answer[131]] if moment == at and is_whole(fields)]
+            ways = [
+                fields
+                for moment, fields in written[answer[131]]
+                if moment == at and is_whole(fields)
+            ]
             if len(ways) != 1:
                 raise Ambiguous
             (fields,) = ways
@@ -194,7 +208,10 @@ class Pair:
                 return
             auction.told = fields[131]
             if (terms_of(fields), fields[126].decode()) != (auction.terms, auction.deadline):
-                self.fault("%s is not %s as it was written" % (fields[131].decode(), auction.request.decode()))
+                self.fault(
+                    "%s is not %s as it was written"
+                    % (fields[131].decode(), auction.request.decode())
+                )
 
     def look_at_quotes(self) -> None:
         """The quotes that were accepted, and those that were shown: these are among those, in their order."""
@@ -210,8 +227,10 @@ class Pair:
             rest = iter(auction.quotes)
             for name, shown in auction.shown:
                 if not any(shown in ways for _, ways in rest):
-                    self.fault("%s of %s is no quote that was accepted, or stands in another order"
-                               % (name.decode(), auction.request.decode()))
+                    self.fault(
+                        "%s of %s is no quote that was accepted, or stands in another order"
+                        % (name.decode(), auction.request.decode())
+                    )
 
     def ways_written(self, auction: Auction, answer: Texts) -> Iterator[Shown]:
         """How the quote that this answer accepts was written. A quantity that it names has to be the request's."""
@@ -236,21 +255,30 @@ class Pair:
         if ((132 if buys else 133) in fields) or ((134 if buys else 135) in fields):
             self.fault("%s has a price or a size of the other side" % fields[117].decode())
         terms = Terms(fields[48], fields[54], number(fields[135 if buys else 134]))
-        shown = Shown(terms, number(fields[133 if buys else 132]), to_the_millisecond(fields.get(62, b"")))
+        shown = Shown(
+            terms, number(fields[133 if buys else 132]), to_the_millisecond(fields.get(62, b""))
+        )
         if terms != auction.terms:
-            self.fault("%s is not on the terms of %s" % (fields[117].decode(), auction.request.decode()))
+            self.fault(
+                "%s is not on the terms of %s" % (fields[117].decode(), auction.request.decode())
+            )
         auction.shown.append((fields[117], shown))
 
     # ------------------------------------------------------------ trades
 
     def bought(self) -> Iterator[Won]:
         """The hits of this dealer's quotes that the investor was answered with 297=0."""
-        shown = {name: (auction, quote) for auction in self.auctions for name, quote in auction.shown}
+        shown = {
+            name: (auction, quote) for auction in self.auctions for name, quote in auction.shown
+        }
         for answer in self.day.was_sent(self.investor, b"AI"):
             if 693 in answer and answer[297] == b"0" and answer.get(117) in shown:
                 auction, quote = shown[answer[117]]
                 if auction.shown[-1][0] != answer[117]:
-                    self.fault("%s was hit, and is not the last quote on its request" % answer[117].decode())
+                    self.fault(
+                        "%s was hit, and is not the last quote on its request"
+                        % answer[117].decode()
+                    )
                 yield Won(auction.request, answer[117], quote.terms, quote.price)
 
     def sold(self) -> Iterator[Won]:
@@ -258,7 +286,12 @@ class Pair:
         for fields in self.day.was_sent(self.dealer, b"AJ"):
             if fields[694] == b"1" and self.of_told(fields[131]):
                 price = fields.get(133 if fields[54] == BUYS else 132)
-                yield Won(fields[131], fields[117], terms_of(fields), None if price is None else number(price))
+                yield Won(
+                    fields[131],
+                    fields[117],
+                    terms_of(fields),
+                    None if price is None else number(price),
+                )
 
     def look_at_trades(self) -> int:
         bought, sold = list(self.bought()), list(self.sold())
@@ -272,7 +305,10 @@ class Pair:
     def look_at_trade(self, bought: Won, sold: Won) -> None:
         auction = self.of_request(bought.request)
         if auction is None or auction.told != sold.request:
-            self.fault("%s and %s are told of two requests" % (bought.request.decode(), sold.request.decode()))
+            self.fault(
+                "%s and %s are told of two requests"
+                % (bought.request.decode(), sold.request.decode())
+            )
             return
         if (bought.terms, bought.price) != (sold.terms, sold.price):
             self.fault("%s is told to both and not on the same terms" % bought.request.decode())
@@ -288,7 +324,9 @@ def time_of(moment: int) -> str:
 
 def is_number(text: bytes | None) -> bool:
     try:
-        return text is not None and number(text) >= 0 and b"/" not in text and b"e" not in text.lower()
+        return (
+            text is not None and number(text) >= 0 and b"/" not in text and b"e" not in text.lower()
+        )
     except (ValueError, UnicodeDecodeError, ZeroDivisionError):
         return False
 
@@ -302,7 +340,11 @@ def is_whole(fields: list[tuple[int, bytes]]) -> bool:
 def winners_of(day: Played) -> Iterator[str]:
     """Requests that more than one dealer is told to have won."""
     for investor in range(len(day.configuration.dealers), len(day.configuration.firms)):
-        awards = [answer[131] for answer in day.was_sent(investor, b"AI") if 693 in answer and answer[297] == b"0"]
+        awards = [
+            answer[131]
+            for answer in day.was_sent(investor, b"AI")
+            if 693 in answer and answer[297] == b"0"
+        ]
         if len(set(awards)) != len(awards):
             yield "%s was awarded a request twice" % day.name(investor).decode()
 
@@ -344,7 +386,9 @@ def replayed(program: list[str], seed: int) -> Played:
     configuration = read_configuration("\n".join(day.head).encode())
     lines = [line for line in day.lines if not line.startswith(b"turn ")]
     output = output_of(program, ["replay", "--frames"], day.head, day.lines)
-    return Played(configuration, inboxes_of(configuration, lines), sent_in(configuration, output), is_done)
+    return Played(
+        configuration, inboxes_of(configuration, lines), sent_in(configuration, output), is_done
+    )
 
 
 def raced(draw: Draw) -> tuple[list[str], list[bytes]]:
@@ -353,7 +397,13 @@ def raced(draw: Draw) -> tuple[list[str], list[bytes]]:
     investors = ["INV%d" % n for n in range(1, draw.randint(2, 3))]
     head = ["version = 1", 'date = "20250314"', "[[bond]]", 'id = "BONDA0000001"']
     for name in dealers:
-        head += ["[[dealer]]", 'name = "%s"' % name, 'traders = ["T1"]', "quotes = 4096", "exposure = 1000000000000"]
+        head += [
+            "[[dealer]]",
+            'name = "%s"' % name,
+            'traders = ["T1"]',
+            "quotes = 4096",
+            "exposure = 1000000000000",
+        ]
     for name in investors:
         limits = ["requests = 8", "open = 8", "quantity = 5000000"]
         head += ["[[investor]]", 'name = "%s"' % name, 'traders = ["T1"]', *limits]
@@ -367,7 +417,11 @@ def asks_and_hits(draw: Draw, name: str, dealers: list[str]) -> Iterator[str]:
     for n in range(1, 9):
         asked = draw.sample(dealers, draw.randint(1, len(dealers)))
         parties = "".join("|448=%s|447=D|452=35" % dealer for dealer in asked)
-        terms = "131=a%d|146=1|48=BONDA0000001|22=4|54=%d|38=%d|126=20250314-09:00:30" % (n, draw.of(1, 2), 1000 * n)
+        terms = "131=a%d|146=1|48=BONDA0000001|22=4|54=%d|38=%d|126=20250314-09:00:30" % (
+            n,
+            draw.of(1, 2),
+            1000 * n,
+        )
         yield "say %s T1 09:00:00 R %s|453=%d%s" % (name, terms, len(asked), parties)
     for n in range(1, HITS + 1):
         yield "say %s T1 09:00:10 AJ 693=h%d|694=1|117=Q%d" % (name, n, draw.randint(1, 60))
@@ -379,7 +433,13 @@ def quotes_among_others(draw: Draw, name: str, requests: int) -> Iterator[str]:
         price = "13%d=%s" % (draw.of(2, 3), draw.of("99.5", "99.4375", "99.53125", "99.50390625"))
         until = draw.of("", "", "|62=20250314-09:00:20")
         request = draw.randint(1, requests)
-        yield "say %s T1 09:00:05 S 117=q%d|131=R%d|48=BONDA0000001|22=4|%s%s" % (name, n, request, price, until)
+        yield "say %s T1 09:00:05 S 117=q%d|131=R%d|48=BONDA0000001|22=4|%s%s" % (
+            name,
+            n,
+            request,
+            price,
+            until,
+        )
 
 
 def lived(program: list[str], seed: int) -> Played:
@@ -388,11 +448,15 @@ def lived(program: list[str], seed: int) -> Played:
     configuration = read_configuration("\n".join(day.head).encode())
     lines = [line for line in day.lines if not line.startswith(b"turn ")]
     output = output_of(program, ["replay", "--live", "--frames"], day.head, lines)
-    return Played(configuration, inboxes_of(configuration, lines), sent_in(configuration, output), True)
+    return Played(
+        configuration, inboxes_of(configuration, lines), sent_in(configuration, output), True
+    )
 
 
 def threaded(program: list[str], seed: int) -> Played:
     head, lines = raced(Draw(seed)) if seed % 2 else day_of(seed)
     configuration = read_configuration("\n".join(head).encode())
     output = output_of(program, ["day", "--frames"], head, lines)
-    return Played(configuration, inboxes_of(configuration, lines), sent_in(configuration, output), True)
+    return Played(
+        configuration, inboxes_of(configuration, lines), sent_in(configuration, output), True
+    )

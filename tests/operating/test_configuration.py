@@ -40,18 +40,43 @@ quantity = 5000000
 
 # What is written in the place of a lawful text, and what the operator is told of it, by hand from FORMATS.md.
 FAULTS = {
-    "a misspelt key": ("exposure", "exposre", "venue.toml: line 12: dealer DLR1: exposre is no key of a dealer; exposure?"),
-    "a limit of nothing": ("open = 64", "open = 0", "venue.toml: line 22: investor INV1: open = 0: it has to be from 1 to 1,024"),
-    "a bond's id of 11 letters": ('"BONDA0000001"', '"BONDA000001"', "line 3: bond BONDA000001: id"),
-    "a grid in version 1": ("version = 2", "version = 1", "line 4: bond BONDA0000001: grid = 256: it has no effect before version 2"),
-    "a firm that is there twice": ('"DLR2"', '"DLR1"', 'line 14: dealer DLR1: name = "DLR1": line 9 has it already'),
+    "a misspelt key": (
+        "exposure",
+        "exposre",
+        "venue.toml: line 12: dealer DLR1: exposre is no key of a dealer; exposure?",
+    ),
+    "a limit of nothing": (
+        "open = 64",
+        "open = 0",
+        "venue.toml: line 22: investor INV1: open = 0: it has to be from 1 to 1,024",
+    ),
+    "a bond's id of 11 letters": (
+        '"BONDA0000001"',
+        '"BONDA000001"',
+        "line 3: bond BONDA000001: id",
+    ),
+    "a grid in version 1": (
+        "version = 2",
+        "version = 1",
+        "line 4: bond BONDA0000001: grid = 256: it has no effect before version 2",
+    ),
+    "a firm that is there twice": (
+        '"DLR2"',
+        '"DLR1"',
+        'line 14: dealer DLR1: name = "DLR1": line 9 has it already',
+    ),
     "no TOML": ("open = 64", "open = ", "venue.toml: line 22: "),
 }
 
 
 def told(stage: Stage, *words: str) -> subprocess.CompletedProcess[str]:
     """What --check says."""
-    command = [str(stage.door.programs.gateway), "--check", str(stage.folder / "gateway.toml"), *words]
+    command = [
+        str(stage.door.programs.gateway),
+        "--check",
+        str(stage.folder / "gateway.toml"),
+        *words,
+    ]
     return subprocess.run(command, capture_output=True, text=True, timeout=LONG, check=False)
 
 
@@ -97,7 +122,9 @@ def test_a_configuration_without_a_date_is_of_today(stage: Stage) -> None:
     write(stage, VENUE)
     stage.open()
     first = stage.door.ledger().entries[0]
-    assert 'date = "%s"\n%s' % (today(), VENUE) in json.dumps(first.line.decode()).encode().decode("unicode_escape")
+    assert 'date = "%s"\n%s' % (today(), VENUE) in json.dumps(first.line.decode()).encode().decode(
+        "unicode_escape"
+    )
 
 
 def test_yesterdays_date_is_found(stage: Stage) -> None:
@@ -120,14 +147,22 @@ def test_a_port_that_another_program_has_is_found(stage: Stage) -> None:
         other.bind(("127.0.0.1", stage.door.port))
         other.listen()
         found = told(stage)
-    assert (found.returncode, "[fix] port 127.0.0.1:%d" % stage.door.port in found.stderr) == (1, True), found.stderr
+    assert (found.returncode, "[fix] port 127.0.0.1:%d" % stage.door.port in found.stderr) == (
+        1,
+        True,
+    ), found.stderr
 
 
 def with_program(stage: Stage, words: list[str]) -> None:
     """The gateway's file, with another program of the venue."""
     file = stage.folder / "gateway.toml"
     lines = file.read_text().splitlines()
-    file.write_text("\n".join("command = " + json.dumps(words) if line.startswith("command") else line for line in lines))
+    file.write_text(
+        "\n".join(
+            "command = " + json.dumps(words) if line.startswith("command") else line
+            for line in lines
+        )
+    )
 
 
 def a_program_that_is_not_there(folder: Path) -> list[str]:
@@ -141,9 +176,16 @@ def a_program_that_takes_no_configuration(folder: Path) -> list[str]:
     return [str(program)]
 
 
-@pytest.mark.parametrize(("program", "expected"), [(a_program_that_is_not_there, "nobody"),
-                                                   (a_program_that_takes_no_configuration, "config: Limit")])
-def test_the_venues_program_is_asked_first(stage: Stage, program: Callable[[Path], list[str]], expected: str) -> None:
+@pytest.mark.parametrize(
+    ("program", "expected"),
+    [
+        (a_program_that_is_not_there, "nobody"),
+        (a_program_that_takes_no_configuration, "config: Limit"),
+    ],
+)
+def test_the_venues_program_is_asked_first(
+    stage: Stage, program: Callable[[Path], list[str]], expected: str
+) -> None:
     """A configuration that the venue does not take begins no day, whatever the gateway thinks of it."""
     write(stage, VENUE)
     with_program(stage, program(stage.folder))
@@ -157,11 +199,13 @@ def test_the_venues_program_is_asked_first(stage: Stage, program: Callable[[Path
 def drawn_fault(draw: random.Random) -> tuple[str, int, str]:
     """A line of the lawful text with one letter of its key left out: the text, the line's number, the key."""
     lines = VENUE.splitlines()
-    numbers = [at for at, line in enumerate(lines) if " = " in line and len(line.split(" = ")[0]) > 3]
+    numbers = [
+        at for at, line in enumerate(lines) if " = " in line and len(line.split(" = ")[0]) > 3
+    ]
     at = draw.choice(numbers)
     key, value = lines[at].split(" = ")
     letter = draw.randrange(len(key))
-    lines[at] = "%s = %s" % (key[:letter] + key[letter + 1:], value)
+    lines[at] = "%s = %s" % (key[:letter] + key[letter + 1 :], value)
     return "\n".join(lines) + "\n", at + 1, key
 
 
@@ -174,5 +218,8 @@ def test_fifty_drawn_faults_are_told_with_line_and_key(stage: Stage, seed: int) 
         (stage.folder / "venue.toml").write_text(text)
         found = told(stage)
         assert found.returncode == 1, text
-        assert "line %d: " % line in found.stderr and "; %s?" % key in found.stderr, (text, found.stderr)
+        assert "line %d: " % line in found.stderr and "; %s?" % key in found.stderr, (
+            text,
+            found.stderr,
+        )
     assert is_untouched(stage)

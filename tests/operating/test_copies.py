@@ -31,7 +31,11 @@ def week(stage: Stage, clock: Clock) -> Week:
     (stage.folder / "venue.toml").write_text(VENUE)
     stage.door.write()
     file = stage.folder / "gateway.toml"
-    file.write_text(file.read_text().replace("day.db", "{date}.db") + DAYS + '[copies]\nfolder = "copies"\nkeep = 1\n')
+    file.write_text(
+        file.read_text().replace("day.db", "{date}.db")
+        + DAYS
+        + '[copies]\nfolder = "copies"\nkeep = 1\n'
+    )
     return found
 
 
@@ -47,7 +51,14 @@ def open_and_end(week: Week, number: int) -> None:
 
 def audited(log: Path, *words: str) -> "subprocess.CompletedProcess[str]":
     command = [str(ROOT / "audit" / "mireseason-audit"), *words, str(log)]
-    return subprocess.run(command, env={**os.environ, "PATH": "/usr/bin:/bin"}, capture_output=True, text=True, timeout=LONG, check=False)
+    return subprocess.run(
+        command,
+        env={**os.environ, "PATH": "/usr/bin:/bin"},
+        capture_output=True,
+        text=True,
+        timeout=LONG,
+        check=False,
+    )
 
 
 def test_days_are_copied(week: Week) -> None:
@@ -73,19 +84,37 @@ def test_days_are_copied(week: Week) -> None:
     assert week.log_of(week.day(2)).exists()
     for number in (1, 2):
         there = copy_of(week, number)
-        subprocess.run(["sha256sum", "--check", "--strict", "SHA256SUMS"], cwd=there, check=True, capture_output=True)
+        subprocess.run(
+            ["sha256sum", "--check", "--strict", "SHA256SUMS"],
+            cwd=there,
+            check=True,
+            capture_output=True,
+        )
         log = there / week.log_of(week.day(number)).name
-        found = audited(log, "check", "--gateway-key", str(stage.door.keys / "gateway.pub"), "--venue", shlex.join(stage.door.programs.venue))
+        found = audited(
+            log,
+            "check",
+            "--gateway-key",
+            str(stage.door.keys / "gateway.pub"),
+            "--venue",
+            shlex.join(stage.door.programs.venue),
+        )
         assert found.returncode == 0, found.stdout + found.stderr
         configuration = (there / "venue.toml").read_text()
-        assert re.search(r'^date = "%s"$' % there.name, configuration, re.MULTILINE), "the configuration lacks the day"
+        assert re.search(
+            r'^date = "%s"$' % there.name, configuration, re.MULTILINE
+        ), "the configuration lacks the day"
         if len(stage.door.programs.venue) == 1:
             program = Path(stage.door.programs.venue[0])
             assert (there / program.name).read_bytes() == program.read_bytes()
 
     # Sealed by a key that the gateway's host lacks.
     key = stage.folder / "supervisor.pem"
-    subprocess.run(["openssl", "genpkey", "-algorithm", "ed25519", "-out", str(key)], check=True, capture_output=True)
+    subprocess.run(
+        ["openssl", "genpkey", "-algorithm", "ed25519", "-out", str(key)],
+        check=True,
+        capture_output=True,
+    )
     log = copy_of(week, 1) / week.log_of(week.day(1)).name
     assert audited(log, "seal", "--key", str(key)).returncode == 0
     assert Path(str(log) + ".seal").exists()

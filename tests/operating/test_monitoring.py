@@ -41,8 +41,12 @@ def test_each_firm_is_counted(stage: Stage) -> None:
     stage.open(*stage.firms)
     stage.auction()
     name = stage.name("q")
-    stage.say(stage.other, "S", [(117, name), (131, b"R99"), (48, BOND), (22, b"4"), (133, b"99.5")])
-    refused = stage.answer(stage.other, "what became of a quote", lambda message: message.value(117) == name)
+    stage.say(
+        stage.other, "S", [(117, name), (131, b"R99"), (48, BOND), (22, b"4"), (133, b"99.5")]
+    )
+    refused = stage.answer(
+        stage.other, "what became of a quote", lambda message: message.value(117) == name
+    )
     assert refused.value(297) == b"5", refused.raw
     for firm, expected in (
         (DEALER, {"messages": 1, "requests": 0, "quotes": 1, "hits": 0, "refusals": 0}),
@@ -71,9 +75,13 @@ def test_what_the_venue_has_not_answered(stage: Stage) -> None:
 def test_versions(stage: Stage) -> None:
     """The gateway's, as --version says it, and the venue's, as its program says it."""
     stage.open()
-    told = subprocess.run([stage.door.programs.gateway, "--version"], capture_output=True, text=True, check=True).stdout.strip()
+    told = subprocess.run(
+        [stage.door.programs.gateway, "--version"], capture_output=True, text=True, check=True
+    ).stdout.strip()
     version = (ROOT / "VERSION").read_text().strip()
-    assert re.fullmatch(r"mireseason-gateway %s \((unknown|[0-9a-f]{12,40}\+?)\)" % re.escape(version), told), told
+    assert re.fullmatch(
+        r"mireseason-gateway %s \((unknown|[0-9a-f]{12,40}\+?)\)" % re.escape(version), told
+    ), told
     assert stage.counters()['mireseason_build_info{version="%s"}' % told] == 1
     assert any(name.startswith("mireseason_venue_info{version=") for name in stage.counters())
 
@@ -81,7 +89,11 @@ def test_versions(stage: Stage) -> None:
 def end_of(file: Path) -> float:
     """When a certificate ends, as openssl says it."""
     words = ["openssl", "x509", "-in", str(file), "-noout", "-enddate"]
-    told = subprocess.run(words, capture_output=True, text=True, check=True).stdout.strip().partition("=")[2]
+    told = (
+        subprocess.run(words, capture_output=True, text=True, check=True)
+        .stdout.strip()
+        .partition("=")[2]
+    )
     return ssl.cert_time_to_seconds(told)
 
 
@@ -94,10 +106,18 @@ def test_certificates_that_end(stage: Stage) -> None:
     for name in ("venue.pem", "authority.pem"):
         file = stage.folder / name
         counts(stage, 'certificate_expiry_timestamp_seconds{file="%s"}' % file, end_of(file))
-    until("a second has gone by", LONG, lambda: time.time() > end_of(stage.folder / "venue.pem") - 2 * 86400 + 2)
+    until(
+        "a second has gone by",
+        LONG,
+        lambda: time.time() > end_of(stage.folder / "venue.pem") - 2 * 86400 + 2,
+    )
     certificate(stage.folder, "venue", "localhost", "authority")
     stage.door.running.send_signal(signal.SIGHUP)
-    counts(stage, 'certificate_expiry_timestamp_seconds{file="%s"}' % (stage.folder / "venue.pem"), end_of(stage.folder / "venue.pem"))
+    counts(
+        stage,
+        'certificate_expiry_timestamp_seconds{file="%s"}' % (stage.folder / "venue.pem"),
+        end_of(stage.folder / "venue.pem"),
+    )
 
 
 # ------------------------------------------------------------ the alerts
@@ -107,11 +127,20 @@ def test_each_alert_has_a_case() -> None:
     """promtool's own tests pass, and of each alert there is one in which it fires."""
     if not shutil.which("promtool"):
         pytest.skip("promtool is not installed (prometheus)")
-    done = subprocess.run(["promtool", "test", "rules", CASES.name], cwd=CASES.parent, capture_output=True, text=True, timeout=LONG, check=False)
+    done = subprocess.run(
+        ["promtool", "test", "rules", CASES.name],
+        cwd=CASES.parent,
+        capture_output=True,
+        text=True,
+        timeout=LONG,
+        check=False,
+    )
     assert done.returncode == 0, done.stdout + done.stderr
     alerts = re.findall(r"- alert: (\w+)", RULES.read_text())
     assert alerts
-    fires = re.findall(r"- alertname: (\w+)\n\s+eval_time: \w+\n\s+exp_alerts:\n\s+- exp_labels", CASES.read_text())
+    fires = re.findall(
+        r"- alertname: (\w+)\n\s+eval_time: \w+\n\s+exp_alerts:\n\s+- exp_labels", CASES.read_text()
+    )
     assert sorted(set(alerts)) == sorted(set(fires))
 
 
@@ -119,8 +148,16 @@ def test_rules_know_the_metrics(stage: Stage) -> None:
     """Each metric that a rule names is one that the gateway has."""
     stage.open(stage.dealer)
     found = {name.split("{")[0] for name in stage.counters()}
-    of_tls = {"mireseason_certificate_expiry_timestamp_seconds", "mireseason_wrong_passwords_total"}  # not here
-    named = set(re.findall(r"\bmireseason_\w+", "".join(line for line in RULES.read_text().splitlines(True) if "action" not in line)))
+    of_tls = {
+        "mireseason_certificate_expiry_timestamp_seconds",
+        "mireseason_wrong_passwords_total",
+    }  # not here
+    named = set(
+        re.findall(
+            r"\bmireseason_\w+",
+            "".join(line for line in RULES.read_text().splitlines(True) if "action" not in line),
+        )
+    )
     assert named - found <= of_tls, named - found
 
 
@@ -129,10 +166,17 @@ def prometheus(stage: Stage) -> Iterator[int]:
     """Debian's, which looks at the gateway each second, with the rules of this repository; its port."""
     port, folder = free_port(), stage.folder
     (folder / "prometheus.yml").write_text(
-        "global: {scrape_interval: 1s, evaluation_interval: 1s}\nrule_files: [%s]\n" % json.dumps(str(RULES))
-        + 'scrape_configs: [{job_name: mireseason, static_configs: [{targets: ["127.0.0.1:%d"]}]}]\n' % stage.door.metrics
+        "global: {scrape_interval: 1s, evaluation_interval: 1s}\nrule_files: [%s]\n"
+        % json.dumps(str(RULES))
+        + 'scrape_configs: [{job_name: mireseason, static_configs: [{targets: ["127.0.0.1:%d"]}]}]\n'
+        % stage.door.metrics
     )
-    words = ["prometheus", "--config.file=prometheus.yml", "--storage.tsdb.path=prometheus", "--web.listen-address=127.0.0.1:%d" % port]
+    words = [
+        "prometheus",
+        "--config.file=prometheus.yml",
+        "--storage.tsdb.path=prometheus",
+        "--web.listen-address=127.0.0.1:%d" % port,
+    ]
     with (folder / "prometheus.told").open("wb") as told:
         process = subprocess.Popen(words, cwd=folder, stdout=told, stderr=subprocess.STDOUT)
     try:
@@ -145,7 +189,9 @@ def prometheus(stage: Stage) -> Iterator[int]:
 def firing(port: int) -> set[str]:
     """The alerts that prometheus has firing now."""
     try:
-        with urllib.request.urlopen("http://127.0.0.1:%d/api/v1/alerts" % port, timeout=LONG) as answer:
+        with urllib.request.urlopen(
+            "http://127.0.0.1:%d/api/v1/alerts" % port, timeout=LONG
+        ) as answer:
             alerts = json.load(answer)["data"]["alerts"]
     except OSError:
         return set()
@@ -176,14 +222,29 @@ def test_the_page(stage: Stage, browser: Browser, place: Path) -> None:
     stage.auction()
     stage.ask()
     address = "http://127.0.0.1:%d/" % stage.door.metrics
-    until("the request is on the page", LONG, lambda: "Open requests: 1<" in asked(stage.door, "/")[1])
+    until(
+        "the request is on the page", LONG, lambda: "Open requests: 1<" in asked(stage.door, "/")[1]
+    )
     for width in (400, 1280):
         for scheme in ("light", "dark"):
-            words = ["--force-dark-mode", "--blink-settings=preferredColorScheme=0"] if scheme == "dark" else []
+            words = (
+                ["--force-dark-mode", "--blink-settings=preferredColorScheme=0"]
+                if scheme == "dark"
+                else []
+            )
             shown = browser.show(address, *words, width=width)
             assert not shown.complaints, shown.complaints
             text = re.sub(r"<[^>]*>", " ", shown.dom)
-            for words_of in ("ready: ", "DLR1", "DLR2", "INV1", "Open requests: 1", "Queues", "Last events", "logged on firm=INV1"):
+            for words_of in (
+                "ready: ",
+                "DLR1",
+                "DLR2",
+                "INV1",
+                "Open requests: 1",
+                "Queues",
+                "Last events",
+                "logged on firm=INV1",
+            ):
                 assert words_of in text, (words_of, width, scheme)
             browser.picture(address, place / ("page-%d-%s.png" % (width, scheme)), width=width)
 

@@ -61,25 +61,35 @@ def built(gateway: Path, venue: tuple[str, ...], folder: Path, version: str = VE
     if version != VERSION:
         root = folder / "tree"
         for part in ("packaging", "gateway", "deploy", "docs", "fix", "audit"):
-            shutil.copytree(ROOT / part, root / part, ignore=shutil.ignore_patterns("out", "__pycache__"))
+            shutil.copytree(
+                ROOT / part, root / part, ignore=shutil.ignore_patterns("out", "__pycache__")
+            )
         shutil.copy2(ROOT / "crates.txt", root)
         (root / "VERSION").write_text(version + "\n")
         (root / "COMMIT").write_text("0123456789ab\n")
-        (root / "CHANGELOG.md").write_text("# Changes\n\n## %s\n\n- Nothing but its number.\n" % version)
+        (root / "CHANGELOG.md").write_text(
+            "# Changes\n\n## %s\n\n- Nothing but its number.\n" % version
+        )
     environment = {**os.environ, "VENUE": venue[0], "GATEWAY": str(gateway.parent)}
     words = [str(root / "packaging" / "build.sh"), str(folder / "packages")]
-    done = subprocess.run(words, env=environment, capture_output=True, text=True, timeout=10 * LONG, check=False)
+    done = subprocess.run(
+        words, env=environment, capture_output=True, text=True, timeout=10 * LONG, check=False
+    )
     assert done.returncode == 0, done.stdout + done.stderr
     return Packages(folder / "packages")
 
 
 @pytest.fixture(scope="module")
-def packages(gateway_program: Path, venue: tuple[str, ...], tmp_path_factory: pytest.TempPathFactory) -> Packages:
+def packages(
+    gateway_program: Path, venue: tuple[str, ...], tmp_path_factory: pytest.TempPathFactory
+) -> Packages:
     return built(gateway_program, venue, tmp_path_factory.mktemp("packages"))
 
 
 def printed(*words: str | Path) -> str:
-    return subprocess.run([str(word) for word in words], capture_output=True, text=True, check=True, timeout=LONG).stdout.strip()
+    return subprocess.run(
+        [str(word) for word in words], capture_output=True, text=True, check=True, timeout=LONG
+    ).stdout.strip()
 
 
 def test_lintian_finds_no_error(packages: Packages) -> None:
@@ -89,7 +99,9 @@ def test_lintian_finds_no_error(packages: Packages) -> None:
     assert done.returncode == 0, done.stdout + done.stderr
 
 
-def test_the_program_is_the_proved_one(packages: Packages, venue: tuple[str, ...], place: Path) -> None:
+def test_the_program_is_the_proved_one(
+    packages: Packages, venue: tuple[str, ...], place: Path
+) -> None:
     """Byte for byte; and the package says of which commit its SHA-256 is."""
     root = packages.unpacked("mireseason-venue", place / "root")
     program = root / "usr/bin/rfq_venue"
@@ -97,7 +109,11 @@ def test_the_program_is_the_proved_one(packages: Packages, venue: tuple[str, ...
     lines = (root / "usr/share/mireseason/programs").read_text().splitlines()
     digest = hashlib.sha256(Path(venue[0]).read_bytes()).hexdigest()
     assert lines[1] == digest + "  /usr/bin/rfq_venue"
-    named = re.fullmatch(r"# (.*): the program of mireseason %s, proved from commit ([0-9a-f]{12,40}\+?|unknown)" % re.escape(VERSION), lines[0])
+    named = re.fullmatch(
+        r"# (.*): the program of mireseason %s, proved from commit ([0-9a-f]{12,40}\+?|unknown)"
+        % re.escape(VERSION),
+        lines[0],
+    )
     assert named, lines[0]
     assert named[1] == printed(program, "--version")
 
@@ -108,7 +124,9 @@ def test_versions(packages: Packages, place: Path) -> None:
     audit = packages.unpacked("mireseason-audit", place / "audit")
     venue = packages.unpacked("mireseason-venue", place / "venue")
     commit = (venue / "usr/share/mireseason/programs").read_text().split("commit ")[1].split()[0]
-    assert printed("/usr/bin/python3", audit / "usr/share/mireseason/audit/mireseason-audit", "--version") == "mireseason-audit %s (%s)" % (VERSION, commit)
+    assert printed(
+        "/usr/bin/python3", audit / "usr/share/mireseason/audit/mireseason-audit", "--version"
+    ) == "mireseason-audit %s (%s)" % (VERSION, commit)
     told = printed(gateway / "usr/bin/mireseason-gateway", "--version")
     assert re.fullmatch(r"mireseason-gateway %s \(\S+\)" % re.escape(VERSION), told), told
     for name in PACKAGES:
@@ -118,9 +136,20 @@ def test_versions(packages: Packages, place: Path) -> None:
 
 def test_what_an_operator_edits_stays(packages: Packages) -> None:
     """Each file below /etc is one that an upgrade asks about, and never writes over."""
-    files = subprocess.run(["dpkg-deb", "-c", packages.file("mireseason-gateway")], capture_output=True, text=True, check=True).stdout
-    below = {line.split()[5][1:] for line in files.splitlines() if line.split()[5].startswith("./etc/") and not line.endswith("/")}
-    conffiles = set(printed("dpkg-deb", "-I", packages.file("mireseason-gateway"), "conffiles").splitlines())
+    files = subprocess.run(
+        ["dpkg-deb", "-c", packages.file("mireseason-gateway")],
+        capture_output=True,
+        text=True,
+        check=True,
+    ).stdout
+    below = {
+        line.split()[5][1:]
+        for line in files.splitlines()
+        if line.split()[5].startswith("./etc/") and not line.endswith("/")
+    }
+    conffiles = set(
+        printed("dpkg-deb", "-I", packages.file("mireseason-gateway"), "conffiles").splitlines()
+    )
     assert below == conffiles != set()
 
 
@@ -130,7 +159,9 @@ def test_pages_and_completions(packages: Packages, place: Path) -> None:
         packages.unpacked(name, place / "root")
     root = place / "root"
     for program in [*root.glob("usr/bin/*"), *root.glob("usr/sbin/*")]:
-        assert list(root.glob("usr/share/man/man*/%s.*.gz" % program.name)), "%s has no manual page" % program.name
+        assert list(root.glob("usr/share/man/man*/%s.*.gz" % program.name)), (
+            "%s has no manual page" % program.name
+        )
     for file in root.glob("usr/share/bash-completion/completions/*"):
         subprocess.run(["bash", "-n", file], check=True)
     unit = root / "lib/systemd/system/mireseason-gateway.service"
@@ -148,27 +179,59 @@ class System:
     gateway: "subprocess.Popen[bytes] | None" = None
 
     def run(self, *words: str, status: int = 0) -> str:
-        environment = {"PATH": "/usr/sbin:/usr/bin:/sbin:/bin", "HOME": "/root", "DEBIAN_FRONTEND": "noninteractive", "LC_ALL": "C.UTF-8"}
-        done = subprocess.run(["chroot", self.root, *words], env=environment, capture_output=True, text=True, timeout=5 * LONG, check=False)
-        assert done.returncode == status, "%s: status %d\n%s%s" % (" ".join(words), done.returncode, done.stdout, done.stderr)
+        environment = {
+            "PATH": "/usr/sbin:/usr/bin:/sbin:/bin",
+            "HOME": "/root",
+            "DEBIAN_FRONTEND": "noninteractive",
+            "LC_ALL": "C.UTF-8",
+        }
+        done = subprocess.run(
+            ["chroot", self.root, *words],
+            env=environment,
+            capture_output=True,
+            text=True,
+            timeout=5 * LONG,
+            check=False,
+        )
+        assert done.returncode == status, "%s: status %d\n%s%s" % (
+            " ".join(words),
+            done.returncode,
+            done.stdout,
+            done.stderr,
+        )
         return done.stdout
 
     def install(self, packages: Packages) -> None:
         """As from a folder, without a mirror: all that they need is there."""
         for file in packages.files:
             shutil.copy2(file, self.root / "root")
-        self.run("sh", "-c", "apt-get install -y -o Dpkg::Use-Pty=0 --allow-downgrades /root/*_%s_*.deb" % packages.files[0].name.split("_")[1])
+        self.run(
+            "sh",
+            "-c",
+            "apt-get install -y -o Dpkg::Use-Pty=0 --allow-downgrades /root/*_%s_*.deb"
+            % packages.files[0].name.split("_")[1],
+        )
 
     def start(self) -> None:
         """As the unit does: by its user, with its command."""
-        words = ["chroot", "--userspec=mireseason:mireseason", str(self.root), "/usr/bin/mireseason-gateway", "/etc/mireseason/gateway.toml"]
+        words = [
+            "chroot",
+            "--userspec=mireseason:mireseason",
+            str(self.root),
+            "/usr/bin/mireseason-gateway",
+            "/etc/mireseason/gateway.toml",
+        ]
         with (self.root / "var/lib/mireseason.told").open("ab") as told:
-            self.gateway = subprocess.Popen(words, stdin=subprocess.DEVNULL, stdout=told, stderr=subprocess.STDOUT)
+            self.gateway = subprocess.Popen(
+                words, stdin=subprocess.DEVNULL, stdout=told, stderr=subprocess.STDOUT
+            )
 
     def stop(self) -> None:
         if self.gateway:
             self.gateway.send_signal(signal.SIGTERM)
-            assert self.gateway.wait(timeout=LONG) == 0, (self.root / "var/lib/mireseason.told").read_text()
+            assert self.gateway.wait(timeout=LONG) == 0, (
+                self.root / "var/lib/mireseason.told"
+            ).read_text()
             self.gateway = None
 
     def edit(self, file: str, old: str, new: str) -> None:
@@ -188,13 +251,24 @@ def fresh(place: Path) -> Iterator[System]:
     if "FRESH_SYSTEM" in os.environ:
         subprocess.run(["cp", "-a", os.environ["FRESH_SYSTEM"], root], check=True)
     else:
-        words = ["mmdebstrap", "--mode=root", "--variant=minbase", "--include=" + ",".join(BELOW.split()), "bookworm", str(root)]
+        words = [
+            "mmdebstrap",
+            "--mode=root",
+            "--variant=minbase",
+            "--include=" + ",".join(BELOW.split()),
+            "bookworm",
+            str(root),
+        ]
         try:
-            made = subprocess.run(words, capture_output=True, text=True, timeout=60 * MINUTES, check=False)
+            made = subprocess.run(
+                words, capture_output=True, text=True, timeout=60 * MINUTES, check=False
+            )
         except subprocess.TimeoutExpired:
             pytest.skip("mmdebstrap: not done in %d minutes" % MINUTES)
         if made.returncode != 0:
-            pytest.skip("mmdebstrap: %s" % (made.stderr.strip().splitlines() or ["it says nothing"])[-1])
+            pytest.skip(
+                "mmdebstrap: %s" % (made.stderr.strip().splitlines() or ["it says nothing"])[-1]
+            )
     for name, number in (("null", 3), ("zero", 5), ("random", 8), ("urandom", 9)):
         device = root / "dev" / name
         if not device.is_char_device():
@@ -222,10 +296,19 @@ def firm_of(stage: Stage, told: str, trader: str, port: int) -> Firm:
 
 
 @pytest.mark.long
-def test_a_fresh_system(fresh: System, packages: Packages, gateway_program: Path, venue: tuple[str, ...], tools: Tools, place: Path) -> None:
+def test_a_fresh_system(
+    fresh: System,
+    packages: Packages,
+    gateway_program: Path,
+    venue: tuple[str, ...],
+    tools: Tools,
+    place: Path,
+) -> None:
     """From the packages two firms trade in five commands; an upgrade in the midst of the day loses nothing; a purge leaves the record."""
     for program in ("gcc", "g++", "cc", "rt", "make"):
-        assert not shutil.which(program, path="%s/usr/bin:%s/usr/local/bin" % (fresh.root, fresh.root)), program
+        assert not shutil.which(
+            program, path="%s/usr/bin:%s/usr/local/bin" % (fresh.root, fresh.root)
+        ), program
     fresh.install(packages)
     assert (fresh.root / "etc/mireseason").stat().st_mode & 0o7777 == 0o750
     assert (fresh.root / "etc/mireseason/credentials.toml").stat().st_mode & 0o7777 == 0o640
@@ -240,12 +323,19 @@ def test_a_fresh_system(fresh: System, packages: Packages, gateway_program: Path
     checked = fresh.run("mireseason-gateway", "--check", "/etc/mireseason/gateway.toml")
     assert "is a configuration of 2 firms for " in checked
     fresh.start()
-    until("it is ready", LONG, lambda: "ready: " in fresh.run("sh", "-c", "curl -s http://127.0.0.1:%d/ready || true" % metrics))
+    until(
+        "it is ready",
+        LONG,
+        lambda: "ready: "
+        in fresh.run("sh", "-c", "curl -s http://127.0.0.1:%d/ready || true" % metrics),
+    )
 
     folder = place / "firms"
     folder.mkdir()
     stage = Stage(tools, folder)
-    stage.dealer, stage.investor = firm_of(stage, dealer, "T1", port), firm_of(stage, investor, "T8", port)
+    stage.dealer, stage.investor = firm_of(stage, dealer, "T1", port), firm_of(
+        stage, investor, "T8", port
+    )
     try:
         stage.log_on(stage.dealer, stage.investor)
         stage.auction([stage.dealer])
@@ -258,7 +348,9 @@ def test_a_fresh_system(fresh: System, packages: Packages, gateway_program: Path
         fresh.install(newer)
         assert (fresh.root / "etc/mireseason/holidays").read_text() == "2030-01-01\n"
         fresh.start()
-        until("both are back", LONG, lambda: stage.dealer.logged_on() and stage.investor.logged_on())
+        until(
+            "both are back", LONG, lambda: stage.dealer.logged_on() and stage.investor.logged_on()
+        )
         stage.quote(stage.dealer, request)
         stage.auction([stage.dealer])
     finally:
@@ -266,7 +358,13 @@ def test_a_fresh_system(fresh: System, packages: Packages, gateway_program: Path
             firm.kill()
     fresh.stop()
     (log,) = (fresh.root / "var/lib/mireseason").glob("day-*.db")
-    fresh.run("mireseason-audit", "check", "--gateway-key", "/etc/mireseason/keys/gateway.pub", "/var/lib/mireseason/" + log.name)
+    fresh.run(
+        "mireseason-audit",
+        "check",
+        "--gateway-key",
+        "/etc/mireseason/keys/gateway.pub",
+        "/var/lib/mireseason/" + log.name,
+    )
 
     fresh.run("apt-get", "purge", "-y", "-o", "Dpkg::Use-Pty=0", *PACKAGES)
     assert log.exists(), "a purge took the record away"

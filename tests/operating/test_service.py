@@ -58,13 +58,18 @@ def systemd(place: Path) -> Iterator[Systemd]:
 
 def watched(stage: Stage, systemd: Systemd, seconds: int) -> None:
     """The gateway's next start is one of a unit with Type=notify and WatchdogSec=seconds."""
-    stage.door.environment |= {"NOTIFY_SOCKET": str(systemd.place), "WATCHDOG_USEC": str(seconds * 1_000_000)}
+    stage.door.environment |= {
+        "NOTIFY_SOCKET": str(systemd.place),
+        "WATCHDOG_USEC": str(seconds * 1_000_000),
+    }
 
 
 def asked(door: Door, path: str) -> tuple[int, str]:
     """The status and the line of an answer."""
     try:
-        with urllib.request.urlopen("http://127.0.0.1:%d%s" % (door.metrics, path), timeout=LONG) as answer:
+        with urllib.request.urlopen(
+            "http://127.0.0.1:%d%s" % (door.metrics, path), timeout=LONG
+        ) as answer:
             return answer.status, answer.read().decode()
     except urllib.error.HTTPError as answer:
         return answer.code, answer.read().decode()
@@ -118,7 +123,11 @@ def test_the_watchdog_sees_a_venue_that_hangs(stage: Stage, systemd: Systemd) ->
     watched(stage, systemd, 8)
     stage.open(stage.dealer)
     with hanging_venue(stage):
-        until("it is told", LONG, lambda: "venue does not answer" in stage.door.told.read_text(errors="replace"))
+        until(
+            "it is told",
+            LONG,
+            lambda: "venue does not answer" in stage.door.told.read_text(errors="replace"),
+        )
         alive = systemd.count("WATCHDOG=1")
         until("/health says it", LONG, lambda: asked(stage.door, "/health")[0] == 503)
         assert systemd.count("WATCHDOG=1") == alive
@@ -141,7 +150,10 @@ def test_a_day_that_has_not_opened(stage: Stage, systemd: Systemd) -> None:
     file.write_text(file.read_text() + days)
     stage.door.start()
     until("it has started", LONG, lambda: systemd.says("READY=1"))
-    words = "closed: %s, %sT00:00:00Z to " % (tomorrow.strftime("%Y%m%d"), tomorrow.strftime("%Y-%m-%d"))
+    words = "closed: %s, %sT00:00:00Z to " % (
+        tomorrow.strftime("%Y%m%d"),
+        tomorrow.strftime("%Y-%m-%d"),
+    )
     until("its state is told", LONG, lambda: systemd.says("STATUS=" + words))
     assert asked(stage.door, "/health")[0] == 200
     status, line = asked(stage.door, "/ready")
@@ -158,12 +170,20 @@ def test_a_change_for_tomorrow(stage: Stage) -> None:
     (stage.folder / "venue.toml").write_text(VENUE)
     stage.open(*stage.firms)
     stage.auction()
-    (stage.folder / "venue.toml").write_text(VENUE.replace("[[dealer]]", '[[bond]]\nid = "BONDB0000002"\ngrid = 32\n[[dealer]]', 1))
-    until("it is told", LONG, lambda: "it is right, and applies from" in stage.door.told.read_text(errors="replace"))
+    (stage.folder / "venue.toml").write_text(
+        VENUE.replace("[[dealer]]", '[[bond]]\nid = "BONDB0000002"\ngrid = 32\n[[dealer]]', 1)
+    )
+    until(
+        "it is told",
+        LONG,
+        lambda: "it is right, and applies from" in stage.door.told.read_text(errors="replace"),
+    )
     stage.door.kill()
     stage.door.start()
     stage.door.wait_open()
-    assert "the day goes on with the configuration that it began with" in stage.door.told.read_text(errors="replace")
+    assert "the day goes on with the configuration that it began with" in stage.door.told.read_text(
+        errors="replace"
+    )
     until("all are back", LONG, lambda: all(firm.logged_on() for firm in stage.firms))
     stage.auction()
     assert b"BONDB0000002" not in stage.door.ledger().entries[0].line

@@ -58,11 +58,13 @@ class Week:
         return self.stage.door.told.read_text(errors="replace")
 
     def wait_told(self, text: str, since: str = "") -> None:
-        until("the gateway says %r" % text, LONG, lambda: text in self.told()[len(since):])
+        until("the gateway says %r" % text, LONG, lambda: text in self.told()[len(since) :])
 
     def log_of(self, day: date) -> Path:
         """By the day's date in UTC."""
-        return self.stage.folder / (datetime.combine(day, OPENS, ZONE).astimezone(timezone.utc).strftime("%Y%m%d") + ".db")
+        return self.stage.folder / (
+            datetime.combine(day, OPENS, ZONE).astimezone(timezone.utc).strftime("%Y%m%d") + ".db"
+        )
 
     def open_day(self, number: int) -> None:
         """The clock comes to the day, the gateway opens by itself, and firms log on whose numbers begin anew."""
@@ -73,7 +75,9 @@ class Week:
 
     def bring_firms(self, name: str) -> None:
         """The firms' initiators, whose numbers begin anew in a folder of this name."""
-        self.stage.dealer, self.stage.other, self.stage.investor = [self.stage.firm(who) for who in (DEALER, OTHER, INVESTOR)]
+        self.stage.dealer, self.stage.other, self.stage.investor = [
+            self.stage.firm(who) for who in (DEALER, OTHER, INVESTOR)
+        ]
         for firm in self.stage.firms:
             firm.places.folder = self.stage.folder / name
             firm.places.folder.mkdir(exist_ok=True)
@@ -82,10 +86,16 @@ class Week:
 
     def check_log(self, number: int) -> None:
         """The audit finds the closed day's log whole."""
-        words = [str(ROOT / "audit" / "mireseason-audit"), "check", str(self.log_of(self.day(number)))]
+        words = [
+            str(ROOT / "audit" / "mireseason-audit"),
+            "check",
+            str(self.log_of(self.day(number))),
+        ]
         words += ["--venue", shlex.join(self.stage.door.programs.venue)]
         path = {**os.environ, "PATH": "/usr/bin:/bin"}
-        found = subprocess.run(words, env=path, capture_output=True, text=True, timeout=LONG, check=False)
+        found = subprocess.run(
+            words, env=path, capture_output=True, text=True, timeout=LONG, check=False
+        )
         assert found.returncode == 0, found.stdout + found.stderr
 
     def end_day(self, number: int) -> None:

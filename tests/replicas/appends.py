@@ -26,7 +26,10 @@ LOADS = ((1, 1), (1, 8), (1, 32), (2, 32), (4, 32))  # logs, threads of each
 
 def connection_to(site: Site) -> str:
     return "host=%s dbname=%s user=gateway password=%s target_session_attrs=read-write" % (
-        ",".join(host.address for host in DATABASES), DATABASE, site.passwords["GATEWAY"])
+        ",".join(host.address for host in DATABASES),
+        DATABASE,
+        site.passwords["GATEWAY"],
+    )
 
 
 def tried(machine: Machine, out: Path, seconds: int) -> int:
@@ -39,8 +42,10 @@ def tried(machine: Machine, out: Path, seconds: int) -> int:
         print("%s: %s" % (test, "failed" if status else "passed"), flush=True)
         failed += status != 0
     for logs, threads in LOADS:
-        subprocess.run([*inside, str(out / "log_bench"), connection, str(logs), str(threads),
-                        str(seconds)], check=True)
+        subprocess.run(
+            [*inside, str(out / "log_bench"), connection, str(logs), str(threads), str(seconds)],
+            check=True,
+        )
     print("load %.0f" % os.getloadavg()[0])
     return failed
 
@@ -56,8 +61,7 @@ def main() -> None:
     with tempfile.TemporaryDirectory(prefix="mrt") as name:
         folder = Path(name)
         folder.chmod(0o755)
-        machine = Machine(folder, words.images / folder.name, words.out, site_here(()),
-                          folder.name)
+        machine = Machine(folder, words.images / folder.name, words.out, site_here(()), folder.name)
         try:
             machine.bring_up_databases()
             failed = tried(machine, words.out, words.seconds)

@@ -30,11 +30,15 @@ def read_ledger(machine: Machine, schema: str) -> Ledger:
     entries = tuple(
         Entry(int(place), firm or None, int(number) if number else None, bytes.fromhex(line))
         for place, firm, number, line in rows(
-            machine, "SELECT place, firm, number, encode(line, 'hex') FROM %s.entry ORDER BY place"
-            % schema))
+            machine,
+            "SELECT place, firm, number, encode(line, 'hex') FROM %s.entry ORDER BY place" % schema,
+        )
+    )
     sent: dict[str, list[tuple[int, bytes]]] = {}
-    for firm, number, data in rows(machine, "SELECT firm, number, encode(bytes, 'hex') "
-                                            "FROM %s.sent ORDER BY firm, number" % schema):
+    for firm, number, data in rows(
+        machine,
+        "SELECT firm, number, encode(bytes, 'hex') " "FROM %s.sent ORDER BY firm, number" % schema,
+    ):
         sent.setdefault(firm, []).append((int(number), bytes.fromhex(data)))
     return Ledger(entries, sent)
 

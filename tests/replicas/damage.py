@@ -51,8 +51,9 @@ class Course:
         return primary(self.machine)
 
     def standby(self) -> DatabaseHost:
-        return found_in("there is a synchronous standby", PATIENCE,
-                        self.machine.cluster.synchronous_standby)
+        return found_in(
+            "there is a synchronous standby", PATIENCE, self.machine.cluster.synchronous_standby
+        )
 
 
 class Damages(Course):
@@ -61,9 +62,17 @@ class Damages(Course):
     def __init__(self, machine: Machine, seed: int, count: int) -> None:
         super().__init__(machine)
         self.draw = random.Random("damage of %d" % seed)
-        kinds = [self.kill_primary, self.kill_gateway, self.kill_etcd, self.cut_standby,
-                 self.cut_gateway, self.cut_host, self.cut_power, self.fill_disk,
-                 self.lose_primary]
+        kinds = [
+            self.kill_primary,
+            self.kill_gateway,
+            self.kill_etcd,
+            self.cut_standby,
+            self.cut_gateway,
+            self.cut_host,
+            self.cut_power,
+            self.fill_disk,
+            self.lose_primary,
+        ]
         deck = kinds * (count // len(kinds) + 1)
         self.draw.shuffle(deck)
         self.order = deck[:count]
@@ -89,22 +98,29 @@ class Damages(Course):
         network = self.machine.network
         one, other = self.primary().name, self.standby().name
         network.cut(one, other)
-        return Damage("link of primary and standby cut",
-                      [(CUT_SECONDS, lambda: network.heal(one, other))])
+        return Damage(
+            "link of primary and standby cut", [(CUT_SECONDS, lambda: network.heal(one, other))]
+        )
 
     def cut_gateway(self) -> Damage:
         one, other = self.speaking().name, self.primary().name
         network = self.machine.network
         network.cut(one, other)
-        return Damage("link of gateway and primary cut",
-                      [(CUT_SECONDS, lambda: network.heal(one, other))], one)
+        return Damage(
+            "link of gateway and primary cut",
+            [(CUT_SECONDS, lambda: network.heal(one, other))],
+            one,
+        )
 
     def cut_host(self) -> Damage:
         speaking, network = self.speaking().name, self.machine.network
         name = self.draw.choice([host.name for host in (*DATABASES, *GATEWAYS)])
         network.cut_off(name)
-        return Damage("host cut off", [(CUT_SECONDS, lambda: network.join(name))],
-                      name if name == speaking else "")
+        return Damage(
+            "host cut off",
+            [(CUT_SECONDS, lambda: network.join(name))],
+            name if name == speaking else "",
+        )
 
     def cut_power(self) -> Damage:
         host = self.primary()
@@ -128,5 +144,7 @@ class Damages(Course):
 
         for other in others:
             network.cut(host.name, other)
-        return Damage("primary alone, then its power cut",
-                      [(ALONE_SECONDS, end), (ALONE_SECONDS + POWER_SECONDS, host.power_up)])
+        return Damage(
+            "primary alone, then its power cut",
+            [(ALONE_SECONDS, end), (ALONE_SECONDS + POWER_SECONDS, host.power_up)],
+        )

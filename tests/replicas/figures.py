@@ -26,6 +26,9 @@ class Figures:
         kinds = sorted({what for what, _ in gaps})
         of_kind = {kind: sorted(gap for what, gap in gaps if what == kind) for kind in kinds}
         of_kind["all"] = sorted(gap for _, gap in gaps)
-        return ["%-34s %3d  median %5.1f s  worst %5.1f s" % (
-            kind, len(found), statistics.median(found), found[-1])
-            for kind, found in of_kind.items() if found]
+        return [
+            "%-34s %3d  median %5.1f s  worst %5.1f s"
+            % (kind, len(found), statistics.median(found), found[-1])
+            for kind, found in of_kind.items()
+            if found
+        ]

@@ -47,22 +47,29 @@ LOOKS = 30  # how often the end of a day is looked at until no deadline comes in
 FAULT = 60.0  # seconds of its day that a fault has, at most: four times what it takes
 
 # Both addresses, and a heartbeat that finds a gateway that is gone before its cut is mended.
-SETTINGS = {"SocketConnectHost": GATEWAYS[0].address, "SocketConnectPort": str(PORT),
-            "SocketConnectHost1": GATEWAYS[1].address, "SocketConnectPort1": str(PORT),
-            "HeartBtInt": "2", "ReconnectInterval": "1"}
+SETTINGS = {
+    "SocketConnectHost": GATEWAYS[0].address,
+    "SocketConnectPort": str(PORT),
+    "SocketConnectHost1": GATEWAYS[1].address,
+    "SocketConnectPort1": str(PORT),
+    "HeartBtInt": "2",
+    "ReconnectInterval": "1",
+}
 
 
 class Day:
     def __init__(self, words: argparse.Namespace, folder: Path, seed: int) -> None:
         self.words, self.venue = words, list(whole_paths(words.venue))
-        self.names = (ALONE,) if words.venues == 1 else NAMES[:words.venues]
+        self.names = (ALONE,) if words.venues == 1 else NAMES[: words.venues]
         site = site_here(tuple(self.venue), self.names, synchronous_of(words.wrong))
-        self.machine = Machine(folder, words.images / folder.name, words.gateway.resolve(), site,
-                               folder.name)
+        self.machine = Machine(
+            folder, words.images / folder.name, words.gateway.resolve(), site, folder.name
+        )
         inside = tuple(self.machine.network.words(FIRMS.name))
         stage = Stage(folder, words.player.resolve(), PORT, SETTINGS, inside)
-        self.sides = [self.side(stage, name, seed + 1000 * at)
-                      for at, name in enumerate(self.names)]
+        self.sides = [
+            self.side(stage, name, seed + 1000 * at) for at, name in enumerate(self.names)
+        ]
         self.damages: Course = Damages(self.machine, seed, words.faults)
         if words.upkeep:
             self.damages = Upkeep(self.machine)
@@ -126,8 +133,11 @@ class Day:
                     text = "%s: not all is as it was within %g s"
                     raise TooLong(text % (damage.what, PATIENCE))
         self.figures.add(damage.what, damage.began, time.monotonic())
-        print("  %-34s %5.1f s until all was as before" % (
-            damage.what, time.monotonic() - damage.began), flush=True)
+        print(
+            "  %-34s %5.1f s until all was as before"
+            % (damage.what, time.monotonic() - damage.began),
+            flush=True,
+        )
 
     def starts_of(self, gateway: str) -> int:
         return self.machine.supervisor.services[gateway].starts if gateway else 0
@@ -148,8 +158,9 @@ class Day:
             # Where a deadline came in between, its messages are still to be sent.
             if self.places() == before:
                 break
-        return self.problems + [self.told_of(side, fault) for side in self.sides
-                                for fault in side.faults(self.venue)]
+        return self.problems + [
+            self.told_of(side, fault) for side in self.sides for fault in side.faults(self.venue)
+        ]
 
     def caught_up(self) -> list[int]:
         """Waits until firms have what the logs give them; the last places of those logs."""
@@ -195,9 +206,20 @@ class Day:
             distinct = sum(count_of(firm) for firm in side.firms)
             again = sum(len(firm.received) for firm in side.firms) - distinct
             text = "%d messages of firms, %d entries, %d terms; %d messages to firms, %d came again"
-            print("  " + self.told_of(side, text % (
-                side.sent, len(ledger.entries), terms(self.machine, self.schema(side.name)),
-                distinct, again)))
+            print(
+                "  "
+                + self.told_of(
+                    side,
+                    text
+                    % (
+                        side.sent,
+                        len(ledger.entries),
+                        terms(self.machine, self.schema(side.name)),
+                        distinct,
+                        again,
+                    ),
+                )
+            )
         firms = [firm for side in self.sides for firm in side.firms]
         moments = [message.moment / 1e9 for firm in firms for message in firm.received]
         for line in self.figures.lines(moments):
@@ -222,8 +244,9 @@ def one_day(words: argparse.Namespace, folder: Path, seed: int) -> list[str]:
         print(text % (seed, len(day.figures.faults), took, load), flush=True)
         return found
     except (TooLong, Fault, RuntimeError) as fault:
-        told = ["%s's last words: %s" % (each.name, each.last_words())
-                for each in day.machine.gateways]
+        told = [
+            "%s's last words: %s" % (each.name, each.last_words()) for each in day.machine.gateways
+        ]
         return ["%s; %s" % (fault, "; ".join(told))]
     finally:
         day.close()

@@ -106,8 +106,10 @@ class Cast:
 
     @classmethod
     def of(cls, dealers: int, investors: int) -> "Cast":
-        return cls(tuple(identity("DLR", "T", "dealer", n) for n in range(1, dealers + 1)),
-                   tuple(identity("INV", "V", "investor", n) for n in range(1, investors + 1)))
+        return cls(
+            tuple(identity("DLR", "T", "dealer", n) for n in range(1, dealers + 1)),
+            tuple(identity("INV", "V", "investor", n) for n in range(1, investors + 1)),
+        )
 
     @property
     def all(self) -> tuple[Identity, ...]:
@@ -124,8 +126,9 @@ class Cast:
 
 
 def identity(letters: str, trader: str, role: str, number: int) -> Identity:
-    return Identity("%s%d" % (letters, number), "%s%d" % (trader, number),
-                    "%s-%d-secret" % (role, number))
+    return Identity(
+        "%s%d" % (letters, number), "%s%d" % (trader, number), "%s-%d-secret" % (role, number)
+    )
 
 
 @dataclass(frozen=True)
@@ -154,4 +157,3 @@ class Stage:
         script.write_text('#!/bin/sh\n%s "$@"\n' % " ".join(words))
         script.chmod(0o755)
         return Places(script, own, DICTIONARIES, self.port)
-

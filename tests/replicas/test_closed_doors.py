@@ -35,7 +35,9 @@ def machine(tmp_path_factory: pytest.TempPathFactory) -> Iterator[Machine]:
         remove(PREFIX, folder, folder / "images")
 
 
-def on(machine: Machine, host: str, *words: str, **environment: str) -> subprocess.CompletedProcess[str]:
+def on(
+    machine: Machine, host: str, *words: str, **environment: str
+) -> subprocess.CompletedProcess[str]:
     """A command on a host."""
     named = ["env", *("%s=%s" % item for item in environment.items())]
     command = [*machine.network.words(host), *named, *words]
@@ -44,14 +46,34 @@ def on(machine: Machine, host: str, *words: str, **environment: str) -> subproce
 
 def asked(machine: Machine, host: str, url: str, *words: str) -> str:
     """The status of an answer by HTTP, 000 where there is none."""
-    done = on(machine, host, "curl", "-s", "-o", "/dev/null", "-m", "10", "-w", "%{http_code}", *words, url)
+    done = on(
+        machine,
+        host,
+        "curl",
+        "-s",
+        "-o",
+        "/dev/null",
+        "-m",
+        "10",
+        "-w",
+        "%{http_code}",
+        *words,
+        url,
+    )
     return done.stdout
 
 
 def certificate(machine: Machine, host: str) -> list[str]:
     """A host's own, in words of curl."""
     folder = machine.folder / host / "tls"
-    return ["--cacert", str(folder / "authority.pem"), "--cert", str(folder / "host.pem"), "--key", str(folder / "host.key")]
+    return [
+        "--cacert",
+        str(folder / "authority.pem"),
+        "--cert",
+        str(folder / "host.pem"),
+        "--key",
+        str(folder / "host.key"),
+    ]
 
 
 def test_etcd(machine: Machine) -> None:
@@ -91,8 +113,16 @@ def connected(machine: Machine, host: str, words: str, password: str) -> str:
 
 def test_postgres(machine: Machine) -> None:
     """In the clear nobody is let in, whatever the password; nor without a certificate where one is needed."""
-    for role, database in (("gateway", "mireseason"), ("rewinder", "postgres"), ("reader", "mireseason")):
-        secret = {"gateway": "gateway-secret", "rewinder": "rewind-secret", "reader": "reader-secret"}[role]
+    for role, database in (
+        ("gateway", "mireseason"),
+        ("rewinder", "postgres"),
+        ("reader", "mireseason"),
+    ):
+        secret = {
+            "gateway": "gateway-secret",
+            "rewinder": "rewind-secret",
+            "reader": "reader-secret",
+        }[role]
         words = "user=%s dbname=%s" % (role, database)
         assert "no encryption" in connected(machine, ATTACKER, words + " sslmode=disable", secret)
         if role != "reader":
@@ -100,15 +130,24 @@ def test_postgres(machine: Machine) -> None:
             assert "requires a valid client certificate" in told, told
     folder = machine.folder / "db2" / "tls"
     own = "sslmode=verify-full sslrootcert=%s sslcert=%s sslkey=%s" % (
-        folder / "authority.pem", folder / "host.pem", folder / "host.key")
-    assert "password authentication failed" in connected(machine, "db2", "user=gateway dbname=mireseason " + own, "guessed")
-    assert connected(machine, "db2", "user=gateway dbname=mireseason " + own, "gateway-secret") == "1"
+        folder / "authority.pem",
+        folder / "host.pem",
+        folder / "host.key",
+    )
+    assert "password authentication failed" in connected(
+        machine, "db2", "user=gateway dbname=mireseason " + own, "guessed"
+    )
+    assert (
+        connected(machine, "db2", "user=gateway dbname=mireseason " + own, "gateway-secret") == "1"
+    )
 
 
 def test_replication(machine: Machine) -> None:
     """The log leaves by it, whole."""
     words = "user=replicator dbname=postgres replication=true"
-    assert "no encryption" in connected(machine, ATTACKER, words + " sslmode=disable", "replication-secret")
+    assert "no encryption" in connected(
+        machine, ATTACKER, words + " sslmode=disable", "replication-secret"
+    )
     told = connected(machine, ATTACKER, words + " sslmode=require", "replication-secret")
     assert "requires a valid client certificate" in told, told
 
@@ -117,5 +156,7 @@ def test_what_comes_over_the_links_is_encrypted(machine: Machine) -> None:
     """Each standby streams over TLS."""
     primary = machine.cluster.primary()
     assert primary is not None
-    found = primary.asked("SELECT count(*) FROM pg_stat_replication JOIN pg_stat_ssl USING (pid) WHERE ssl AND client_dn IS NOT NULL")
+    found = primary.asked(
+        "SELECT count(*) FROM pg_stat_replication JOIN pg_stat_ssl USING (pid) WHERE ssl AND client_dn IS NOT NULL"
+    )
     assert found == "2"

@@ -32,9 +32,21 @@ def test_both_gateways_keep_what_one_signs(machine: Machine) -> None:
     machine.up({ALONE: venue_text()}, (EXAMPLE / "credentials.toml").read_text())
     speaks = machine.speaking()
     assert speaks is not None
-    until("the other gateway stands by", LONG, lambda: any(one.stands_by() for one in machine.gateways if one is not speaks))
+    until(
+        "the other gateway stands by",
+        LONG,
+        lambda: any(one.stands_by() for one in machine.gateways if one is not speaks),
+    )
     follows = next(one for one in machine.gateways if one is not speaks)
-    until("both keep a checkpoint of term 1", LONG, lambda: all("\nterm 1\n" in kept(one) for one in machine.gateways))
+    until(
+        "both keep a checkpoint of term 1",
+        LONG,
+        lambda: all("\nterm 1\n" in kept(one) for one in machine.gateways),
+    )
     speaks.service.kill()
     until("the other takes over", LONG, lambda: machine.listens(follows))
-    until("it signs in its own term, and the other keeps that", LONG, lambda: all("\nterm 2\n" in kept(one) for one in machine.gateways))
+    until(
+        "it signs in its own term, and the other keeps that",
+        LONG,
+        lambda: all("\nterm 2\n" in kept(one) for one in machine.gateways),
+    )

@@ -19,8 +19,17 @@ ROOM = 1_500_000_000  # bytes of memory in which the disks of hosts may be
 # However it ends, so does all that it started, and what it mounted is gone, its hosts' network namespaces too. And nobody else
 # has a disk of its hosts mounted, which then would not lose its power. The shell stays, as the first process, which takes the
 # status of whatever has lost its parent: a server that was killed and whose end nobody takes is one that runs, to Patroni.
-APART = ["unshare", "--pid", "--mount-proc", "--fork", "--kill-child", "sh", "-c",
-         'mkdir -p /run/netns && mount -t tmpfs tmpfs /run/netns || exit; "$@"; exit $?', "sh"]
+APART = [
+    "unshare",
+    "--pid",
+    "--mount-proc",
+    "--fork",
+    "--kill-child",
+    "sh",
+    "-c",
+    'mkdir -p /run/netns && mount -t tmpfs tmpfs /run/netns || exit; "$@"; exit $?',
+    "sh",
+]
 PASSED = re.compile(r"^(\d+) passed, (\d+) failed$", re.MULTILINE)
 Part = Callable[..., tuple[int, int, str]]
 
@@ -38,7 +47,9 @@ def hosts() -> None:
 def images(options: Options) -> Iterator[Path]:
     """Where the disks are: in memory where there is room."""
     free = shutil.disk_usage(options.images).free
-    with tempfile.TemporaryDirectory(prefix="mireseason", dir=options.images if free > ROOM else None) as name:
+    with tempfile.TemporaryDirectory(
+        prefix="mireseason", dir=options.images if free > ROOM else None
+    ) as name:
         yield Path(name)
 
 
@@ -47,8 +58,23 @@ def part(hosts: None, images: Path) -> Part:
     """part(module, words ..) runs a part; how many passed, how many failed, and what it said."""
 
     def run(module: str, *words: object) -> tuple[int, int, str]:
-        command = [*APART, sys.executable, "-m", "tests.replicas." + module, "--images", str(images), *map(str, words)]
-        done = subprocess.run(command, stdout=subprocess.PIPE, stderr=subprocess.STDOUT, text=True, timeout=LIMIT, check=False)
+        command = [
+            *APART,
+            sys.executable,
+            "-m",
+            "tests.replicas." + module,
+            "--images",
+            str(images),
+            *map(str, words),
+        ]
+        done = subprocess.run(
+            command,
+            stdout=subprocess.PIPE,
+            stderr=subprocess.STDOUT,
+            text=True,
+            timeout=LIMIT,
+            check=False,
+        )
         print(done.stdout)
         found = PASSED.findall(done.stdout)
         assert found, done.stdout[-4000:]
@@ -72,8 +98,21 @@ def test_a_cut_of_power_leaves_what_was_synchronised(part: Part) -> None:
 
 def test_two_venues_behind_one_gateway(hosts: None, tools: Tools) -> None:
     """On SQLite, with firms in both."""
-    command = [*APART, sys.executable, "-m", "tests.replicas.venues", *map(str, programs(tools) + venue(tools))]
-    done = subprocess.run(command, stdout=subprocess.PIPE, stderr=subprocess.STDOUT, text=True, timeout=LIMIT, check=False)
+    command = [
+        *APART,
+        sys.executable,
+        "-m",
+        "tests.replicas.venues",
+        *map(str, programs(tools) + venue(tools)),
+    ]
+    done = subprocess.run(
+        command,
+        stdout=subprocess.PIPE,
+        stderr=subprocess.STDOUT,
+        text=True,
+        timeout=LIMIT,
+        check=False,
+    )
     assert done.returncode == 0, done.stdout[-4000:]
 
 
@@ -107,7 +146,9 @@ def test_what_an_operator_does(part: Part, tools: Tools) -> None:
 @pytest.mark.parametrize("wrong", ["local", "terms"])
 def test_a_wrong_set_up_fails(part: Part, tools: Tools, options: Options, wrong: str) -> None:
     """Commits that do not wait for a standby, and a log without terms: or the days would show nothing."""
-    _, failed, _ = part("replicas", *programs(tools), *day_words(options), "--wrong", wrong, *venue(tools))
+    _, failed, _ = part(
+        "replicas", *programs(tools), *day_words(options), "--wrong", wrong, *venue(tools)
+    )
     assert failed > 0
 
 

@@ -18,16 +18,25 @@ class Upkeep(Course):
 
     def __init__(self, machine: Machine) -> None:
         super().__init__(machine)
-        self.order = [self.take_out_primary, self.take_out_standby, self.replace_standby,
-                      self.replace_primary]
+        self.order = [
+            self.take_out_primary,
+            self.take_out_standby,
+            self.replace_standby,
+            self.replace_primary,
+        ]
 
     # ------------------------------------------------------------ what is done
 
     def take_out_primary(self) -> Damage:
         host, standby = self.primary(), self.standby()
-        return Damage("primary switched over and out", [
-            (0, lambda: self.switch_over(host, standby)), (0, host.stop),
-            (OUT_SECONDS, host.start_again)])
+        return Damage(
+            "primary switched over and out",
+            [
+                (0, lambda: self.switch_over(host, standby)),
+                (0, host.stop),
+                (OUT_SECONDS, host.start_again),
+            ],
+        )
 
     def take_out_standby(self) -> Damage:
         host = self.standby()
@@ -42,13 +51,28 @@ class Upkeep(Course):
         return Damage("primary replaced", self.replacement(host))
 
     def replacement(self, host: DatabaseHost) -> list[tuple[float, Callable[[], None]]]:
-        return [(0, host.cut_power), (0, host.renew_disk),
-                (OUT_SECONDS, lambda: self.join_anew(host)), (OUT_SECONDS, host.start_again)]
+        return [
+            (0, host.cut_power),
+            (0, host.renew_disk),
+            (OUT_SECONDS, lambda: self.join_anew(host)),
+            (OUT_SECONDS, host.start_again),
+        ]
 
     def switch_over(self, host: DatabaseHost, standby: DatabaseHost) -> None:
-        run(*self.machine.network.words(host.name), *as_user("postgres"), "patronictl",
-            "-c", str(host.own / "patroni.yml"), "switchover", "mireseason",
-            "--leader", host.name, "--candidate", standby.name, "--force")
+        run(
+            *self.machine.network.words(host.name),
+            *as_user("postgres"),
+            "patronictl",
+            "-c",
+            str(host.own / "patroni.yml"),
+            "switchover",
+            "mireseason",
+            "--leader",
+            host.name,
+            "--candidate",
+            standby.name,
+            "--force",
+        )
         until("%s is the primary" % standby.name, PATIENCE, standby.is_primary)
 
     def join_anew(self, host: DatabaseHost) -> None:

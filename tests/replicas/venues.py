@@ -52,8 +52,12 @@ class TwoVenues:
 
     def start(self) -> subprocess.Popen[bytes]:
         with (self.folder / "told").open("ab") as told:
-            return subprocess.Popen([self.words.gateway.resolve(), self.folder / "gateway.toml"],
-                                    stdin=subprocess.DEVNULL, stdout=told, stderr=told)
+            return subprocess.Popen(
+                [self.words.gateway.resolve(), self.folder / "gateway.toml"],
+                stdin=subprocess.DEVNULL,
+                stdout=told,
+                stderr=told,
+            )
 
     def write(self) -> None:
         for name in NAMES:

@@ -8,7 +8,14 @@ from pathlib import Path
 
 Row = dict[str, str]
 TABLES = (
-    "asked", "columns", "connections", "messages", "quotes", "requests", "responses", "sessions",
+    "asked",
+    "columns",
+    "connections",
+    "messages",
+    "quotes",
+    "requests",
+    "responses",
+    "sessions",
     "trades",
 )
 

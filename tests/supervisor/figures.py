@@ -27,7 +27,8 @@ def read_figures(found: dict[str, list[dict[str, Any]]]) -> Figures:
     for row in found["figures"]:
         values = {
             name: Fraction(value) if name in DECIMALS and value is not None else value
-            for name, value in row.items() if name not in ("group", "key")
+            for name, value in row.items()
+            if name not in ("group", "key")
         }
         figures.figures[row["group"], row["key"]] = values
     for row in found["amounts"]:
@@ -82,16 +83,19 @@ class Tally:
         answered = [one for one in asked if one.answer == "answered"]
         times = [one.milliseconds for one in answered if one.milliseconds is not None]
         trades = [
-            one for one in self._sheet.trades
+            one
+            for one in self._sheet.trades
             if one.request.number in numbers and (not dealer or one.dealer == dealer)
         ]
         covers = [
-            one.better_than(one.cover_price) for one in trades
+            one.better_than(one.cover_price)
+            for one in trades
             if one.cover_price is not None and not one.cover_lapsed
         ]
         worse = [-one.better_than(one.best) for one in trades if one.better_than(one.best) < 0]
         quotes = [
-            one for one in self._sheet.quotes
+            one
+            for one in self._sheet.quotes
             if self._sheet.by_entry[one.entry].number in numbers
             and (not dealer or one.dealer == dealer)
         ]

@@ -16,7 +16,9 @@ class GrowingLog:
     def begin(self) -> None:
         """The tables, and what each session expects in the end."""
         with closing(sqlite3.connect(self.whole)) as log:
-            query = "SELECT sql FROM sqlite_master WHERE sql IS NOT NULL AND name NOT LIKE 'sqlite_%'"
+            query = (
+                "SELECT sql FROM sqlite_master WHERE sql IS NOT NULL AND name NOT LIKE 'sqlite_%'"
+            )
             tables = [sql for sql, in log.execute(query)]
         with self.open_log() as log:
             log.execute("PRAGMA journal_mode = WAL")
@@ -39,8 +41,10 @@ class GrowingLog:
             place, event = log.execute(query, (place,)).fetchall()[-1]
             log.execute("BEGIN")
             for table, of, last in (
-                ("entry", "place", place), ("sent", "place", place),
-                ("connection", "place", event), ("seal", "place", place),
+                ("entry", "place", place),
+                ("sent", "place", place),
+                ("connection", "place", event),
+                ("seal", "place", place),
                 ("checkpoint", "place", place),
             ):
                 key = "firm || ' ' || number" if table == "sent" else "rowid"
@@ -60,8 +64,10 @@ class GrowingLog:
         """What is left: the ends of the sessions, and what seals them."""
         with self.open_log() as log:
             for table, key in (
-                ("outgoing", "firm || ' ' || number"), ("connection", "place"),
-                ("seal", "number"), ("checkpoint", "number"),
+                ("outgoing", "firm || ' ' || number"),
+                ("connection", "place"),
+                ("seal", "number"),
+                ("checkpoint", "number"),
             ):
                 query = "INSERT INTO %s SELECT * FROM whole.%s WHERE %s NOT IN (SELECT %s FROM %s)"
                 log.execute(query % (table, table, key, key, table))

@@ -11,7 +11,10 @@ from tests.supervisor.figures import Figures, Key, Value, ranked, ratio
 
 # Of each group, what its key is in a query over `requests r` and one of the dealer's `d`.
 KEYS = {
-    "day": "'%s'", "dealer": "d", "investor": "r.investor", "bond": "r.bond",
+    "day": "'%s'",
+    "dealer": "d",
+    "investor": "r.investor",
+    "bond": "r.bond",
     "hour": "substr(r.moment, 1, 2)",
 }
 REQUESTS = """
@@ -52,8 +55,10 @@ QUOTES = """
             AND h.entry > q.end_entry)),
         sum(q.until IS NOT NULL AND q.until <= q.end_moment)
     FROM (SELECT *, dealer AS d FROM quotes) q JOIN requests r USING (request) GROUP BY 1"""
-PARTS = "substr({0}, 1, 2) * 3600000 + substr({0}, 4, 2) * 60000 + substr({0}, 7, 2) * 1000" \
+PARTS = (
+    "substr({0}, 1, 2) * 3600000 + substr({0}, 4, 2) * 60000 + substr({0}, 7, 2) * 1000"
     " + substr({0} || '.000', 10, 3)"
+)
 LIVES = """
     SELECT KEY, min({end}, coalesce({until}, 86400000)) - ({start})
     FROM (SELECT *, dealer AS d FROM quotes) q JOIN requests r USING (request)
@@ -109,12 +114,26 @@ class SecondWay:
             requests, quoted, awarded, asked, answered, declined, silent, *told = values
             won, cover, away, passed, expired = told
             found.figures[group, name] = {
-                "requests": requests, "asked": asked, "answered": answered, "declined": declined,
-                "silent": silent, "won": won, "cover": cover, "done_away": away, "passed": passed,
+                "requests": requests,
+                "asked": asked,
+                "answered": answered,
+                "declined": declined,
+                "silent": silent,
+                "won": won,
+                "cover": cover,
+                "done_away": away,
+                "passed": passed,
                 "expired": expired,
                 "hit_ratio": ratio(won, answered) if group == "dealer" else ratio(awarded, quoted),
-                "trades": 0, "covers": 0, "covers_lapsed": 0, "not_best": 0, "quotes": 0,
-                "replaced": 0, "withdrawn": 0, "fades": 0, "lapsed": 0,
+                "trades": 0,
+                "covers": 0,
+                "covers_lapsed": 0,
+                "not_best": 0,
+                "quotes": 0,
+                "replaced": 0,
+                "withdrawn": 0,
+                "fades": 0,
+                "lapsed": 0,
             }
         for name, (trades, covers, lapsed, worse) in self._ask(TRADES, key):
             found.figures[group, name].update(
@@ -160,6 +179,7 @@ def differing(one: dict[Key, dict[str, Value]], other: dict[Key, dict[str, Value
     """Where two differ, in words."""
     return [
         "%s %s %s: %s, %s" % (*key, name, one.get(key, {}).get(name), values.get(name))
-        for key, values in other.items() for name in values
+        for key, values in other.items()
+        for name in values
         if one.get(key, {}).get(name, "none") != values[name]
     ]

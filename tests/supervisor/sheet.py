@@ -130,17 +130,23 @@ def take(sheet: Sheet, words: list[str]) -> None:
     kind, *rest = words
     if kind == "request":
         number, entry, moment, investor, bond, side, quantity, end = rest
-        request = Request(
-            int(number), int(entry), moment, investor, bond, side, int(quantity), end
-        )
+        request = Request(int(number), int(entry), moment, investor, bond, side, int(quantity), end)
         sheet.requests.append(request)
     elif kind == "trade":
         entry, name, quote, price, cover, cover_price, best = rest
-        sheet.trades.append(Trade(
-            int(entry), name, quote, Fraction(price), "" if cover == "-" else cover.rstrip("*"),
-            cover.endswith("*"), None if cover_price == "-" else Fraction(cover_price),
-            Fraction(best), traded(sheet, name, int(entry)),
-        ))
+        sheet.trades.append(
+            Trade(
+                int(entry),
+                name,
+                quote,
+                Fraction(price),
+                "" if cover == "-" else cover.rstrip("*"),
+                cover.endswith("*"),
+                None if cover_price == "-" else Fraction(cover_price),
+                Fraction(best),
+                traded(sheet, name, int(entry)),
+            )
+        )
     elif kind == "quote":
         entry, dealer, asked, name, start, end, until, fate = rest
         sheet.by_entry[int(entry)] = sheet.requests[int(asked) - 1]
@@ -159,7 +165,9 @@ def traded(sheet: Sheet, name: str, entry: int) -> Request:
     """The request of a trade: the last one of its investor, before the hit, that the dealer won."""
     _, investor, dealer, _ = name.split("-")
     return next(
-        request for request in reversed(sheet.requests)
-        if request.investor == investor and request.entry < entry
+        request
+        for request in reversed(sheet.requests)
+        if request.investor == investor
+        and request.entry < entry
         and any(one.dealer == dealer and one.notice == "won" for one in request.asked)
     )

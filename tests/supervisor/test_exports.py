@@ -23,8 +23,16 @@ def test_requests_are_those_of_the_sheet(stored: Exported, sheet: Sheet) -> None
     columns = ("request", "entry", "moment", "investor", "bond", "side", "quantity", "end")
     listed = [tuple(row[name] for name in columns) for row in stored.table("requests")]
     assert listed == [
-        (str(one.number), str(one.entry), one.moment, one.investor, one.bond, one.side,
-         str(one.quantity), one.end)
+        (
+            str(one.number),
+            str(one.entry),
+            one.moment,
+            one.investor,
+            one.bond,
+            one.side,
+            str(one.quantity),
+            one.end,
+        )
         for one in sheet.requests
     ]
     assert {row["currency"] for row in stored.table("requests")} == {""}
@@ -38,7 +46,8 @@ def test_who_was_asked_is_that_of_the_sheet(stored: Exported, sheet: Sheet) -> N
             "" if one.milliseconds is None else str(one.milliseconds),
             one.notice,
         )
-        for request in sheet.requests for one in request.asked
+        for request in sheet.requests
+        for one in request.asked
     }
     listed = {
         (row["request"], row["dealer"]): (row["answer"], row["response_ms"], row["notice"])
@@ -52,8 +61,16 @@ def test_quotes_are_those_of_the_sheet(stored: Exported, sheet: Sheet) -> None:
     columns = ("entry", "dealer", "request", "name", "moment", "end_moment", "until", "end")
     listed = [tuple(row[name] for name in columns) for row in stored.table("quotes")]
     assert listed == [
-        (str(one.entry), one.dealer, str(sheet.by_entry[one.entry].number), one.name, one.start,
-         one.end, one.until, one.fate)
+        (
+            str(one.entry),
+            one.dealer,
+            str(sheet.by_entry[one.entry].number),
+            one.name,
+            one.start,
+            one.end,
+            one.until,
+            one.fate,
+        )
         for one in sheet.quotes
     ]
     for row, one in zip(stored.table("quotes"), sheet.quotes):
@@ -92,9 +109,7 @@ def test_what_was_refused_is_that_of_the_sheet(stored: Exported, sheet: Sheet) -
             assert (row["what"], row["code"], row["name"]) == (one.what, "300=4", one.code)
 
 
-def test_both_forms_have_the_same_rows(
-    run: Audit, short_log: Path, tmp_path: Path
-) -> None:
+def test_both_forms_have_the_same_rows(run: Audit, short_log: Path, tmp_path: Path) -> None:
     one = exported(run, short_log, tmp_path, "csv")
     other = exported(run, short_log, tmp_path, "json")
     assert one.tables == other.tables
@@ -190,17 +205,20 @@ def test_a_day_as_it_stood_then(run: Audit, tmp_path: Path, sheet: Sheet) -> Non
     assert max(int(row["entry"]) for row in read_csv(tmp_path / "time" / "messages.csv")) == 83
 
 
-@pytest.mark.parametrize("words, told", [
-    (["export", STORED, "DIR"], "--csv or --json"),
-    (["export", STORED, "DIR", "--csv", "--for", "ALPHA"], "an investor's"),
-    (["export", STORED, "DIR", "--csv", "--for", "NOBODY"], "the day has no firm NOBODY"),
-    (["export", STORED, "DIR", "--csv", "--until", "337"], "the entries 0 to 336"),
-    (["export", STORED, "DIR", "--csv", "--at", "noon"], "no time of day"),
-    (["export", STORED, "--csv"], "required: FOLDER"),
-    (["export", "nothing.db", "DIR", "--csv"], "nothing.db: there is no such file"),
-    (["trades", STORED, "--for", "NOBODY"], "the day has no firm NOBODY"),
-    (["trades", STORED, "--csv", "--json"], "not allowed with"),
-])
+@pytest.mark.parametrize(
+    "words, told",
+    [
+        (["export", STORED, "DIR"], "--csv or --json"),
+        (["export", STORED, "DIR", "--csv", "--for", "ALPHA"], "an investor's"),
+        (["export", STORED, "DIR", "--csv", "--for", "NOBODY"], "the day has no firm NOBODY"),
+        (["export", STORED, "DIR", "--csv", "--until", "337"], "the entries 0 to 336"),
+        (["export", STORED, "DIR", "--csv", "--at", "noon"], "no time of day"),
+        (["export", STORED, "--csv"], "required: FOLDER"),
+        (["export", "nothing.db", "DIR", "--csv"], "nothing.db: there is no such file"),
+        (["trades", STORED, "--for", "NOBODY"], "the day has no firm NOBODY"),
+        (["trades", STORED, "--csv", "--json"], "not allowed with"),
+    ],
+)
 def test_one_line_says_what_is_missing(
     run: Audit, tmp_path: Path, words: list[object], told: str
 ) -> None:
@@ -214,12 +232,12 @@ WORDS: Table[str] = Table("words", "a text", (Column("text", "", lambda row: row
 
 
 @settings(max_examples=300, deadline=None, database=None)
-@given(st.lists(st.text(
-    st.characters(blacklist_categories=("Cs",), blacklist_characters="\0"), max_size=20
-)))
-def test_no_cell_is_a_formula(
-    tmp_path_factory: pytest.TempPathFactory, texts: list[str]
-) -> None:
+@given(
+    st.lists(
+        st.text(st.characters(blacklist_categories=("Cs",), blacklist_characters="\0"), max_size=20)
+    )
+)
+def test_no_cell_is_a_formula(tmp_path_factory: pytest.TempPathFactory, texts: list[str]) -> None:
     """Whatever a firm calls its things, a spreadsheet takes no cell for a formula, and the text
     is read back.
     """

@@ -60,9 +60,7 @@ def growing(short_log: Path, tmp_path: Path) -> GrowingLog:
 
 
 @pytest.fixture
-def following(
-    growing: GrowingLog, venue: tuple[str, ...], tmp_path: Path
-) -> Iterator[Following]:
+def following(growing: GrowingLog, venue: tuple[str, ...], tmp_path: Path) -> Iterator[Following]:
     growing.grow_to(FIRST)
     following = Following(growing.path, tmp_path / "live", venue)
     yield following
@@ -85,7 +83,9 @@ def differing(one: Path, other: Path) -> list[str]:
     """The files in which two folders differ."""
     names = {
         str(path.relative_to(place))
-        for place in (one, other) for path in place.rglob("*") if path.is_file()
+        for place in (one, other)
+        for path in place.rglob("*")
+        if path.is_file()
     }
     _, different, absent = filecmp.cmpfiles(one, other, sorted(names), shallow=False)
     return different + absent
@@ -108,7 +108,10 @@ def test_a_followed_day(
         assert "As it should be so far" in board.all("p", "verdict")[0].text
         pages = {path.name: path.stat().st_ino for path in (build / "requests").iterdir()}
         if step == 2:
-            assert run("page", growing.path, tmp_path / "then", "--until", following.entry()).status == 0
+            assert (
+                run("page", growing.path, tmp_path / "then", "--until", following.entry()).status
+                == 0
+            )
             assert not differing(build, tmp_path / "then")
         same = [name for name, inode in inodes.items() if pages.get(name) == inode]
         assert len(same) >= len(inodes) // 2, "pages that did not change were written again"
@@ -141,17 +144,24 @@ def test_a_day_as_it_stood(run: Audit, tmp_path: Path) -> None:
     anchors = {
         int(one.attributes["id"][1:])
         for path in (tmp_path / "then" / "firms").iterdir()
-        for one in read_page(path).all("article") if one.attributes["id"].startswith("e")
+        for one in read_page(path).all("article")
+        if one.attributes["id"].startswith("e")
     }
     assert max(anchors) == 84
     assert run("page", STORED, tmp_path / "time", "--at", "09:46:20").status == 0
     assert len(list((tmp_path / "time" / "requests").iterdir())) == 10
 
 
-@pytest.mark.parametrize("words", [
-    ["--follow", "--until", "5"], ["--follow", "--sign", "key.pem"], ["--until", "5", "--key", "k"],
-    ["--follow", "--every", "0"], ["--until", "5", "--at", "09:00:00"],
-])
+@pytest.mark.parametrize(
+    "words",
+    [
+        ["--follow", "--until", "5"],
+        ["--follow", "--sign", "key.pem"],
+        ["--until", "5", "--key", "k"],
+        ["--follow", "--every", "0"],
+        ["--until", "5", "--at", "09:00:00"],
+    ],
+)
 def test_words_that_do_not_go_together(run: Audit, tmp_path: Path, words: list[str]) -> None:
     ran = run("page", STORED, tmp_path / "pages", *words)
     assert (ran.status, ran.out, ran.err.count("\n")) == (2, "", 1), ran.text

@@ -12,11 +12,14 @@ from tests.supervisor.conftest import STORED
 WITHOUT = 'raise ModuleNotFoundError("No module named %r", name=%r)\n'
 
 
-@pytest.mark.parametrize("module, words", [
-    ("jinja2", ["page", STORED, "DIR"]),
-    ("psycopg2", ["check", "postgres:dbname=none"]),
-    ("cryptography", ["check", STORED, "--gateway-key", "key.pem"]),
-])
+@pytest.mark.parametrize(
+    "module, words",
+    [
+        ("jinja2", ["page", STORED, "DIR"]),
+        ("psycopg2", ["check", "postgres:dbname=none"]),
+        ("cryptography", ["check", STORED, "--gateway-key", "key.pem"]),
+    ],
+)
 def test_a_package(
     tmp_path: Path, venue: tuple[str, ...], module: str, words: list[object]
 ) -> None:
@@ -29,16 +32,19 @@ def test_a_package(
     assert ran.err.count("\n") == 1 and "apt-get install -y python3-%s" % module in ran.err
 
 
-@pytest.mark.parametrize("words, told", [
-    (["check"], "the following arguments are required: LOG"),
-    ([], "the following arguments are required: COMMAND"),
-    (["look", STORED], "invalid choice: 'look'"),
-    (["page", STORED, "DIR", "--dictionary", "nothing.xml"], "the dictionary nothing.xml"),
-    (["page", STORED, "DIR", "--sign", "nothing.pem"], "nothing.pem"),
-    (["record", STORED, "DIR"], "say which record: --rts24"),
-    (["record", STORED, "DIR", "--rts24", "--parties", "no.toml"], "name a file by --parties"),
-    (["stats", STORED, "--key", "nothing.pub"], "day.db.seal"),
-])
+@pytest.mark.parametrize(
+    "words, told",
+    [
+        (["check"], "the following arguments are required: LOG"),
+        ([], "the following arguments are required: COMMAND"),
+        (["look", STORED], "invalid choice: 'look'"),
+        (["page", STORED, "DIR", "--dictionary", "nothing.xml"], "the dictionary nothing.xml"),
+        (["page", STORED, "DIR", "--sign", "nothing.pem"], "nothing.pem"),
+        (["record", STORED, "DIR"], "say which record: --rts24"),
+        (["record", STORED, "DIR", "--rts24", "--parties", "no.toml"], "name a file by --parties"),
+        (["stats", STORED, "--key", "nothing.pub"], "day.db.seal"),
+    ],
+)
 def test_a_word_or_a_file(tmp_path: Path, words: list[object], told: str) -> None:
     named = [str(tmp_path / "DIR" if word == "DIR" else word) for word in words]
     command = [str(AUDIT), *named]

@@ -76,8 +76,13 @@ def test_the_lists_of_requests(pages: Path, sheet: Sheet) -> None:
 def test_the_script_hides_rows(pages: Path, sheet: Sheet, tmp_path: Path) -> None:
     if not Browser.is_installed():
         pytest.skip("there is no chromium")
-    choices: list[dict[str, str]] = [{}, {"firm": "DELTA"}, {"bond": "US912810TM09", "end": "awarded"}, {"hour": "09"},
-               {"firm": "ALPHA", "end": "expired", "hour": "13"}]
+    choices: list[dict[str, str]] = [
+        {},
+        {"firm": "DELTA"},
+        {"bond": "US912810TM09", "end": "awarded"},
+        {"hour": "09"},
+        {"firm": "ALPHA", "end": "expired", "hour": "13"},
+    ]
     (pages / "choices.html").write_text(CHOICES % json.dumps(choices))
     shown = Browser(tmp_path / "profile").show((pages / "choices.html").as_uri())
     (pages / "choices.html").unlink()
@@ -105,7 +110,9 @@ def test_a_firm_begins_with_its_summary(pages: Path, sheet: Sheet) -> None:
         told = {pair.all("dt")[0].text: pair.all("dd")[0].text for pair in pairs}
         assert told["Requests that it was shown"] == str(figures["requests"])
         assert (told["Answered"], told["Won"], told["Quotes"]) == (
-            str(figures["answered"]), str(figures["won"]), str(figures["quotes"])
+            str(figures["answered"]),
+            str(figures["won"]),
+            str(figures["quotes"]),
         )
         rows = rows_of(table_behind(page, "Requests that it was shown"))
         assert [row[0].text for row in rows] == expected_lists(sheet)["firm-" + name]
@@ -148,7 +155,8 @@ def test_32nds_are_shown_of_bonds_that_are_quoted_so(
     log = draw(tmp_path / "day.db", 12, seed, venue, *more)
     assert run("page", log, tmp_path / "pages").status == 0
     shown = [
-        one for path in (tmp_path / "pages" / "requests").iterdir()
+        one
+        for path in (tmp_path / "pages" / "requests").iterdir()
         for one in read_page(path).all("span", "price")
     ]
     assert shown
@@ -157,8 +165,10 @@ def test_32nds_are_shown_of_bonds_that_are_quoted_so(
         pair = [thirty_seconds(text), text] if more else [text]
         assert one.text.split() == [word for word in pair if word]
     drawn = [
-        text.text for path in (tmp_path / "pages" / "requests").iterdir()
-        for text in read_page(path).all("text", "said") if "quotes" in text.text
+        text.text
+        for path in (tmp_path / "pages" / "requests").iterdir()
+        for text in read_page(path).all("text", "said")
+        if "quotes" in text.text
     ]
     assert drawn
     for words in drawn:

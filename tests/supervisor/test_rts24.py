@@ -10,8 +10,13 @@ from tests.supervisor.exported import Row, read_csv
 from tests.supervisor.sheet import Sheet
 
 TRADERS = {
-    "ALPHA": ("AL1", "AL2"), "BRAVO": ("BR1",), "CEDAR": ("CE1",), "DELTA": ("DE1",),
-    "EIGER": ("EI1",), "FJORD": ("FJ1", "FJ2"), "GROVE": ("GR1",),
+    "ALPHA": ("AL1", "AL2"),
+    "BRAVO": ("BR1",),
+    "CEDAR": ("CE1",),
+    "DELTA": ("DE1",),
+    "EIGER": ("EI1",),
+    "FJORD": ("FJ1", "FJ2"),
+    "GROVE": ("GR1",),
 }
 BONDS = ("US91282CAA18", "US91282CBB27", "US912810TM09", "US912810SX72")
 
@@ -47,8 +52,14 @@ def test_each_event_of_an_order(record: tuple[list[Row], list[Row]], sheet: Shee
     for request in sheet.requests:
         expected[request.investor, "NEWO"] += 1
         expected[request.investor, ends[request.end]] += 1
-    fates = {"won": "FILL", "withdrawn": "CAME", "cover": "CAMO", "done away": "CAMO",
-             "passed": "CAMO", "expired": "CAMO"}
+    fates = {
+        "won": "FILL",
+        "withdrawn": "CAME",
+        "cover": "CAMO",
+        "done away": "CAMO",
+        "passed": "CAMO",
+        "expired": "CAMO",
+    }
     starts = {(one.dealer, one.end) for one in sheet.quotes if one.fate == "replaced"}
     for quote in sheet.quotes:
         expected[quote.dealer, "REME" if (quote.dealer, quote.start) in starts else "NEWO"] += 1
@@ -56,15 +67,18 @@ def test_each_event_of_an_order(record: tuple[list[Row], list[Row]], sheet: Shee
             expected[quote.dealer, "EXPI"] += 1
         elif quote.fate in fates:
             expected[quote.dealer, fates[quote.fate]] += 1
-    listed = Counter((row["20_order_identification"].split("-")[1], row["21_event"]) for row in rows)
+    listed = Counter(
+        (row["20_order_identification"].split("-")[1], row["21_event"]) for row in rows
+    )
     assert listed == expected
 
 
 def test_the_fields_of_a_trade(record: tuple[list[Row], list[Row]]) -> None:
     """The first trade of the day, entry 11: GROVE sells 10,000,000 to DELTA at 101.2265625."""
     rows, _ = record
-    request, quote = [row for row in rows if row["15_sequence_number"] == "11"
-                      and row["21_event"] == "FILL"]
+    request, quote = [
+        row for row in rows if row["15_sequence_number"] == "11" and row["21_event"] == "FILL"
+    ]
     for row, side, name in ((request, "SELL", "GROVE-G-001"), (quote, "BUYI", "DELTA-d8")):
         assert row["32_buy_sell"] == side
         assert row["20_order_identification"] == "20261125-" + name
@@ -98,9 +112,14 @@ def test_what_the_parties_lack_is_told_and_not_made_up(run: Audit, tmp_path: Pat
     assert {row["16_segment_mic"] for row in read_csv(tmp_path / "out" / "rts24.csv")} == {""}
 
 
-@pytest.mark.parametrize("text, told", [
-    (None, "can't be read"), ("[venue", "can't be read"), ('[venue]\nmic = "x"\n', "venue.mic is 'x'"),
-])
+@pytest.mark.parametrize(
+    "text, told",
+    [
+        (None, "can't be read"),
+        ("[venue", "can't be read"),
+        ('[venue]\nmic = "x"\n', "venue.mic is 'x'"),
+    ],
+)
 def test_parties_that_are_none(run: Audit, tmp_path: Path, text: str | None, told: str) -> None:
     path = tmp_path / "parties.toml"
     if text is not None:

@@ -42,16 +42,24 @@ def test_the_figures_of_the_whole_stored_day(by_audit: Figures) -> None:
     """Counted by hand in the sheet."""
     day = by_audit.figures["day", DATE]
     expected = {
-        "requests": 40, "asked": 130, "answered": 106, "declined": 21, "silent": 3, "trades": 21,
-        "won": 21, "cover": 15, "covers": 13, "covers_lapsed": 2, "not_best": 1, "quotes": 167,
+        "requests": 40,
+        "asked": 130,
+        "answered": 106,
+        "declined": 21,
+        "silent": 3,
+        "trades": 21,
+        "won": 21,
+        "cover": 15,
+        "covers": 13,
+        "covers_lapsed": 2,
+        "not_best": 1,
+        "quotes": 167,
         "fades": 10,
     }
     assert {name: day[name] for name in expected} == expected
 
 
-def test_face_value_is_counted_by_bond_without_currencies(
-    by_audit: Figures, sheet: Sheet
-) -> None:
+def test_face_value_is_counted_by_bond_without_currencies(by_audit: Figures, sheet: Sheet) -> None:
     expected: Counter[str] = Counter()
     for one in sheet.requests:
         expected[one.bond] += one.quantity
@@ -76,7 +84,8 @@ def test_refusals_by_reason(by_audit: Figures, sheet: Sheet) -> None:
         for key in (("day", DATE), (group, one.firm)):
             expected[(*key, *words)] += 1
     listed = {
-        key: count for key, count in by_audit.refusals.items()
+        key: count
+        for key, count in by_audit.refusals.items()
         if key[0] in ("day", "dealer", "investor")
     }
     assert listed == expected

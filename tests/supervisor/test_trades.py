@@ -71,7 +71,8 @@ def test_each_value_stands_in_the_firms_own_messages(run: Audit, short_log: Path
         said = [one for one in own[row["firm"]] if one.get("131") == row["request"]]
         said += [one for one in own[row["firm"]] if one.get("117") == row["quote"]]
         about = [
-            message for (firm, _), message in sent.items()
+            message
+            for (firm, _), message in sent.items()
             if firm == row["firm"] and row["request"] == message.get("131")
         ]
         texts = {value for message in [*said, *about, told] for value in message.values()}

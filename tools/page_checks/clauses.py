@@ -31,8 +31,11 @@ def clauses_of(crate: Path) -> Clauses:
     for path in sorted((crate / "src").glob("*.rt")):
         for promise in FileReader(path.read_text(encoding="utf-8").split("\n")).read():
             if promise.name.split("::")[0] in names:
-                ensured = [clause.name for clause in promise.clauses
-                           if not clause.name.startswith("requires")]
+                ensured = [
+                    clause.name
+                    for clause in promise.clauses
+                    if not clause.name.startswith("requires")
+                ]
                 found.setdefault(promise.name, set()).update(ensured)
     return found
 
@@ -71,9 +74,12 @@ def rows_of(text: str) -> list[tuple[int, str]]:
     """The rows of the tables with the numbers of their lines, without their heads."""
     begin = text.index(BEGIN)
     first = text[:begin].count("\n") + 1
-    lines = text[begin:text.index(END)].split("\n")
-    return [(first + at, line) for at, line in enumerate(lines)
-            if line.startswith("| ") and line != HEAD]
+    lines = text[begin : text.index(END)].split("\n")
+    return [
+        (first + at, line)
+        for at, line in enumerate(lines)
+        if line.startswith("| ") and line != HEAD
+    ]
 
 
 def check_clauses(root: Path) -> Checked:

@@ -21,8 +21,18 @@ from .page import Block, Checked, Page, is_indented
 from .vocabulary import Vocabulary
 
 LIMIT = 900  # seconds for a command: one that is not done by then hangs
-PROGRAMS = {"rt", "rfq_venue", "mireseason-audit", "python3", "apt-get", "systemctl", "etcdctl",
-            "openssl", "ctest", "cmake"}
+PROGRAMS = {
+    "rt",
+    "rfq_venue",
+    "mireseason-audit",
+    "python3",
+    "apt-get",
+    "systemctl",
+    "etcdctl",
+    "openssl",
+    "ctest",
+    "cmake",
+}
 SCRIPT = re.compile(r"^[a-z][\w-]*(?:/[\w.-]+)+$")
 
 
@@ -56,9 +66,17 @@ def pattern_of(lines: list[str]) -> re.Pattern[str]:
 def fault_of(shown: Shown, root: Path, environment: dict[str, str]) -> str | None:
     """Runs a command: what it prints instead, if anything."""
     try:
-        run = subprocess.run(["bash", "-c", shown.command], cwd=root, env=environment, text=True,
-                             stdin=subprocess.DEVNULL, stdout=subprocess.PIPE,
-                             stderr=subprocess.STDOUT, timeout=LIMIT, check=False)
+        run = subprocess.run(
+            ["bash", "-c", shown.command],
+            cwd=root,
+            env=environment,
+            text=True,
+            stdin=subprocess.DEVNULL,
+            stdout=subprocess.PIPE,
+            stderr=subprocess.STDOUT,
+            timeout=LIMIT,
+            check=False,
+        )
     except subprocess.TimeoutExpired:
         return f"not done in {LIMIT} s: {shown.command}"
     if pattern_of(shown.prints).fullmatch(run.stdout):
@@ -69,8 +87,9 @@ def fault_of(shown: Shown, root: Path, environment: dict[str, str]) -> str | Non
 
 def environment_with(program: str, folder: str) -> dict[str, str]:
     """The environment in which `rfq_venue` is this program, or these words, as `python3 FILE`."""
-    words = [os.path.abspath(word) if os.path.exists(word) else word
-             for word in shlex.split(program)]
+    words = [
+        os.path.abspath(word) if os.path.exists(word) else word for word in shlex.split(program)
+    ]
     script = Path(folder) / "rfq_venue"
     script.write_text(f'#!/bin/sh\nexec {shlex.join(words)} "$@"\n', encoding="utf-8")
     script.chmod(0o755)
@@ -79,10 +98,13 @@ def environment_with(program: str, folder: str) -> dict[str, str]:
 
 def listed_in(page: Page) -> list[Shown]:
     """The commands of a page that are not run: those of blocks ```sh, and indented ones."""
-    listed = [Shown(page.path, number, line)
-              for block in page.blocks() if block.kind == "sh"
-              for number, line in enumerate(block.lines, block.first)
-              if line and not line.startswith("#")]
+    listed = [
+        Shown(page.path, number, line)
+        for block in page.blocks()
+        if block.kind == "sh"
+        for number, line in enumerate(block.lines, block.first)
+        if line and not line.startswith("#")
+    ]
     for number, line in page.prose():
         first = (line.split() or [""])[0]
         if is_indented(line) and (first in PROGRAMS or SCRIPT.match(first)):
@@ -101,8 +123,9 @@ def check_listed(listed: list[Shown], words: Vocabulary) -> Checked:
     return checked
 
 
-def check_commands(pages: list[Page], root: Path, words: Vocabulary,
-                   program: str | None) -> tuple[Checked, list[Shown]]:
+def check_commands(
+    pages: list[Page], root: Path, words: Vocabulary, program: str | None
+) -> tuple[Checked, list[Shown]]:
     """Runs what can be run, and lists the rest: what takes minutes, or the program where there is
     none."""
     listed = [shown for page in pages for shown in listed_in(page)]

@@ -21,8 +21,10 @@ from .exceptions import is_excepted
 from .page import Checked, Page
 from .vocabulary import Vocabulary
 
-ENDS = re.compile(r"[\w*.-]\.(?:rt|antt|py|sh|cpp|h|c|md|toml|yml|sql|cases|due|venue|xml|txt|lines|out"
-                  r"|service|html|db|edit|png)$")
+ENDS = re.compile(
+    r"[\w*.-]\.(?:rt|antt|py|sh|cpp|h|c|md|toml|yml|sql|cases|due|venue|xml|txt|lines|out"
+    r"|service|html|db|edit|png)$"
+)
 NAME = re.compile(r"^[A-Za-z][A-Za-z0-9_]*$")
 END_OF_NAME = re.compile(r"^_[a-z_]+")
 HYPHENED = re.compile(r"^[a-z][a-z0-9_]*(?:-(?:[a-z0-9_]+|\*))+$")

@@ -120,12 +120,19 @@ def tracked(root: Path) -> list[str]:
     """The files that the repository has, those that are new and not ignored too."""
     listed = subprocess.run(
         ["git", "ls-files", "--cached", "--others", "--exclude-standard"],
-        cwd=root, capture_output=True, text=True, check=True)
+        cwd=root,
+        capture_output=True,
+        text=True,
+        check=True,
+    )
     paths = sorted(set(listed.stdout.split("\n")))
     return [path for path in paths if path and (root / path).exists()]
 
 
 def pages_of(root: Path, files: list[str]) -> list[Page]:
     """The pages of the repository."""
-    return [Page(path, (root / path).read_text(encoding="utf-8").split("\n"))
-            for path in files if path.endswith(".md")]
+    return [
+        Page(path, (root / path).read_text(encoding="utf-8").split("\n"))
+        for path in files
+        if path.endswith(".md")
+    ]

@@ -26,9 +26,33 @@ FLAG = re.compile(r"(?<![\w-])--[a-z][a-z-]*")
 FLAG_WORD = re.compile(r'"([a-z][a-z-]*)"')
 TAG = re.compile(r"<field number=['\"](\d+)['\"]")
 
-TEXTS = {".rt", ".antt", ".py", ".cpp", ".h", ".c", ".sh", ".toml", ".sql", ".yml", ".cases",
-         ".txt", ".xml", ".due", ".venue", ".steps", ".lines", ".cfg", ".service", ".html", ".css", ".edit",
-         ".suppressions", ".in", ""}
+TEXTS = {
+    ".rt",
+    ".antt",
+    ".py",
+    ".cpp",
+    ".h",
+    ".c",
+    ".sh",
+    ".toml",
+    ".sql",
+    ".yml",
+    ".cases",
+    ".txt",
+    ".xml",
+    ".due",
+    ".venue",
+    ".steps",
+    ".lines",
+    ".cfg",
+    ".service",
+    ".html",
+    ".css",
+    ".edit",
+    ".suppressions",
+    ".in",
+    "",
+}
 ENDINGS = ["", ".rt", ".antt", ".cases", ".h", ".cpp", ".py", ".edit"]
 
 
@@ -67,7 +91,6 @@ class Vocabulary:
         if name in self.names:
             return True
         return name.endswith("_") and any(one.startswith(name) for one in self.names)
-
 
     def has_flag(self, flag: str) -> bool:
         """Whether a program has it, with its dashes or, in a table of flags, without."""

@@ -26,7 +26,7 @@ def check_written(root: Path) -> Checked:
     checked.note(promises.PAGE, 1, fault_of_promises(root))
     proofs = (root / reading_list.PAGE).read_text(encoding="utf-8")
     as_now = reading_list.page_with(proofs, reading_list.reading_list(root)) == proofs
-    line = proofs[:proofs.index(reading_list.BEGIN)].count("\n") + 1
+    line = proofs[: proofs.index(reading_list.BEGIN)].count("\n") + 1
     fault = "run tools/reading_list.py --write: it would write something else"
     checked.note(reading_list.PAGE, line, None if as_now else fault)
     return checked
