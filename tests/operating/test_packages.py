@@ -57,6 +57,8 @@ def built(gateway: Path, venue: tuple[str, ...], folder: Path, version: str = VE
     needs("dpkg-buildpackage", "dh")
     if len(venue) != 1:
         pytest.skip("there is no proved program to put into a package")
+    if not (gateway.parent / "mireseason-admin").exists():
+        pytest.skip("mireseason-admin is not built beside the gateway")
     root = ROOT
     if version != VERSION:
         root = folder / "tree"
