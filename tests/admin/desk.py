@@ -135,7 +135,7 @@ def said_as(user: str, group: str, path: Path, line: bytes) -> str:
         "try:\n    s.connect(sys.argv[1])\nexcept OSError as fault:\n    print('no', fault.strerror); sys.exit()\n"
         "s.settimeout(60)\n"
         "try:\n    s.sendall(sys.stdin.buffer.read())\nexcept OSError:\n    pass\n"
-        "while data := s.recv(65536):\n    sys.stdout.buffer.write(data)\n"
+        "try:\n    while data := s.recv(65536):\n        sys.stdout.buffer.write(data)\nexcept ConnectionError:\n    pass\n"
     )
     command = ["/usr/bin/python3", "-c", script, str(path)]
     done = subprocess.run(

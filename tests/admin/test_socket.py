@@ -52,7 +52,7 @@ def test_what_an_operator_sees(desk: Stage) -> None:
         name = command["command"].split(" [")[0]
         assert name in help_text, "--help has no %s" % name
     for words, status, said in (
-        (("limt", "DLR1"), 1, "there is no command `limt`: `help` lists them"),
+        (("limt",), 1, "there is no command `limt`; `limit`?: `help` lists them"),
         (("stauts",), 1, "`status`?"),
         (("status", "now"), 1, "usage: status"),
         (("limit", "NOBODY", "day_bytes=100000"), 1, "the venue has no firm NOBODY"),
