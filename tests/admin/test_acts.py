@@ -1,6 +1,7 @@
 """What acts change: a firm's limits, the clock, credentials; and that it is so again after a restart and on another gateway."""
 
 import subprocess
+import time
 
 from tests.admin.desk import acts, admin, audit, did, firm_row, rows
 from tests.gateway.market import BOND
@@ -89,17 +90,12 @@ def test_a_rate_that_is_changed(stage: Stage) -> None:
     with logged_on(stage, DEALER) as wire:
         for key in ("messages_per_second=500", "messages_burst=500"):
             did(stage, "limit", "DLR1", key)
-        began = len(stage.door.ledger().messages_of("DLR1"))
-        budget = 500 + 1000  # the burst, and what is read at once before anything is counted
+        began = time.monotonic()
         assert wire.raw(b"".join(cancel(wire, wire.number + at) for at in range(4000)))
-        until(
-            "some are in the log",
-            LONG,
-            lambda: len(stage.door.ledger().messages_of("DLR1")) > began,
-        )
-        assert (
-            len(stage.door.ledger().messages_of("DLR1")) - began < 4000 - budget
-        ), "the whole flood is in the log at once"
+        until("some are in the log", LONG, lambda: stage.entries_of(stage.dealer) > 0)
+        seen = stage.entries_of(stage.dealer)
+        allowed = 500 + 500 * (time.monotonic() - began) + 1000  # what is read at once before anything is counted
+        assert seen <= allowed, "%d entries, and %d are allowed" % (seen, allowed)
     started_again(stage)
     assert {row["limit"]: row["value"] for row in rows(stage, "limit", "DLR1") if row["set"]} == {
         "messages_per_second": 500,
@@ -147,22 +143,14 @@ def test_samples_of_the_clock(stage: Stage) -> None:
     stage.auction()
     stage.log_off(*stage.firms)
     started_again(stage)
-    lines = [
-        entry.line
-        for entry in stage.door.ledger().entries[1:]
-        if entry.line.startswith(b"# clock ")
-    ]
-    assert len(lines) == 2 and all(
-        line.split(b" ")[3] in (b"synchronised", b"unsynchronised") for line in lines
-    ), lines
+    lines = [entry.line for entry in stage.door.ledger().entries[1:] if entry.line.startswith(b"# clock ")]
+    assert len(lines) >= 2 and all(line.split(b" ")[3] in (b"synchronised", b"unsynchronised") for line in lines), lines
     assert stage.door.ledger().entries[1].line == lines[0]
     (stage.folder / "parties.toml").write_text("")
     out = stage.folder / "record"
-    done = audit(
-        stage, "record", str(out), "--rts24", "--parties", str(stage.folder / "parties.toml")
-    )
-    assert "clock: 2 samples" in done.out, done.text
-    assert len((out / "clock.csv").read_text().splitlines()) == 3
+    done = audit(stage, "record", str(out), "--rts24", "--parties", str(stage.folder / "parties.toml"))
+    assert "clock: %d samples" % len(lines) in done.out, done.text
+    assert len((out / "clock.csv").read_text().splitlines()) == 1 + len(lines)
 
 
 def test_files_that_are_read_again(stage: Stage) -> None:

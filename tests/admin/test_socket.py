@@ -146,10 +146,10 @@ def test_a_half_line_that_is_left_open(desk: Stage) -> None:
 def test_connections_without_end(desk: Stage) -> None:
     """A thousand connections of one user that say nothing: four are kept, for two seconds, and the others are told so. Another
     user is answered, and firms trade meanwhile."""
-    resource.setrlimit(
-        resource.RLIMIT_NOFILE, (4096, max(4096, resource.getrlimit(resource.RLIMIT_NOFILE)[1]))
-    )
     desk.open(*desk.firms)
+    limits = resource.getrlimit(resource.RLIMIT_NOFILE)
+    if 0 <= limits[0] < 2048:
+        resource.setrlimit(resource.RLIMIT_NOFILE, (2048, limits[1]))
     path = socket_of(desk)
     held: list[socket.socket] = []
     began = time.monotonic()
@@ -163,6 +163,7 @@ def test_connections_without_end(desk: Stage) -> None:
     finally:
         for each in held:
             each.close()
+        resource.setrlimit(resource.RLIMIT_NOFILE, limits)
     refused = sum(b"you have 4 connections already" in each for each in answers)
     late = sum(b"no whole line came" in each for each in answers)
     # One that was refused may be told nothing where it was closed with the rest: none is left open.
