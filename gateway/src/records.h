@@ -120,11 +120,11 @@ void check_link(const Entry &entry, std::uint32_t place, const Digest &before);
 // The line of place 0.
 struct Day {
     std::string version;
-    std::string gateway{}; // that began it, empty where it does not say what it is
     Digest program{};
     std::string configuration;
-    std::string venue; // its name, empty where it is the only one
-    Reasons reasons;   // none where the day gives neither reasons nor names of trades
+    std::string venue;     // its name, empty where it is the only one
+    std::string gateway{}; // that began it, empty where it does not say what it is
+    Reasons reasons{};     // none where the day gives neither reasons nor names of trades
 };
 
 std::string line_of(const Day &day);

@@ -94,7 +94,9 @@ def test_a_rate_that_is_changed(stage: Stage) -> None:
         assert wire.raw(b"".join(cancel(wire, wire.number + at) for at in range(4000)))
         until("some are in the log", LONG, lambda: stage.entries_of(stage.dealer) > 0)
         seen = stage.entries_of(stage.dealer)
-        allowed = 500 + 500 * (time.monotonic() - began) + 1000  # what is read at once before anything is counted
+        allowed = (
+            500 + 500 * (time.monotonic() - began) + 1000
+        )  # what is read at once before anything is counted
         assert seen <= allowed, "%d entries, and %d are allowed" % (seen, allowed)
     started_again(stage)
     assert {row["limit"]: row["value"] for row in rows(stage, "limit", "DLR1") if row["set"]} == {
@@ -143,12 +145,20 @@ def test_samples_of_the_clock(stage: Stage) -> None:
     stage.auction()
     stage.log_off(*stage.firms)
     started_again(stage)
-    lines = [entry.line for entry in stage.door.ledger().entries[1:] if entry.line.startswith(b"# clock ")]
-    assert len(lines) >= 2 and all(line.split(b" ")[3] in (b"synchronised", b"unsynchronised") for line in lines), lines
+    lines = [
+        entry.line
+        for entry in stage.door.ledger().entries[1:]
+        if entry.line.startswith(b"# clock ")
+    ]
+    assert len(lines) >= 2 and all(
+        line.split(b" ")[3] in (b"synchronised", b"unsynchronised") for line in lines
+    ), lines
     assert stage.door.ledger().entries[1].line == lines[0]
     (stage.folder / "parties.toml").write_text("")
     out = stage.folder / "record"
-    done = audit(stage, "record", str(out), "--rts24", "--parties", str(stage.folder / "parties.toml"))
+    done = audit(
+        stage, "record", str(out), "--rts24", "--parties", str(stage.folder / "parties.toml")
+    )
     assert "clock: %d samples" % len(lines) in done.out, done.text
     assert len((out / "clock.csv").read_text().splitlines()) == 1 + len(lines)
 
