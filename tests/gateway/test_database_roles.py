@@ -96,7 +96,8 @@ def test_a_day_is_written(written: Owned) -> None:
         ).stdout.strip()
         == "f"
     )
-    count = said(written.of("reader"), "SELECT count(*) FROM %s.entry" % written.schema)
+    first = "SELECT count(*) FROM %s.entry WHERE place = 0" % written.schema
+    count = said(written.of("reader"), first)
     assert count.stdout.strip() == "1", count.stderr
 
 
