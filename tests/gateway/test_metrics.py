@@ -51,6 +51,11 @@ def sent_in_log(stage: Stage) -> int:
     return sum(len(each) for each in stage.door.ledger().sent.values())
 
 
+def in_log(stage: Stage) -> int:
+    """How many entries the log has now behind entry 0: messages, and what the gateway notes of its clock."""
+    return len(stage.door.ledger().entries) - 1
+
+
 def counts(stage: Stage, name: str, wanted: float) -> None:
     """A metric comes to this value, and to no other."""
     until(
@@ -67,9 +72,12 @@ def test_what_a_day_counts(stage: Stage) -> None:
     stage.ping(stage.dealer)
     messages = sum(entry.number is not None for entry in stage.door.ledger().entries)
     check(messages == 5 and sent_in_log(stage) > 5, "the day is another: %d messages" % messages)
-    counts(stage, "entries_total", messages)
-    counts(stage, "logged_seconds_count", messages)
-    counts(stage, "answered_seconds_count", messages)
+    for name in ("entries_total", "logged_seconds_count", "answered_seconds_count"):
+        until(
+            "%s is %g, and %d are in the log" % (name, metric(stage, name), in_log(stage)),
+            LONG,
+            lambda: metric(stage, name) == in_log(stage),
+        )
     for name in ("delivered_total", "sent_total"):
         until(
             "%s is %g, and %d are in the log" % (name, metric(stage, name), sent_in_log(stage)),
@@ -162,11 +170,15 @@ def test_no_metric_is_unknown(stage: Stage) -> None:
         LONG,
         lambda: any("refused_total" in name for name in stage.counters()),
     )
-    found = {name.split("{")[0] for name in stage.counters() if name.startswith("mireseason_")}
-    assert found - NAMES == set()
     none = {
         "mireseason_dropped_total",
         "mireseason_wrong_passwords_total",
         "mireseason_certificate_expiry_timestamp_seconds",
     }
-    assert NAMES - found <= none  # there was none
+    # Some are told a second after the start.
+    until("each but %s is told" % none, LONG, lambda: NAMES - told_names(stage) <= none)
+    assert told_names(stage) - NAMES == set()
+
+
+def told_names(stage: Stage) -> set[str]:
+    return {name.split("{")[0] for name in stage.counters() if name.startswith("mireseason_")}

@@ -1,10 +1,13 @@
 """Waits: on a condition, and never longer than a limit."""
 
+import os
 import time
 from collections.abc import Callable
 
 STEP = 0.01
-LONG = 180.0  # seconds: the limit of what comes about soon, on a machine of two slow processors that has much else to do
+# Seconds: the limit of what comes about soon, on a machine of two slow processors that has much else to do.
+# PATIENCE has fewer where a wrong body is waited for, which never comes.
+LONG = float(os.environ.get("PATIENCE", "180"))
 
 
 class TooLong(Exception):

@@ -16,6 +16,7 @@ from tests.mutants.mutant import Mutant
 
 FOLDER = ROOT / "tests" / "out" / "mutants"
 LIMIT = 1800  # seconds of one test
+PATIENCE = "90"  # seconds that a test waits for what a wrong body never does
 PROGRAMS = {"gateway": "mireseason-gateway", "desk": "mireseason-desk"}
 
 
@@ -79,6 +80,7 @@ class Nursery:
             for name, value in os.environ.items()
             if name not in ("PYTHONPATH", "VENUE", "GATEWAY", "FORM", "DESK")
         }
+        own["PATIENCE"] = PATIENCE
         if mutant.part == "desk":
             own["DESK"] = str(self.program("desk"))
         done = subprocess.run(
@@ -101,7 +103,7 @@ class Nursery:
 
 
 def files_of(root: Path) -> list[str]:
-    """The files of the tree that belong to it."""
+    """The files of the tree that belong to it, but for what is proved, whose program is given."""
     words = [
         "git",
         "-C",
@@ -112,19 +114,8 @@ def files_of(root: Path) -> list[str]:
         "--others",
         "--exclude-standard",
         "--",
-        "audit",
-        "conftest.py",
-        "crates.txt",
-        "deploy",
-        "desk",
-        "docs",
-        "examples",
-        "fix",
-        "gateway",
-        "pyproject.toml",
-        "tests",
-        "tools",
-        "web",
+        ".",
+        ":!crates",
     ]
     listed = subprocess.run(words, capture_output=True, check=True).stdout.decode().split("\0")
     return [name for name in listed if name and (root / name).is_file()]
