@@ -7,7 +7,16 @@ from pathlib import Path
 from .faults import Unreadable
 from .frame import Fields
 
-MSG_TYPE = 35
+MSG_TYPE, TEXT = 35, 58
+# The names in Text (58) of a hit or a pass that was refused. The dictionary can't have them as its
+# values: a stock engine would refuse the words that 58 has in each other refusal.
+REFUSED_HITS = {
+    "NotOpen": "request not open",
+    "Deadline": "request past its deadline",
+    "Gone": "quote replaced or gone",
+    "Expired": "quote past its validity",
+    "Withdrawn": "quote withdrawn first",
+}
 
 
 @dataclass(frozen=True)
@@ -57,7 +66,7 @@ def read_dictionary(path: Path) -> Dictionary:
 
 def named_by(root: ElementTree.Element) -> Dictionary:
     """What the dictionary has; ValueError where a tag is no number."""
-    found = Dictionary()
+    found = Dictionary(meanings={(TEXT, name): words for name, words in REFUSED_HITS.items()})
     for message in root.iterfind("messages/message"):
         found.types[message.get("msgtype", "")] = message.get("name", "")
     for one in root.iterfind("fields/field"):
