@@ -464,12 +464,19 @@ def follow(stage: Stage, second: Door) -> None:
     until("the second one stands by", LONG, lambda: "stands by" in second.last_words())
 
 
+def keeps_checkpoints(second: Door) -> None:
+    """The second gateway has one of the first's, without which it would not take over."""
+    kept = second.folder / "checkpoints"
+    until("the second one keeps a checkpoint", LONG, lambda: any(kept.glob("*.checkpoint")))
+
+
 def test_another_gateway_tells_the_same(followed: tuple[Stage, Door]) -> None:
     """One that follows takes over, and goes on with the words and the count of the day."""
     stage, second = followed
     stage.open(*stage.firms)
     follow(stage, second)
     trade_told(stage, 1)
+    keeps_checkpoints(second)
     stage.door.kill()
     second.wait_open()
     stage.door = second
