@@ -81,9 +81,10 @@ class Page {
       this.drawBlotterSoon();
     }
     const {notice} = this.model.session ?? {};
-    if (notice && notice.at !== this.noticeAt) {
-      if (this.noticeAt !== undefined || notice.at > this.link.now() - 10_000) this.top.say(notice.text, notice.refusal);
-      this.noticeAt = notice.at;
+    const {shown} = this; // an answer may come within the millisecond of what it answers
+    if (notice && (notice.at !== shown?.at || notice.text !== shown.text)) {
+      if (shown || notice.at > this.link.now() - 10_000) this.top.say(notice.text, notice.refusal);
+      this.shown = notice;
     }
   }
   // Once for all that comes in one go.

@@ -139,7 +139,7 @@ def test_each_way_that_a_request_ends(house: House) -> None:
     dealer.card_says("No live quote")
     dealer.until_says("#top", "Exposure 0 of")
     dealer.press(Keys.F9)
-    dealer.until_says("#top", "there was no live quote")
+    dealer.until_says("#top", "no live quote is left to cancel")
     investor.card_says("Expired")
     dealer.card_says("Expired")
     investor.until_says("#blotter", "Passed", "Expired")
