@@ -140,11 +140,13 @@ std::string with_line(const std::vector<std::string> &lines, size_t index,
     return text;
 }
 
-// ApplSeqNum and TransactTime are put into messages of the venue by the gateway, so no frame of the
-// venue's own needs them; tests/gateway has firms that do.
-bool is_gateways(const std::string &line) {
-    return line.find("\"ApplSeqNum\"") != std::string::npos
-           || line.find("\"TransactTime\"") != std::string::npos;
+// ApplSeqNum, TransactTime and TradeID are put into messages of the venue by the gateway, and so is
+// Text, but for the name of a refused hit: no frame of the venue's own needs them. tests/gateway has
+// firms that do.
+bool is_gateways(const std::string &message, const std::string &line) {
+    const auto names = [&](const char *field) { return line.find(field) != std::string::npos; };
+    return names("\"ApplSeqNum\"") || names("\"TransactTime\"") || names("\"TradeID\"")
+           || (names("\"Text\"") && message.find("\"QuoteRequestReject\"") != std::string::npos);
 }
 
 // Each field of a message taken out, each listed value taken out, each field that may be left out
@@ -158,6 +160,7 @@ int plant_in_text(const std::string &text, const std::vector<std::string> &frame
     }
     int planted = 0;
     bool bodies = false;
+    std::string message; // the line that begins the one at hand
     const auto find = [&](size_t index, const std::string &line) {
         if (!is_noticed(with_line(lines, index, line), frames)) {
             fail("no frame needs line " + std::to_string(index + 1)
@@ -169,9 +172,12 @@ int plant_in_text(const std::string &text, const std::vector<std::string> &frame
         const std::string &line = lines[index];
         bodies = (bodies || line.find("<messages>") != std::string::npos)
                  && line.find("</messages>") == std::string::npos;
+        if (line.find("<message name=") != std::string::npos) {
+            message = line;
+        }
         const bool member = line.find("<field name=") != std::string::npos
                             || line.find("<component name=") != std::string::npos;
-        if (bodies && is_gateways(line)) {
+        if (bodies && is_gateways(message, line)) {
             continue;
         }
         if (bodies && member) {
