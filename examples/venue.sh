@@ -3,7 +3,7 @@
 # asks now and then, and a desk in the browser for INV1 and for DLR3. It runs until Ctrl-C, prints the
 # addresses and the logins, and tells how each auction ends.
 #
-#     examples/venue.sh           two minutes from a fresh clone on four processors, then seconds
+#     examples/venue.sh           some four minutes from a fresh clone on four processors, then seconds
 #     examples/venue.sh down      ends it, where it still runs, and has the audit check the day
 #
 # The program is the proved one, crates/rfq_venue/out/rfq_venue, where it stands; else the second
