@@ -1,8 +1,8 @@
 #!/usr/bin/env python3
 """Checks the pages (.md) of this repository.
 
-    tools/pages.py [--venue PROGRAM]     names, links, commands, clauses, and what scripts write
-    tools/pages.py --words               how many words a person wrote, page by page
+    tools/pages.py [--venue PROGRAM]     names, links, commands, clauses, and what scripts print
+    tools/pages.py --words               how many words there are, page by page
 
 PROGRAM is a built rfq_venue, or words as "python3 tests/model/program.py"; without it the commands
 that ask it are listed as not run. A finding is a line `PAGE:LINE: WHAT`, the last line
@@ -28,7 +28,7 @@ def print_words(pages: list[Page]) -> None:
     """A line a page, the longest first, and the sum."""
     for words, path in sorted(((page.words(), page.path) for page in pages), reverse=True):
         print(f"{words:6} {path}")
-    print(f"{sum(page.words() for page in pages):6} words that a person wrote")
+    print(f"{sum(page.words() for page in pages):6} words")
 
 
 def check_pages(root: Path, files: list[str], pages: list[Page], program: str | None) -> Checked:

@@ -1,9 +1,8 @@
 #!/usr/bin/env python3
-"""Writes docs/PROMISES.md: for each crate what its definitions are about, and each clause of its
+"""Prints a page of promises: for each crate what its definitions are about, and each clause of its
 public functions with what it says, from the comments and the contracts in crates/*/src and specs.
 
-    tools/promises.py            writes the page
-    tools/promises.py --check    says whether it is up to date, by the status
+    tools/promises.py [CRATE..]    of these crates, or of all
 """
 
 from __future__ import annotations
@@ -13,15 +12,14 @@ import sys
 from dataclasses import dataclass, field
 from pathlib import Path
 
-PAGE = "docs/PROMISES.md"
 HEAD = """# Promises
 
-Written by `tools/promises.py`; change nothing here by hand. Of each crate, what every public function
-requires of its caller and ensures, in the words of its own comments and clauses. Each clause is
-proved, for every input; the crate's `specs/` has the definitions of which clauses are made. A
-function's first row has its comment, and the rows below have its clauses, each with its name and its
-comment where it has them. What a clause `requires` the caller has to see to. A law is a function that
-does nothing. After the tables stands one caller of the crate, as it is proved.
+Of each crate, what every public function requires of its caller and ensures, in the words of its own
+comments and clauses. Each clause is proved, for every input; the crate's `specs/` has the definitions
+of which clauses are made. A function's first row has its comment, and the rows below have its clauses,
+each with its name and its comment where it has them. What a clause `requires` the caller has to see
+to. A law is a function that does nothing. After the tables stands one caller of the crate, as it is
+proved.
 """
 
 # A function that calls each crate, from a crate above: where it stands, and its name.
@@ -312,28 +310,31 @@ def crate_lines(crate: Path) -> list[str]:
     ]
 
 
-def page_text(root: Path) -> str:
-    """The whole page, the crates in the order of crates.txt."""
-    lines: list[str] = []
-    for line in (root / "crates.txt").read_text(encoding="utf-8").split("\n"):
-        if ":" in line and not line.startswith("#"):
-            lines += crate_lines(root / "crates" / re.split(r"[\s:]", line)[0])
-    crates = [line[3:] for line in lines if line.startswith("## ")]
-    contents = [f"- [{crate}](#{crate})" for crate in crates]
+def crates_of(root: Path) -> list[str]:
+    """All crates, in the order of crates.txt."""
+    lines = (root / "crates.txt").read_text(encoding="utf-8").split("\n")
+    return [re.split(r"[\s:]", line)[0] for line in lines if ":" in line and line[0] != "#"]
+
+
+def page_text(root: Path, crates: list[str]) -> str:
+    """The page of these crates, in their order."""
+    lines = [line for crate in crates for line in crate_lines(root / "crates" / crate)]
+    told = [line[3:] for line in lines if line.startswith("## ")]
+    contents = [f"- [{crate}](#{crate})" for crate in told]
     return "\n".join([HEAD, *contents, "", *lines]).rstrip("\n") + "\n"
 
 
 def main() -> int:
-    """Writes the page, or says whether it is what would be written."""
+    """Prints the page, or says which of the crates there is not."""
     root = Path(__file__).resolve().parent.parent
-    text = page_text(root)
-    if sys.argv[1:] == ["--check"]:
-        page = root / PAGE
-        return 0 if page.exists() and page.read_text(encoding="utf-8") == text else 1
-    if sys.argv[1:]:
+    crates = crates_of(root)
+    asked = sys.argv[1:] or crates
+    foreign = [name for name in asked if name not in crates]
+    if foreign:
+        print(f"there is no crate {foreign[0]}", file=sys.stderr)
         print(__doc__, file=sys.stderr)
         return 2
-    (root / PAGE).write_text(text, encoding="utf-8")
+    print(page_text(root, asked), end="")
     return 0
 
 

@@ -2,8 +2,7 @@
 """What has to be read to judge the headline: the files of definitions on which its two laws rest, by
 the `use` lines from the laws' own file downwards. Proofs are not among them: those are the prover's.
 
-    tools/reading_list.py            prints the list
-    tools/reading_list.py --write    puts it between the two marks in docs/PROOFS.md
+    tools/reading_list.py
 
 A line counts that is not blank, no comment and no `use`.
 """
@@ -16,9 +15,6 @@ from pathlib import Path
 
 LAWS = "crates/step_replay/src/laws.rt"
 HEADLINE = ("dealers_are_sent_their_view", "dealers_are_isolated")
-PAGE = "docs/PROOFS.md"
-BEGIN = "<!-- written by tools/reading_list.py -->"
-END = "<!-- end of what is written -->"
 
 USE = re.compile(
     r"^\s*(?:ghost |pub )?use Rattle\.(\w+)\.specs\.(\w+)(?:\.\{([^}]*)\}| as (\w+))?", re.MULTILINE
@@ -86,27 +82,12 @@ def reading_list(root: Path) -> str:
     return "\n".join([*head, *rows, f"| | {len(files)} files | {total} |"]) + "\n"
 
 
-def page_with(page: str, listed: str) -> str:
-    """The page with the list between its marks."""
-    before, begin, rest = page.partition(BEGIN)
-    _, end, behind = rest.partition(END)
-    if not begin or not end:
-        raise SystemExit(f"{PAGE} has no marks {BEGIN} and {END}")
-    return f"{before}{BEGIN}\n\n{listed}\n{END}{behind}"
-
-
 def main() -> int:
-    """Prints the list or writes it."""
-    root = Path(__file__).resolve().parent.parent
-    listed = reading_list(root)
-    if sys.argv[1:] == ["--write"]:
-        path = root / PAGE
-        path.write_text(page_with(path.read_text(encoding="utf-8"), listed), encoding="utf-8")
-        return 0
+    """Prints the list."""
     if sys.argv[1:]:
         print(__doc__, file=sys.stderr)
         return 2
-    print(listed, end="")
+    print(reading_list(Path(__file__).resolve().parent.parent), end="")
     return 0
 
 

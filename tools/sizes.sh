@@ -1,6 +1,6 @@
 #!/bin/sh
-# Writes docs/SIZES.md: for each crate its lines that are not blank, and its wrong bodies; and, from
-# a log of the gate that ended, how it ended and how long it took. Other pages round them.
+# Prints a page of sizes: for each crate its lines that are not blank, and its wrong bodies; and, from
+# a log of the gate that ended, how it ended and how long it took.
 # usage: tools/sizes.sh [LOG]     LOG as written by: { time rt ci; } >LOG 2>&1
 set -eu
 root=$(cd "$(dirname "$0")/.." && pwd)
@@ -60,30 +60,28 @@ END
 day=$(mktemp)
 trap 'rm -f "$day"' EXIT
 crates=$(sed -n 's/^\([a-z0-9_]*\)[ a-z_=+0-9A-Z]*:.*/\1/p' "$root/crates.txt")
-{
-    echo '# Sizes and times'
+echo '# Sizes and times'
+echo
+echo 'Lines that are not blank: code with its contracts and comments, definitions, proofs with'
+echo 'lemmas, invariants and answers.'
+echo
+echo '| crate | code | definitions | proofs | tests | edits in the gate | beside it | functions proved |'
+echo '|---|---|---|---|---|---|---|---|'
+for crate in $crates; do
+    at=$root/crates/$crate
+    code=$(lines "$at/src" '*.rt')
+    tests=$(test_lines "$at/src")
+    case $crate in *_tests) tests=$code ;; esac
+    edits=$(edits "$at/must-fail")
+    beside=$(edits "$root/tests/edits/$crate")
+    echo "| \`$crate\` | $((code - tests)) | $(lines "$at/specs" '*.antt') |" \
+        "$(lines "$at/proofs" '*.antt') | $tests | $edits | $beside | $(functions "$crate") |"
+done
+echo
+full_day
+if grep -q '^[0-9]* passed, ' "$log"; then
+    echo 'The gate, `rt ci`:'
     echo
-    echo 'Written by `tools/sizes.sh`; change nothing here by hand. Lines that are not blank: code with'
-    echo 'its contracts and comments, definitions, proofs with lemmas, invariants and answers.'
-    echo
-    echo '| crate | code | definitions | proofs | tests | edits in the gate | beside it | functions proved |'
-    echo '|---|---|---|---|---|---|---|---|'
-    for crate in $crates; do
-        at=$root/crates/$crate
-        code=$(lines "$at/src" '*.rt')
-        tests=$(test_lines "$at/src")
-        case $crate in *_tests) tests=$code ;; esac
-        edits=$(edits "$at/must-fail")
-        beside=$(edits "$root/tests/edits/$crate")
-        echo "| \`$crate\` | $((code - tests)) | $(lines "$at/specs" '*.antt') |" \
-            "$(lines "$at/proofs" '*.antt') | $tests | $edits | $beside | $(functions "$crate") |"
-    done
-    echo
-    full_day
-    if grep -q '^[0-9]* passed, ' "$log"; then
-        echo 'The gate, `rt ci`:'
-        echo
-        sed -n -e 's/^[0-9]* passed, [0-9]* failed$/- it ended `&`/p' \
-            -e 's/^\(real\|user\|sys\)[[:space:]]*\([0-9].*\)$/- \1 \2/p' "$log"
-    fi
-} >"$root/docs/SIZES.md"
+    sed -n -e 's/^[0-9]* passed, [0-9]* failed$/- it ended `&`/p' \
+        -e 's/^\(real\|user\|sys\)[[:space:]]*\([0-9].*\)$/- \1 \2/p' "$log"
+fi

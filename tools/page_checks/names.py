@@ -76,8 +76,6 @@ def check_names(pages: list[Page], words: Vocabulary) -> Checked:
     """Looks at each span of each page: it passes where no part of it is at fault."""
     checked = Checked()
     for page in pages:
-        if page.is_written():
-            continue
         for line, span in page.spans():
             parts = span.split()
             faults = [fault_of_part(page.path, part, len(parts) == 1, words) for part in parts]

@@ -10,7 +10,6 @@ from pathlib import Path
 
 FENCE = re.compile(r"^\s*```(.*)$")
 SPAN = re.compile(r"(?<!`)`([^`\n]+)`(?!`)")
-MARK = re.compile(r"^<!-- (written by \S+|end of what is written) -->$")
 
 
 @dataclass
@@ -91,24 +90,15 @@ class Page:
                 yield block
                 block = None
 
-    def is_written(self) -> bool:
-        """Whether a script wrote the whole page, which it then says at its head."""
-        return any(line.startswith("Written by `tools/") for line in self.lines[:4])
-
     def words(self) -> int:
-        """How many words a person wrote: none of a block, and none that a script wrote. A word has a
-        letter or a digit."""
-        if self.is_written():
-            return 0
-        count = 0
-        written = False
-        for _, line in self.prose():
-            mark = MARK.match(line)
-            if mark:
-                written = mark.group(1).startswith("written by")
-            elif not written and not is_indented(line):
-                count += sum(1 for word in line.split() if any(map(str.isalnum, word)))
-        return count
+        """How many words it has outside of blocks. A word has a letter or a digit."""
+        return sum(
+            1
+            for _, line in self.prose()
+            if not is_indented(line)
+            for word in line.split()
+            if any(map(str.isalnum, word))
+        )
 
 
 def is_indented(line: str) -> bool:

@@ -1,4 +1,5 @@
-"""Pages, and parts of pages, that a script writes are what it would write now."""
+"""The scripts that print a page can print it now: each crate has the caller that is named for it, and
+the headline has definitions to read."""
 
 from __future__ import annotations
 
@@ -9,24 +10,32 @@ import reading_list
 
 from .page import Checked
 
+PROMISES = "tools/promises.py"
+READING = "tools/reading_list.py"
 
-def fault_of_promises(root: Path) -> str | None:
-    """Why the page of promises is not as it would be written now, if it is not."""
-    page = root / promises.PAGE
+
+def fault_of_promises(root: Path, crate: str) -> str | None:
+    """Why the promises of a crate can't be printed, if so."""
     try:
-        as_now = page.exists() and page.read_text(encoding="utf-8") == promises.page_text(root)
-    except LookupError as error:
+        promises.page_text(root, [crate])
+    except (LookupError, OSError) as error:
         return str(error)
-    return None if as_now else "run tools/promises.py: it would write something else"
+    return None
+
+
+def fault_of_reading(root: Path) -> str | None:
+    """Why the definitions of the headline can't be listed, if so."""
+    try:
+        listed = reading_list.reading_list(root)
+    except (SystemExit, OSError) as error:
+        return str(error)
+    return None if "| `step_replay` |" in listed else "it lists nothing of step_replay"
 
 
 def check_written(root: Path) -> Checked:
-    """The promises, and the reading list. (docs/SIZES.md is written from a log of a gate.)"""
+    """The promises of each crate, and the reading list."""
     checked = Checked()
-    checked.note(promises.PAGE, 1, fault_of_promises(root))
-    proofs = (root / reading_list.PAGE).read_text(encoding="utf-8")
-    as_now = reading_list.page_with(proofs, reading_list.reading_list(root)) == proofs
-    line = proofs[: proofs.index(reading_list.BEGIN)].count("\n") + 1
-    fault = "run tools/reading_list.py --write: it would write something else"
-    checked.note(reading_list.PAGE, line, None if as_now else fault)
+    for crate in promises.crates_of(root):
+        checked.note(PROMISES, 1, fault_of_promises(root, crate))
+    checked.note(READING, 1, fault_of_reading(root))
     return checked
