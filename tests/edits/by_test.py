@@ -3,9 +3,10 @@
 
     tests/edits/by_test.py [CRATE..]    tries those in tests/edits/CRATE/by_test, or all of them
 
-A file is like one of must-fail, with a line `test: NAME` in front. Each is put in its place on a copy
-of what is committed, and the tests of `venue_tests` are built and run without a proof (`rt try`): the
-named test has to fail. A first run without any wrong body has to pass.
+A file is like one of must-fail, with a line `test: NAME` in front, and a line `finds: WHAT` that says
+how the test came to fail when it was tried. Each is put in its place on a copy of what is committed, and
+the tests of `venue_tests` are built and run without a proof (`rt try`): the named test has to fail. A
+first run without any wrong body has to pass.
 """
 
 from __future__ import annotations
