@@ -1,0 +1,6 @@
+pub mod PlaceLemmas
+pub mod WritingLemmas
+pub mod WireLemmas
+pub mod GivenLemmas
+pub mod BackLemmas
+pub mod RestLemmas

@@ -1,0 +1,2 @@
+pub mod ToFirm
+pub mod ToVenue
