@@ -214,7 +214,8 @@ void Firm::fromApp(const FIX::Message &message,
                    const FIX::SessionID &) throw(FIX::FieldNotFound, FIX::IncorrectDataFormat,
                                                  FIX::IncorrectTagValue,
                                                  FIX::UnsupportedMessageType) {
-    given(message, message.getField(117));
+    const bool is_denial = message.getHeader().getField(35) == "j";
+    given(message, is_denial ? std::string() : message.getField(117));
 }
 
 bool Firm::send(const std::string &bytes) {

@@ -23,7 +23,8 @@ struct Disk {
     FIX::UtcTimeStamp created;
 };
 
-// What a firm's application was given: a message of the venue's, or a Reject of one of its own.
+// What a firm's application was given: a message of the venue's, or a Reject or a 35=j of one of
+// its own.
 struct Received {
     bool is_reject = false;
     std::string id;     // of the venue's message

@@ -7,6 +7,7 @@
 #include <algorithm>
 #include <cstdio>
 #include <cstdlib>
+#include <stdexcept>
 #include <string>
 #include <vector>
 
@@ -29,7 +30,7 @@ struct Rates {
     unsigned sends, gives;
     Millis step;
     unsigned flows;
-    bool bad, suspends, freezes;
+    bool bad, suspends, freezes, logs_out;
 };
 
 class Day {
@@ -69,6 +70,7 @@ class Day {
         drawn_.most_delay = delays[pick(4)];
         drawn_.bad_frames = true;
         drawn_.rejects = 15;
+        drawn_.denied = pick(3) == 0 ? 10 : 0;
         drawn_.garbled = asks_.garbled ? 5 : 0;
         drawn_.is_loud = asks_.loud;
         drawn_.dictionary = asks_.dictionary;
@@ -81,6 +83,7 @@ class Day {
         drawn.bad = pick(2) == 0;
         drawn.suspends = pick(3) == 0;
         drawn.freezes = pick(3) == 0;
+        drawn.logs_out = pick(3) == 0;
         drawn.gives = 5 * (5 + pick(25));
         drawn.sends = 5 * (5 + pick(30));
         drawn.step = pick(2) == 0 ? 30 : 100;
@@ -147,6 +150,8 @@ class Day {
     void operate(unsigned what) {
         if (asks_.resets && what == 524 && world_.draw(2) == 0) {
             world_.reset();
+        } else if (rates_.logs_out && world_.draw(2) == 0) {
+            world_.venue().log_out();
         } else if (rates_.suspends && !world_.venue().is_suspended()) {
             world_.venue().suspend();
             suspended_until_ = now() + world_.draw(5000);
@@ -187,7 +192,12 @@ int run_days(std::uint32_t first, std::uint32_t last, const Asks &asks) {
     long messages = 0;
     for (std::uint32_t seed = first; seed <= last; ++seed) {
         Day day(seed, asks);
-        const std::string wrong = day.run();
+        std::string wrong;
+        try {
+            wrong = day.run();
+        } catch (const std::runtime_error &fault) {
+            wrong = std::string(" ") + fault.what();
+        }
         messages += day.messages();
         if (wrong.empty()) {
             ++passed;

@@ -1,4 +1,4 @@
-"""Drawn days of the proved session and a stock QuickFIX initiator: README.md says what a day is."""
+"""Drawn days of a session and a stock QuickFIX initiator, and of drawn events: README.md says what a day is."""
 
 import hashlib
 import shutil
@@ -11,6 +11,8 @@ from tests.harness import build
 from tests.harness.options import ROOT, Form
 
 HERE = Path(__file__).resolve().parent
+HEADER = ROOT / "gateway" / "session"
+MODEL = ROOT / "gateway" / "session_model"
 LIBRARY = ROOT / "crates" / "fix_sessions_c" / "out" / "libfix_sessions_c.a"
 KINDS: dict[str, list[str]] = {
     "plain": [],
@@ -20,12 +22,16 @@ KINDS: dict[str, list[str]] = {
 }
 BATCHES = {Form.SHORT: 3, Form.LONG: 200}  # of each kind
 DAYS = 25  # of a batch: 300 in the short form, 20,000 in the long one
+EVENT_DAYS = 100  # of a batch of days without an engine: as many
 LIMIT = 1200  # seconds a batch: many times what it takes
-# QuickFIX's headers end with C++14. The last library is the kit's part of the C library: malloc.
-FORM = (
-    "g++ -std=c++14 -O1 -Wall -Wextra -Werror -Wno-deprecated -o {out} {sources}"
-    " %s %s -lquickfix -lpthread"
-)
+COMPILE = "g++ %%s -O1 -Wall -Wextra -Werror -I %s -r -o {out} {sources}" % HEADER
+# A part of a program, as one object: what has not changed is not compiled again.
+MODEL_PART = COMPILE % "-std=c++20 -DSESSION_PREFIX=model_"
+DAYS_PART = COMPILE % "-std=c++14 -Wno-deprecated"  # QuickFIX's headers end with C++14
+EVENTS_PART = COMPILE % "-std=c++14"
+LINK = "g++ -std=c++14 -I %s %s -o {out} {sources} %s"
+SHARED = ("clock", "differ", "library_model", "machine", "texts")
+SWITCH = HERE / "library_proved.cpp"  # which libraries a program has
 
 
 def pytest_generate_tests(metafunc: pytest.Metafunc) -> None:
@@ -36,30 +42,69 @@ def pytest_generate_tests(metafunc: pytest.Metafunc) -> None:
 
 
 def heap() -> Path:
-    """The kit's part of the C library."""
+    """The kit's part of the C library: malloc."""
     page = subprocess.run(["rt", "doc"], capture_output=True, text=True, check=True, timeout=60)
     return Path(page.stdout.strip()).parent / "c" / "liblibc_c.a"
 
 
+def has_proved() -> bool:
+    """Whether the proved library is there."""
+    return shutil.which("rt") is not None and LIBRARY.exists()
+
+
+def part(name: str, form: str, sources: list[Path]) -> Path:
+    """A part of a program."""
+    header = hashlib.sha256((HEADER / "fix_sessions.h").read_bytes()).hexdigest()[:16]
+    return build.compiled("sessions-%s-%s" % (name, header), form, sources)
+
+
+def program(name: str, own: Path, libraries: str) -> Path:
+    """A program over the second implementation, and over the proved library where it is built."""
+    model = part("model", MODEL_PART, sorted(MODEL.glob("*.cpp")))
+    proved, define = "", ""
+    if has_proved():
+        name = "%s-%s" % (name, hashlib.sha256(LIBRARY.read_bytes()).hexdigest()[:16])
+        proved, define = "%s %s" % (LIBRARY, heap()), "-DHAS_PROVED"
+    form = LINK % (HEADER, define, "%s %s" % (proved, libraries))
+    return build.compiled("sessions-" + name, form, [SWITCH, own, model])
+
+
 @pytest.fixture(scope="session")
 def days() -> Path:
-    """The program that plays days, with the proved library as it stands."""
-    if shutil.which("rt") is None:
-        pytest.skip("there is no rt")
-    if not LIBRARY.exists():
-        pytest.skip("crates/fix_sessions_c is not built")
-    return build.compiled(
-        "sessions-%s" % hashlib.sha256(LIBRARY.read_bytes()).hexdigest()[:16],
-        FORM % (LIBRARY, heap()),
-        sorted(HERE.glob("*.cpp")),
-    )
+    """The program that plays days with a stock engine."""
+    sources = [file for file in sorted(HERE.glob("*.cpp")) if file != SWITCH]
+    return program("days", part("engine", DAYS_PART, sources), "-lquickfix -lpthread")
+
+
+@pytest.fixture(scope="session")
+def events() -> Path:
+    """The program that plays days of drawn events."""
+    if not has_proved():
+        pytest.skip("crates/fix_sessions_c is not built: there is nothing to compare with")
+    sources = [HERE / ("%s.cpp" % name) for name in SHARED]
+    own = part("drawn", EVENTS_PART, [*sources, *sorted(HERE.glob("events/*.cpp"))])
+    return program("events", own, "")
+
+
+def play(words: list[str], count: int) -> None:
+    """Plays days, each of which has to come right."""
+    done = subprocess.run(words, capture_output=True, text=True, check=False, timeout=LIMIT)
+    assert done.returncode == 0, done.stdout[-8000:] + done.stderr[-2000:]
+    assert done.stdout.splitlines()[-1] == "%d passed, 0 failed" % count, done.stdout[-4000:]
 
 
 @pytest.mark.parametrize("kind", sorted(KINDS))
 def test_each_message_comes_once_and_in_order(days: Path, kind: str, batch: int, seed: int) -> None:
     """Both ways, whatever broke; and then both sides are logged on, settled and quiet."""
     first = seed + batch * DAYS
-    words = [str(days), str(first), str(first + DAYS - 1), *KINDS[kind]]
-    done = subprocess.run(words, capture_output=True, text=True, check=False, timeout=LIMIT)
-    assert done.returncode == 0, done.stdout[-4000:] + done.stderr[-2000:]
-    assert done.stdout.splitlines()[-1] == "%d passed, 0 failed" % DAYS, done.stdout[-4000:]
+    play([str(days), str(first), str(first + DAYS - 1), *KINDS[kind]], DAYS)
+
+
+def test_both_libraries_say_the_same(
+    events: Path, batch: int, seed: int, request: pytest.FixtureRequest
+) -> None:
+    """Of each event, whatever it is: the next state, the bytes, and what is told."""
+    if Form(request.config.getoption("form")) is Form.SHORT:
+        pytest.skip("they differ still in rare events (README.md): of the long form alone")
+    first = seed + batch * EVENT_DAYS
+    play([str(events), str(first), str(first + EVENT_DAYS - 1)], EVENT_DAYS)

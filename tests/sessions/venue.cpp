@@ -3,6 +3,7 @@
 #include "clock.h"
 #include "texts.h"
 
+#include <stdexcept>
 #include <vector>
 
 namespace sessions {
@@ -17,9 +18,13 @@ enum Wants : std::uint32_t { NOTHING, AGAIN, FRESH, TICK, LOGON };
 enum Kind : std::uint32_t { NO_MESSAGE, MESSAGE, TOO_LONG };
 enum Ending : std::uint32_t { STANDS, ENDS, PARTS };
 
-bool is_reject(const Kept &kept) {
-    return value_of(kept.frame, 35) == "3";
+// A Reject, or a message that was not taken.
+bool is_reject(const std::string &frame) {
+    const std::string type = value_of(frame, 35);
+    return type == "3" || type == "j";
 }
+
+constexpr std::uint64_t NOT_AVAILABLE = 4;
 
 const char *notice_of(std::uint32_t notice) {
     static const char *const texts[] = {"",
@@ -91,7 +96,7 @@ void Venue::message(int connection, const std::string &bytes) {
         return;
     }
     if (!line.has_spoken) {
-        const Credentials asked = Machine::question(bytes);
+        const Question asked = Machine::question(bytes);
         line.has_spoken = true;
         line.logon = bytes;
         line.is_known = asked.username == "dlr1" && asked.password == "secret";
@@ -101,13 +106,19 @@ void Venue::message(int connection, const std::string &bytes) {
 }
 
 void Venue::came(int connection, const std::string &bytes, bool is_known) {
-    const std::uint64_t before = machine_.state().day.expected;
-    const Turn turn = machine_.came(static_cast<std::uint64_t>(connection), bytes, is_known);
+    const SessionState before = machine_.state();
+    const auto named = static_cast<std::uint64_t>(connection);
+    Turn turn = machine_.came(named, bytes, is_known, nullptr);
+    if (turn.told.takes != 0 && !carrier_.takes(bytes)) {
+        const Denial denial{NOT_AVAILABLE, value_of(bytes, 117), "not now"};
+        machine_.adopt(before);
+        turn = machine_.came(named, bytes, is_known, &denial);
+    }
     if (turn.told.takes != 0) {
         carrier_.taken(bytes);
     }
-    if (turn.told.first.is_kept && value_of(turn.kept, 35) == "3") {
-        carrier_.rejected(bytes, machine_.state().day.expected == before + 1);
+    if (turn.told.first.is_kept && is_reject(turn.kept)) {
+        carrier_.rejected(bytes, machine_.state().day.expected == before.day.expected + 1);
     }
     act(turn, true);
 }
@@ -122,6 +133,9 @@ void Venue::admit() {
 }
 
 void Venue::act(const Turn &turn, bool is_own) {
+    if (!turn.is_done) {
+        throw std::runtime_error("a call of the session did nothing");
+    }
     if (turn.told.notice != 0) {
         carrier_.note(notice_of(turn.told.notice));
     }
@@ -157,7 +171,7 @@ void Venue::keep(const Turn &turn, bool is_own) {
 
 void Venue::drop_rejects() {
     for (auto at = kept_.begin(); at != kept_.end();) {
-        at = at->second.is_own && is_reject(at->second) ? kept_.erase(at) : std::next(at);
+        at = at->second.is_own && is_reject(at->second.frame) ? kept_.erase(at) : std::next(at);
     }
     carrier_.rejects_dropped();
 }
@@ -221,6 +235,11 @@ void Venue::suspend() {
 
 void Venue::release() {
     act(machine_.ordered(Machine::Order::Release), true);
+}
+
+void Venue::log_out() {
+    act(machine_.log_out("held too long"), true);
+    admit();
 }
 
 void Venue::reset() {

@@ -19,7 +19,9 @@ class Carrier {
     virtual void close(int connection) = 0;
     // A message of the firm is the venue's.
     virtual void taken(const std::string &frame) = 0;
-    // A message of the firm was rejected; it was counted or not.
+    // Whether the gateway takes a message that the venue would be given.
+    virtual bool takes(const std::string &frame) = 0;
+    // A message of the firm was rejected or not taken; it was counted or not.
     virtual void rejected(const std::string &frame, bool is_counted) = 0;
     // What was rejected has no Reject any more that bears its number.
     virtual void rejects_dropped() = 0;
@@ -46,6 +48,8 @@ class Venue {
     void open();
     void suspend();
     void release();
+    // The gateway logs the firm out.
+    void log_out();
     // An operator's reset: what the firm is not known to have gets new numbers.
     void reset();
 

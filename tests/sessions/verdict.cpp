@@ -44,6 +44,11 @@ void World::reset() {
     reset_route_ = next_route_;
 }
 
+bool World::takes(const std::string &frame) {
+    (void)frame;
+    return draw(100) >= kind_.denied;
+}
+
 void World::taken(const std::string &frame) {
     taken_.push_back(value_of(frame, 117));
     say(" the venue takes " + taken_.back());
@@ -129,10 +134,11 @@ std::string World::wrong_at_venue() const {
     std::set<std::string> bad_taken;
     std::vector<std::string> good_taken;
     for (const std::string &id : taken_) {
+        if (rejected_ids_.count(id) > 0 || (id[0] == 'b' && !bad_taken.insert(id).second)) {
+            wrong += " taken twice, or taken and rejected: " + id;
+        }
         if (id[0] != 'b') {
             good_taken.push_back(id);
-        } else if (!bad_taken.insert(id).second || rejected_ids_.count(id) > 0) {
-            wrong += " taken twice, or taken and rejected: " + id;
         }
     }
     for (const std::string &id : bad_) {
@@ -145,7 +151,7 @@ std::string World::wrong_at_venue() const {
     for (const std::string &id : good_) {
         if (at < good_taken.size() && good_taken[at] == id) {
             ++at;
-        } else if (may_be_lost_.count(id) == 0) {
+        } else if (may_be_lost_.count(id) == 0 && rejected_ids_.count(id) == 0) {
             return wrong + " not taken in its turn: " + id;
         }
     }

@@ -24,12 +24,13 @@ struct Kind {
     Millis most_delay = 5;   // of a line, each way
     bool bad_frames = false; // the firm sends what is to be rejected
     unsigned rejects = 0;    // so many of a hundred messages of the venue are 35=3
+    unsigned denied = 0;     // so many of a hundred messages of the firm are not taken
     unsigned garbled = 0;    // so many of a hundred frames of the firm are spoilt
     bool is_loud = false;
     std::string dictionary;
 };
 
-// A Reject of the session, and what the firm heard of it.
+// A Reject or a 35=j of the session, and what the firm heard of it.
 struct Rejection {
     std::string about; // MsgSeqNum (34) of what was rejected
     std::string id;    // of what was rejected
@@ -91,6 +92,7 @@ class World final : Carrier, FirmCarrier {
 
     void send(int connection, const std::string &bytes) override;
     void close(int connection) override;
+    bool takes(const std::string &frame) override;
     void taken(const std::string &frame) override;
     void rejected(const std::string &frame, bool is_counted) override;
     void rejects_dropped() override;

@@ -5,3 +5,7 @@ mod NumberLemmas
 mod ShortTexts
 mod StreamLemmas
 mod WrittenLemmas
+mod StreamCuts
+mod StreamFinds
+mod StreamFronts
+mod StreamWaits

@@ -19,6 +19,7 @@ use Rattle.fix_sessions.specs.declared.messages.Heard.{Heard}
 use Rattle.fix_sessions.specs.declared.messages.Heard.TheVariants as heard
 use Rattle.fix_sessions.specs.declared.heard.Logon.{Logon}
 use Rattle.fix_sessions.specs.declared.texts.Names.{Names}
+use Rattle.fix_sessions.specs.declared.turns.Denial.{Denial}
 
 -- a number from 1 on
 abbrev pub from_one : Option ℕ → Option ℕ
@@ -109,6 +110,24 @@ heard_by names (front.Whole len) bytes =
 -- what bytes say
 unfoldable pub heard_of : Names → List ℕ → Heard
 heard_of names bytes = heard_by names (front_of bytes) bytes
+
+-- A message of the venue's that the gateway does not take.
+
+abbrev pub denied_other : Denial → Kind → Kind
+denied_other denial kind.Other = kind.Denied denial
+denied_other denial other = other
+
+abbrev pub denied_kind : Option Denial → Kind → Kind
+denied_kind None k = k
+denied_kind (Some denial) k = denied_other denial k
+
+abbrev pub denied_message : Option Denial → Incoming → Incoming
+denied_message denial m = record m { kind = denied_kind denial m.kind }
+
+-- what bytes say, as the gateway takes it
+abbrev pub as_taken : Option Denial → Heard → Heard
+as_taken denial (heard.Message m) = heard.Message (denied_message denial m)
+as_taken denial other = other
 
 -- The first message of a connection.
 

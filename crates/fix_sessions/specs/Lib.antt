@@ -3,6 +3,7 @@ pub mod Names
 pub mod Fields
 pub mod Flaws
 pub mod Cuts
+pub mod Streams
 pub mod Heard
 pub mod Outcomes
 pub mod Logons

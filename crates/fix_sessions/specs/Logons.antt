@@ -14,6 +14,7 @@ use Rattle.fix_sessions.specs.declared.messages.Reading.{Reading}
 use Rattle.fix_sessions.specs.declared.messages.Reading.TheVariants as reading
 use Rattle.fix_sessions.specs.declared.messages.Terms.{Terms}
 use Rattle.fix_sessions.specs.declared.texts.Names.{Names}
+use Rattle.fix_sessions.specs.declared.turns.Denial.{Denial}
 use Rattle.fix_sessions.specs.declared.turns.Ending.TheVariants as ending
 use Rattle.fix_sessions.specs.declared.turns.Notice.{Notice}
 use Rattle.fix_sessions.specs.declared.turns.Notice.TheVariants as notice
@@ -21,6 +22,7 @@ use Rattle.fix_sessions.specs.declared.turns.Turn.{Turn}
 use Rattle.fix_sessions.specs.declared.turns.Way.TheVariants as way
 use Rattle.fix_sessions.specs.declared.turns.Why.{Why}
 use Rattle.fix_sessions.specs.declared.turns.Why.TheVariants as why
+use Rattle.fix_sessions.specs.declared.turns.Word.{Word}
 use Rattle.fix_sessions.specs.declared.turns.Word.TheVariants as word
 
 -- Times.
@@ -71,18 +73,27 @@ abbrev pub is_safe : Day → Terms → Bool
 is_safe d terms = d.is_one_free || terms.resets || owes_nothing d
 
 -- a Logout if it is safe, else the connection ends
-abbrev pub refuses : Session → ℕ → Terms → Why → Notice → Turn
-refuses s connection terms why told =
+abbrev pub refuses : Session → ℕ → Terms → Word → Notice → Turn
+refuses s connection terms logout told =
     if is_safe s.day terms
     then record (quiet (record s { day = refusal_day s.day }) connection) {
-      first = said (refusal_number s.day) way.Leaves (word.Logout why);
+      first = said (refusal_number s.day) way.Leaves logout;
       ending = ending.Parts;
       notice = Some told;
     }
     else record (ended s connection) { notice = Some told }
 
 abbrev pub refused : Session → ℕ → Terms → Why → Turn
-refused s connection terms why = refuses s connection terms why (notice.Refused why)
+refused s connection terms why = refuses s connection terms (word.Logout why) (notice.Refused why)
+
+-- in the gateway's words, where it gives some
+abbrev pub logout_of : Why → Option Denial → Word
+logout_of why None = word.Logout why
+logout_of why (Some denial) = word.LogoutFor denial.text
+
+abbrev pub refused_for : Session → ℕ → Terms → Why → Option Denial → Turn
+refused_for s connection terms why denial =
+    refuses s connection terms (logout_of why denial) (notice.Refused why)
 
 -- An answer.
 
@@ -191,7 +202,7 @@ abbrev pub too_low : Session → ℕ → Terms → Turn
 too_low s connection terms =
     let low = why.TooLow s.day.expected in
     if nat_lt s.day.last_logon (value_or_zero terms.sent)
-    then refuses (record s { day = record s.day { is_locked = true } }) connection terms low notice.LostStore
+    then refuses (record s { day = record s.day { is_locked = true } }) connection terms (word.Logout low) notice.LostStore
     else refused s connection terms low
 
 abbrev pub judged_number : Session → ℕ → ℕ → Terms → Turn
@@ -212,16 +223,27 @@ judged_reset s connection now terms =
     if terms.resets && not ((terms.number == 1) && may_reset s.day) then refused s connection terms why.Reset
     else judged_number s connection now terms
 
--- a Logon while the venue is closed or the firm suspended is refused, and one of wrong terms
-abbrev pub judged : Session → ℕ → Clock → Terms → Turn
-judged s connection clock terms =
-    if not s.day.is_open then refused s connection terms why.Closed
-    else if s.day.is_suspended then refused s connection terms why.Suspended
-    else if not terms.is_plain then refused s connection terms why.Encrypted
+-- a Logon of wrong terms is refused
+abbrev pub judged_terms : Session → ℕ → Clock → Terms → Turn
+judged_terms s connection clock terms =
+    if not terms.is_plain then refused s connection terms why.Encrypted
     else if not terms.is_fix50 then refused s connection terms why.Version
     else if not (is_heartbeat terms.seconds) then refused s connection terms why.Heartbeat
     else if not (is_in_time clock terms.sent) then refused s connection terms why.Clock
     else judged_reset s connection clock.moment terms
+
+-- one that the gateway does not take
+abbrev pub judged_denial : Session → ℕ → Clock → Terms → Option Denial → Turn
+judged_denial s connection clock terms None = judged_terms s connection clock terms
+judged_denial s connection clock terms (Some denial) =
+    refuses s connection terms (word.LogoutFor denial.text) notice.Denied
+
+-- and one while the venue is closed or the firm suspended
+abbrev pub judged : Session → ℕ → Clock → Terms → Option Denial → Turn
+judged s connection clock terms denial =
+    if not s.day.is_open then refused_for s connection terms why.Closed denial
+    else if s.day.is_suspended then refused_for s connection terms why.Suspended denial
+    else judged_denial s connection clock terms denial
 
 -- Where another connection has the session.
 
@@ -245,18 +267,18 @@ abbrev pub without : ℕ → Option Waiting → Option Waiting
 without connection None = None
 without connection (Some waiting) = if waiting.connection == connection then None else Some waiting
 
-abbrev pub judged_by : Session → ℕ → Clock → Terms → Phase → Turn
-judged_by s connection clock terms phase.Away =
-    judged (record s { waiting = without connection s.waiting }) connection clock terms
-judged_by s connection clock terms other = waits_for s connection clock.moment s.waiting
+abbrev pub judged_by : Session → ℕ → Clock → Terms → Option Denial → Phase → Turn
+judged_by s connection clock terms denial phase.Away =
+    judged (record s { waiting = without connection s.waiting }) connection clock terms denial
+judged_by s connection clock terms denial other = waits_for s connection clock.moment s.waiting
 
 -- no Logon that can be read, or wrong credentials: the connection ends, and nothing is sent
-abbrev pub first_by : Session → ℕ → Clock → Bool → Option Terms → Turn
-first_by s connection clock is_known None = ended s connection
-first_by s connection clock is_known (Some terms) =
-    if is_known then judged_by s connection clock terms s.phase
+abbrev pub first_by : Session → ℕ → Clock → Bool → Option Denial → Option Terms → Turn
+first_by s connection clock is_known denial None = ended s connection
+first_by s connection clock is_known denial (Some terms) =
+    if is_known then judged_by s connection clock terms denial s.phase
     else record (ended s connection) { notice = Some notice.Credentials }
 
-abbrev pub came_first : Names → Session → ℕ → Clock → List ℕ → Bool → Turn
-came_first names s connection clock bytes is_known =
-    first_by s connection clock is_known (logon_of names bytes)
+abbrev pub came_first : Names → Session → ℕ → Clock → List ℕ → Bool → Option Denial → Turn
+came_first names s connection clock bytes is_known denial =
+    first_by s connection clock is_known denial (logon_of names bytes)

@@ -10,6 +10,7 @@ use Rattle.fix_sessions.specs.declared.state.Waiting.{Waiting}
 use Rattle.fix_sessions.specs.declared.state.TheConstants.{LAST_NUMBER}
 use Rattle.fix_sessions.specs.declared.messages.Origin.{Origin}
 use Rattle.fix_sessions.specs.declared.turns.Ending.TheVariants as ending
+use Rattle.fix_sessions.specs.declared.turns.Denial.{Denial}
 use Rattle.fix_sessions.specs.declared.turns.Fault.{Fault}
 use Rattle.fix_sessions.specs.declared.turns.Said.{Said}
 use Rattle.fix_sessions.specs.declared.turns.Turn.{Turn}
@@ -89,7 +90,7 @@ is_clear a = nat_le a.line.again_end a.line.again && (a.line.fresh == a.day.next
 abbrev pub used : Day → Day
 used d = record d { next = d.next + 1 }
 
--- and a Reject is kept under it
+-- and an answer of the session's own is kept under it
 abbrev pub keeping : Day → Day
 keeping d = record d { next = d.next + 1; last_kept = d.next }
 
@@ -126,6 +127,24 @@ rejects_now a now w =
 -- a message that bears the expected number is counted with its Reject
 abbrev pub rejects : Live → ℕ → Origin → Fault → Turn
 rejects a now m fault = rejects_now (counted_if a now m.number) now (reject_of m fault)
+
+-- A BusinessMessageReject.
+
+abbrev pub denial_of : Origin → Denial → Word
+denial_of m denial = word.Denied (unwrap_or m.number 0) m.msg_type denial
+
+-- it is kept, and leaves; where others wait it waits behind them
+abbrev pub denies_now : Live → ℕ → Word → Turn
+denies_now a now w =
+    if is_clear a
+    then record (stays (record a { day = keeping a.day; line = sent_next a now })) {
+      first = said a.day.next way.KeptAndLeaves w;
+    }
+    else record (stays (record a { day = keeping a.day })) { first = said a.day.next way.Kept w }
+
+-- a message of the venue's that the gateway does not take is counted with it
+abbrev pub denies : Live → ℕ → Origin → Denial → Turn
+denies a now m denial = denies_now (counted a now) now (denial_of m denial)
 
 -- A Logout: where others wait, or the firm has not answered, the connection ends without.
 

@@ -1,6 +1,6 @@
 -- The later messages of a connection, row by row: the first row that holds decides.
 use Rattle.std.specs.Prelude.{ℕ, ◌+◌, ◌-◌, ◌≤◌, Bool, true, false, ◌&&◌, ◌||◌, ◌==◌, not, nat_le, nat_lt, List, Option, Some, None, if◌then◌else◌}
-use Rattle.fix_sessions.specs.Outcomes.{stays, moved_to, counted, counted_if, answers, rejects, rejects_and_logs_out, logs_out, parts, leaves, alive}
+use Rattle.fix_sessions.specs.Outcomes.{stays, moved_to, counted, counted_if, answers, denies, rejects, rejects_and_logs_out, logs_out, parts, leaves, alive}
 use Rattle.fix_sessions.specs.Logons.{is_off, is_today}
 use Rattle.fix_sessions.specs.declared.state.Clock.{Clock}
 use Rattle.fix_sessions.specs.declared.state.Line.{Line}
@@ -171,6 +171,7 @@ by_kind a now m number (kind.Fill next) = fills a now m number next
 by_kind a now m number (kind.Reset next) = resets_to a now m next
 by_kind a now m number kind.Logout = leaves (counted a now) why.Answered
 by_kind a now m number kind.Logon = parts (counted a now) now (word.Logout why.LoggedOn)
+by_kind a now m number (kind.Denied denial) = denies a now m denial
 by_kind a now m number kind.Other = takes a now
 
 -- Row 10: what is wrong with its form

@@ -1,7 +1,7 @@
 -- The events of a session.
 use Rattle.std.specs.Prelude.{ℕ, ◌+◌, ◌-◌, ◌*◌, Bool, true, false, ◌&&◌, ◌||◌, ◌==◌, not, nat_le, nat_lt, List, Option, Some, None, if◌then◌else◌}
 use Rattle.fix_fields.specs.Frame.{Field}
-use Rattle.fix_sessions.specs.Heard.{heard_of, is_logout}
+use Rattle.fix_sessions.specs.Heard.{as_taken, heard_of, is_logout}
 use Rattle.fix_sessions.specs.Logons.{came_first, without}
 use Rattle.fix_sessions.specs.Outcomes.{quiet, ended, said, free, holder, is_free, is_spent, live, stays, disconnects, says, leaves, parts, is_clear, used}
 use Rattle.fix_sessions.specs.Rows.{came_on, came_long}
@@ -20,11 +20,12 @@ use Rattle.fix_sessions.specs.declared.messages.Heard.TheVariants as heard
 use Rattle.fix_sessions.specs.declared.orders.Order.{Order}
 use Rattle.fix_sessions.specs.declared.orders.Order.TheVariants as order
 use Rattle.fix_sessions.specs.declared.texts.Names.{Names}
+use Rattle.fix_sessions.specs.declared.turns.Denial.{Denial}
 use Rattle.fix_sessions.specs.declared.turns.Notice.TheVariants as notice
 use Rattle.fix_sessions.specs.declared.turns.Turn.{Turn}
 use Rattle.fix_sessions.specs.declared.turns.Way.TheVariants as way
-use Rattle.fix_sessions.specs.declared.turns.Why.{Why}
 use Rattle.fix_sessions.specs.declared.turns.Why.TheVariants as why
+use Rattle.fix_sessions.specs.declared.turns.Word.{Word}
 use Rattle.fix_sessions.specs.declared.turns.Word.TheVariants as word
 
 -- a new day: number 1 is left for its first answer to a Logon
@@ -76,16 +77,16 @@ came_leaving names s connection bytes =
     if is_logout bytes then came_leaving_as s connection (heard_of names bytes) else quiet s connection
 
 -- by whose the session is
-abbrev pub came_by : Names → Session → ℕ → Clock → List ℕ → Bool → Phase → Turn
-came_by names s connection clock bytes is_known phase.Away =
-    came_first names s connection clock bytes is_known
-came_by names s connection clock bytes is_known (phase.On line) =
+abbrev pub came_by : Names → Session → ℕ → Clock → List ℕ → Bool → Option Denial → Phase → Turn
+came_by names s connection clock bytes is_known denial phase.Away =
+    came_first names s connection clock bytes is_known denial
+came_by names s connection clock bytes is_known denial (phase.On line) =
     if line.connection == connection
-    then came_as (live s line) clock (heard_of names bytes)
-    else came_first names s connection clock bytes is_known
-came_by names s connection clock bytes is_known (phase.Leaving last since) =
+    then came_as (live s line) clock (as_taken denial (heard_of names bytes))
+    else came_first names s connection clock bytes is_known denial
+came_by names s connection clock bytes is_known denial (phase.Leaving last since) =
     if last == connection then came_leaving names s connection bytes
-    else came_first names s connection clock bytes is_known
+    else came_first names s connection clock bytes is_known denial
 
 -- whether a connection has the session
 abbrev pub has : Phase → ℕ → Bool
@@ -99,10 +100,10 @@ freed_of s connection =
     if has s.phase connection then free s
     else record s { waiting = without connection s.waiting }
 
-unfoldable pub came : Names → Session → ℕ → Clock → List ℕ → Bool → Turn
-came names s connection clock bytes is_known =
+unfoldable pub came : Names → Session → ℕ → Clock → List ℕ → Bool → Option Denial → Turn
+came names s connection clock bytes is_known denial =
     if is_spent s then ended (freed_of s connection) connection
-    else came_by names s connection clock bytes is_known s.phase
+    else came_by names s connection clock bytes is_known denial s.phase
 
 abbrev pub gone : Session → ℕ → Turn
 gone s connection = quiet (freed_of s connection) connection
@@ -230,15 +231,18 @@ tick s now =
 -- An operator.
 
 -- a firm that is logged on is logged out
-abbrev pub logged_out_by : Session → ℕ → Why → Phase → Turn
-logged_out_by s now why phase.Away = quiet s 0
-logged_out_by s now why (phase.On line) =
-    parts (live s line) now (word.Logout why)
-logged_out_by s now why (phase.Leaving connection since) = quiet s connection
+abbrev pub logged_out_by : Session → ℕ → Word → Phase → Turn
+logged_out_by s now logout phase.Away = quiet s 0
+logged_out_by s now logout (phase.On line) = parts (live s line) now logout
+logged_out_by s now logout (phase.Leaving connection since) = quiet s connection
 
-abbrev pub logged_out : Session → ℕ → Why → Phase → Turn
-logged_out s now why of_whom =
-    if is_spent s then ended (free s) (holder s.phase) else logged_out_by s now why of_whom
+abbrev pub logged_out : Session → ℕ → Word → Phase → Turn
+logged_out s now logout of_whom =
+    if is_spent s then ended (free s) (holder s.phase) else logged_out_by s now logout of_whom
+
+-- and for a reason that the gateway gives
+unfoldable pub log_out : Session → ℕ → List ℕ → Turn
+log_out s now text = logged_out s now (word.LogoutFor text) s.phase
 
 -- numbers begin at 1 again; this many messages of the venue that the firm is not known to have get
 -- the numbers from 2 on
@@ -278,8 +282,8 @@ resets s =
 abbrev pub ordered_by : Session → ℕ → Order → Turn
 ordered_by s now order.Open = quiet s 0
 ordered_by s now order.Release = quiet s 0
-ordered_by s now order.Close = logged_out s now why.Closed s.phase
-ordered_by s now order.Suspend = logged_out s now why.Suspended s.phase
+ordered_by s now order.Close = logged_out s now (word.Logout why.Closed) s.phase
+ordered_by s now order.Suspend = logged_out s now (word.Logout why.Suspended) s.phase
 ordered_by s now (order.Reset copies) = resets s
 
 unfoldable pub ordered : Session → Clock → Order → Turn

@@ -3,6 +3,7 @@ use Rattle.std.specs.Prelude.{ℕ, Bool, true, false, List, [], ◌∷◌, ◌++
 use Rattle.fix_fields.specs.Frame.{Field, value_of}
 use Rattle.fix_fields.specs.UtcTimestamp.{timestamp_text}
 use Rattle.fix_sessions.specs.declared.texts.Names.{Names}
+use Rattle.fix_sessions.specs.declared.turns.Denial.{Denial}
 use Rattle.fix_sessions.specs.declared.turns.Fault.{Fault}
 use Rattle.fix_sessions.specs.declared.turns.Said.{Said}
 use Rattle.fix_sessions.specs.declared.turns.Why.{Why}
@@ -25,6 +26,8 @@ type_of (word.Reject number kind fault) = codes "3"
 type_of (word.Fill next) = codes "4"
 type_of (word.Logout why) = codes "5"
 type_of (word.Foreign version) = codes "5"
+type_of (word.LogoutFor text) = codes "5"
+type_of (word.Denied number kind denial) = codes "j"
 type_of (word.Kept body is_copy) = type_in body
 type_of (word.Again body is_copy first) = type_in body
 
@@ -73,6 +76,12 @@ reject_fields number kind fault =
     (45, decimal number) ∷ [] ++ number_field 371 fault.tag ++ text_field 372 kind
     ++ (373, decimal fault.reason) ∷ []
 
+-- a BusinessMessageReject: which message is not taken, what the gateway names, and why
+abbrev pub denied_fields : ℕ → Option (List ℕ) → Denial → List Field
+denied_fields number kind denial =
+    (45, decimal number) ∷ [] ++ text_field 372 kind ++ text_field 379 denial.id
+    ++ (380, decimal denial.reason) ∷ (58, denial.text) ∷ []
+
 -- Text (58) of a Logout
 abbrev pub why_text : Why → List ℕ
 why_text why.Answered = []
@@ -117,6 +126,8 @@ body_of (word.Reject number kind fault) = reject_fields number kind fault
 body_of (word.Fill next) = (123, codes "Y") ∷ (36, decimal next) ∷ []
 body_of (word.Logout why) = text_if_any (why_text why)
 body_of (word.Foreign version) = (58, codes "BeginString is " ++ version) ∷ []
+body_of (word.LogoutFor text) = (58, text) ∷ []
+body_of (word.Denied number kind denial) = denied_fields number kind denial
 body_of (word.Kept body is_copy) = behind_type body
 body_of (word.Again body is_copy first) = behind_type body
 

@@ -11,7 +11,7 @@ use crate::state::{
     Waiting,
 };
 use crate::texts::Names;
-use crate::turns::{Ending, Notice, Turn, Way, Why, Word};
+use crate::turns::{Denial, Ending, Notice, Turn, Way, Why, Word};
 
 /// Whether a time is more than two minutes from the time of arrival.
 pub(crate) fn is_off(clock: &Clock, time: u64) -> bool
@@ -84,9 +84,15 @@ fn is_safe(d: &Day, terms: &Terms) -> bool
 }
 
 /// A Logon is refused: by a Logout if it is safe, else the connection ends.
-fn refuses<'a>(s: Session, connection: u64, terms: Terms, why: Why, notice: Notice) -> Turn<'a>
+fn refuses<'a>(
+    s: Session,
+    connection: u64,
+    terms: Terms,
+    logout: Word<'a>,
+    notice: Notice,
+) -> Turn<'a>
     requires { s.day.next ≤ LAST_NUMBER }
-    ensures { result ≡ spec.refuses s connection terms why notice }
+    ensures { result ≡ spec.refuses s connection terms logout.entry notice }
 {
     if !is_safe(&s.day, &terms) {
         return Turn {
@@ -97,7 +103,7 @@ fn refuses<'a>(s: Session, connection: u64, terms: Terms, why: Why, notice: Noti
     let number = if s.day.is_one_free { 1 } else { s.day.next };
     let day = refusal_day(s.day);
     Turn {
-        first: said(number, Way::Leaves, Word::Logout { why }),
+        first: said(number, Way::Leaves, logout),
         ending: Ending::Parts,
         notice: Some(notice),
         ..quiet(Session { day, ..s }, connection)
@@ -109,7 +115,34 @@ fn refused<'a>(s: Session, connection: u64, terms: Terms, why: Why) -> Turn<'a>
     requires { s.day.next ≤ LAST_NUMBER }
     ensures { result ≡ spec.refused s connection terms why }
 {
-    refuses(s, connection, terms, why, Notice::Refused { why })
+    let logout = Word::Logout { why };
+    refuses(s, connection, terms, logout, Notice::Refused { why })
+}
+
+/// A Logout in the gateway's words, where it gives some.
+fn logout_of<'a>(why: Why, denial: Option<Denial<'a>>) -> Word<'a>
+    ensures { result ≡ spec.logout_of why denial.entry }
+{
+    let Some(denial) = denial else {
+        return Word::Logout { why };
+    };
+    let Denial { text, .. } = denial;
+    Word::LogoutFor { text }
+}
+
+/// A Logon is refused for a reason, in the gateway's words where it gives some.
+fn refused_for<'a>(
+    s: Session,
+    connection: u64,
+    terms: Terms,
+    why: Why,
+    denial: Option<Denial<'a>>,
+) -> Turn<'a>
+    requires { s.day.next ≤ LAST_NUMBER }
+    ensures { result ≡ spec.refused_for s connection terms why denial.entry }
+{
+    let logout = logout_of(why, denial);
+    refuses(s, connection, terms, logout, Notice::Refused { why })
 }
 
 /// Whether 789 is no number from 1 to the next that the venue will send.
@@ -142,7 +175,7 @@ fn too_low<'a>(s: Session, connection: u64, terms: Terms) -> Turn<'a>
         Session { day, ..s },
         connection,
         terms,
-        why,
+        Word::Logout { why },
         Notice::LostStore,
     )
 }
@@ -178,17 +211,11 @@ fn judged_number<'a>(s: Session, connection: u64, now: u64, terms: Terms) -> Tur
 }
 
 /// A Logon by what it asks for.
-fn judged<'a>(s: Session, connection: u64, clock: &Clock, terms: Terms) -> Turn<'a>
+fn judged_terms<'a>(s: Session, connection: u64, clock: &Clock, terms: Terms) -> Turn<'a>
     requires next { s.day.next ≤ LAST_NUMBER }
     requires expected { s.day.expected ≤ LAST_NUMBER }
-    ensures { result ≡ spec.judged s connection clock.now terms }
+    ensures { result ≡ spec.judged_terms s connection clock.now terms }
 {
-    if !s.day.is_open {
-        return refused(s, connection, terms, Why::Closed);
-    }
-    if s.day.is_suspended {
-        return refused(s, connection, terms, Why::Suspended);
-    }
     if !terms.is_plain {
         return refused(s, connection, terms, Why::Encrypted);
     }
@@ -205,6 +232,32 @@ fn judged<'a>(s: Session, connection: u64, clock: &Clock, terms: Terms) -> Turn<
         return refused(s, connection, terms, Why::Reset);
     }
     judged_number(s, connection, clock.moment, terms)
+}
+
+/// A Logon, by whether the venue takes one of the firm now.
+fn judged<'a>(
+    s: Session,
+    connection: u64,
+    clock: &Clock,
+    terms: Terms,
+    denial: Option<Denial<'a>>,
+) -> Turn<'a>
+    requires next { s.day.next ≤ LAST_NUMBER }
+    requires expected { s.day.expected ≤ LAST_NUMBER }
+    ensures { result ≡ spec.judged s connection clock.now terms denial.entry }
+{
+    if !s.day.is_open {
+        return refused_for(s, connection, terms, Why::Closed, denial);
+    }
+    if s.day.is_suspended {
+        return refused_for(s, connection, terms, Why::Suspended, denial);
+    }
+    let Some(denial) = denial else {
+        return judged_terms(s, connection, clock, terms);
+    };
+    let Denial { text, .. } = denial;
+    let logout = Word::LogoutFor { text };
+    refuses(s, connection, terms, logout, Notice::Denied)
 }
 
 /// A TestRequest asks an old connection whether it is dead.
@@ -270,10 +323,11 @@ pub(crate) fn came_first<'a>(
     clock: &Clock,
     bytes: &[u8],
     is_known: bool,
+    denial: Option<Denial<'a>>,
 ) -> Turn<'a>
     requires next { s.day.next ≤ LAST_NUMBER }
     requires expected { s.day.expected ≤ LAST_NUMBER }
-    ensures { result ≡ spec.came_first names.now s connection clock.now bytes.now is_known }
+    ensures { result ≡ spec.came_first names.now s connection clock.now bytes.now is_known denial.entry }
 {
     let Some(terms) = logon_of(names, bytes) else {
         return ended(s, connection);
@@ -288,5 +342,5 @@ pub(crate) fn came_first<'a>(
         return waits_for(s, connection, clock.moment);
     }
     let waiting = without(connection, s.waiting);
-    judged(Session { waiting, ..s }, connection, clock, terms)
+    judged(Session { waiting, ..s }, connection, clock, terms, denial)
 }

@@ -1,7 +1,7 @@
 //! What a message says to a session.
 
 use crate::texts::Text;
-use crate::turns::Fault;
+use crate::turns::{Denial, Fault};
 
 /// What a field says that has a number or a time.
 #[derive(Clone, Copy, Debug, PartialEq, Eq)]
@@ -86,6 +86,11 @@ pub enum Kind<'a> {
     },
     /// Logout (35=5).
     Logout,
+    /// A message of the venue's that the gateway does not take.
+    Denied {
+        /// What it says of it.
+        denial: Denial<'a>,
+    },
     /// Another message: the venue's.
     Other,
 }

@@ -6,6 +6,7 @@ use crate::holding::{free, holder, is_free, is_spent};
 use crate::outcomes::{ended, live, parts, quiet};
 use crate::state::{Clock, Day, LAST_NUMBER, Phase, Session};
 use crate::steps::new_day;
+use crate::texts::Text;
 use crate::turns::{Turn, Why, Word};
 
 /// What an operator orders.
@@ -38,8 +39,14 @@ pub fn ordered<'a>(session: &Session, clock: &Clock, order: Order) -> Turn<'a>
     match order {
         Order::Open => quiet(after, 0),
         Order::Release => quiet(after, 0),
-        Order::Close => logged_out(after, clock.moment, Why::Closed),
-        Order::Suspend => logged_out(after, clock.moment, Why::Suspended),
+        Order::Close => {
+            let why = Why::Closed;
+            logged_out(after, clock.moment, Word::Logout { why })
+        }
+        Order::Suspend => {
+            let why = Why::Suspended;
+            logged_out(after, clock.moment, Word::Logout { why })
+        }
         Order::Reset { .. } => resets(after),
     }
 }
@@ -67,9 +74,17 @@ fn ordered_day(d: Day, clock: &Clock, order: Order) -> Day
     }
 }
 
+/// The gateway logs a firm out that is logged on, for a reason of its own.
+#[tactic(auto, unfolding(crate::specs::Steps::log_out))]
+pub fn log_out<'a>(session: &Session, clock: &Clock, text: Text<'a>) -> Turn<'a>
+    ensures { result ≡ spec.log_out session.now clock.now.moment text.entry }
+{
+    logged_out(*session, clock.moment, Word::LogoutFor { text })
+}
+
 /// A firm that is logged on is logged out.
-fn logged_out<'a>(s: Session, now: u64, why: Why) -> Turn<'a>
-    ensures { result ≡ spec.logged_out s now why s.phase }
+fn logged_out<'a>(s: Session, now: u64, logout: Word<'a>) -> Turn<'a>
+    ensures { result ≡ spec.logged_out s now logout.entry s.phase }
 {
     if is_spent(&s) {
         return ended(free(s), holder(&s.phase));
@@ -77,7 +92,7 @@ fn logged_out<'a>(s: Session, now: u64, why: Why) -> Turn<'a>
     match s.phase {
         Phase::Away => quiet(s, 0),
         Phase::Leaving { connection, .. } => quiet(s, connection),
-        Phase::On { line } => parts(live(&s, line), now, Word::Logout { why }),
+        Phase::On { line } => parts(live(&s, line), now, logout),
     }
 }
 

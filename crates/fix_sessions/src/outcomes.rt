@@ -170,8 +170,8 @@ pub(crate) fn used(d: Day) -> Day
     }
 }
 
-/// A Reject is kept under the next number.
-fn keeping(d: Day) -> Day
+/// An answer of the session's own is kept under the next number.
+pub(crate) fn keeping(d: Day) -> Day
     requires { d.next ≤ LAST_NUMBER + 5 }
     ensures { result ≡ spec.keeping d }
 {
@@ -183,7 +183,7 @@ fn keeping(d: Day) -> Day
 }
 
 /// What has left once the next number did.
-fn sent_next(a: &Live, now: u64) -> Line
+pub(crate) fn sent_next(a: &Live, now: u64) -> Line
     requires { a.now.day.next ≤ LAST_NUMBER + 5 }
     ensures { result ≡ spec.sent_next a.now now }
 {

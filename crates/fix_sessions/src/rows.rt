@@ -2,6 +2,7 @@
 ghost use Rattle.std.specs.Prelude.{◌≡◌, ◌≤◌, ◌<◌};
 ghost use Rattle.fix_sessions.specs.Rows as spec;
 
+use crate::denials::denies;
 use crate::logons::{is_off, is_today};
 use crate::messages::{Incoming, Kind, Origin, Reading, TestId};
 use crate::outcomes::{
@@ -215,6 +216,7 @@ fn by_kind<'a>(a: Live, now: u64, m: Origin<'a>, number: u64, kind: Kind<'a>) ->
             let why = Why::LoggedOn;
             parts(counted(a, now), now, Word::Logout { why })
         }
+        Kind::Denied { denial } => denies(a, now, m, denial),
         Kind::Other => takes(a, now),
     }
 }

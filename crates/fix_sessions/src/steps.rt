@@ -5,6 +5,7 @@ ghost use Rattle.fix_sessions.specs.Rows as rows;
 ghost use Rattle.fix_sessions.specs.Steps as spec;
 
 use crate::bodies::Body;
+use crate::denials::as_taken;
 use crate::heard::{heard_of, is_logout};
 use crate::holding::{free, holder, is_free, is_spent};
 use crate::logons::{came_first, without};
@@ -15,7 +16,7 @@ use crate::sending::{given_on, keeps_one};
 use crate::state::{Clock, Day, LAST_NUMBER, LOGOUT_WAIT, Live, Phase, Session, Waiting};
 use crate::texts::Names;
 use crate::ticks::tick_by;
-use crate::turns::{Notice, Turn, Way, Word};
+use crate::turns::{Denial, Notice, Turn, Way, Word};
 
 /// The session of a day that begins.
 pub fn new_session() -> Session
@@ -52,7 +53,8 @@ pub(crate) fn new_day() -> Day
 
 /// A message came on a connection: all of its bytes, and no more. For the first one of a
 /// connection, [`crate::question`] says whose credentials are asked for, and `is_known` whether
-/// they are right.
+/// they are right. With a denial the gateway does not take it: a Logon is refused, a message that
+/// would be given to the venue is answered with a BusinessMessageReject, and all else is as without.
 #[tactic(auto, unfolding(crate::specs::Steps::came))]
 pub fn came<'a>(
     names: &Names,
@@ -61,34 +63,41 @@ pub fn came<'a>(
     clock: &Clock,
     bytes: &'a [u8],
     is_known: bool,
+    denial: Option<Denial<'a>>,
 ) -> Turn<'a>
-    ensures { result ≡ spec.came names.now session.now connection clock.now bytes.now is_known }
+    ensures { result ≡ spec.came names.now session.now connection clock.now bytes.now is_known denial.entry }
 {
     let s = *session;
     if is_spent(&s) {
         return ended(freed_of(s, connection), connection);
     }
     if !has(&s.phase, connection) {
-        return came_first(names, s, connection, clock, bytes, is_known);
+        return came_first(names, s, connection, clock, bytes, is_known, denial);
     }
     match s.phase {
-        Phase::Away => came_first(names, s, connection, clock, bytes, is_known),
+        Phase::Away => came_first(names, s, connection, clock, bytes, is_known, denial),
         Phase::Leaving { .. } => came_leaving(names, s, connection, bytes),
         Phase::On { line } => {
             let a = live(&s, line);
-            came_live(names, a, clock, bytes)
+            came_live(names, a, clock, bytes, denial)
         }
     }
 }
 
 /// A message came on the connection by which the firm is logged on.
-fn came_live<'a>(names: &Names, a: Live, clock: &Clock, bytes: &'a [u8]) -> Turn<'a>
+fn came_live<'a>(
+    names: &Names,
+    a: Live,
+    clock: &Clock,
+    bytes: &'a [u8],
+    denial: Option<Denial<'a>>,
+) -> Turn<'a>
     requires expected { a.day.expected ≤ LAST_NUMBER }
     requires next { a.day.next ≤ LAST_NUMBER }
     requires left { rows.highest_left a.line ≤ LAST_NUMBER }
-    ensures { result ≡ spec.came_as a clock.now (heard.heard_of names.now bytes.now) }
+    ensures { result ≡ spec.came_as a clock.now (heard.as_taken denial.entry (heard.heard_of names.now bytes.now)) }
 {
-    match heard_of(names, bytes) {
+    match as_taken(heard_of(names, bytes), denial) {
         Heard::Garbled => stays(a),
         Heard::TooLong { number } => came_long(a, clock.moment, number),
         Heard::Message { message } => came_on(a, clock, message),

@@ -56,6 +56,17 @@ pub struct Fault {
     pub reason: u64,
 }
 
+/// What the gateway says of a message that it does not take.
+#[derive(Debug, Drop)]
+pub struct Denial<'a> {
+    /// BusinessRejectReason (380).
+    pub reason: u64,
+    /// BusinessRejectRefID (379), where it names one.
+    pub id: Option<Text<'a>>,
+    /// Text (58).
+    pub text: Text<'a>,
+}
+
 /// A message to the firm, but for its header.
 #[derive(Debug, Drop)]
 pub enum Word<'a> {
@@ -109,7 +120,22 @@ pub enum Word<'a> {
         /// That BeginString.
         version: Text<'a>,
     },
-    /// What is kept: a message of the venue, a Reject, or an answer to a TestRequest.
+    /// Logout (35=5) for a reason that the gateway gives.
+    LogoutFor {
+        /// Text (58).
+        text: Text<'a>,
+    },
+    /// BusinessMessageReject (35=j): the gateway does not take a message.
+    Denied {
+        /// RefSeqNum (45).
+        number: u64,
+        /// RefMsgType (372), where the message has one.
+        kind: Option<Text<'a>>,
+        /// BusinessRejectReason (380), BusinessRejectRefID (379) and Text (58).
+        denial: Denial<'a>,
+    },
+    /// What is kept: a message of the venue, a Reject, a BusinessMessageReject, or an answer to a
+    /// TestRequest.
     Kept {
         /// Its fields behind the header.
         body: Body<'a>,
@@ -182,6 +208,8 @@ pub enum Notice {
         /// For this reason.
         why: Why,
     },
+    /// A Logon was refused, since the gateway does not take it.
+    Denied,
     /// The firm's engine has lost its store: no Logon is accepted until an operator acts.
     LostStore,
     /// The firm has sent a Reject: its engine has lost the message that it names.
@@ -203,7 +231,7 @@ pub struct Turn<'a> {
     pub second: Option<Said<'a>>,
     /// The message that came is given to the venue, under this number.
     pub takes: Option<u64>,
-    /// The Rejects that are kept are kept no longer.
+    /// The Rejects and BusinessMessageRejects of the session that are kept are kept no longer.
     pub drops_rejects: bool,
     /// What becomes of the connection.
     pub ending: Ending,

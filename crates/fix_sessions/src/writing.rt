@@ -7,7 +7,7 @@ ghost use Rattle.fix_sessions.specs.Written as spec;
 
 use crate::bodies::{Body, MOST_KEPT};
 use crate::texts::{Names, Text};
-use crate::turns::{Fault, Said, Why, Word};
+use crate::turns::{Denial, Fault, Said, Why, Word};
 use crate::words::why_text;
 use fix_fields::{Date, Fields, FrameWriter, Memory, Moment, moment_bytes};
 use std::alloc::Global;
@@ -56,6 +56,8 @@ fn msg_type<'a>(word: &'a Word<'a>) -> &'a [u8]
         Word::Fill { .. } => b"4",
         Word::Logout { .. } => b"5",
         Word::Foreign { .. } => b"5",
+        Word::LogoutFor { .. } => b"5",
+        Word::Denied { .. } => b"j",
         Word::Kept { body, .. } => type_in(body),
         Word::Again { body, .. } => type_in(body),
     }
@@ -169,6 +171,12 @@ fn put_word(alloc: Global, writer: &mut FrameWriter, word: &Word) -> Result<(), 
         Word::Fill { next } => put_fill(writer, *next)?,
         Word::Logout { why } => put_why(alloc, writer, *why)?,
         Word::Foreign { version } => put_foreign(alloc, writer, version)?,
+        Word::LogoutFor { text } => writer.text(58, text.as_bytes())?,
+        Word::Denied {
+            number,
+            kind,
+            denial,
+        } => put_denied(writer, *number, kind, denial)?,
         Word::Kept { body, .. } => put_body(writer, body)?,
         Word::Again { body, .. } => put_body(writer, body)?,
     }
@@ -228,6 +236,29 @@ fn put_reject(
         writer.text(372, kind.as_bytes())?;
     }
     writer.number(373, fault.reason)?;
+    Ok(())
+}
+
+/// Of a BusinessMessageReject.
+#[tactic(auto, using(crate::proofs::WrittenLemmas::decimal_len_le))]
+fn put_denied(
+    writer: &mut FrameWriter,
+    number: u64,
+    kind: &Option<Text>,
+    denial: &Denial,
+) -> Result<(), Memory>
+    requires { 3200 ≤ left_of writer.old }
+    ensures { OnOk result (writer.new ≡ writer.old ++ spec.denied_fields number kind.now denial.now) }
+{
+    writer.number(45, number)?;
+    if let Some(kind) = kind {
+        writer.text(372, kind.as_bytes())?;
+    }
+    if let Some(id) = &denial.id {
+        writer.text(379, id.as_bytes())?;
+    }
+    writer.number(380, denial.reason)?;
+    writer.text(58, denial.text.as_bytes())?;
     Ok(())
 }
 

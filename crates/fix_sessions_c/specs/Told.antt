@@ -1,5 +1,5 @@
 -- What C is told of a turn.
-use Rattle.std.specs.Prelude.{◌≡◌, ℕ, ◌*◌, ◌==◌, Bool, true, false, List, [], ◌++◌, length, take, Option, Some, None, unwrap_or, if◌then◌else◌}
+use Rattle.std.specs.Prelude.{◌≡◌, ◌≤◌, ℕ, ◌*◌, ◌==◌, Bool, true, false, List, [], ◌++◌, length, take, Option, Some, None, unwrap_or, if◌then◌else◌}
 use Rattle.fix_fields.specs.Frame.{frame_text, frame_of}
 use Rattle.fix_sessions.specs.Names.{AreNames}
 use Rattle.fix_sessions.specs.Texts.{text_if_short, date_number}
@@ -13,6 +13,7 @@ use Rattle.fix_sessions.specs.declared.orders.Order.TheVariants as order
 use Rattle.fix_sessions.specs.declared.state.Clock.{Clock}
 use Rattle.fix_sessions.specs.declared.state.TheConstants.{DAY_LENGTH}
 use Rattle.fix_sessions.specs.declared.texts.Names.{Names}
+use Rattle.fix_sessions.specs.declared.turns.Denial.{Denial}
 use Rattle.fix_sessions.specs.declared.turns.Ending.{Ending}
 use Rattle.fix_sessions.specs.declared.turns.Ending.TheVariants as ending
 use Rattle.fix_sessions.specs.declared.turns.Notice.{Notice}
@@ -25,6 +26,7 @@ use Rattle.fix_sessions.specs.declared.turns.Want.TheVariants as want
 use Rattle.fix_sessions.specs.declared.turns.Way.{Way}
 use Rattle.fix_sessions.specs.declared.turns.Way.TheVariants as way
 use Rattle.fix_sessions_c.specs.States.{shown}
+use Rattle.fix_sessions_c.specs.declared.parts.TheConstants.{MOST_SAID}
 use Rattle.fix_sessions_c.specs.declared.states.SessionState.{SessionState}
 use Rattle.fix_sessions_c.specs.declared.streams.Asked.{Asked}
 use Rattle.fix_sessions_c.specs.declared.streams.FoundNext.{FoundNext}
@@ -40,6 +42,21 @@ AreNamed firm venue desk names = AreNames firm venue (text_if_short desk) names
 abbrev pub IsClock : List ℕ → ℕ → Clock → Type 0
 IsClock date moment clock =
     (clock.midnight ≡ date_number date * DAY_LENGTH) × (clock.moment ≡ moment)
+
+-- a text of the gateway's that a message has
+abbrev pub IsSaid : List ℕ → List ℕ → Type 0
+IsSaid bytes text = (text ≡ bytes) × (length bytes ≤ MOST_SAID)
+
+-- a name, where it is not empty
+abbrev pub IsNamed : List ℕ → Option (List ℕ) → Type 0
+IsNamed bytes None = bytes ≡ []
+IsNamed bytes (Some name) = IsSaid bytes name
+
+-- what the gateway says of a message, by what C hands in: nothing where it takes it
+abbrev pub IsDenial : Bool → ℕ → List ℕ → List ℕ → Option Denial → Type 0
+IsDenial is_denied reason id text None = is_denied ≡ false
+IsDenial is_denied reason id text (Some denial) =
+    (is_denied ≡ true) × ((denial.reason ≡ reason) × (IsNamed id denial.id × IsSaid text denial.text))
 
 -- a number, or 0
 abbrev pub code : Option ℕ → ℕ
@@ -84,6 +101,7 @@ ending_code ending.Parts = 2
 abbrev pub some_notice_code : Notice → ℕ
 some_notice_code notice.Credentials = 1
 some_notice_code (notice.Refused why) = 2
+some_notice_code notice.Denied = 2
 some_notice_code notice.LostStore = 3
 some_notice_code notice.Rejected = 4
 some_notice_code notice.Dead = 5

@@ -4,17 +4,20 @@ ghost use Rattle.fix_fields.specs.Frame.{Field, frame_of};
 ghost use Rattle.fix_sessions.specs.declared.orders.Order.{Order};
 ghost use Rattle.fix_sessions.specs.declared.state.Clock.{Clock};
 ghost use Rattle.fix_sessions.specs.declared.texts.Names.{Names};
+ghost use Rattle.fix_sessions.specs.declared.turns.Denial.{Denial};
 ghost use Rattle.fix_sessions.specs.declared.turns.Stored.{Stored};
 ghost use Rattle.fix_sessions.specs.Steps as steps;
 ghost use Rattle.fix_sessions.specs.Sending as sending;
 ghost use Rattle.fix_sessions_c.specs.States.{read, shown};
-ghost use Rattle.fix_sessions_c.specs.Told.{IsClock, IsTold, IsStored, AreNamed, order_of};
+ghost use Rattle.fix_sessions_c.specs.Told.{IsClock, IsDenial, IsTold, IsStored, AreNamed, order_of};
 
-use crate::parts::Setting;
+use crate::parts::{Setting, denial_of, said_text};
 use crate::states::{SessionState, read, shown};
 use crate::told::{Told, tell};
 use fix_fields::{Moment, read_frame};
-use fix_sessions::{Body, Order, Stored, came, given, gone, hands, new_session, ordered, tick};
+use fix_sessions::{
+    Body, Order, Stored, came, given, gone, hands, log_out, new_session, ordered, tick,
+};
 use std::alloc::Global;
 
 /// The session of a day that begins.
@@ -26,8 +29,9 @@ pub extern "C" fn fix_sessions_new(session: &mut SessionState)
 }
 
 /// A message came on a connection: all of its bytes, and no more. `is_known`: the credentials of its
-/// question are right. False where nothing was done: a text is none, memory is refused, or `out` is
-/// too short.
+/// question are right. `is_denied`: the gateway does not take it, for this reason (380), of what it
+/// names (379; empty: nothing), in this text (58) of 1 to 200 bytes. False where nothing was done: a
+/// text is none, memory is refused, or `out` is too short.
 #[unsafe(no_mangle)]
 pub extern "C" fn fix_sessions_came(
     alloc: Global,
@@ -40,17 +44,26 @@ pub extern "C" fn fix_sessions_came(
     connection: u64,
     bytes: &[u8],
     is_known: bool,
+    is_denied: bool,
+    reason: u64,
+    id: &[u8],
+    text: &[u8],
     out: &mut [u8],
     report: &mut Told,
 ) -> bool
-    ensures done { result ≡ true → (names : Names) × AreNamed firm.now venue.now desk.now names
+    ensures done { result ≡ true → (denial : Option Denial)
+        × IsDenial is_denied reason id.now text.now denial
+        × (names : Names) × AreNamed firm.now venue.now desk.now names
         × (clock : Clock) × IsClock date.now moment clock
         × IsTold names date.now moment
-        (steps.came names (read session.old) connection clock bytes.now is_known)
+        (steps.came names (read session.old) connection clock bytes.now is_known denial)
         session.new out.new report.new }
     ensures not_done { result ≡ false → session.new ≡ session.old }
 {
     let Some(setting) = Setting::new(firm, venue, desk, date, moment) else {
+        return false;
+    };
+    let Some(denial) = denial_of(is_denied, reason, id, text) else {
         return false;
     };
     let before = read(session);
@@ -61,6 +74,7 @@ pub extern "C" fn fix_sessions_came(
         &setting.clock(),
         bytes,
         is_known,
+        denial,
     );
     tell(alloc, &setting, &turn, session, out, report)
 }
@@ -222,6 +236,37 @@ fn order(kind: u32, copies: u64) -> Option<Order>
         4 => Some(Order::Reset { copies }),
         _ => None,
     }
+}
+
+/// The gateway logs out the firm, if it is logged on, with a text (58) of 1 to 200 bytes. False as
+/// above.
+#[unsafe(no_mangle)]
+pub extern "C" fn fix_sessions_log_out(
+    alloc: Global,
+    session: &mut SessionState,
+    firm: &[u8],
+    venue: &[u8],
+    desk: &[u8],
+    date: &[u8],
+    moment: u32,
+    text: &[u8],
+    out: &mut [u8],
+    report: &mut Told,
+) -> bool
+    ensures done { result ≡ true → (names : Names) × AreNamed firm.now venue.now desk.now names
+        × IsTold names date.now moment
+        (steps.log_out (read session.old) moment text.now) session.new out.new report.new }
+    ensures not_done { result ≡ false → session.new ≡ session.old }
+{
+    let Some(setting) = Setting::new(firm, venue, desk, date, moment) else {
+        return false;
+    };
+    let Some(text) = said_text(text) else {
+        return false;
+    };
+    let before = read(session);
+    let turn = log_out(&before, &setting.clock(), text);
+    tell(alloc, &setting, &turn, session, out, report)
 }
 
 /// A connection is gone.

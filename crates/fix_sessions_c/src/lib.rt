@@ -11,6 +11,7 @@ mod parts;
 mod states;
 mod streams;
 mod told;
+mod wires;
 
 pub use states::SessionState;
 pub use streams::{Asked, FoundNext, Wanted};

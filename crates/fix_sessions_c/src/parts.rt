@@ -4,7 +4,7 @@ ghost use Rattle.fix_sessions_c.specs.Told as spec;
 
 use crate::told::{is_kept, is_leaving};
 use fix_fields::{Date, Memory, Moment};
-use fix_sessions::{Clock, Names, Said, Text, Turn, keep, write};
+use fix_sessions::{Clock, Denial, Names, Said, Text, Turn, keep, write};
 use std::alloc::Global;
 
 /// Whose session it is, and when.
@@ -52,6 +52,49 @@ impl<'a> Setting<'a> {
     {
         Clock::new(&self.date, self.moment)
     }
+}
+
+/// The longest text that the gateway gives, in bytes.
+pub(crate) const MOST_SAID: usize = 200;
+
+/// A text of the gateway's: none where it is empty or too long, or has SOH.
+pub(crate) fn said_text(bytes: &[u8]) -> Option<Text<'_>>
+    ensures { IfSome result (λ text. spec.IsSaid bytes.now text) }
+{
+    if bytes.len() > MOST_SAID {
+        return None;
+    }
+    Text::new(bytes)
+}
+
+/// What the gateway says of a message that it does not take, and nothing where it takes it: none where
+/// an argument is none.
+#[tactic(auto, using(crate::proofs::ToldLemmas::empty_is))]
+pub(crate) fn denial_of<'a>(
+    is_denied: bool,
+    reason: u64,
+    id: &'a [u8],
+    text: &'a [u8],
+) -> Option<Option<Denial<'a>>>
+    ensures { IfSome result (λ denial. spec.IsDenial is_denied reason id.now text.now denial) }
+{
+    if !is_denied {
+        return Some(None);
+    }
+    let text = said_text(text)?;
+    if id.is_empty() {
+        return Some(Some(Denial {
+            reason,
+            id: None,
+            text,
+        }));
+    }
+    let id = said_text(id)?;
+    Some(Some(Denial {
+        reason,
+        id: Some(id),
+        text,
+    }))
 }
 
 /// The bytes of a turn.

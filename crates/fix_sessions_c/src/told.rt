@@ -33,7 +33,7 @@ pub struct Told {
     pub kept_len: usize,
     /// The message that came is given to the venue under this number, or 0.
     pub takes: u64,
-    /// The Rejects that are kept are kept no longer.
+    /// The Rejects and BusinessMessageRejects of the session that are kept are kept no longer.
     pub drops_rejects: bool,
     /// What becomes of the connection: 0 it stands, 1 it ends, 2 it ends with the firm's Logout or
     /// after two seconds.
@@ -121,6 +121,7 @@ fn some_notice_code(notice: Notice) -> u32
     match notice {
         Notice::Credentials => 1,
         Notice::Refused { .. } => 2,
+        Notice::Denied => 2,
         Notice::LostStore => 3,
         Notice::Rejected => 4,
         Notice::Dead => 5,

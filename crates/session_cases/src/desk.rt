@@ -5,6 +5,9 @@
 //! | `at TIME` | it is this time of day |
 //! | `desk NAME` | of several venues the Logon has to name this one (57) |
 //! | `open`, `close`, `suspend`, `release`, `reset` | an operator's order |
+//! | `deny REASON NAME TEXT` | from then on the gateway takes no message, for this reason (380), of this name (379; `-`: none) and in this text (58) |
+//! | `take` | it takes them again |
+//! | `logout TEXT` | the gateway logs the firm out |
 //! | `came C FIELDS` | a message on connection C: MsgType (35), 49, 56 and 52 but for those that FIELDS has, and the others of FIELDS |
 //! | `wrong C FIELDS` | the same, with wrong credentials |
 //! | `bare C FIELDS` | a message of these fields alone |
@@ -27,8 +30,8 @@ use crate::store::{Entry, Store};
 use case_lines::{Call, CaseFault, Place, check_sum_of, day, frame_of, piped_bytes_of, push_line};
 use fix_fields::{Date, Moment, read_frame};
 use fix_sessions::{
-    Body, Clock, Names, Order, Said, Session, Text, Turn, Want, Way, came, given, gone, hands,
-    keep, new_session, next_message, ordered, tick, wants, write,
+    Body, Clock, Denial, Names, Order, Said, Session, Text, Turn, Want, Way, Word, came, given,
+    gone, hands, keep, log_out, new_session, next_message, ordered, tick, wants, write,
 };
 use std::alloc::Global;
 
@@ -44,6 +47,9 @@ pub struct Desk {
     session: Session,
     store: Store,
     desk: String,
+    reason: u64,
+    name: String,
+    text: String,
 }
 
 impl Desk {
@@ -58,6 +64,9 @@ impl Desk {
             session: new_session(),
             store: Store::new(alloc),
             desk: String::new(alloc),
+            reason: 0,
+            name: String::new(alloc),
+            text: String::new(alloc),
         })
     }
 
@@ -78,7 +87,38 @@ impl Desk {
         let session = self.session;
         let desk = self.desk.clone()?;
         let names = names_of(desk.as_bytes())?;
-        let turn = came(&names, &session, connection, &clock, bytes, is_known);
+        let name = self.name.clone()?;
+        let text = self.text.clone()?;
+        let denial = denial_of(self.reason, name.as_bytes(), text.as_bytes());
+        let turn = came(
+            &names, &session, connection, &clock, bytes, is_known, denial,
+        );
+        self.take(call, &turn)
+    }
+
+    /// From then on the gateway takes no message.
+    fn deny(&mut self, call: &mut Call<'_>) -> Result<(), CaseFault> {
+        self.take_all();
+        self.reason = call.words.number()?;
+        let name = call.words.word()?;
+        if name != "-" {
+            self.name.push_str(name)?;
+        }
+        self.text.push_str(call.words.rest())?;
+        Ok(())
+    }
+
+    /// It takes all messages.
+    fn take_all(&mut self) {
+        self.name.clear();
+        self.text.clear();
+    }
+
+    /// The gateway logs the firm out.
+    fn log_out(&mut self, call: &mut Call<'_>) -> Result<(), CaseFault> {
+        let text = Text::new(call.words.rest().as_bytes()).ok_or(CaseFault::Condition)?;
+        let session = self.session;
+        let turn = log_out(&session, &self.clock(), text);
         self.take(call, &turn)
     }
 
@@ -176,6 +216,7 @@ impl Desk {
                 bytes,
                 first: self.moment,
                 is_copy: false,
+                is_own: is_own_answer(&said.word),
             })?;
         }
         if said.way == Way::Kept {
@@ -214,6 +255,18 @@ fn names_of(desk: &[u8]) -> Result<Names<'_>, CaseFault> {
     let firm = Text::new(b"DLR1").ok_or(CaseFault::Condition)?;
     let venue = Text::new(b"VENUE").ok_or(CaseFault::Condition)?;
     Names::new(firm, venue, Text::new(desk)).ok_or(CaseFault::Condition)
+}
+
+/// Whether a message that is kept is a Reject or a BusinessMessageReject of the session.
+fn is_own_answer(word: &Word<'_>) -> bool {
+    matches!(word, Word::Reject { .. } | Word::Denied { .. })
+}
+
+/// What the gateway says of a message: nothing where it has no text.
+fn denial_of<'a>(reason: u64, name: &'a [u8], text: &'a [u8]) -> Option<Denial<'a>> {
+    let text = Text::new(text)?;
+    let id = Text::new(name);
+    Some(Denial { reason, id, text })
 }
 
 /// A message as it is kept.
@@ -275,6 +328,9 @@ impl Place for Desk {
                 let turn = gone(&self.session, connection);
                 self.take(call, &turn)?;
             }
+            "deny" => self.deny(call)?,
+            "take" => self.take_all(),
+            "logout" => self.log_out(call)?,
             "tick" => self.tick(call)?,
             "flow" => self.flow(call)?,
             "wants" => push_want(self.alloc, &mut call.answer, wants(&self.session))?,

@@ -49,7 +49,7 @@ pub fn push_ending(
 pub fn push_notice(answer: &mut String, notice: Notice) -> Result<(), CaseFault> {
     let word = match notice {
         Notice::Credentials => "tells credentials",
-        Notice::Refused { .. } => "tells refused",
+        Notice::Refused { .. } | Notice::Denied => "tells refused",
         Notice::LostStore => "tells lost store",
         Notice::Rejected => "tells rejected",
         Notice::Dead => "tells dead",

@@ -15,6 +15,8 @@ pub struct Entry {
     pub first: Moment,
     /// It was kept under another number before a reset.
     pub is_copy: bool,
+    /// It is a Reject or a BusinessMessageReject of the session.
+    pub is_own: bool,
 }
 
 impl Entry {
@@ -92,11 +94,11 @@ impl Store {
         999_999_999
     }
 
-    /// Keeps no Rejects any more.
+    /// Keeps no Rejects and BusinessMessageRejects of the session any more.
     pub fn drop_rejects(&mut self) -> Result<(), CaseFault> {
         let mut left = Vec::new(self.alloc);
         for entry in self.entries.drain(..) {
-            if !entry.is(b"3") {
+            if !entry.is_own {
                 left.push(entry)?;
             }
         }
@@ -109,7 +111,7 @@ impl Store {
     pub fn renumber(&mut self, had: u64) -> Result<u64, CaseFault> {
         let mut left = Vec::new(self.alloc);
         for entry in self.entries.drain(..) {
-            if entry.number <= had || entry.is(b"3") || entry.is(b"0") {
+            if entry.number <= had || entry.is_own || entry.is(b"0") {
                 continue;
             }
             let number = left.len() as u64 + 2;

@@ -6,7 +6,7 @@ use Rattle.fix_sessions.specs.Heard.{logon_of}
 use Rattle.fix_sessions.specs.Outcomes.{is_free, is_spent}
 use Rattle.fix_sessions.specs.Logons.{came_first}
 use Rattle.session_laws.specs.Days.{Event, turn, after}
-use Rattle.session_laws.specs.Days.{Came, Gone, Given, Handed, Tick, Ordered}
+use Rattle.session_laws.specs.Days.{Came, Gone, Given, Handed, Tick, Ordered, LoggedOut}
 use Rattle.session_laws.specs.Logons.{sends, IsLogon, IsLoggedOn, CameOn, keeps}
 use Rattle.session_laws.proofs.Choices.{choice}
 use Rattle.fix_sessions.specs.Steps.{came_by, came, freed_of, has, ordered, ordered_day, resets}
@@ -18,11 +18,12 @@ use Rattle.fix_sessions.specs.declared.state.Session.{Session}
 use Rattle.fix_sessions.specs.declared.orders.Order.{Order}
 use Rattle.fix_sessions.specs.declared.orders.Order.TheVariants as order
 use Rattle.fix_sessions.specs.declared.texts.Names.{Names}
+use Rattle.fix_sessions.specs.declared.turns.Denial.{Denial}
 use Rattle.fix_sessions.specs.declared.turns.Turn.{Turn}
 use Rattle.session_laws.proofs.LogonTurns.{event_mine}
 use Rattle.session_laws.proofs.TakenRows.{Ups}
 use Rattle.session_laws.proofs.TakenLogons.{first_up}
-use Rattle.session_laws.proofs.TakenDays.{given_up, gone_up, hands_up, leaving_up, ordered_up, tick_up}
+use Rattle.session_laws.proofs.TakenDays.{given_up, gone_up, hands_up, leaving_up, log_out_up, ordered_up, tick_up}
 use Rattle.session_laws.proofs.TurnLogons.{first_cases}
 
 both : (a b : Bool) → a ≡ true → b ≡ true → (a && b) ≡ true
@@ -90,36 +91,36 @@ not_up : (s : Session) (e : Event) (t : Turn) (n : ℕ) (d : Day) → Ups d t �
 not_up s e t n d up some = absurd (none_some t.takes n up.nothing some)
 
 taking_by : (names : Names) (s : Session) (connection : ℕ) (clock : Clock) (bytes : List ℕ)
-    (is_known : Bool) (n : ℕ) (p : Phase) → s.phase ≡ p
-    → (came_by names s connection clock bytes is_known p).takes ≡ Some n
-    → Taking s (Came connection clock bytes is_known)
-taking_by names s connection clock bytes is_known n phase.Away is =
-    λ some. not_up s _ _ n s.day (first_up names s connection clock bytes is_known) some
-taking_by names s connection clock bytes is_known n (phase.On line) is =
-    choice (λ (t : Turn). t.takes ≡ Some n → Taking s (Came connection clock bytes is_known))
+    (is_known : Bool) (denial : Option Denial) (n : ℕ) (p : Phase) → s.phase ≡ p
+    → (came_by names s connection clock bytes is_known denial p).takes ≡ Some n
+    → Taking s (Came connection clock bytes is_known denial)
+taking_by names s connection clock bytes is_known denial n phase.Away is =
+    λ some. not_up s _ _ n s.day (first_up names s connection clock bytes is_known denial) some
+taking_by names s connection clock bytes is_known denial n (phase.On line) is =
+    choice (λ (t : Turn). t.takes ≡ Some n → Taking s (Came connection clock bytes is_known denial))
     (line.connection == connection) _ _
     (λ h some. record {
       connection = connection;
       here = ap (λ p. has p connection) is ∙ h;
-      came = record { clock = clock; bytes = bytes; is_known = is_known; came = refl };
+      came = record { clock = clock; bytes = bytes; is_known = is_known; denial = denial; came = refl };
     })
-    (λ h some. not_up s _ _ n s.day (first_up names s connection clock bytes is_known) some)
-taking_by names s connection clock bytes is_known n (phase.Leaving last since) is =
-    choice (λ (t : Turn). t.takes ≡ Some n → Taking s (Came connection clock bytes is_known))
+    (λ h some. not_up s _ _ n s.day (first_up names s connection clock bytes is_known denial) some)
+taking_by names s connection clock bytes is_known denial n (phase.Leaving last since) is =
+    choice (λ (t : Turn). t.takes ≡ Some n → Taking s (Came connection clock bytes is_known denial))
     (last == connection) _ _
     (λ h some. not_up s _ _ n s.day (leaving_up names s connection bytes) some)
-    (λ h some. not_up s _ _ n s.day (first_up names s connection clock bytes is_known) some)
+    (λ h some. not_up s _ _ n s.day (first_up names s connection clock bytes is_known denial) some)
 
 came_taking : (names : Names) (s : Session) (connection : ℕ) (clock : Clock) (bytes : List ℕ)
-    (is_known : Bool) (n : ℕ)
-    → (came names s connection clock bytes is_known).takes ≡ Some n
-    → Taking s (Came connection clock bytes is_known)
+    (is_known : Bool) (denial : Option Denial) (n : ℕ)
+    → (came names s connection clock bytes is_known denial).takes ≡ Some n
+    → Taking s (Came connection clock bytes is_known denial)
 unfolding came
-came_taking names s connection clock bytes is_known n =
-    choice (λ (t : Turn). t.takes ≡ Some n → Taking s (Came connection clock bytes is_known))
+came_taking names s connection clock bytes is_known denial n =
+    choice (λ (t : Turn). t.takes ≡ Some n → Taking s (Came connection clock bytes is_known denial))
     (is_spent s) _ _
     (λ h some. absurd (false≢true (ap is_some some)))
-    (λ h. taking_by names s connection clock bytes is_known n s.phase refl)
+    (λ h. taking_by names s connection clock bytes is_known denial n s.phase refl)
 
 resets_nothing : (s : Session) → (resets s).takes ≡ None
 resets_nothing s = choice (λ (t : Turn). t.takes ≡ None) (is_free s.phase) _ _ (λ h. refl) (λ h. refl)
@@ -135,14 +136,15 @@ ordered_nothing s clock (order.Reset copies) =
 
 taking : (names : Names) (s : Session) (e : Event) (n : ℕ) → (turn names s e).takes ≡ Some n
     → Taking s e
-taking names s (Came connection clock bytes is_known) n some =
-    came_taking names s connection clock bytes is_known n some
+taking names s (Came connection clock bytes is_known denial) n some =
+    came_taking names s connection clock bytes is_known denial n some
 taking names s (Gone connection) n some = not_up s _ _ n s.day (gone_up s connection) some
 taking names s (Given moment body) n some = not_up s _ _ n s.day (given_up s moment body) some
 taking names s (Handed moment next_kept stored) n some =
     not_up s _ _ n s.day (hands_up s moment next_kept stored) some
 taking names s (Tick moment) n some = not_up s _ _ n s.day (tick_up s moment) some
 taking names s (Ordered clock o) n some = absurd (none_some _ n (ordered_nothing s clock o) some)
+taking names s (LoggedOut moment reason) n some = not_up s _ _ n s.day (log_out_up s moment reason) some
 
 pub taken_by_logon : (names : Names) (s : Session) (events : List Event) (e : Event) (number : ℕ)
     → s.phase ≡ phase.Away → (turn names (after names s events) e).takes ≡ Some number
@@ -161,51 +163,52 @@ freed_expected s connection =
     choice (λ (t : Session). t.day.expected ≡ s.day.expected) (has s.phase connection) _ _ (λ h. refl) (λ h. refl)
 
 first_moved : (names : Names) (s : Session) (connection : ℕ) (clock : Clock) (bytes : List ℕ)
-    (is_known : Bool)
-    → ((came_first names s connection clock bytes is_known).session.day.expected == s.day.expected) ≡ false
-    → (has s.phase connection ≡ true) ⊎ IsLogon names connection (Came connection clock bytes is_known)
-first_moved names s connection clock bytes is_known moved =
-    elim (first_cases s connection clock is_known (logon_of names bytes)) [
-      | inl nothing ↦ absurd (still (came_first names s connection clock bytes is_known).session.day s.day
+    (is_known : Bool) (denial : Option Denial)
+    → ((came_first names s connection clock bytes is_known denial).session.day.expected == s.day.expected) ≡ false
+    → (has s.phase connection ≡ true) ⊎ IsLogon names connection (Came connection clock bytes is_known denial)
+first_moved names s connection clock bytes is_known denial moved =
+    elim (first_cases s connection clock is_known denial (logon_of names bytes)) [
+      | inl nothing ↦ absurd (still (came_first names s connection clock bytes is_known denial).session.day s.day
           (ap (λ (x : Session). x.day.expected) nothing.is) moved)
       | inr known ↦ inr (record {
         clock = clock;
         bytes = bytes;
-        came = ap (λ b. Came connection clock bytes b) known.0;
+        denial = denial;
+        came = ap (λ b. Came connection clock bytes b denial) known.0;
         logon = known.1;
       })
     ]
 
 moved_by : (names : Names) (s : Session) (connection : ℕ) (clock : Clock) (bytes : List ℕ)
-    (is_known : Bool) (p : Phase) → s.phase ≡ p
-    → ((came_by names s connection clock bytes is_known p).session.day.expected == s.day.expected) ≡ false
-    → (has s.phase connection ≡ true) ⊎ IsLogon names connection (Came connection clock bytes is_known)
-moved_by names s connection clock bytes is_known phase.Away is =
-    λ moved. first_moved names s connection clock bytes is_known moved
-moved_by names s connection clock bytes is_known (phase.On line) is =
+    (is_known : Bool) (denial : Option Denial) (p : Phase) → s.phase ≡ p
+    → ((came_by names s connection clock bytes is_known denial p).session.day.expected == s.day.expected) ≡ false
+    → (has s.phase connection ≡ true) ⊎ IsLogon names connection (Came connection clock bytes is_known denial)
+moved_by names s connection clock bytes is_known denial phase.Away is =
+    λ moved. first_moved names s connection clock bytes is_known denial moved
+moved_by names s connection clock bytes is_known denial (phase.On line) is =
     choice (λ (t : Turn). (t.session.day.expected == s.day.expected) ≡ false
-    → (has s.phase connection ≡ true) ⊎ IsLogon names connection (Came connection clock bytes is_known))
+    → (has s.phase connection ≡ true) ⊎ IsLogon names connection (Came connection clock bytes is_known denial))
     (line.connection == connection) _ _
     (λ h moved. inl (ap (λ p. has p connection) is ∙ h))
-    (λ h moved. first_moved names s connection clock bytes is_known moved)
-moved_by names s connection clock bytes is_known (phase.Leaving last since) is =
+    (λ h moved. first_moved names s connection clock bytes is_known denial moved)
+moved_by names s connection clock bytes is_known denial (phase.Leaving last since) is =
     choice (λ (t : Turn). (t.session.day.expected == s.day.expected) ≡ false
-    → (has s.phase connection ≡ true) ⊎ IsLogon names connection (Came connection clock bytes is_known))
+    → (has s.phase connection ≡ true) ⊎ IsLogon names connection (Came connection clock bytes is_known denial))
     (last == connection) _ _
     (λ h moved. inl (ap (λ p. has p connection) is ∙ h))
-    (λ h moved. first_moved names s connection clock bytes is_known moved)
+    (λ h moved. first_moved names s connection clock bytes is_known denial moved)
 
 came_moved : (names : Names) (s : Session) (connection : ℕ) (clock : Clock) (bytes : List ℕ)
-    (is_known : Bool)
-    → ((came names s connection clock bytes is_known).session.day.expected == s.day.expected) ≡ false
-    → (has s.phase connection ≡ true) ⊎ IsLogon names connection (Came connection clock bytes is_known)
+    (is_known : Bool) (denial : Option Denial)
+    → ((came names s connection clock bytes is_known denial).session.day.expected == s.day.expected) ≡ false
+    → (has s.phase connection ≡ true) ⊎ IsLogon names connection (Came connection clock bytes is_known denial)
 unfolding came
-came_moved names s connection clock bytes is_known =
+came_moved names s connection clock bytes is_known denial =
     choice (λ (t : Turn). (t.session.day.expected == s.day.expected) ≡ false
-    → (has s.phase connection ≡ true) ⊎ IsLogon names connection (Came connection clock bytes is_known))
+    → (has s.phase connection ≡ true) ⊎ IsLogon names connection (Came connection clock bytes is_known denial))
     (is_spent s) _ _
     (λ h moved. absurd (still (freed_of s connection).day s.day (freed_expected s connection) moved))
-    (λ h. moved_by names s connection clock bytes is_known s.phase refl)
+    (λ h. moved_by names s connection clock bytes is_known denial s.phase refl)
 
 on_this : (names : Names) (s : Session) (e : Event) (connection : ℕ) → CameOn connection e
     → ((turn names s e).session.day.expected == s.day.expected) ≡ false
@@ -213,7 +216,7 @@ on_this : (names : Names) (s : Session) (e : Event) (connection : ℕ) → CameO
 on_this names s e connection on =
     subst (λ x. ((turn names s x).session.day.expected == s.day.expected) ≡ false
     → (has s.phase connection ≡ true) ⊎ IsLogon names connection x) (sym on.came)
-    (came_moved names s connection on.clock on.bytes on.is_known)
+    (came_moved names s connection on.clock on.bytes on.is_known on.denial)
 
 pub moved_by_logon : (names : Names) (s : Session) (events : List Event) (e : Event) (connection : ℕ)
     → s.phase ≡ phase.Away → CameOn connection e

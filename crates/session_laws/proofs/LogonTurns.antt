@@ -5,15 +5,16 @@ use Rattle.std.proofs.Common.{eq-eqb}
 use Rattle.std.proofs.lemmas.Bool.{and_parts, false≢true}
 use Rattle.std.proofs.lemmas.Bool.Decides.{nat_tests}
 use Rattle.fix_fields.specs.Frame.{Field}
-use Rattle.fix_sessions.specs.Heard.{heard_of, logon_of, is_logout}
+use Rattle.fix_sessions.specs.Heard.{as_taken, heard_of, logon_of, is_logout}
 use Rattle.fix_sessions.specs.Outcomes.{parts, live, is_free, is_spent, are_bounded}
 use Rattle.fix_sessions.specs.Logons.{came_first}
 use Rattle.fix_sessions.specs.Sending.{hands_on, hands_by, hands, given_on}
 use Rattle.session_laws.specs.Days.{Event, turn}
-use Rattle.session_laws.specs.Days.{Came, Gone, Given, Handed, Tick, Ordered}
+use Rattle.session_laws.specs.Days.{Came, Gone, Given, Handed, Tick, Ordered, LoggedOut}
 use Rattle.session_laws.specs.Logons.{sends, IsLogon}
+use Rattle.session_laws.specs.Sent.{is_own_word}
 use Rattle.session_laws.proofs.Choices.{choice}
-use Rattle.fix_sessions.specs.Steps.{came_as, came_leaving_as, came_leaving, came_by, came, freed_of, has, gone, given_by, given, tick_on, tick_by, decided, is_decided, tick_waiting, tick, logged_out, logged_out_by, ordered, ordered_day, resets}
+use Rattle.fix_sessions.specs.Steps.{came_as, came_leaving_as, came_leaving, came_by, came, freed_of, has, gone, given_by, given, tick_on, tick_by, decided, is_decided, tick_waiting, tick, logged_out, logged_out_by, log_out, ordered, ordered_day, resets}
 use Rattle.fix_sessions.specs.declared.state.TheConstants.{LAST_NUMBER, LOGOUT_WAIT}
 use Rattle.fix_sessions.specs.declared.state.Clock.{Clock}
 use Rattle.fix_sessions.specs.declared.state.Line.{Line}
@@ -26,10 +27,11 @@ use Rattle.fix_sessions.specs.declared.messages.Heard.TheVariants as heard
 use Rattle.fix_sessions.specs.declared.orders.Order.{Order}
 use Rattle.fix_sessions.specs.declared.orders.Order.TheVariants as order
 use Rattle.fix_sessions.specs.declared.texts.Names.{Names}
+use Rattle.fix_sessions.specs.declared.turns.Denial.{Denial}
 use Rattle.fix_sessions.specs.declared.turns.Stored.{Stored}
 use Rattle.fix_sessions.specs.declared.turns.Turn.{Turn}
-use Rattle.fix_sessions.specs.declared.turns.Why.{Why}
 use Rattle.fix_sessions.specs.declared.turns.Why.TheVariants as why
+use Rattle.fix_sessions.specs.declared.turns.Word.{Word}
 use Rattle.fix_sessions.specs.declared.turns.Word.TheVariants as word
 use Rattle.session_laws.proofs.TurnOutcomes.{Does, IsOf, parts_does}
 use Rattle.session_laws.proofs.TurnRows.{came_as_does}
@@ -74,23 +76,24 @@ no_one p k h = absurd (false≢true h)
 -- The first message of a connection.
 
 first_mine : (names : Names) (s : Session) (connection : ℕ) (clock : Clock) (bytes : List ℕ)
-    (is_known : Bool)
-    → Mine names s.phase (Came connection clock bytes is_known)
-    (came_first names s connection clock bytes is_known)
-first_mine names s connection clock bytes is_known =
-    let t = came_first names s connection clock bytes is_known in
-    let first = first_by_first s connection clock is_known (logon_of names bytes) in
-    elim (first_cases s connection clock is_known (logon_of names bytes)) [
+    (is_known : Bool) (denial : Option Denial)
+    → Mine names s.phase (Came connection clock bytes is_known denial)
+    (came_first names s connection clock bytes is_known denial)
+first_mine names s connection clock bytes is_known denial =
+    let t = came_first names s connection clock bytes is_known denial in
+    let first = first_by_first s connection clock is_known denial (logon_of names bytes) in
+    elim (first_cases s connection clock is_known denial (logon_of names bytes)) [
       | inl nothing ↦
-          silent_mine names s.phase (Came connection clock bytes is_known) t nothing.silent
+          silent_mine names s.phase (Came connection clock bytes is_known denial) t nothing.silent
           (λ k h. subst (λ (x : Session). has x.phase k ≡ true) nothing.is h)
       | inr known ↦
           record {
             sent = λ h. inr (record {
               clock = clock;
               bytes = bytes;
-              came = ap (λ c. Came c clock bytes is_known) (sym first.on)
-                  ∙ ap (λ b. Came t.connection clock bytes b) known.0;
+              denial = denial;
+              came = ap (λ c. Came c clock bytes is_known denial) (sym first.on)
+                  ∙ ap (λ b. Came t.connection clock bytes b denial) known.0;
               logon = known.1;
             });
             whose = λ k h. (elim (first.whose k h) [
@@ -98,8 +101,9 @@ first_mine names s connection clock bytes is_known =
               | inr is ↦ inr (record {
                 clock = clock;
                 bytes = bytes;
-                came = ap (λ c. Came c clock bytes is_known) is
-                    ∙ ap (λ b. Came k clock bytes b) known.0;
+                denial = denial;
+                came = ap (λ c. Came c clock bytes is_known denial) is
+                    ∙ ap (λ b. Came k clock bytes b denial) known.0;
                 logon = known.1;
               })
             ]);
@@ -121,22 +125,22 @@ leaving_mine names s connection e bytes =
     leaving_as (heard.TooLong number) = silent_mine names s.phase e _ refl (λ k h. h)
 
 came_by_mine : (names : Names) (s : Session) (connection : ℕ) (clock : Clock) (bytes : List ℕ)
-    (is_known : Bool) (p : Phase) → s.phase ≡ p
-    → Mine names s.phase (Came connection clock bytes is_known)
-    (came_by names s connection clock bytes is_known p)
-came_by_mine names s connection clock bytes is_known phase.Away is =
-    first_mine names s connection clock bytes is_known
-came_by_mine names s connection clock bytes is_known (phase.On line) is =
-    let e = Came connection clock bytes is_known in
+    (is_known : Bool) (denial : Option Denial) (p : Phase) → s.phase ≡ p
+    → Mine names s.phase (Came connection clock bytes is_known denial)
+    (came_by names s connection clock bytes is_known denial p)
+came_by_mine names s connection clock bytes is_known denial phase.Away is =
+    first_mine names s connection clock bytes is_known denial
+came_by_mine names s connection clock bytes is_known denial (phase.On line) is =
+    let e = Came connection clock bytes is_known denial in
     choice (Mine names s.phase e) (line.connection == connection) _ _
-    (λ h. subst (λ q. Mine names q e (came_as (live s line) clock (heard_of names bytes))) (sym is)
+    (λ h. subst (λ q. Mine names q e (came_as (live s line) clock (as_taken denial (heard_of names bytes)))) (sym is)
     (live_mine names line e _ true s.day.next line.fresh
-    (came_as_does (live s line) clock (heard_of names bytes))))
-    (λ h. first_mine names s connection clock bytes is_known)
-came_by_mine names s connection clock bytes is_known (phase.Leaving last since) is =
-    choice (Mine names s.phase (Came connection clock bytes is_known)) (last == connection) _ _
-    (λ h. leaving_mine names s connection (Came connection clock bytes is_known) bytes)
-    (λ h. first_mine names s connection clock bytes is_known)
+    (came_as_does (live s line) clock (as_taken denial (heard_of names bytes)))))
+    (λ h. first_mine names s connection clock bytes is_known denial)
+came_by_mine names s connection clock bytes is_known denial (phase.Leaving last since) is =
+    choice (Mine names s.phase (Came connection clock bytes is_known denial)) (last == connection) _ _
+    (λ h. leaving_mine names s connection (Came connection clock bytes is_known denial) bytes)
+    (λ h. first_mine names s connection clock bytes is_known denial)
 
 freed_has : (s : Session) (connection k : ℕ) → has (freed_of s connection).phase k ≡ true
     → has s.phase k ≡ true
@@ -145,14 +149,14 @@ freed_has s connection k =
     (λ h g. no_one s.phase k g) (λ h g. g)
 
 came_mine : (names : Names) (s : Session) (connection : ℕ) (clock : Clock) (bytes : List ℕ)
-    (is_known : Bool)
-    → Mine names s.phase (Came connection clock bytes is_known)
-    (came names s connection clock bytes is_known)
+    (is_known : Bool) (denial : Option Denial)
+    → Mine names s.phase (Came connection clock bytes is_known denial)
+    (came names s connection clock bytes is_known denial)
 unfolding came
-came_mine names s connection clock bytes is_known =
-    choice (Mine names s.phase (Came connection clock bytes is_known)) (is_spent s) _ _
+came_mine names s connection clock bytes is_known denial =
+    choice (Mine names s.phase (Came connection clock bytes is_known denial)) (is_spent s) _ _
     (λ h. silent_mine names s.phase _ _ refl (freed_has s connection))
-    (λ h. came_by_mine names s connection clock bytes is_known s.phase refl)
+    (λ h. came_by_mine names s connection clock bytes is_known denial s.phase refl)
 
 -- The other events.
 
@@ -244,21 +248,26 @@ tick_mine names s e now =
     (λ h. silent_mine names s.phase e _ refl (no_one s.phase))
     (λ h. waiting_mine names s e now s.waiting)
 
-logged_out_by_mine : (names : Names) (s : Session) (e : Event) (now : ℕ) (y : Why) (p : Phase)
-    → s.phase ≡ p → Mine names s.phase e (logged_out_by s now y p)
-logged_out_by_mine names s e now y phase.Away is = silent_mine names s.phase e _ refl (λ k h. h)
-logged_out_by_mine names s e now y (phase.On line) is =
-    subst (λ q. Mine names q e (parts (live s line) now (word.Logout y))) (sym is)
-    (live_mine names line e _ true s.day.next line.fresh (parts_does (live s line) now (word.Logout y) refl))
-logged_out_by_mine names s e now y (phase.Leaving connection since) is =
+logged_out_by_mine : (names : Names) (s : Session) (e : Event) (now : ℕ) (w : Word) (p : Phase)
+    → s.phase ≡ p → is_own_word w ≡ true → Mine names s.phase e (logged_out_by s now w p)
+logged_out_by_mine names s e now w phase.Away is own = silent_mine names s.phase e _ refl (λ k h. h)
+logged_out_by_mine names s e now w (phase.On line) is own =
+    subst (λ q. Mine names q e (parts (live s line) now w)) (sym is)
+    (live_mine names line e _ true s.day.next line.fresh (parts_does (live s line) now w own))
+logged_out_by_mine names s e now w (phase.Leaving connection since) is own =
     silent_mine names s.phase e _ refl (λ k h. h)
 
-logged_out_mine : (names : Names) (s : Session) (e : Event) (now : ℕ) (y : Why)
-    → Mine names s.phase e (logged_out s now y s.phase)
-logged_out_mine names s e now y =
+logged_out_mine : (names : Names) (s : Session) (e : Event) (now : ℕ) (w : Word)
+    → is_own_word w ≡ true → Mine names s.phase e (logged_out s now w s.phase)
+logged_out_mine names s e now w own =
     choice (Mine names s.phase e) (is_spent s) _ _
     (λ h. silent_mine names s.phase e _ refl (no_one s.phase))
-    (λ h. logged_out_by_mine names s e now y s.phase refl)
+    (λ h. logged_out_by_mine names s e now w s.phase refl own)
+
+log_out_mine : (names : Names) (s : Session) (e : Event) (now : ℕ) (reason : List ℕ)
+    → Mine names s.phase e (log_out s now reason)
+unfolding log_out
+log_out_mine names s e now reason = logged_out_mine names s e now (word.LogoutFor reason) refl
 
 resets_mine : (names : Names) (s : Session) (e : Event) → Mine names s.phase e (resets s)
 resets_mine names s e =
@@ -272,10 +281,10 @@ unfolding ordered
 ordered_mine names s e clock order.Open = silent_mine names s.phase e _ refl (λ k h. h)
 ordered_mine names s e clock order.Release = silent_mine names s.phase e _ refl (λ k h. h)
 ordered_mine names s e clock order.Close =
-    logged_out_mine names (record s { day = record s.day { is_open = false } }) e clock.moment why.Closed
+    logged_out_mine names (record s { day = record s.day { is_open = false } }) e clock.moment (word.Logout why.Closed) refl
 ordered_mine names s e clock order.Suspend =
     logged_out_mine names (record s { day = record s.day { is_suspended = true } }) e clock.moment
-    why.Suspended
+    (word.Logout why.Suspended) refl
 ordered_mine names s e clock (order.Reset copies) =
     resets_mine names (record s { day = ordered_day s.day clock (order.Reset copies) }) e
 
@@ -284,11 +293,12 @@ gone_mine : (names : Names) (s : Session) (e : Event) (connection : ℕ)
 gone_mine names s e connection = silent_mine names s.phase e _ refl (freed_has s connection)
 
 pub event_mine : (names : Names) (s : Session) (e : Event) → Mine names s.phase e (turn names s e)
-event_mine names s (Came connection clock bytes is_known) =
-    came_mine names s connection clock bytes is_known
+event_mine names s (Came connection clock bytes is_known denial) =
+    came_mine names s connection clock bytes is_known denial
 event_mine names s (Gone connection) = gone_mine names s (Gone connection) connection
 event_mine names s (Given moment body) = given_mine names s (Given moment body) moment body
 event_mine names s (Handed moment next_kept stored) =
     hands_mine names s (Handed moment next_kept stored) moment next_kept stored
 event_mine names s (Tick moment) = tick_mine names s (Tick moment) moment
 event_mine names s (Ordered clock o) = ordered_mine names s (Ordered clock o) clock o
+event_mine names s (LoggedOut moment reason) = log_out_mine names s (LoggedOut moment reason) moment reason

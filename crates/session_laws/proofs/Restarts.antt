@@ -1,13 +1,14 @@
 -- What a session is once its connections are gone, and what a start gives again.
-use Rattle.std.proofs.Common.{◌≡◌, ℕ, Bool, true, false, ◌||◌, ◌&&◌, not, nat_lt, List, Option, Some, None, ap, refl, sym, ◌∙◌, if◌then◌else◌}
+use Rattle.std.proofs.Common.{◌≡◌, ℕ, Bool, true, false, ◌||◌, ◌&&◌, not, nat_lt, List, Option, Some, None, ap, refl, sym, subst, ◌∙◌, if◌then◌else◌}
 use Rattle.std.proofs.Common.{eq-eqb}
 use Rattle.std.proofs.lemmas.Bool.{false≢true}
 use Rattle.fix_fields.specs.Frame.{Field}
 use Rattle.fix_sessions.specs.Logons.{without}
-use Rattle.fix_sessions.specs.Outcomes.{are_bounded, free, is_clear, is_spent, live}
-use Rattle.fix_sessions.specs.Sending.{given_on, is_reject, keeps_one}
+use Rattle.fix_sessions.specs.Outcomes.{are_bounded, free, is_clear, is_spent, live, said}
+use Rattle.fix_sessions.specs.Sending.{given_on, hands, hands_by, is_answer, is_reject, is_resending, keeps_one}
 use Rattle.fix_sessions.specs.Steps.{given, given_by, gone, has}
 use Rattle.fix_sessions.specs.declared.state.Day.{Day}
+use Rattle.fix_sessions.specs.declared.state.Line.{Line}
 use Rattle.fix_sessions.specs.declared.state.Live.{Live}
 use Rattle.fix_sessions.specs.declared.state.Phase.{Phase}
 use Rattle.fix_sessions.specs.declared.state.Phase.TheVariants as phase
@@ -15,7 +16,10 @@ use Rattle.fix_sessions.specs.declared.state.Session.{Session}
 use Rattle.fix_sessions.specs.declared.state.Waiting.{Waiting}
 use Rattle.fix_sessions.specs.declared.state.TheConstants.{LAST_NUMBER}
 use Rattle.fix_sessions.specs.declared.texts.Names.{Names}
+use Rattle.fix_sessions.specs.declared.turns.Stored.{Stored}
 use Rattle.fix_sessions.specs.declared.turns.Turn.{Turn}
+use Rattle.fix_sessions.specs.declared.turns.Way.TheVariants as way
+use Rattle.fix_sessions.specs.declared.turns.Word.TheVariants as word
 use Rattle.session_laws.proofs.Choices.{choice}
 use Rattle.session_laws.specs.Days.{Event, turns}
 use Rattle.session_laws.specs.Kept.{entered}
@@ -60,6 +64,24 @@ pub same_from_then_on : (names : Names) (s : Session) (connection : ℕ) (events
     → turns names (gone s connection).session events ≡ turns names (restarted s.day) events
 same_from_then_on names s connection events here none =
     ap (λ t. turns names t events) (one_gone s connection here none)
+
+-- What is kept leaves as a resend.
+
+abbrev Resends : Line → Stored → Turn → Type 0
+Resends line stored t =
+    t.first ≡ said line.again way.Leaves (word.Again stored.body stored.is_copy stored.first)
+
+pub resend_gives : (s : Session) (line : Line) (now next_kept : ℕ) (stored : Stored) → is_spent s ≡ false
+    → s.phase ≡ phase.On line → is_resending line ≡ true → is_answer stored ≡ false
+    → (hands s now next_kept (Some stored)).first
+    ≡ said line.again way.Leaves (word.Again stored.body stored.is_copy stored.first)
+unfolding hands
+resend_gives s line now next_kept stored spent is asks answer =
+    choice (Resends line stored) (is_spent s) _ _ (λ h. absurd (false≢true (sym spent ∙ h)))
+    (λ h. subst (λ p. Resends line stored (hands_by s now next_kept (Some stored) p)) (sym is)
+    (choice (Resends line stored) (is_resending line) _ _
+    (λ k. choice (Resends line stored) (is_answer stored) _ _ (λ g. absurd (false≢true (sym answer ∙ g))) (λ g. refl))
+    (λ k. absurd (false≢true (sym k ∙ asks)))))
 
 -- A message of the venue is given again.
 

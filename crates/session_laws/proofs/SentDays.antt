@@ -7,7 +7,7 @@ use Rattle.fix_fields.specs.Frame.{Field, value_of}
 use Rattle.fix_sessions.specs.Outcomes.{is_clear, live, free, is_spent}
 use Rattle.fix_sessions.specs.Sending.{is_resending, fill_end, before_kept, is_answer, is_reject, fills_gap, again_of, fresh_of, hands_on, hands_by, hands, given_on}
 use Rattle.session_laws.specs.Days.{Event, turn, after, is_reset, without_resets}
-use Rattle.session_laws.specs.Days.{Came, Gone, Given, Handed, Tick, Ordered}
+use Rattle.session_laws.specs.Days.{Came, Gone, Given, Handed, Tick, Ordered, LoggedOut}
 use Rattle.session_laws.specs.Kept.{Entry, entered, Within}
 use Rattle.session_laws.specs.Sent.{news, all_news, front_by, front}
 use Rattle.session_laws.proofs.Choices.{choice}
@@ -28,8 +28,8 @@ use Rattle.fix_sessions.specs.Sending.{wants, wants_by, wants_on, wants_of_its_o
 use Rattle.fix_sessions.specs.Texts.{is_that}
 use Rattle.fix_sessions.specs.Written.{kept_fields}
 use Rattle.fix_sessions.specs.declared.turns.Want.TheVariants as want
-use Rattle.session_laws.specs.Kept.{IsAnswered, IsFree, IsHanded, IsKept, IsWanted, all_kept, is_answer_body, kept_after, still_kept, without_rejects}
-use Rattle.session_laws.specs.Sent.{AreRight, Ascends, IsRight}
+use Rattle.session_laws.specs.Kept.{IsAnswered, IsFree, IsHanded, IsKept, IsWanted, all_kept, is_answer_body, is_refusal, kept_after, still_kept, without_rejects}
+use Rattle.session_laws.specs.Sent.{AreHanded, AreRight, AreTurnsRight, Ascends, IsRight}
 use Rattle.session_laws.proofs.SentTurns.{event_counts}
 use Rattle.session_laws.proofs.TurnOutcomes.{IsOwn, OwnSaid, OwnTurn}
 
@@ -55,7 +55,7 @@ appended low mid high (x ∷ xs) ys front back = (front.0, appended (x.number + 
 fewer : (low high : ℕ) (es : List Entry) → Within low high es → Within low high (without_rejects es)
 fewer low high [] within = within
 fewer low high (e ∷ es) within =
-    choice (Within low high) e.is_reject _ _
+    choice (Within low high) (is_refusal e.source) _ _
     (λ h. lowered (e.number + 1) low high (without_rejects es) (let at = within.0 in omega (arith, at))
     (fewer (e.number + 1) high es within.1))
     (λ h. (within.0, fewer (e.number + 1) high es within.1))
@@ -117,6 +117,8 @@ own_word number (word.Reject name kind fault) kept own = tt
 own_word number (word.Fill next) kept own = absurd (false≢true own)
 own_word number (word.Logout why) kept own = tt
 own_word number (word.Foreign version) kept own = tt
+own_word number (word.LogoutFor text) kept own = tt
+own_word number (word.Denied name kind denial) kept own = tt
 own_word number (word.Kept body is_copy) kept own = absurd (false≢true own)
 own_word number (word.Again body is_copy first) kept own = absurd (false≢true own)
 
@@ -300,8 +302,8 @@ hands_right s now next_kept stored kept within handed =
 
 pub event_right : (names : Names) (s : Session) (kept : List Entry) (e : Event) → is_reset e ≡ false
     → Within 0 s.day.next kept → IsHanded kept s e → Right kept (turn names s e)
-event_right names s kept (Came connection clock bytes is_known) unless within handed =
-    own_right kept (turn names s (Came connection clock bytes is_known)) ((event_counts names s (Came connection clock bytes is_known) unless).own refl)
+event_right names s kept (Came connection clock bytes is_known denial) unless within handed =
+    own_right kept (turn names s (Came connection clock bytes is_known denial)) ((event_counts names s (Came connection clock bytes is_known denial) unless).own refl)
 event_right names s kept (Gone connection) unless within handed =
     own_right kept (turn names s (Gone connection)) ((event_counts names s (Gone connection) unless).own refl)
 event_right names s kept (Given moment body) unless within handed = given_right s moment body kept
@@ -311,3 +313,19 @@ event_right names s kept (Tick moment) unless within handed =
     own_right kept (turn names s (Tick moment)) ((event_counts names s (Tick moment) unless).own refl)
 event_right names s kept (Ordered clock o) unless within handed =
     own_right kept (turn names s (Ordered clock o)) ((event_counts names s (Ordered clock o) unless).own refl)
+event_right names s kept (LoggedOut moment reason) unless within handed =
+    own_right kept (turn names s (LoggedOut moment reason)) ((event_counts names s (LoggedOut moment reason) unless).own refl)
+
+pub turns_right : (names : Names) (s : Session) (kept : List Entry) (events : List Event)
+    → without_resets events ≡ true → Within 0 s.day.next kept → AreHanded names s kept events
+    → AreTurnsRight names s kept events
+turns_right names s kept [] none within handed = tt
+turns_right names s kept (e ∷ es) none within handed =
+    let t = turn names s e in
+    let parts = both_parts (is_reset e) (without_resets es) none in
+    let counts = event_counts names s e parts.0 in (
+      event_right names s kept e parts.0 within handed.0,
+      turns_right names t.session (kept_after kept t) es parts.1
+          (appended 0 s.day.next t.session.day.next (still_kept t kept) (entered t.first)
+          (kept_on 0 s.day.next t kept within) counts.kept) handed.1,
+    )

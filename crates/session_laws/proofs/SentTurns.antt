@@ -2,16 +2,16 @@
 use Rattle.std.proofs.Common.{◌≡◌, ℕ, ◌+◌, ◌-◌, ◌≤◌, Bool, true, false, ◌==◌, nat_le, List, [], ◌++◌, Option, Some, None, refl, sym, ap, subst, ◌∙◌, arith, if◌then◌else◌}
 use Rattle.std.proofs.lemmas.Bool.{false≢true}
 use Rattle.fix_fields.specs.Frame.{Field}
-use Rattle.fix_sessions.specs.Heard.{heard_of, logon_of, is_logout}
+use Rattle.fix_sessions.specs.Heard.{as_taken, heard_of, logon_of, is_logout}
 use Rattle.fix_sessions.specs.Outcomes.{parts, live, free, holder, is_spent, ended}
 use Rattle.fix_sessions.specs.Logons.{without}
 use Rattle.fix_sessions.specs.Sending.{hands_on, hands_by, hands, given_on}
 use Rattle.session_laws.specs.Days.{Event, turn, is_reset, is_order_to_reset}
-use Rattle.session_laws.specs.Days.{Came, Gone, Given, Handed, Tick, Ordered}
+use Rattle.session_laws.specs.Days.{Came, Gone, Given, Handed, Tick, Ordered, LoggedOut}
 use Rattle.session_laws.specs.Kept.{entered, Within}
 use Rattle.session_laws.specs.Sent.{new_of, news, front_by, front}
 use Rattle.session_laws.proofs.Choices.{choice}
-use Rattle.fix_sessions.specs.Steps.{came_as, is_expected, last_counted, came_leaving_as, came_leaving, came_by, came, freed_of, has, waits_away, given_by, given, tick_on, tick_by, decided, is_decided, tick_waiting, tick, logged_out, logged_out_by, ordered}
+use Rattle.fix_sessions.specs.Steps.{came_as, is_expected, last_counted, came_leaving_as, came_leaving, came_by, came, freed_of, has, waits_away, given_by, given, tick_on, tick_by, decided, is_decided, tick_waiting, tick, logged_out, logged_out_by, log_out, ordered}
 use Rattle.fix_sessions.specs.declared.state.TheConstants.{LOGOUT_WAIT}
 use Rattle.fix_sessions.specs.declared.state.Clock.{Clock}
 use Rattle.fix_sessions.specs.declared.state.Day.{Day}
@@ -25,14 +25,15 @@ use Rattle.fix_sessions.specs.declared.messages.Heard.TheVariants as heard
 use Rattle.fix_sessions.specs.declared.orders.Order.{Order}
 use Rattle.fix_sessions.specs.declared.orders.Order.TheVariants as order
 use Rattle.fix_sessions.specs.declared.texts.Names.{Names}
+use Rattle.fix_sessions.specs.declared.turns.Denial.{Denial}
 use Rattle.fix_sessions.specs.declared.turns.Notice.{Notice}
 use Rattle.fix_sessions.specs.declared.turns.Notice.TheVariants as notice
 use Rattle.fix_sessions.specs.declared.turns.Stored.{Stored}
 use Rattle.fix_sessions.specs.declared.turns.Turn.{Turn}
-use Rattle.fix_sessions.specs.declared.turns.Why.{Why}
 use Rattle.fix_sessions.specs.declared.turns.Why.TheVariants as why
+use Rattle.fix_sessions.specs.declared.turns.Word.{Word}
 use Rattle.fix_sessions.specs.declared.turns.Word.TheVariants as word
-use Rattle.session_laws.proofs.TurnOutcomes.{Does, OwnSaid, OwnTurn, parts_does}
+use Rattle.session_laws.proofs.TurnOutcomes.{Does, IsOwn, OwnSaid, OwnTurn, parts_does}
 use Rattle.session_laws.proofs.TurnRows.{came_as_does}
 use Rattle.session_laws.proofs.TurnLogons.{First, first_by_first}
 use Rattle.session_laws.proofs.TurnSent.{given_on_does, hands_on_does, tick_on_does}
@@ -105,19 +106,19 @@ leaving_counts names s connection bytes =
     leaving_as (heard.TooLong number) = same_counts true s.day s.phase _ refl refl refl refl
 
 came_by_counts : (names : Names) (s : Session) (connection : ℕ) (clock : Clock) (bytes : List ℕ)
-    (is_known : Bool) (p : Phase) → s.phase ≡ p
-    → Counts true s.day s.phase (came_by names s connection clock bytes is_known p)
-came_by_counts names s connection clock bytes is_known phase.Away is =
-    first_counts s connection _ (first_by_first s connection clock is_known (logon_of names bytes))
-came_by_counts names s connection clock bytes is_known (phase.On line) is =
+    (is_known : Bool) (denial : Option Denial) (p : Phase) → s.phase ≡ p
+    → Counts true s.day s.phase (came_by names s connection clock bytes is_known denial p)
+came_by_counts names s connection clock bytes is_known denial phase.Away is =
+    first_counts s connection _ (first_by_first s connection clock is_known denial (logon_of names bytes))
+came_by_counts names s connection clock bytes is_known denial (phase.On line) is =
     choice (Counts true s.day s.phase) (line.connection == connection) _ _
-    (λ h. subst (λ q. Counts true s.day q (came_as (live s line) clock (heard_of names bytes))) (sym is)
-    (live_counts true s.day line _ (came_as_does (live s line) clock (heard_of names bytes))))
-    (λ h. first_counts s connection _ (first_by_first s connection clock is_known (logon_of names bytes)))
-came_by_counts names s connection clock bytes is_known (phase.Leaving last since) is =
+    (λ h. subst (λ q. Counts true s.day q (came_as (live s line) clock (as_taken denial (heard_of names bytes)))) (sym is)
+    (live_counts true s.day line _ (came_as_does (live s line) clock (as_taken denial (heard_of names bytes)))))
+    (λ h. first_counts s connection _ (first_by_first s connection clock is_known denial (logon_of names bytes)))
+came_by_counts names s connection clock bytes is_known denial (phase.Leaving last since) is =
     choice (Counts true s.day s.phase) (last == connection) _ _
     (λ h. leaving_counts names s connection bytes)
-    (λ h. first_counts s connection _ (first_by_first s connection clock is_known (logon_of names bytes)))
+    (λ h. first_counts s connection _ (first_by_first s connection clock is_known denial (logon_of names bytes)))
 
 freed_counts : (s : Session) (connection : ℕ) (e : Turn) → e.session ≡ freed_of s connection
     → e.first ≡ None → e.second ≡ None → Counts true s.day s.phase e
@@ -142,12 +143,12 @@ freed_counts s connection e is first second = by_has (has s.phase connection) re
         (ap (λ (x : Session). x.phase) stays) first second)
 
 came_counts : (names : Names) (s : Session) (connection : ℕ) (clock : Clock) (bytes : List ℕ)
-    (is_known : Bool) → Counts true s.day s.phase (came names s connection clock bytes is_known)
+    (is_known : Bool) (denial : Option Denial) → Counts true s.day s.phase (came names s connection clock bytes is_known denial)
 unfolding came
-came_counts names s connection clock bytes is_known =
+came_counts names s connection clock bytes is_known denial =
     choice (Counts true s.day s.phase) (is_spent s) _ _
     (λ h. freed_counts s connection _ refl refl refl)
-    (λ h. came_by_counts names s connection clock bytes is_known s.phase refl)
+    (λ h. came_by_counts names s connection clock bytes is_known denial s.phase refl)
 
 -- The other events.
 
@@ -243,21 +244,26 @@ tick_counts s now =
     (λ h. free_counts true s.day s.phase s (holder s.phase) None refl)
     (λ h. waiting_counts s now s.waiting)
 
-logged_out_by_counts : (s : Session) (now : ℕ) (y : Why) (p : Phase) → s.phase ≡ p
-    → Counts true s.day s.phase (logged_out_by s now y p)
-logged_out_by_counts s now y phase.Away is = same_counts true s.day s.phase _ refl refl refl refl
-logged_out_by_counts s now y (phase.On line) is =
-    subst (λ q. Counts true s.day q (parts (live s line) now (word.Logout y))) (sym is)
-    (live_counts true s.day line _ (parts_does (live s line) now (word.Logout y) refl))
-logged_out_by_counts s now y (phase.Leaving connection since) is =
+logged_out_by_counts : (s : Session) (now : ℕ) (w : Word) (p : Phase) → s.phase ≡ p → IsOwn w
+    → Counts true s.day s.phase (logged_out_by s now w p)
+logged_out_by_counts s now w phase.Away is own = same_counts true s.day s.phase _ refl refl refl refl
+logged_out_by_counts s now w (phase.On line) is own =
+    subst (λ q. Counts true s.day q (parts (live s line) now w)) (sym is)
+    (live_counts true s.day line _ (parts_does (live s line) now w own))
+logged_out_by_counts s now w (phase.Leaving connection since) is own =
     same_counts true s.day s.phase _ refl refl refl refl
 
-logged_out_counts : (s : Session) (now : ℕ) (y : Why)
-    → Counts true s.day s.phase (logged_out s now y s.phase)
-logged_out_counts s now y =
+logged_out_counts : (s : Session) (now : ℕ) (w : Word) → IsOwn w
+    → Counts true s.day s.phase (logged_out s now w s.phase)
+logged_out_counts s now w own =
     choice (Counts true s.day s.phase) (is_spent s) _ _
     (λ h. free_counts true s.day s.phase s (holder s.phase) None refl)
-    (λ h. logged_out_by_counts s now y s.phase refl)
+    (λ h. logged_out_by_counts s now w s.phase refl own)
+
+log_out_counts : (s : Session) (now : ℕ) (reason : List ℕ)
+    → Counts true s.day s.phase (log_out s now reason)
+unfolding log_out
+log_out_counts s now reason = logged_out_counts s now (word.LogoutFor reason) refl
 
 ordered_counts : (s : Session) (clock : Clock) (o : Order) → is_order_to_reset o ≡ false
     → Counts true s.day s.phase (ordered s clock o)
@@ -265,10 +271,10 @@ unfolding ordered
 ordered_counts s clock order.Open unless = same_counts true s.day s.phase _ refl refl refl refl
 ordered_counts s clock order.Release unless = same_counts true s.day s.phase _ refl refl refl refl
 ordered_counts s clock order.Close unless =
-    let r = logged_out_counts (record s { day = record s.day { is_open = false } }) clock.moment why.Closed in
+    let r = logged_out_counts (record s { day = record s.day { is_open = false } }) clock.moment (word.Logout why.Closed) refl in
     record { most = r.most; kept = r.kept; new = r.new; sound = r.sound; own = r.own }
 ordered_counts s clock order.Suspend unless =
-    let r = logged_out_counts (record s { day = record s.day { is_suspended = true } }) clock.moment why.Suspended in
+    let r = logged_out_counts (record s { day = record s.day { is_suspended = true } }) clock.moment (word.Logout why.Suspended) refl in
     record { most = r.most; kept = r.kept; new = r.new; sound = r.sound; own = r.own }
 ordered_counts s clock (order.Reset copies) unless = absurd (false≢true (sym unless))
 
@@ -280,10 +286,11 @@ is_own_event other = true
 
 pub event_counts : (names : Names) (s : Session) (e : Event) → is_reset e ≡ false
     → Counts (is_own_event e) s.day s.phase (turn names s e)
-event_counts names s (Came connection clock bytes is_known) unless =
-    came_counts names s connection clock bytes is_known
+event_counts names s (Came connection clock bytes is_known denial) unless =
+    came_counts names s connection clock bytes is_known denial
 event_counts names s (Gone connection) unless = freed_counts s connection _ refl refl refl
 event_counts names s (Given moment body) unless = given_counts s moment body
 event_counts names s (Handed moment next_kept stored) unless = hands_counts s moment next_kept stored
 event_counts names s (Tick moment) unless = tick_counts s moment
 event_counts names s (Ordered clock o) unless = ordered_counts s clock o unless
+event_counts names s (LoggedOut moment reason) unless = log_out_counts s moment reason

@@ -2,13 +2,13 @@
 use Rattle.std.proofs.Common.{◌≡◌, ℕ, ◌+◌, ◌-◌, ◌≤◌, Bool, true, false, ◌==◌, ◌&&◌, ◌||◌, not, nat_lt, nat_le, List, [], ◌∷◌, ◌++◌, inl, inr, Option, Some, None, refl, sym, ap, subst, ◌∙◌, arith, if◌then◌else◌}
 use Rattle.std.proofs.lemmas.Bool.{false≢true}
 use Rattle.fix_fields.specs.Frame.{Field}
-use Rattle.fix_sessions.specs.Heard.{heard_of, is_logout}
+use Rattle.fix_sessions.specs.Heard.{as_taken, heard_of, is_logout}
 use Rattle.fix_sessions.specs.Outcomes.{is_clear, live, is_spent}
 use Rattle.fix_sessions.specs.Sending.{is_resending, requests, is_answer, is_reject, again_of, fresh_of, hands_on, hands_by, hands, given_on}
 use Rattle.session_laws.specs.Days.{Event, turn, is_reset, without_resets, is_order_to_reset}
-use Rattle.session_laws.specs.Days.{Came, Gone, Given, Handed, Tick, Ordered}
+use Rattle.session_laws.specs.Days.{Came, Gone, Given, Handed, Tick, Ordered, LoggedOut}
 use Rattle.session_laws.specs.Numbers.{Rises, taken, listed}
-use Rattle.fix_sessions.specs.Steps.{is_expected, last_counted, came_leaving_as, came_leaving, came_by, came, freed_of, has, gone, given_by, given, due, made_due, still_settling, is_over, is_dead, tick_on, tick_by, decided, is_decided, tick_waiting, tick, logged_out, logged_out_by, ordered}
+use Rattle.fix_sessions.specs.Steps.{is_expected, last_counted, came_leaving_as, came_leaving, came_by, came, freed_of, has, gone, given_by, given, due, made_due, still_settling, is_over, is_dead, tick_on, tick_by, decided, is_decided, tick_waiting, tick, logged_out, logged_out_by, log_out, ordered}
 use Rattle.fix_sessions.specs.declared.state.TheConstants.{LOGOUT_WAIT}
 use Rattle.fix_sessions.specs.declared.state.Clock.{Clock}
 use Rattle.fix_sessions.specs.declared.state.Day.{Day}
@@ -22,9 +22,10 @@ use Rattle.fix_sessions.specs.declared.messages.Heard.TheVariants as heard
 use Rattle.fix_sessions.specs.declared.orders.Order.{Order}
 use Rattle.fix_sessions.specs.declared.orders.Order.TheVariants as order
 use Rattle.fix_sessions.specs.declared.texts.Names.{Names}
+use Rattle.fix_sessions.specs.declared.turns.Denial.{Denial}
 use Rattle.fix_sessions.specs.declared.turns.Stored.{Stored}
-use Rattle.fix_sessions.specs.declared.turns.Why.{Why}
 use Rattle.fix_sessions.specs.declared.turns.Why.TheVariants as why
+use Rattle.fix_sessions.specs.declared.turns.Word.{Word}
 use Rattle.fix_sessions.specs.declared.turns.Word.TheVariants as word
 use Rattle.session_laws.proofs.Choices.{choice}
 use Rattle.session_laws.proofs.TakenRows.{Grows, Ups, Turns, same, same_grows, more_grows, live_turns, disconnects_up, leaves_up, parts_up, says_up, stays_up}
@@ -51,23 +52,23 @@ leaving_up names s connection bytes =
 freed_same : (s : Session) (connection : ℕ) → (freed_of s connection).day ≡ s.day
 freed_same s connection = choice (λ (t : Session). t.day ≡ s.day) (has s.phase connection) _ _ (λ h. refl) (λ h. refl)
 
-came_by_turns : (names : Names) (s : Session) (connection : ℕ) (clock : Clock) (bytes : List ℕ) (is_known : Bool) (p : Phase)
-    → Turns s.day (came_by names s connection clock bytes is_known p)
-came_by_turns names s connection clock bytes is_known phase.Away = inl (first_up names s connection clock bytes is_known)
-came_by_turns names s connection clock bytes is_known (phase.On line) =
+came_by_turns : (names : Names) (s : Session) (connection : ℕ) (clock : Clock) (bytes : List ℕ) (is_known : Bool) (denial : Option Denial) (p : Phase)
+    → Turns s.day (came_by names s connection clock bytes is_known denial p)
+came_by_turns names s connection clock bytes is_known denial phase.Away = inl (first_up names s connection clock bytes is_known denial)
+came_by_turns names s connection clock bytes is_known denial (phase.On line) =
     choice (Turns s.day) (line.connection == connection) _ _
-    (λ h. live_turns (live s line) clock (heard_of names bytes)) (λ h. inl (first_up names s connection clock bytes is_known))
-came_by_turns names s connection clock bytes is_known (phase.Leaving last since) =
+    (λ h. live_turns (live s line) clock (as_taken denial (heard_of names bytes))) (λ h. inl (first_up names s connection clock bytes is_known denial))
+came_by_turns names s connection clock bytes is_known denial (phase.Leaving last since) =
     choice (Turns s.day) (last == connection) _ _
-    (λ h. inl (leaving_up names s connection bytes)) (λ h. inl (first_up names s connection clock bytes is_known))
+    (λ h. inl (leaving_up names s connection bytes)) (λ h. inl (first_up names s connection clock bytes is_known denial))
 
-pub came_turns : (names : Names) (s : Session) (connection : ℕ) (clock : Clock) (bytes : List ℕ) (is_known : Bool)
-    → Turns s.day (came names s connection clock bytes is_known)
+pub came_turns : (names : Names) (s : Session) (connection : ℕ) (clock : Clock) (bytes : List ℕ) (is_known : Bool) (denial : Option Denial)
+    → Turns s.day (came names s connection clock bytes is_known denial)
 unfolding came
-came_turns names s connection clock bytes is_known =
+came_turns names s connection clock bytes is_known denial =
     choice (Turns s.day) (is_spent s) _ _
     (λ h. inl (let d = freed_same s connection in same s.day _ refl (ap (λ (e : Day). e.expected) d) (ap (λ (e : Day). e.was_taken) d)))
-    (λ h. came_by_turns names s connection clock bytes is_known s.phase)
+    (λ h. came_by_turns names s connection clock bytes is_known denial s.phase)
 
 pub gone_up : (s : Session) (connection : ℕ) → Ups s.day (gone s connection)
 gone_up s connection = (let d = freed_same s connection in same s.day _ refl (ap (λ (e : Day). e.expected) d) (ap (λ (e : Day). e.was_taken) d))
@@ -141,13 +142,17 @@ pub tick_up : (s : Session) (now : ℕ) → Ups s.day (tick s now)
 unfolding tick
 tick_up s now = choice (Ups s.day) (is_spent s) _ _ (λ h. same s.day _ refl refl refl) (λ h. waiting_up s now s.waiting)
 
-logged_out_by_up : (s : Session) (now : ℕ) (y : Why) (p : Phase) → Ups s.day (logged_out_by s now y p)
-logged_out_by_up s now y phase.Away = same s.day _ refl refl refl
-logged_out_by_up s now y (phase.On line) = parts_up (live s line) now (word.Logout y)
-logged_out_by_up s now y (phase.Leaving connection since) = same s.day _ refl refl refl
+logged_out_by_up : (s : Session) (now : ℕ) (w : Word) (p : Phase) → Ups s.day (logged_out_by s now w p)
+logged_out_by_up s now w phase.Away = same s.day _ refl refl refl
+logged_out_by_up s now w (phase.On line) = parts_up (live s line) now w
+logged_out_by_up s now w (phase.Leaving connection since) = same s.day _ refl refl refl
 
-logged_out_up : (s : Session) (now : ℕ) (y : Why) (p : Phase) → Ups s.day (logged_out s now y p)
-logged_out_up s now y p = choice (Ups s.day) (is_spent s) _ _ (λ h. same s.day _ refl refl refl) (λ h. logged_out_by_up s now y p)
+logged_out_up : (s : Session) (now : ℕ) (w : Word) (p : Phase) → Ups s.day (logged_out s now w p)
+logged_out_up s now w p = choice (Ups s.day) (is_spent s) _ _ (λ h. same s.day _ refl refl refl) (λ h. logged_out_by_up s now w p)
+
+pub log_out_up : (s : Session) (now : ℕ) (reason : List ℕ) → Ups s.day (log_out s now reason)
+unfolding log_out
+log_out_up s now reason = logged_out_up s now (word.LogoutFor reason) s.phase
 
 -- an operator's order, but for a reset
 pub ordered_up : (s : Session) (clock : Clock) (o : Order) → is_order_to_reset o ≡ false → Ups s.day (ordered s clock o)
@@ -155,21 +160,22 @@ unfolding ordered
 ordered_up s clock order.Open unless = same s.day _ refl refl refl
 ordered_up s clock order.Release unless = same s.day _ refl refl refl
 ordered_up s clock order.Close unless =
-    let u = logged_out_up (record s { day = record s.day { is_open = false } }) clock.moment why.Closed s.phase in
+    let u = logged_out_up (record s { day = record s.day { is_open = false } }) clock.moment (word.Logout why.Closed) s.phase in
     record { nothing = u.nothing; grows = record { up = u.grows.up; one = u.grows.one; was = u.grows.was } }
 ordered_up s clock order.Suspend unless =
-    let u = logged_out_up (record s { day = record s.day { is_suspended = true } }) clock.moment why.Suspended s.phase in
+    let u = logged_out_up (record s { day = record s.day { is_suspended = true } }) clock.moment (word.Logout why.Suspended) s.phase in
     record { nothing = u.nothing; grows = record { up = u.grows.up; one = u.grows.one; was = u.grows.was } }
 ordered_up s clock (order.Reset copies) unless = absurd (false≢true (sym unless))
 
 -- every event
 pub event_turns : (names : Names) (s : Session) (e : Event) → is_reset e ≡ false → Turns s.day (turn names s e)
-event_turns names s (Came connection clock bytes is_known) unless = came_turns names s connection clock bytes is_known
+event_turns names s (Came connection clock bytes is_known denial) unless = came_turns names s connection clock bytes is_known denial
 event_turns names s (Gone connection) unless = inl (gone_up s connection)
 event_turns names s (Given moment body) unless = inl (given_up s moment body)
 event_turns names s (Handed moment next_kept stored) unless = inl (hands_up s moment next_kept stored)
 event_turns names s (Tick moment) unless = inl (tick_up s moment)
 event_turns names s (Ordered clock o) unless = inl (ordered_up s clock o unless)
+event_turns names s (LoggedOut moment reason) unless = inl (log_out_up s moment reason)
 
 -- The numbers of what the venue is given.
 

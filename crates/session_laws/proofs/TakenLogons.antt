@@ -2,7 +2,7 @@
 use Rattle.std.proofs.Common.{◌≡◌, ℕ, ◌≤◌, Bool, true, false, ◌==◌, ◌&&◌, not, nat_lt, nat_le, List, Option, Some, None, refl, sym, ◌∙◌, arith}
 use Rattle.std.proofs.lemmas.Bool.{false≢true}
 use Rattle.fix_sessions.specs.Heard.{logon_of}
-use Rattle.fix_sessions.specs.Logons.{refuses, refused, refusal_day, is_safe, too_low, accepts, accepted_day, answer_number, expected_by, has_gap, is_ahead, may_reset, judged_ahead, judged_number, judged_reset, judged, judged_by, waits_for, first_by, came_first, value_or_zero, is_heartbeat, is_in_time, without}
+use Rattle.fix_sessions.specs.Logons.{refuses, refused, refused_for, logout_of, refusal_day, is_safe, too_low, accepts, accepted_day, answer_number, expected_by, has_gap, is_ahead, may_reset, judged_ahead, judged_number, judged_reset, judged_terms, judged_denial, judged, judged_by, waits_for, first_by, came_first, value_or_zero, is_heartbeat, is_in_time, without}
 use Rattle.fix_sessions.specs.declared.state.Clock.{Clock}
 use Rattle.fix_sessions.specs.declared.state.Day.{Day}
 use Rattle.fix_sessions.specs.declared.state.Phase.{Phase}
@@ -11,10 +11,13 @@ use Rattle.fix_sessions.specs.declared.state.Session.{Session}
 use Rattle.fix_sessions.specs.declared.state.Waiting.{Waiting}
 use Rattle.fix_sessions.specs.declared.messages.Terms.{Terms}
 use Rattle.fix_sessions.specs.declared.texts.Names.{Names}
+use Rattle.fix_sessions.specs.declared.turns.Denial.{Denial}
 use Rattle.fix_sessions.specs.declared.turns.Notice.{Notice}
 use Rattle.fix_sessions.specs.declared.turns.Notice.TheVariants as notice
 use Rattle.fix_sessions.specs.declared.turns.Why.{Why}
 use Rattle.fix_sessions.specs.declared.turns.Why.TheVariants as why
+use Rattle.fix_sessions.specs.declared.turns.Word.{Word}
+use Rattle.fix_sessions.specs.declared.turns.Word.TheVariants as word
 use Rattle.session_laws.proofs.Choices.{choice}
 use Rattle.session_laws.proofs.TakenRows.{Grows, Ups, same, same_grows}
 
@@ -23,18 +26,21 @@ use Rattle.session_laws.proofs.TakenRows.{Grows, Ups, same, same_grows}
 refusal_same : (d : Day) → Grows d (refusal_day d)
 refusal_same d = choice (λ (e : Day). Grows d e) d.is_one_free _ _ (λ h. same_grows d _ refl refl) (λ h. same_grows d _ refl refl)
 
-refuses_up : (s : Session) (connection : ℕ) (terms : Terms) (y : Why) (told : Notice) → Ups s.day (refuses s connection terms y told)
-refuses_up s connection terms y told =
+refuses_up : (s : Session) (connection : ℕ) (terms : Terms) (w : Word) (told : Notice) → Ups s.day (refuses s connection terms w told)
+refuses_up s connection terms w told =
     choice (Ups s.day) (is_safe s.day terms) _ _ (λ h. record { nothing = refl; grows = refusal_same s.day }) (λ h. same s.day _ refl refl refl)
 
 refused_up : (s : Session) (connection : ℕ) (terms : Terms) (y : Why) → Ups s.day (refused s connection terms y)
-refused_up s connection terms y = refuses_up s connection terms y (notice.Refused y)
+refused_up s connection terms y = refuses_up s connection terms (word.Logout y) (notice.Refused y)
+
+refused_for_up : (s : Session) (connection : ℕ) (terms : Terms) (y : Why) (denial : Option Denial) → Ups s.day (refused_for s connection terms y denial)
+refused_for_up s connection terms y denial = refuses_up s connection terms (logout_of y denial) (notice.Refused y)
 
 too_low_up : (s : Session) (connection : ℕ) (terms : Terms) → Ups s.day (too_low s connection terms)
 too_low_up s connection terms =
     let low = why.TooLow s.day.expected in
     choice (Ups s.day) (nat_lt s.day.last_logon (value_or_zero terms.sent)) _ _
-    (λ h. let r = refuses_up (record s { day = record s.day { is_locked = true } }) connection terms low notice.LostStore in
+    (λ h. let r = refuses_up (record s { day = record s.day { is_locked = true } }) connection terms (word.Logout low) notice.LostStore in
     record {
       nothing = r.nothing;
       grows = record { up = r.grows.up; one = r.grows.one; was = r.grows.was };
@@ -96,32 +102,40 @@ reset_up s connection now terms =
     (λ e. not_taken s.day.was_taken (nat_lt 0 s.day.first_given && nat_le s.day.first_given s.day.had)
     (may_is terms.resets (terms.number == 1) (may_reset s.day) h e)))
 
-judged_up : (s : Session) (connection : ℕ) (clock : Clock) (terms : Terms) → Ups s.day (judged s connection clock terms)
-judged_up s connection clock terms =
-    choice (Ups s.day) (not s.day.is_open) _ _ (λ h. refused_up s connection terms why.Closed)
-    (λ h. choice (Ups s.day) s.day.is_suspended _ _ (λ h. refused_up s connection terms why.Suspended)
-    (λ h. choice (Ups s.day) (not terms.is_plain) _ _ (λ h. refused_up s connection terms why.Encrypted)
+terms_up : (s : Session) (connection : ℕ) (clock : Clock) (terms : Terms) → Ups s.day (judged_terms s connection clock terms)
+terms_up s connection clock terms =
+    choice (Ups s.day) (not terms.is_plain) _ _ (λ h. refused_up s connection terms why.Encrypted)
     (λ h. choice (Ups s.day) (not terms.is_fix50) _ _ (λ h. refused_up s connection terms why.Version)
     (λ h. choice (Ups s.day) (not (is_heartbeat terms.seconds)) _ _ (λ h. refused_up s connection terms why.Heartbeat)
     (λ h. choice (Ups s.day) (not (is_in_time clock terms.sent)) _ _ (λ h. refused_up s connection terms why.Clock)
-    (λ h. reset_up s connection clock.moment terms))))))
+    (λ h. reset_up s connection clock.moment terms))))
+
+denial_up : (s : Session) (connection : ℕ) (clock : Clock) (terms : Terms) (denial : Option Denial) → Ups s.day (judged_denial s connection clock terms denial)
+denial_up s connection clock terms None = terms_up s connection clock terms
+denial_up s connection clock terms (Some denial) = refuses_up s connection terms (word.LogoutFor denial.text) notice.Denied
+
+judged_up : (s : Session) (connection : ℕ) (clock : Clock) (terms : Terms) (denial : Option Denial) → Ups s.day (judged s connection clock terms denial)
+judged_up s connection clock terms denial =
+    choice (Ups s.day) (not s.day.is_open) _ _ (λ h. refused_for_up s connection terms why.Closed denial)
+    (λ h. choice (Ups s.day) s.day.is_suspended _ _ (λ h. refused_for_up s connection terms why.Suspended denial)
+    (λ h. denial_up s connection clock terms denial))
 
 waits_up : (s : Session) (connection now : ℕ) (waiting : Option Waiting) → Ups s.day (waits_for s connection now waiting)
 waits_up s connection now None = same s.day _ refl refl refl
 waits_up s connection now (Some waiting) =
     choice (Ups s.day) (waiting.connection == connection) _ _ (λ h. same s.day _ refl refl refl) (λ h. same s.day _ refl refl refl)
 
-judged_by_up : (s : Session) (connection : ℕ) (clock : Clock) (terms : Terms) (p : Phase) → Ups s.day (judged_by s connection clock terms p)
-judged_by_up s connection clock terms phase.Away =
-    judged_up (record s { waiting = without connection s.waiting }) connection clock terms
-judged_by_up s connection clock terms (phase.On line) = waits_up s connection clock.moment s.waiting
-judged_by_up s connection clock terms (phase.Leaving last since) = waits_up s connection clock.moment s.waiting
+judged_by_up : (s : Session) (connection : ℕ) (clock : Clock) (terms : Terms) (denial : Option Denial) (p : Phase) → Ups s.day (judged_by s connection clock terms denial p)
+judged_by_up s connection clock terms denial phase.Away =
+    judged_up (record s { waiting = without connection s.waiting }) connection clock terms denial
+judged_by_up s connection clock terms denial (phase.On line) = waits_up s connection clock.moment s.waiting
+judged_by_up s connection clock terms denial (phase.Leaving last since) = waits_up s connection clock.moment s.waiting
 
-first_by_up : (s : Session) (connection : ℕ) (clock : Clock) (is_known : Bool) (terms : Option Terms) → Ups s.day (first_by s connection clock is_known terms)
-first_by_up s connection clock is_known None = same s.day _ refl refl refl
-first_by_up s connection clock is_known (Some terms) =
-    choice (Ups s.day) is_known _ _ (λ h. judged_by_up s connection clock terms s.phase) (λ h. same s.day _ refl refl refl)
+first_by_up : (s : Session) (connection : ℕ) (clock : Clock) (is_known : Bool) (denial : Option Denial) (terms : Option Terms) → Ups s.day (first_by s connection clock is_known denial terms)
+first_by_up s connection clock is_known denial None = same s.day _ refl refl refl
+first_by_up s connection clock is_known denial (Some terms) =
+    choice (Ups s.day) is_known _ _ (λ h. judged_by_up s connection clock terms denial s.phase) (λ h. same s.day _ refl refl refl)
 
-pub first_up : (names : Names) (s : Session) (connection : ℕ) (clock : Clock) (bytes : List ℕ) (is_known : Bool)
-    → Ups s.day (came_first names s connection clock bytes is_known)
-first_up names s connection clock bytes is_known = first_by_up s connection clock is_known (logon_of names bytes)
+pub first_up : (names : Names) (s : Session) (connection : ℕ) (clock : Clock) (bytes : List ℕ) (is_known : Bool) (denial : Option Denial)
+    → Ups s.day (came_first names s connection clock bytes is_known denial)
+first_up names s connection clock bytes is_known denial = first_by_up s connection clock is_known denial (logon_of names bytes)

@@ -1,7 +1,7 @@
 -- Each message once: what a turn does to the expected number, and what it gives the venue.
 use Rattle.std.proofs.Common.{◌≡◌, ℕ, ◌+◌, ◌≤◌, true, false, ◌==◌, ◌&&◌, ◌||◌, not, nat_lt, List, ◌⊎◌, inl, inr, Option, Some, None, refl, ◌∙◌, arith}
 use Rattle.std.proofs.lemmas.Bool.Decides.{nat_tests}
-use Rattle.fix_sessions.specs.Outcomes.{stays, disconnects, says, answers, rejects_now, rejects, parts, leaves, logs_out, reject_and_logout, rejects_and_logs_out, reject_of, counted, counted_if, is_clear, may_log_out}
+use Rattle.fix_sessions.specs.Outcomes.{stays, disconnects, says, answers, rejects_now, rejects, parts, leaves, logs_out, reject_and_logout, rejects_and_logs_out, reject_of, denies, denies_now, denial_of, counted, counted_if, is_clear, may_log_out}
 use Rattle.fix_sessions.specs.Logons.{is_off, is_today}
 use Rattle.fix_sessions.specs.Rows.{heard_at, highest_left, asked_of, requested, requested_as, resets_to, missing_noted, above, is_after_sent, repeated_below, below, is_test_of, tested, tests, fills, by_kind, by_form, by_times, repeated, sent_once, expected_message, by_number, by_names, if_numbered, reset_in, unless_reset, by_version, at}
 use Rattle.fix_sessions.specs.Steps.{came_as}
@@ -20,6 +20,7 @@ use Rattle.fix_sessions.specs.declared.messages.TestId.{TestId}
 use Rattle.fix_sessions.specs.declared.messages.TestId.TheVariants as test_id
 use Rattle.fix_sessions.specs.declared.requests.Asked.{Asked}
 use Rattle.fix_sessions.specs.declared.requests.Asked.TheVariants as asked
+use Rattle.fix_sessions.specs.declared.turns.Denial.{Denial}
 use Rattle.fix_sessions.specs.declared.turns.Fault.{Fault}
 use Rattle.fix_sessions.specs.declared.turns.Turn.{Turn}
 use Rattle.fix_sessions.specs.declared.turns.Why.{Why}
@@ -110,6 +111,13 @@ rejects_up a now m fault =
     let b = counted_if a now m.number in
     onto a.day b.day _ (counted_if_grows a now m.number) (rejects_now_up b now (reject_of m fault))
 
+denies_now_up : (a : Live) (now : ℕ) (w : Word) → Ups a.day (denies_now a now w)
+denies_now_up a now w = choice (Ups a.day) (is_clear a) _ _ (λ h. same a.day _ refl refl refl) (λ h. same a.day _ refl refl refl)
+
+denies_up : (a : Live) (now : ℕ) (m : Origin) (denial : Denial) → Ups a.day (denies a now m denial)
+denies_up a now m denial =
+    onto a.day _ _ (counted_grows a now) (denies_now_up (counted a now) now (denial_of m denial))
+
 logs_out_up : (a : Live) (now : ℕ) (number : Option ℕ) (w : Word) → Ups a.day (logs_out a now number w)
 logs_out_up a now number w =
     let b = counted_if a now number in
@@ -154,6 +162,7 @@ above_up a now m number kind.Reject = noted_up a number
 above_up a now m number (kind.Fill next) = noted_up a number
 above_up a now m number (kind.Reset next) = noted_up a number
 above_up a now m number kind.Logout = leaves_up a why.Answered
+above_up a now m number (kind.Denied denial) = noted_up a number
 above_up a now m number kind.Other = noted_up a number
 
 repeated_below_up : (a : Live) (now : ℕ) (m : Incoming) (first : Reading) → Ups a.day (repeated_below a now m first)
@@ -197,6 +206,7 @@ kind_turns a now m number (kind.Reset next) here = inl (resets_to_up a now m nex
 kind_turns a now m number kind.Logout here = inl (onto a.day _ _ (counted_grows a now) (leaves_up (counted a now) why.Answered))
 kind_turns a now m number kind.Logon here =
     inl (onto a.day _ _ (counted_grows a now) (parts_up (counted a now) now (word.Logout why.LoggedOn)))
+kind_turns a now m number (kind.Denied denial) here = inl (denies_up a now m denial)
 kind_turns a now m number kind.Other here = inr (record { given = refl; counted_is = refl; was = refl })
 
 form_turns : (a : Live) (now : ℕ) (m : Incoming) (number : ℕ) (flaw : Option Fault) → a.day.expected ≤ number → Turns a.day (by_form a now m number flaw)

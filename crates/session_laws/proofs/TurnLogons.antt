@@ -3,11 +3,11 @@
 use Rattle.std.proofs.Common.{◌≡◌, ℕ, ◌+◌, ◌≤◌, Bool, true, false, ◌==◌, ◌&&◌, not, nat_lt, ◌⊎◌, inl, inr, Option, Some, None, is_some, refl, sym, ◌∙◌, arith}
 use Rattle.std.proofs.lemmas.Bool.Decides.{nat_tests}
 use Rattle.fix_sessions.specs.Outcomes.{quiet, ended}
-use Rattle.fix_sessions.specs.Logons.{refuses, refused, refusal_day, is_safe, too_low, accepts, accepted_day, answer_number, has_one, expected_by, is_ahead, may_reset, judged_ahead, judged_number, judged_reset, judged, judged_by, waits_for, probed, first_by, value_or_zero, is_heartbeat, is_in_time, without}
+use Rattle.fix_sessions.specs.Logons.{refuses, refused, refused_for, refusal_day, refusal_number, is_safe, too_low, accepts, accepted_day, answer_number, has_one, expected_by, is_ahead, may_reset, judged_ahead, judged_number, judged_reset, judged_terms, judged_denial, judged, judged_by, waits_for, probed, first_by, value_or_zero, is_heartbeat, is_in_time, without}
 use Rattle.fix_sessions.specs.Rows.{below}
 use Rattle.session_laws.specs.Kept.{entered, Within}
 use Rattle.session_laws.specs.Logons.{sends}
-use Rattle.session_laws.specs.Sent.{news, front_by, front}
+use Rattle.session_laws.specs.Sent.{is_own_word, news, front_by, front}
 use Rattle.session_laws.proofs.Choices.{choice}
 use Rattle.fix_sessions.specs.Steps.{has}
 use Rattle.fix_sessions.specs.declared.state.Clock.{Clock}
@@ -17,12 +17,15 @@ use Rattle.fix_sessions.specs.declared.state.Phase.TheVariants as phase
 use Rattle.fix_sessions.specs.declared.state.Session.{Session}
 use Rattle.fix_sessions.specs.declared.state.Waiting.{Waiting}
 use Rattle.fix_sessions.specs.declared.messages.Terms.{Terms}
+use Rattle.fix_sessions.specs.declared.turns.Denial.{Denial}
 use Rattle.fix_sessions.specs.declared.turns.Notice.{Notice}
 use Rattle.fix_sessions.specs.declared.turns.Notice.TheVariants as notice
 use Rattle.fix_sessions.specs.declared.turns.Turn.{Turn}
 use Rattle.fix_sessions.specs.declared.turns.Why.{Why}
 use Rattle.fix_sessions.specs.declared.turns.Why.TheVariants as why
-use Rattle.session_laws.proofs.TurnOutcomes.{OwnTurn}
+use Rattle.fix_sessions.specs.declared.turns.Word.{Word}
+use Rattle.fix_sessions.specs.declared.turns.Word.TheVariants as word
+use Rattle.session_laws.proofs.TurnOutcomes.{OwnTurn, no_news, not_new}
 
 -- The next number goes on, where the session stays whose it is.
 pub front_up : (low high : ℕ) (p : Phase) → low ≤ high → front_by low p ≤ front_by high p
@@ -79,31 +82,40 @@ refusal_most : (d : Day) → (refusal_day d).next ≤ d.next + 2
 refusal_most d =
     choice (λ (e : Day). e.next ≤ d.next + 2) d.is_one_free _ _ (λ h. omega arith) (λ h. omega arith)
 
-refuses_first : (s : Session) (connection : ℕ) (terms : Terms) (y : Why) (told : Notice)
-    → First s connection (refuses s connection terms y told)
-refuses_first s connection terms y told =
+refuses_first : (s : Session) (connection : ℕ) (terms : Terms) (w : Word) (told : Notice)
+    → is_own_word w ≡ true → First s connection (refuses s connection terms w told)
+refuses_first s connection terms w told own =
     choice (First s connection) (is_safe s.day terms) _ _
     (λ h. record {
       on = refl;
       whose = λ k h. inl h;
       most = refusal_most s.day;
       kept = refusal_up s.day;
-      new = λ h. front_up s.day.next (refusal_day s.day).next s.phase (refusal_up s.day);
+      new = λ h. no_news (refusal_number s.day) w (front s) (front_by (refusal_day s.day).next s.phase)
+          (not_new w own) (front_up s.day.next (refusal_day s.day).next s.phase (refusal_up s.day)) _;
       sound = λ h. front_below s.day.next (refusal_day s.day).next s.phase (refusal_up s.day) h;
-      own = (refl, tt);
+      own = (own, tt);
     })
     (λ h. ended_first s connection (Some told))
 
 refused_first : (s : Session) (connection : ℕ) (terms : Terms) (y : Why)
     → First s connection (refused s connection terms y)
-refused_first s connection terms y = refuses_first s connection terms y (notice.Refused y)
+refused_first s connection terms y =
+    refuses_first s connection terms (word.Logout y) (notice.Refused y) refl
+
+refused_for_first : (s : Session) (connection : ℕ) (terms : Terms) (y : Why) (denial : Option Denial)
+    → First s connection (refused_for s connection terms y denial)
+refused_for_first s connection terms y None =
+    refuses_first s connection terms (word.Logout y) (notice.Refused y) refl
+refused_for_first s connection terms y (Some denial) =
+    refuses_first s connection terms (word.LogoutFor denial.text) (notice.Refused y) refl
 
 too_low_first : (s : Session) (connection : ℕ) (terms : Terms)
     → First s connection (too_low s connection terms)
 too_low_first s connection terms =
     let low = why.TooLow s.day.expected in
     choice (First s connection) (nat_lt s.day.last_logon (value_or_zero terms.sent)) _ _
-    (λ h. let r = refuses_first (record s { day = record s.day { is_locked = true } }) connection terms low notice.LostStore in
+    (λ h. let r = refuses_first (record s { day = record s.day { is_locked = true } }) connection terms (word.Logout low) notice.LostStore refl in
     record { on = r.on; whose = r.whose; most = r.most; kept = r.kept; new = r.new; sound = r.sound; own = r.own })
     (λ h. refused_first s connection terms low)
 
@@ -151,16 +163,27 @@ reset_first s connection now terms =
     choice (First s connection) (terms.resets && not ((terms.number == 1) && may_reset s.day)) _ _
     (λ h. refused_first s connection terms why.Reset) (λ h. number_first s connection now terms)
 
-judged_first : (s : Session) (connection : ℕ) (clock : Clock) (terms : Terms)
-    → First s connection (judged s connection clock terms)
-judged_first s connection clock terms =
-    choice (First s connection) (not s.day.is_open) _ _ (λ h. refused_first s connection terms why.Closed)
-    (λ h. choice (First s connection) s.day.is_suspended _ _ (λ h. refused_first s connection terms why.Suspended)
-    (λ h. choice (First s connection) (not terms.is_plain) _ _ (λ h. refused_first s connection terms why.Encrypted)
+terms_first : (s : Session) (connection : ℕ) (clock : Clock) (terms : Terms)
+    → First s connection (judged_terms s connection clock terms)
+terms_first s connection clock terms =
+    choice (First s connection) (not terms.is_plain) _ _ (λ h. refused_first s connection terms why.Encrypted)
     (λ h. choice (First s connection) (not terms.is_fix50) _ _ (λ h. refused_first s connection terms why.Version)
     (λ h. choice (First s connection) (not (is_heartbeat terms.seconds)) _ _ (λ h. refused_first s connection terms why.Heartbeat)
     (λ h. choice (First s connection) (not (is_in_time clock terms.sent)) _ _ (λ h. refused_first s connection terms why.Clock)
-    (λ h. reset_first s connection clock.moment terms))))))
+    (λ h. reset_first s connection clock.moment terms))))
+
+denial_first : (s : Session) (connection : ℕ) (clock : Clock) (terms : Terms) (denial : Option Denial)
+    → First s connection (judged_denial s connection clock terms denial)
+denial_first s connection clock terms None = terms_first s connection clock terms
+denial_first s connection clock terms (Some denial) =
+    refuses_first s connection terms (word.LogoutFor denial.text) notice.Denied refl
+
+judged_first : (s : Session) (connection : ℕ) (clock : Clock) (terms : Terms) (denial : Option Denial)
+    → First s connection (judged s connection clock terms denial)
+judged_first s connection clock terms denial =
+    choice (First s connection) (not s.day.is_open) _ _ (λ h. refused_for_first s connection terms why.Closed denial)
+    (λ h. choice (First s connection) s.day.is_suspended _ _ (λ h. refused_for_first s connection terms why.Suspended denial)
+    (λ h. denial_first s connection clock terms denial))
 
 -- who asks the old connection leaves it the session
 probed_has : (p : Phase) (k : ℕ) → has (probed p) k ≡ has p k
@@ -188,29 +211,29 @@ waits_first s connection now (Some waiting) =
     choice (First s connection) (waiting.connection == connection) _ _
     (λ h. quiet_first s connection) (λ h. ended_first s connection None)
 
-judged_by_first : (s : Session) (connection : ℕ) (clock : Clock) (terms : Terms) (p : Phase)
-    → First s connection (judged_by s connection clock terms p)
-judged_by_first s connection clock terms phase.Away =
-    let r = judged_first (record s { waiting = without connection s.waiting }) connection clock terms in
+judged_by_first : (s : Session) (connection : ℕ) (clock : Clock) (terms : Terms) (denial : Option Denial) (p : Phase)
+    → First s connection (judged_by s connection clock terms denial p)
+judged_by_first s connection clock terms denial phase.Away =
+    let r = judged_first (record s { waiting = without connection s.waiting }) connection clock terms denial in
     record { on = r.on; whose = r.whose; most = r.most; kept = r.kept; new = r.new; sound = r.sound; own = r.own }
-judged_by_first s connection clock terms (phase.On line) = waits_first s connection clock.moment s.waiting
-judged_by_first s connection clock terms (phase.Leaving last since) = waits_first s connection clock.moment s.waiting
+judged_by_first s connection clock terms denial (phase.On line) = waits_first s connection clock.moment s.waiting
+judged_by_first s connection clock terms denial (phase.Leaving last since) = waits_first s connection clock.moment s.waiting
 
 -- either a Logon of the firm with right credentials came, or nothing happens but an end
 pub record Nothing (s : Session) (connection : ℕ) (t : Turn) : Type 0 where
   pub is : t.session ≡ s
   pub silent : sends t ≡ false
 
-pub first_by_first : (s : Session) (connection : ℕ) (clock : Clock) (is_known : Bool) (terms : Option Terms)
-    → First s connection (first_by s connection clock is_known terms)
-first_by_first s connection clock is_known None = ended_first s connection None
-first_by_first s connection clock is_known (Some terms) =
-    choice (First s connection) is_known _ _ (λ h. judged_by_first s connection clock terms s.phase)
+pub first_by_first : (s : Session) (connection : ℕ) (clock : Clock) (is_known : Bool) (denial : Option Denial) (terms : Option Terms)
+    → First s connection (first_by s connection clock is_known denial terms)
+first_by_first s connection clock is_known denial None = ended_first s connection None
+first_by_first s connection clock is_known denial (Some terms) =
+    choice (First s connection) is_known _ _ (λ h. judged_by_first s connection clock terms denial s.phase)
     (λ h. ended_first s connection (Some notice.Credentials))
 
-pub first_cases : (s : Session) (connection : ℕ) (clock : Clock) (is_known : Bool) (terms : Option Terms)
-    → Nothing s connection (first_by s connection clock is_known terms)
+pub first_cases : (s : Session) (connection : ℕ) (clock : Clock) (is_known : Bool) (denial : Option Denial) (terms : Option Terms)
+    → Nothing s connection (first_by s connection clock is_known denial terms)
     ⊎ ((is_known ≡ true) × (is_some terms ≡ true))
-first_cases s connection clock is_known None = inl (record { is = refl; silent = refl })
-first_cases s connection clock true (Some terms) = inr (refl, refl)
-first_cases s connection clock false (Some terms) = inl (record { is = refl; silent = refl })
+first_cases s connection clock is_known denial None = inl (record { is = refl; silent = refl })
+first_cases s connection clock true denial (Some terms) = inr (refl, refl)
+first_cases s connection clock false denial (Some terms) = inl (record { is = refl; silent = refl })

@@ -1,37 +1,20 @@
 -- What an outcome of a turn does: whose the session stays, which numbers it uses, and what leaves.
-use Rattle.std.proofs.Common.{◌≡◌, ℕ, ◌+◌, ◌≤◌, Bool, true, false, ◌==◌, ◌&&◌, ◌||◌, not, nat_lt, nat_le, List, [], ◌∷◌, ◌++◌, Option, Some, None, refl, sym, subst, arith, if◌then◌else◌}
+use Rattle.std.proofs.Common.{◌≡◌, ℕ, ◌+◌, ◌≤◌, Bool, true, false, ◌==◌, ◌&&◌, not, [], ◌∷◌, ◌++◌, Option, Some, None, refl, sym, subst, arith, if◌then◌else◌}
 use Rattle.std.proofs.lemmas.Bool.{false≢true}
-use Rattle.fix_sessions.specs.Outcomes.{stays, disconnects, says, answers, rejects_now, rejects, parts, leaves, logs_out, reject_and_logout, rejects_and_logs_out, reject_of, counted, counted_if, moved_to, is_clear, may_log_out}
-use Rattle.fix_sessions.specs.Logons.{is_off, is_today}
-use Rattle.fix_sessions.specs.Rows.{heard_at, highest_left, asked_of, requested, requested_as, resets_to, missing_noted, above, is_after_sent, repeated_below, below, is_test_of, settled_by, tested, tests, fills, takes, by_kind, by_form, by_times, repeated, sent_once, expected_message, by_number, by_names, if_numbered, reset_in, unless_reset, by_version, at, again_from}
+use Rattle.fix_sessions.specs.Outcomes.{stays, disconnects, says, answers, rejects_now, rejects, parts, leaves, logs_out, reject_and_logout, rejects_and_logs_out, reject_of, denies, denies_now, denial_of, counted, counted_if, is_clear, may_log_out}
 use Rattle.session_laws.specs.Kept.{Entry, entered, Within}
 use Rattle.session_laws.specs.Sent.{is_new, is_own_word, news, front}
 use Rattle.session_laws.proofs.Choices.{choice}
-use Rattle.fix_sessions.specs.Steps.{came_as, resets}
-use Rattle.fix_sessions.specs.declared.state.Clock.{Clock}
-use Rattle.fix_sessions.specs.declared.state.Line.{Line}
+use Rattle.fix_sessions.specs.Steps.{resets}
 use Rattle.fix_sessions.specs.declared.state.Live.{Live}
 use Rattle.fix_sessions.specs.declared.state.Phase.{Phase}
 use Rattle.fix_sessions.specs.declared.state.Phase.TheVariants as phase
-use Rattle.fix_sessions.specs.declared.messages.Heard.{Heard}
-use Rattle.fix_sessions.specs.declared.messages.Heard.TheVariants as heard
-use Rattle.fix_sessions.specs.declared.messages.Incoming.{Incoming}
 use Rattle.fix_sessions.specs.declared.messages.Origin.{Origin}
-use Rattle.fix_sessions.specs.declared.messages.Kind.{Kind}
-use Rattle.fix_sessions.specs.declared.messages.Kind.TheVariants as kind
-use Rattle.fix_sessions.specs.declared.messages.Reading.{Reading}
-use Rattle.fix_sessions.specs.declared.messages.Reading.TheVariants as reading
-use Rattle.fix_sessions.specs.declared.messages.TestId.{TestId}
-use Rattle.fix_sessions.specs.declared.messages.TestId.TheVariants as test_id
-use Rattle.fix_sessions.specs.declared.requests.Asked.{Asked}
-use Rattle.fix_sessions.specs.declared.requests.Asked.TheVariants as asked
+use Rattle.fix_sessions.specs.declared.turns.Denial.{Denial}
 use Rattle.fix_sessions.specs.declared.turns.Fault.{Fault}
-use Rattle.fix_sessions.specs.declared.turns.Notice.{Notice}
-use Rattle.fix_sessions.specs.declared.turns.Notice.TheVariants as notice
 use Rattle.fix_sessions.specs.declared.turns.Said.{Said}
 use Rattle.fix_sessions.specs.declared.turns.Turn.{Turn}
 use Rattle.fix_sessions.specs.declared.turns.Why.{Why}
-use Rattle.fix_sessions.specs.declared.turns.Why.TheVariants as why
 use Rattle.fix_sessions.specs.declared.turns.Word.{Word}
 use Rattle.fix_sessions.specs.declared.turns.Word.TheVariants as word
 
@@ -92,6 +75,8 @@ not_new (word.Reject number kind fault) own = refl
 not_new (word.Fill next) own = refl
 not_new (word.Logout why) own = refl
 not_new (word.Foreign version) own = refl
+not_new (word.LogoutFor text) own = refl
+not_new (word.Denied number kind denial) own = refl
 not_new (word.Kept body is_copy) own = absurd (false≢true own)
 not_new (word.Again body is_copy first) own = refl
 
@@ -169,6 +154,31 @@ rejects_now_does a now w own =
       sound = λ h. omega (arith, h);
       own = λ o. (own, tt);
     })
+
+denies_now_does : (a : Live) (now : ℕ) (w : Word) → IsOwn w → DoesOf a (denies_now a now w)
+denies_now_does a now w own =
+    choice (DoesOf a) (is_clear a) _ _
+    (λ h. record {
+      on = refl;
+      whose = refl;
+      most = omega arith;
+      kept = (omega arith, omega arith);
+      new = λ h. no_news a.day.next w a.line.fresh (a.day.next + 1) (not_new w own) (omega (arith, h)) _;
+      sound = λ h. omega arith;
+      own = λ o. (own, tt);
+    })
+    (λ h. record {
+      on = refl;
+      whose = refl;
+      most = omega arith;
+      kept = (omega arith, omega arith);
+      new = λ h. omega arith;
+      sound = λ h. omega (arith, h);
+      own = λ o. (own, tt);
+    })
+
+pub denies_does : (a : Live) (now : ℕ) (m : Origin) (denial : Denial) → DoesOf a (denies a now m denial)
+denies_does a now m denial = denies_now_does (counted a now) now (denial_of m denial) refl
 
 pub parts_does : (a : Live) (now : ℕ) (w : Word) → IsOwn w → DoesOf a (parts a now w)
 parts_does a now w own =

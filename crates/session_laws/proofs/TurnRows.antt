@@ -1,18 +1,13 @@
 -- The same of each row of the tables.
-use Rattle.std.proofs.Common.{◌≡◌, ℕ, ◌+◌, ◌≤◌, Bool, true, false, ◌==◌, ◌&&◌, ◌||◌, not, nat_lt, nat_le, List, [], ◌∷◌, ◌++◌, Option, Some, None, refl, sym, subst, arith, if◌then◌else◌}
-use Rattle.std.proofs.lemmas.Bool.{false≢true}
-use Rattle.fix_sessions.specs.Outcomes.{stays, disconnects, says, answers, rejects_now, rejects, parts, leaves, logs_out, reject_and_logout, rejects_and_logs_out, reject_of, counted, counted_if, moved_to, is_clear, may_log_out}
+use Rattle.std.proofs.Common.{ℕ, ◌==◌, ◌||◌, not, nat_lt, nat_le, List, Option, Some, None, refl, arith, if◌then◌else◌}
+use Rattle.fix_sessions.specs.Outcomes.{stays, counted, counted_if, moved_to}
 use Rattle.fix_sessions.specs.Logons.{is_off, is_today}
 use Rattle.fix_sessions.specs.Rows.{heard_at, highest_left, asked_of, requested, requested_as, resets_to, missing_noted, above, is_after_sent, repeated_below, below, is_test_of, settled_by, tested, tests, fills, takes, by_kind, by_form, by_times, repeated, sent_once, expected_message, by_number, by_names, if_numbered, reset_in, unless_reset, by_version, at, again_from}
-use Rattle.session_laws.specs.Kept.{Entry, entered, Within}
-use Rattle.session_laws.specs.Sent.{is_new, is_own_word, news, front}
 use Rattle.session_laws.proofs.Choices.{choice}
-use Rattle.fix_sessions.specs.Steps.{came_as, resets}
+use Rattle.fix_sessions.specs.Steps.{came_as}
 use Rattle.fix_sessions.specs.declared.state.Clock.{Clock}
 use Rattle.fix_sessions.specs.declared.state.Line.{Line}
 use Rattle.fix_sessions.specs.declared.state.Live.{Live}
-use Rattle.fix_sessions.specs.declared.state.Phase.{Phase}
-use Rattle.fix_sessions.specs.declared.state.Phase.TheVariants as phase
 use Rattle.fix_sessions.specs.declared.messages.Heard.{Heard}
 use Rattle.fix_sessions.specs.declared.messages.Heard.TheVariants as heard
 use Rattle.fix_sessions.specs.declared.messages.Incoming.{Incoming}
@@ -28,13 +23,9 @@ use Rattle.fix_sessions.specs.declared.requests.Asked.TheVariants as asked
 use Rattle.fix_sessions.specs.declared.turns.Fault.{Fault}
 use Rattle.fix_sessions.specs.declared.turns.Notice.{Notice}
 use Rattle.fix_sessions.specs.declared.turns.Notice.TheVariants as notice
-use Rattle.fix_sessions.specs.declared.turns.Said.{Said}
-use Rattle.fix_sessions.specs.declared.turns.Turn.{Turn}
-use Rattle.fix_sessions.specs.declared.turns.Why.{Why}
 use Rattle.fix_sessions.specs.declared.turns.Why.TheVariants as why
-use Rattle.fix_sessions.specs.declared.turns.Word.{Word}
 use Rattle.fix_sessions.specs.declared.turns.Word.TheVariants as word
-use Rattle.session_laws.proofs.TurnOutcomes.{DoesOf, stays_does, answers_does, parts_does, leaves_does, from_counted, rejects_does, logs_out_does, both_counted_does}
+use Rattle.session_laws.proofs.TurnOutcomes.{DoesOf, stays_does, answers_does, parts_does, leaves_does, denies_does, from_counted, rejects_does, logs_out_does, both_counted_does}
 
 -- what is asked for changes neither
 asked_does : (a : Live) (first last : ℕ) → DoesOf a (stays (record a { line = again_from a.line first last }))
@@ -112,6 +103,7 @@ above_does a now m number kind.Reject = noted_does a number
 above_does a now m number (kind.Fill next) = noted_does a number
 above_does a now m number (kind.Reset next) = noted_does a number
 above_does a now m number kind.Logout = leaves_does a why.Answered
+above_does a now m number (kind.Denied denial) = noted_does a number
 above_does a now m number kind.Other = noted_does a number
 
 repeated_below_does : (a : Live) (now : ℕ) (m : Incoming) (first : Reading)
@@ -203,6 +195,7 @@ kind_does a now m number (kind.Fill next) = fills_does a now m number next
 kind_does a now m number (kind.Reset next) = resets_to_does a now m next
 kind_does a now m number kind.Logout = leaves_does (counted a now) why.Answered
 kind_does a now m number kind.Logon = parts_does (counted a now) now (word.Logout why.LoggedOn) refl
+kind_does a now m number (kind.Denied denial) = denies_does a now m denial
 kind_does a now m number kind.Other = takes_does a now
 
 form_does : (a : Live) (now : ℕ) (m : Incoming) (number : ℕ) (flaw : Option Fault)

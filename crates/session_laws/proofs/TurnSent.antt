@@ -21,7 +21,7 @@ use Rattle.session_laws.proofs.TurnOutcomes.{AnyOf, DoesOf, any_does, disconnect
 -- The venue gives a message.
 
 -- nothing waits: the first number that has not left is the next
-clear_is : (a : Live) (b : Bool) → (is_clear a && b) ≡ true → a.line.fresh ≡ a.day.next
+pub clear_is : (a : Live) (b : Bool) → (is_clear a && b) ≡ true → a.line.fresh ≡ a.day.next
 clear_is a b h = grind (arith, nat_tests)
 
 pub given_on_does : (a : Live) (now : ℕ) (body : List Field) → AnyOf a (given_on a now body)

@@ -3,19 +3,21 @@
 use Rattle.std.specs.Prelude.{ℕ, Bool, true, false, ◌&&◌, not, List, [], ◌∷◌, Option}
 use Rattle.fix_fields.specs.Frame.{Field}
 use Rattle.fix_sessions.specs.Sending.{hands}
-use Rattle.fix_sessions.specs.Steps.{came, given, gone, tick, ordered}
+use Rattle.fix_sessions.specs.Steps.{came, given, gone, log_out, tick, ordered}
 use Rattle.fix_sessions.specs.declared.orders.Order.{Order}
 use Rattle.fix_sessions.specs.declared.orders.Order.TheVariants as order
 use Rattle.fix_sessions.specs.declared.state.Clock.{Clock}
 use Rattle.fix_sessions.specs.declared.state.Session.{Session}
 use Rattle.fix_sessions.specs.declared.texts.Names.{Names}
+use Rattle.fix_sessions.specs.declared.turns.Denial.{Denial}
 use Rattle.fix_sessions.specs.declared.turns.Stored.{Stored}
 use Rattle.fix_sessions.specs.declared.turns.Turn.{Turn}
 
 -- Each event names its connection, and is one message.
 pub data Event : Type 0 where
-  -- on this connection, at this time, these bytes came; the credentials of a Logon are right
-  Came : ℕ → Clock → List ℕ → Bool → Event
+  -- on this connection, at this time, these bytes came; the credentials of a Logon are right; and what
+  -- the gateway says where it does not take the message
+  Came : ℕ → Clock → List ℕ → Bool → Option Denial → Event
   Gone : ℕ → Event  -- this connection is gone
   Given : ℕ → List Field → Event  -- at this moment the venue gives a message
   -- at this moment, what is kept under the number that the session asks for, and the next number
@@ -23,15 +25,17 @@ pub data Event : Type 0 where
   Handed : ℕ → ℕ → Option Stored → Event
   Tick : ℕ → Event  -- it is this moment
   Ordered : Clock → Order → Event  -- at this time an operator orders something
+  LoggedOut : ℕ → List ℕ → Event  -- at this moment the gateway logs the firm out, for this reason
 
 -- what an event does
 abbrev pub turn : Names → Session → Event → Turn
-turn names s (Came connection clock bytes is_known) = came names s connection clock bytes is_known
+turn names s (Came connection clock bytes is_known denial) = came names s connection clock bytes is_known denial
 turn names s (Gone connection) = gone s connection
 turn names s (Given moment body) = given s moment body
 turn names s (Handed moment next_kept stored) = hands s moment next_kept stored
 turn names s (Tick moment) = tick s moment
 turn names s (Ordered clock what) = ordered s clock what
+turn names s (LoggedOut moment reason) = log_out s moment reason
 
 -- the session after these events
 abbrev pub after : Names → Session → List Event → Session

@@ -1,5 +1,5 @@
--- What is kept of a session's messages, by number: those of the venue, the session's Rejects, and
--- answers to TestRequests that wait.
+-- What is kept of a session's messages, by number: those of the venue, the Rejects and
+-- BusinessMessageRejects of the session, and answers to TestRequests that wait.
 use Rattle.std.specs.Prelude.{◌≡◌, ℕ, ◌+◌, ◌≤◌, ◌<◌, Bool, true, false, List, [], ◌∷◌, ◌++◌, Option, Some, None, codes, ◌⊎◌, if◌then◌else◌}
 use Rattle.fix_fields.specs.Frame.{Field}
 use Rattle.fix_sessions.specs.Sending.{wants}
@@ -18,27 +18,40 @@ use Rattle.fix_sessions.specs.declared.turns.Word.{Word}
 use Rattle.fix_sessions.specs.declared.turns.Word.TheVariants as word
 use Rattle.session_laws.specs.Days.{Event, turn, Handed}
 
+-- whose message is kept: the venue's, a Reject or a BusinessMessageReject of the session's own, or
+-- another of its own
+pub data Source : Type 0 where
+  Venue : Source
+  Refusal : Source
+  Own : Source
+
 -- a message that is kept under a number: MsgType (35), and what stands behind the header
 pub record Entry : Type 0 where
   pub number : ℕ
   pub body : List Field
-  pub is_reject : Bool  -- a Reject of the session's own
+  pub source : Source
 
 abbrev pub is_kept : Way → Bool
 is_kept way.Leaves = false
 is_kept way.KeptAndLeaves = true
 is_kept way.Kept = true
 
-abbrev pub is_own_reject : Word → Bool
-is_own_reject (word.Reject number kind fault) = true
-is_own_reject other = false
+abbrev pub source_of : Word → Source
+source_of (word.Kept body is_copy) = Venue
+source_of (word.Reject number kind fault) = Refusal
+source_of (word.Denied number kind denial) = Refusal
+source_of other = Own
+
+abbrev pub is_refusal : Source → Bool
+is_refusal Refusal = true
+is_refusal other = false
 
 -- what a turn keeps: of its first message
 abbrev pub entry_of : Said → Entry
 entry_of said = record {
   number = said.number;
   body = kept_fields said.word;
-  is_reject = is_own_reject said.word;
+  source = source_of said.word;
 }
 
 abbrev pub entered : Option Said → List Entry
@@ -50,11 +63,12 @@ abbrev pub Within : ℕ → ℕ → List Entry → Type 0
 Within low high [] = low ≤ high
 Within low high (e ∷ es) = (low ≤ e.number) × Within (e.number + 1) high es
 
--- What is kept after a turn. A Logon that resets numbers drops the session's Rejects.
+-- What is kept after a turn. A Logon that resets numbers drops the Rejects and the
+-- BusinessMessageRejects of the session's own.
 
 abbrev pub without_rejects : List Entry → List Entry
 without_rejects [] = []
-without_rejects (e ∷ es) = if e.is_reject then without_rejects es else e ∷ without_rejects es
+without_rejects (e ∷ es) = if is_refusal e.source then without_rejects es else e ∷ without_rejects es
 
 abbrev pub still_kept : Turn → List Entry → List Entry
 still_kept t kept = if t.drops_rejects then without_rejects kept else kept

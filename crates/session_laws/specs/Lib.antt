@@ -1,6 +1,10 @@
+pub mod Bounds
 pub mod Days
+pub mod Given
 pub mod Kept
 pub mod Logons
+pub mod Moves
 pub mod Numbers
 pub mod Restarts
 pub mod Sent
+pub mod Stamps

@@ -6,6 +6,7 @@ use Rattle.fix_sessions.specs.Steps.{has}
 use Rattle.fix_sessions.specs.declared.state.Clock.{Clock}
 use Rattle.fix_sessions.specs.declared.state.Session.{Session}
 use Rattle.fix_sessions.specs.declared.texts.Names.{Names}
+use Rattle.fix_sessions.specs.declared.turns.Denial.{Denial}
 use Rattle.fix_sessions.specs.declared.turns.Said.{Said}
 use Rattle.fix_sessions.specs.declared.turns.Turn.{Turn}
 use Rattle.fix_sessions.specs.declared.turns.Way.{Way}
@@ -31,7 +32,8 @@ sends t = leaves_of t.first || leaves_of t.second
 pub record IsLogon (names : Names) (connection : ℕ) (e : Event) : Type 0 where
   pub clock : Clock
   pub bytes : List ℕ
-  pub came : e ≡ Came connection clock bytes true
+  pub denial : Option Denial
+  pub came : e ≡ Came connection clock bytes true denial
   pub logon : is_some (logon_of names bytes) ≡ true
 
 -- whether a connection has the session after each of these events
@@ -55,4 +57,5 @@ pub record CameOn (connection : ℕ) (e : Event) : Type 0 where
   pub clock : Clock
   pub bytes : List ℕ
   pub is_known : Bool
-  pub came : e ≡ Came connection clock bytes is_known
+  pub denial : Option Denial
+  pub came : e ≡ Came connection clock bytes is_known denial

@@ -10,7 +10,7 @@ use Rattle.fix_sessions.specs.declared.turns.Word.{Word}
 use Rattle.fix_sessions.specs.declared.turns.Word.TheVariants as word
 use Rattle.session_laws.specs.Days.{Event, turn}
 use Rattle.fix_sessions.specs.Written.{kept_fields}
-use Rattle.session_laws.specs.Kept.{Entry, IsFree, IsKept, entry_of}
+use Rattle.session_laws.specs.Kept.{Entry, IsFree, IsHanded, IsKept, entry_of, kept_after}
 use Rattle.session_laws.specs.Logons.{is_leaving}
 
 -- what is kept and leaves without 43
@@ -64,3 +64,20 @@ IsRight number other kept = Unit {0}
 abbrev pub AreRight : Option Said → List Entry → Type 0
 AreRight None kept = Unit {0}
 AreRight (Some said) kept = IsRight said.number said.word kept
+
+abbrev pub IsTurnRight : Turn → List Entry → Type 0
+IsTurnRight t kept = AreRight t.first kept × AreRight t.second kept
+
+-- what is kept is handed back as it was kept, at each of these events
+abbrev pub AreHanded : Names → Session → List Entry → List Event → Type 0
+AreHanded names s kept [] = Unit {0}
+AreHanded names s kept (e ∷ es) =
+    let t = turn names s e in
+    IsHanded kept s e × AreHanded names t.session (kept_after kept t) es
+
+-- and what leaves at each of them is right, by what is kept then
+abbrev pub AreTurnsRight : Names → Session → List Entry → List Event → Type 0
+AreTurnsRight names s kept [] = Unit {0}
+AreTurnsRight names s kept (e ∷ es) =
+    let t = turn names s e in
+    IsTurnRight t (kept_after kept t) × AreTurnsRight names t.session (kept_after kept t) es

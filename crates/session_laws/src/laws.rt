@@ -1,18 +1,32 @@
 //! What holds of a session after every list of events.
-ghost use Rattle.std.specs.Prelude.{◌≡◌, ◌≤◌, ◌⊎◌, ◌==◌, ℕ, List, Some, None, true, false, if◌then◌else◌};
-ghost use Rattle.fix_fields.specs.Frame.{Field};
-ghost use Rattle.fix_sessions.specs.Outcomes.{is_spent};
-ghost use Rattle.fix_sessions.specs.Steps.{given, gone, has};
+ghost use Rattle.std.specs.Prelude.{◌≡◌, ◌≤◌, ◌⊎◌, ◌==◌, ◌++◌, length, Bool, ℕ, List, [], Option, Some, None, true, false, if◌then◌else◌};
+ghost use Rattle.fix_fields.specs.Frame.{Field, frame_of};
+ghost use Rattle.fix_sessions.specs.Outcomes.{is_spent, said};
+ghost use Rattle.fix_sessions.specs.Sending.{hands, is_answer, is_resending};
+ghost use Rattle.fix_sessions.specs.Steps.{came, given, gone, has, new_session};
+ghost use Rattle.fix_sessions.specs.Written.{body_of, kept_fields, said_fields};
+ghost use Rattle.fix_sessions.specs.declared.state.Clock.{Clock};
+ghost use Rattle.fix_sessions.specs.declared.state.Line.{Line};
 ghost use Rattle.fix_sessions.specs.declared.state.Phase.TheVariants as phase;
 ghost use Rattle.fix_sessions.specs.declared.state.Session.{Session};
 ghost use Rattle.fix_sessions.specs.declared.state.Waiting.{Waiting};
 ghost use Rattle.fix_sessions.specs.declared.texts.Names.{Names};
+ghost use Rattle.fix_sessions.specs.declared.turns.Denial.{Denial};
+ghost use Rattle.fix_sessions.specs.declared.turns.Said.{Said};
+ghost use Rattle.fix_sessions.specs.declared.turns.Stored.{Stored};
+ghost use Rattle.fix_sessions.specs.declared.turns.Turn.{Turn};
+ghost use Rattle.fix_sessions.specs.declared.turns.Way.TheVariants as way;
+ghost use Rattle.fix_sessions.specs.declared.turns.Word.TheVariants as word;
+ghost use Rattle.session_laws.specs.Bounds.{SessionFits, TurnFits, sent_by};
 ghost use Rattle.session_laws.specs.Days.{Event, after, is_reset, turn, turns, without_resets};
+ghost use Rattle.session_laws.specs.Given.{given_bodies, of_venue};
 ghost use Rattle.session_laws.specs.Kept.{Entry, IsHanded, Within, all_kept, entered, kept_after};
 ghost use Rattle.session_laws.specs.Logons.{CameOn, IsLoggedOn, IsLogon, sends};
+ghost use Rattle.session_laws.specs.Moves.{IsMoved, IsStill, is_bytes};
 ghost use Rattle.session_laws.specs.Numbers.{Rises, taken};
 ghost use Rattle.session_laws.specs.Restarts.{restarted};
-ghost use Rattle.session_laws.specs.Sent.{AreRight, Ascends, all_news};
+ghost use Rattle.session_laws.specs.Sent.{AreHanded, AreTurnsRight, Ascends, IsTurnRight, all_news};
+ghost use Rattle.session_laws.specs.Stamps.{is_of_kept, leads_body, without_header};
 
 /// A law: nothing without a Logon. From a session that no connection has, after every list of
 /// events: a message leaves on a connection only if a Logon of the firm with right credentials came
@@ -46,11 +60,38 @@ pub fn each_message_is_taken_once()
         → Rises (if s.day.was_taken then s.day.expected else 1) (taken names s events) }
 {}
 
+/// A law: no message is counted and dropped. Bytes move the expected number only in these ways: by one,
+/// if they are one message with right length and right sum and one readable 34 that equals it (or if
+/// they are more than 65,536 bytes and such a 34 stands at their front); to a higher one, by the firm's
+/// own SequenceReset, in reset mode or as a gap fill; by one, on a Logon that bears it and is answered;
+/// or to 1, by a Logon with 141=Y and 34=1 that is counted at once and answered, while the venue has been
+/// given nothing of the firm. In the turn that counts a message, it is given to the venue, or it is
+/// answered (Reject, BusinessMessageReject, Logout; a TestRequest by a Heartbeat with its 112), or it is
+/// the session's own (Logon, Heartbeat, ResendRequest, Reject, SequenceReset, Logout); one that is not
+/// read any further, for its BeginString or its length, may end the connection with no Logout. Nothing
+/// else but an operator's reset moves the number. And where the day's mark says that the venue has been
+/// given nothing, that is so since the last reset by an operator. It does nothing.
+pub fn no_message_is_counted_and_dropped()
+    ensures bytes { (names : Names) (s : Session) (connection : ℕ) (clock : Clock) (bytes : List ℕ)
+        (is_known : Bool) (denial : Option Denial)
+        → IsStill s.day (came names s connection clock bytes is_known denial)
+        ⊎ IsMoved names bytes s.day (came names s connection clock bytes is_known denial) }
+    ensures others { (names : Names) (s : Session) (e : Event)
+        → is_bytes e ≡ false
+        → is_reset e ≡ false
+        → IsStill s.day (turn names s e) }
+    ensures marked { (names : Names) (s : Session) (events : List Event)
+        → without_resets events ≡ true
+        → (after names s events).day.was_taken ≡ false
+        → taken names s events ≡ [] }
+{}
+
 /// A law: what leaves. Between two resets by an operator what is kept for the firm leaves without 43
 /// under numbers that rise, so in the order in which it was kept, and each at most once; and it is kept
 /// under numbers that rise. Whatever leaves is kept under its number, with 43 or without, or is a
 /// message of the session's own; and a gap fill covers no number under which a message of the venue or
-/// a Reject is kept. The premise is that what is kept is handed back as it was kept. It does nothing.
+/// a Reject is kept: at each event, and so after every list of them. The premise is that what is kept is
+/// handed back as it was kept. It does nothing.
 pub fn what_leaves_was_given()
     ensures in_order { (names : Names) (s : Session) (events : List Event)
         → s.phase ≡ phase.Away
@@ -64,13 +105,57 @@ pub fn what_leaves_was_given()
         → is_reset e ≡ false
         → Within 0 s.day.next kept
         → IsHanded kept s e
-        → AreRight (turn names s e).first (kept_after kept (turn names s e))
-        × AreRight (turn names s e).second (kept_after kept (turn names s e)) }
+        → IsTurnRight (turn names s e) (kept_after kept (turn names s e)) }
+    ensures always { (names : Names) (s : Session) (kept : List Entry) (events : List Event)
+        → without_resets events ≡ true
+        → Within 0 s.day.next kept
+        → AreHanded names s kept events
+        → AreTurnsRight names s kept events }
+{}
+
+/// A law: what is kept of the venue's messages, in the order of their numbers, is what the venue gave, in
+/// the order in which it gave them: each once, and none is lost. Between two resets by an operator, after
+/// every list of events; the Rejects that a Logon with 141=Y drops are the session's own. It does nothing.
+pub fn what_is_kept_was_given()
+    ensures { (names : Names) (s : Session) (kept : List Entry) (events : List Event)
+        → without_resets events ≡ true
+        → of_venue (all_kept names s kept events) ≡ of_venue kept ++ given_bodies names s events }
+{}
+
+/// A law: what leaves of a message that is kept, with 43 or without, is what is kept, field by field. Only
+/// the header behind MsgType (35) is the session's: SenderCompID (49), TargetCompID (56), MsgSeqNum (34),
+/// PossDupFlag (43), SendingTime (52), OrigSendingTime (122) and PossResend (97). The premise is that what
+/// is kept does not begin with one of these fields behind its 35. It does nothing.
+pub fn what_leaves_is_what_is_kept()
+    ensures { (names : Names) (date : List ℕ) (moment : ℕ) (said : Said)
+        → is_of_kept said.word ≡ true
+        → leads_body (body_of said.word) ≡ true
+        → without_header (said_fields names date moment said) ≡ kept_fields said.word }
+{}
+
+/// A law: a session is bounded. A turn sends at most two messages. Each number of a session, and of what
+/// it says, is one that a message may have, with at most nine digits, and its heartbeat is at most 300
+/// seconds: after every list of events, whatever a firm sends, and whatever an operator orders. By its
+/// type a session has numbers and marks alone, so it holds no message of a firm. And a frame, as `write`
+/// and `keep` make one of whatever they are given, has at most 4,096 bytes: two that leave and one that is
+/// kept fit into 12,288. It does nothing.
+pub fn a_session_is_bounded()
+    ensures two { (t : Turn) → length (sent_by t) ≤ 2 }
+    ensures numbers { (names : Names) (s : Session) (events : List Event)
+        → SessionFits s → SessionFits (after names s events) }
+    ensures said { (names : Names) (s : Session) (events : List Event) (e : Event)
+        → SessionFits s → TurnFits (turn names (after names s events) e) }
+    ensures begins { SessionFits new_session }
+    ensures framed { (bytes : List ℕ) (fields : List Field)
+        → frame_of bytes ≡ Some fields
+        → length bytes ≤ 4096 }
 {}
 
 /// A law: a restart and a failover change nothing. A session that is made of what was kept of its day
 /// is what the first one is once its connections are gone; so it does what that one would have done,
-/// whatever comes. It does nothing.
+/// whatever comes. And what is kept is what a resend gives: under the number that is asked for, with 43,
+/// whether it had left or not. (By `what_leaves_was_given` what was kept before a connection leaves on it
+/// in no other way.) It does nothing.
 pub fn a_restart_changes_nothing()
     ensures one { (s : Session) (connection : ℕ)
         → has s.phase connection ≡ true
@@ -85,6 +170,13 @@ pub fn a_restart_changes_nothing()
         → s.waiting ≡ None
         → turns names (gone s connection).session events
         ≡ turns names (restarted s.day) events }
+    ensures resent { (s : Session) (line : Line) (moment next_kept : ℕ) (stored : Stored)
+        → is_spent s ≡ false
+        → s.phase ≡ phase.On line
+        → is_resending line ≡ true
+        → is_answer stored ≡ false
+        → (hands s moment next_kept (Some stored)).first
+        ≡ said line.again way.Leaves (word.Again stored.body stored.is_copy stored.first) }
 {}
 
 /// A law: a message of the venue that had left before it was kept is given again by a start, under

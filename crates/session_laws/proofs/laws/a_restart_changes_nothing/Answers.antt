@@ -1,4 +1,4 @@
-use Rattle.session_laws.proofs.Restarts.{one_gone, same_from_then_on, two_gone}
+use Rattle.session_laws.proofs.Restarts.{one_gone, resend_gives, same_from_then_on, two_gone}
 use Rattle.session_laws.proofs.laws.a_restart_changes_nothing.Goals as goal
 
 pub returns-clause-one : goal.returns-clause-one
@@ -9,3 +9,6 @@ returns-clause-two c = two_gone
 
 pub returns-clause-from_then_on : goal.returns-clause-from_then_on
 returns-clause-from_then_on c = same_from_then_on
+
+pub returns-clause-resent : goal.returns-clause-resent
+returns-clause-resent c = resend_gives

@@ -1,4 +1,4 @@
-use Rattle.session_laws.proofs.SentDays.{event_right, kept_in_order, new_in_order}
+use Rattle.session_laws.proofs.SentDays.{event_right, kept_in_order, new_in_order, turns_right}
 use Rattle.session_laws.proofs.laws.what_leaves_was_given.Goals as goal
 
 pub returns-clause-in_order : goal.returns-clause-in_order
@@ -9,3 +9,6 @@ returns-clause-kept c = kept_in_order
 
 pub returns-clause-right : goal.returns-clause-right
 returns-clause-right c = event_right
+
+pub returns-clause-always : goal.returns-clause-always
+returns-clause-always c = turns_right

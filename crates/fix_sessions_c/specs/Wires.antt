@@ -1,0 +1,23 @@
+-- What C is told of a message between the venue and the wire.
+use Rattle.std.specs.Prelude.{◌≡◌, ℕ, ◌==◌, List, take, Option, Some, None, if◌then◌else◌}
+use Rattle.fix_fields.specs.Frame.{Field}
+use Rattle.wire_messages.specs.ToFirm.{VenueMessage, IsOfVenue, IsOnWire, is_told_text}
+
+-- what is told, as a field of this tag: nothing where it is 0, a reason (58), or a trade's name (1003)
+abbrev pub told_field : ℕ → List ℕ → Option (Option Field)
+told_field tag text = if is_told_text text then Some (Some (tag, text)) else None
+
+abbrev pub told_of : ℕ → List ℕ → Option (Option Field)
+told_of tag text =
+    if tag == 0 then Some None
+    else if tag == 58 then told_field 58 text
+    else if tag == 1003 then told_field 1003 text else None
+
+-- The first bytes of what C gave for them are the message on the wire: of a message of the venue under
+-- this number, with the session's number in a Reject's 45 (0: as it is), and with what is told.
+pub record IsWireOut (frame : List ℕ) (number reference tag : ℕ) (text out : List ℕ) (written : ℕ) : Type 0 where
+  pub told : Option Field
+  pub told_is : told_of tag text ≡ Some told
+  pub message : VenueMessage
+  pub of_venue : IsOfVenue frame number message
+  pub on_wire : IsOnWire (take written out) reference told message
