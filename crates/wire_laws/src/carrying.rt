@@ -1,0 +1,53 @@
+//! What is kept of the venue's messages, and what leaves.
+ghost use Rattle.std.specs.Prelude.{◌≡◌, ℕ, List, [], Bool, Option, true};
+ghost use Rattle.fix_fields.specs.Frame.{Field};
+ghost use Rattle.fix_sessions.specs.Written.{said_fields};
+ghost use Rattle.fix_sessions.specs.declared.state.Session.{Session};
+ghost use Rattle.fix_sessions.specs.declared.texts.Names.{Names};
+ghost use Rattle.fix_sessions.specs.declared.turns.Said.{Said};
+ghost use Rattle.fix_sessions.specs.declared.turns.Word.TheVariants as word;
+ghost use Rattle.session_laws.specs.Days.{Event, without_resets};
+ghost use Rattle.session_laws.specs.Given.{given_bodies, of_venue};
+ghost use Rattle.session_laws.specs.Kept.{all_kept};
+ghost use Rattle.session_laws.specs.Stamps.{without_header};
+ghost use Rattle.wire_messages.specs.ToFirm.{VenueMessage, to_firm};
+ghost use Rattle.wire_laws.specs.Carried.{AreCarried, AreRead, AreSame};
+
+use session_laws::{what_is_kept_was_given, what_leaves_is_what_is_kept};
+
+/// A law: what is kept of the venue's messages, in the order of its numbers, reads back as the messages
+/// that the venue sent, each in its place, but for 45 of a Reject. And two sessions that are given the
+/// same messages keep the same. Between two resets by an operator, after every list of events. The
+/// premise is that the session is given what `to_firm` gives of the venue's messages, in their order.
+/// It does nothing.
+pub fn what_is_kept_reads_back()
+    ensures read { (names : Names) (s : Session) (events : List Event) (frames : List (List ℕ))
+        (tolds : List (Option Field)) → without_resets events ≡ true
+        → AreCarried 1 frames tolds (given_bodies names s events)
+        → AreRead frames tolds (of_venue (all_kept names s [] events)) }
+    ensures same { (names others : Names) (s other : Session) (events more : List Event)
+        (frames : List (List ℕ)) (tolds : List (Option Field))
+        → without_resets events ≡ true → without_resets more ≡ true
+        → AreCarried 1 frames tolds (given_bodies names s events)
+        → AreCarried 1 frames tolds (given_bodies others other more)
+        → AreSame (of_venue (all_kept names s [] events))
+        (of_venue (all_kept others other [] more)) }
+{
+    what_is_kept_was_given();
+}
+
+/// A law: whatever leaves of a message of the venue's, with 43 or without, is what is kept of it, field
+/// by field; only the header behind MsgType (35) is the session's: 49, 56, 34, 52, 43, 122 and 97. It
+/// does nothing.
+pub fn what_leaves_is_the_venues()
+    ensures first { (names : Names) (date : List ℕ) (moment reference : ℕ) (said : Said)
+        (told : Option Field) (m : VenueMessage) (is_copy : Bool)
+        → said.word ≡ word.Kept (to_firm reference told m) is_copy
+        → without_header (said_fields names date moment said) ≡ to_firm reference told m }
+    ensures again { (names : Names) (date : List ℕ) (moment reference first : ℕ) (said : Said)
+        (told : Option Field) (m : VenueMessage) (is_copy : Bool)
+        → said.word ≡ word.Again (to_firm reference told m) is_copy first
+        → without_header (said_fields names date moment said) ≡ to_firm reference told m }
+{
+    what_leaves_is_what_is_kept();
+}

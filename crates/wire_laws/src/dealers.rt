@@ -1,0 +1,64 @@
+//! A dealer of the venue, on the wire.
+ghost use Rattle.std.specs.Prelude.{◌≡◌, ℕ, List, [], Option, Some, true, map};
+ghost use Rattle.fix_fields.specs.Frame.{Field};
+ghost use Rattle.dealer_desk.specs.declared.notes.DealerNote.{DealerNote};
+ghost use Rattle.fix_sessions.specs.declared.state.Session.{Session};
+ghost use Rattle.fix_sessions.specs.declared.texts.Names.{Names};
+ghost use Rattle.session_laws.specs.Days.{Event, without_resets};
+ghost use Rattle.session_laws.specs.Given.{given_bodies, of_venue};
+ghost use Rattle.session_laws.specs.Kept.{all_kept};
+ghost use Rattle.step_replay.specs.AuditTrail as venue;
+ghost use Rattle.step_replay.specs.DealerView.{dealer_view};
+ghost use Rattle.step_replay.specs.NoteViews.{dealer_note_view};
+ghost use Rattle.step_replay.specs.declared.dues.Due.{Due};
+ghost use Rattle.step_replay.specs.declared.steps.Step.{Step};
+ghost use Rattle.venue_rows.specs.Rows.{Configuration, dealer_numbered};
+ghost use Rattle.venue_rows.specs.declared.dealer_rows.DealerRow.{DealerRow};
+ghost use Rattle.wire_laws.specs.Carried.{AreCarried, AreRead, AreSame};
+
+use crate::carrying::what_is_kept_reads_back;
+use step_replay::dealers_are_isolated;
+
+/// A law: take what is kept for a dealer in the order of its numbers, and read it back: it is the dealer
+/// view of its due list. What is told beside a message is a function of the note beside it (`words`),
+/// and so of the date, the row and the due list too. It does nothing.
+pub fn dealers_are_read_back()
+    ensures { (date : List ℕ) (row : DealerRow) (dues : List Due)
+        (words : Option DealerNote → Option Field)
+        (names : Names) (s : Session) (events : List Event) → without_resets events ≡ true
+        → AreCarried 1 (dealer_view date row dues) (map words (dealer_note_view date row dues))
+        (given_bodies names s events)
+        → AreRead (dealer_view date row dues) (map words (dealer_note_view date row dues))
+        (of_venue (all_kept names s [] events)) }
+{
+    what_is_kept_reads_back();
+}
+
+/// The headline on the wire, a law over two venues: where a dealer has one date, one row, and one list
+/// of what was due to it in both, and both have the same words for what is noted, then what is kept of
+/// its n-th message (1181=n) is the same in both, byte for byte, but for 45 of a Reject. And whatever
+/// leaves of it is that, but for the session's header (`what_leaves_is_the_venues`). The sessions may
+/// differ in all that comes to them, as the steps of all firms may. It does nothing.
+pub fn dealers_are_isolated_on_the_wire()
+    ensures { (one other : Configuration) (steps others : List Step) (dealer number : ℕ)
+        (row : DealerRow) (words : Option DealerNote → Option Field)
+        (names more_names : Names) (s t : Session) (events more : List Event)
+        → one.date ≡ other.date
+        → dealer_numbered one dealer ≡ Some row → dealer_numbered other number ≡ Some row
+        → venue.due_to dealer (venue.audit_trail one steps)
+        ≡ venue.due_to number (venue.audit_trail other others)
+        → without_resets events ≡ true → without_resets more ≡ true
+        → AreCarried 1 (venue.sent_to one dealer (venue.audit_trail one steps))
+        (map words (dealer_note_view one.date row
+        (venue.due_to dealer (venue.audit_trail one steps))))
+        (given_bodies names s events)
+        → AreCarried 1 (venue.sent_to other number (venue.audit_trail other others))
+        (map words (dealer_note_view other.date row
+        (venue.due_to number (venue.audit_trail other others))))
+        (given_bodies more_names t more)
+        → AreSame (of_venue (all_kept names s [] events))
+        (of_venue (all_kept more_names t [] more)) }
+{
+    what_is_kept_reads_back();
+    dealers_are_isolated();
+}
