@@ -3,11 +3,12 @@
 
 -- The form of these tables: one row, the same in SQLite and PostgreSQL. A gateway of another form refuses the
 -- log, so no day has two. (Forms 1, in SQLite, and 2, in PostgreSQL, had no table connection, and neither
--- received nor connection in entry. Form 3 had neither seal nor checkpoint, and no venue in entry 0.)
+-- received nor connection in entry. Form 3 had neither seal nor checkpoint, and no venue in entry 0. In form 4
+-- outgoing had each message of a session as it left, and session two numbers.)
 CREATE TABLE form (
     number INTEGER NOT NULL
 );
-INSERT INTO form (number) VALUES (4);
+INSERT INTO form (number) VALUES (5);
 
 -- What the venue was given, in its order. Places have no gap.
 --
@@ -102,25 +103,47 @@ CREATE TABLE sent (
     PRIMARY KEY (firm, number)
 );
 
--- The outgoing side of each session: number is the session's MsgSeqNum (34), bytes the message on the
--- wire: that of the row, 1181, 60, and on a day with reasons what is told beside it, as the last field: Text (58),
--- the words of the reason that the venue notes, or TradeID (1003), the name of the trade. sent is the number of the
--- row of `sent` that it carries, NULL in a message of the session itself (Logon, Heartbeat, ..). A row of `sent` and
--- the row that carries it come in one transaction.
+-- What each session keeps for its firm: number is the session's MsgSeqNum (34), bytes the message as it is kept: a
+-- frame of 35 and of all that stands behind the session's header on the wire, so without 49, 56, 34, 52, 43, 122 and
+-- 97. A message of the venue has 1181, 60, and on a day with reasons what is told beside it, as the last field: Text
+-- (58), the words of the reason that the venue notes, or TradeID (1003), the name of the trade. sent is the number of
+-- the row of `sent` that it carries, NULL in what is the session's own: a Reject (35=3), a BusinessMessageReject (35=j)
+-- of a message that the gateway did not take, and an answer (35=0) that had to wait. What else a session says (Logon,
+-- Heartbeat, ..) uses up a number and has no row. A row of `sent` and the row that carries it come in one transaction;
+-- so do a row of the session's own and the number of the message that it answers.
 CREATE TABLE outgoing (
-    firm   TEXT    NOT NULL,
-    number INTEGER NOT NULL,
-    sent   INTEGER,
-    bytes  BYTEA   NOT NULL,
-    PRIMARY KEY (firm, number)
+    firm    TEXT    NOT NULL,
+    epoch   INTEGER NOT NULL, -- how often an operator had reset the session
+    number  INTEGER NOT NULL,
+    sent    INTEGER,
+    copy    INTEGER NOT NULL, -- 1: it had another number in the epoch before, and was not known to have come
+    dropped INTEGER NOT NULL, -- 1: a 35=3 or 35=j that is kept no longer, since the firm began with 141=Y
+    type    TEXT    NOT NULL, -- 35
+    moment  TEXT    NOT NULL, -- when it was kept first, HH:MM:SS.sss in UTC: OrigSendingTime (122) of a resend
+    bytes   BYTEA   NOT NULL,
+    PRIMARY KEY (firm, epoch, number)
 );
 
--- The incoming side of each session: target is the number that is expected of the firm next, logged_on
--- is 1 from its Logon to the end of its session.
+-- The numbers of each session, by which it goes on after a restart and at another gateway (docs/SESSIONS.md). A row
+-- comes in one transaction with what its numbers count, or with a later one: the number of an entry counts too.
 CREATE TABLE session (
-    firm      TEXT PRIMARY KEY,
-    target    INTEGER NOT NULL,
-    logged_on INTEGER NOT NULL
+    firm         TEXT PRIMARY KEY,
+    epoch        INTEGER NOT NULL, -- how often an operator has reset it
+    entries_from INTEGER NOT NULL, -- the last place of entry then: numbers of entries behind it are of this epoch
+    logged_on    INTEGER NOT NULL, -- 1 from its Logon to the end of its session
+    expected     INTEGER NOT NULL, -- the number of the firm's next message
+    next         INTEGER NOT NULL, -- the number of the next message to the firm
+    had          INTEGER NOT NULL, -- the number of the last TestRequest that the firm answered: it has all below it
+    first_given  INTEGER NOT NULL, -- the first number under which a message of the venue is kept, or 0
+    last_given   INTEGER NOT NULL, -- the last of them, or 0
+    last_kept    INTEGER NOT NULL, -- the last number under which anything but an answer is kept, or 0
+    is_one_free  INTEGER NOT NULL, -- 1: number 1 was not used
+    was_taken    INTEGER NOT NULL, -- 1: the venue was given a message of the firm in this epoch
+    is_reset     INTEGER NOT NULL, -- 1: an operator has reset it, and no Logon was accepted since
+    reset_at     BIGINT  NOT NULL, -- when, in milliseconds from the beginning of the calendar, or 0
+    is_locked    INTEGER NOT NULL, -- 1: the firm's engine has lost its store, and no Logon is accepted
+    last_logon   BIGINT  NOT NULL, -- SendingTime (52) of the last Logon that was accepted, as reset_at, or 0
+    is_suspended INTEGER NOT NULL  -- 1: an operator has suspended the firm
 );
 
 -- What no one can make who may write here and has no key of a gateway.

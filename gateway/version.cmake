@@ -1,6 +1,6 @@
 # Writes OUT, the source that says which version and commit a build is of. It is written anew only
 # where that changed, so that a build without a change compiles nothing.
-#   cmake -DTOP=.. -DOUT=.. -P version.cmake
+#   cmake -DTOP=.. -DOUT=.. -DSESSION=.. -P version.cmake
 file(STRINGS ${TOP}/VERSION version LIMIT_COUNT 1)
 if(EXISTS ${TOP}/COMMIT)
     # A tree without its history.
@@ -12,12 +12,23 @@ endif()
 if(NOT commit)
     set(commit unknown)
 endif()
+if(SESSION STREQUAL "proved")
+    set(are_proved true)
+    set(sessions "")
+else()
+    set(are_proved false)
+    set(sessions ", sessions not proved: ${SESSION}")
+endif()
 set(text "#include \"version.h\"
 
 namespace gateway {
 
 std::string version_text() {
-    return \"mireseason-gateway ${version} (${commit})\";
+    return \"mireseason-gateway ${version} (${commit})${sessions}\";
+}
+
+bool are_sessions_proved() {
+    return ${are_proved};
 }
 
 } // namespace gateway

@@ -6,7 +6,8 @@
 # VENUE names the proved program, where it is not crates/rfq_venue/out/rfq_venue (examples/prove_venue.py proves what
 # is not proved yet), and GATEWAY a folder in which the gateway is built already. All packages have the version of the
 # file VERSION, whose changes stand in CHANGELOG.md, and the commit of the tree; one with changes that are not
-# committed is marked with a `+` behind it, and is for trials alone.
+# committed is marked with a `+` behind it, and is for trials alone. A gateway whose sessions are not the proved ones
+# is refused; UNPROVED=1 takes it, for trials alone.
 #
 # Needs debhelper and dpkg-dev, and what gateway/packages.sh names.
 set -eu
@@ -63,6 +64,9 @@ if [ -z "${GATEWAY:-}" ]; then
 fi
 gateway=${GATEWAY:-$root/gateway/out}
 [ -x "$gateway/mireseason-gateway" ] || fail "there is no gateway in $gateway"
+case ${UNPROVED:-0}$("$gateway/mireseason-gateway" --version) in
+0*"not proved"*) fail "the gateway in $gateway was built with the sessions' second implementation" ;;
+esac
 
 work=$(mktemp -d)
 trap 'rm -rf "$work"' EXIT

@@ -1,5 +1,6 @@
 """The order of the entries and their chain, and the day as a file that the venue reads."""
 
+import re
 from collections.abc import Iterator
 from dataclasses import dataclass, field
 from hashlib import sha256
@@ -16,6 +17,7 @@ from .streams import FEED, Growing
 
 NO_HASH = bytes(32)
 MARK = 100  # entries from one hash of a seal to the next
+RESET = re.compile(rb"# act \S+ \S+ reset-session ([A-Z0-9]+)(?: |$)")  # the session of a firm
 NO_NUMBER = (0, 0)
 
 Numbers = dict[str, tuple[int, int]]  # of each firm, a number of its session, and an entry's place
@@ -110,12 +112,20 @@ class ChainReader:
             return
         if not is_step_line(entry.line, entry.firm, entry.moment):
             self._check_words(entry)
-        if entry.firm is not None and entry.number is not None:
+        if entry.firm is None:
+            self._begin_again(entry)
+        elif entry.number is not None:
             before, _ = self.found.numbers.get(entry.firm, NO_NUMBER)
             if entry.number <= before:
                 text = "number %d of %s's session comes behind %d"
                 self.tell("number", entry, text % (entry.number, entry.firm, before))
             self.found.numbers[entry.firm] = max(before, entry.number), entry.place
+
+    def _begin_again(self, entry: Entry) -> None:
+        """Behind an operator's reset the numbers of a session begin again."""
+        found = RESET.match(entry.line)
+        if found is not None:
+            self.found.numbers.pop(found[1].decode(), None)
 
     def _check_words(self, entry: Entry) -> None:
         """The firm and the time of a line against those of its row."""

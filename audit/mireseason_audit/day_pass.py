@@ -12,6 +12,7 @@ from .exchanges import Exchange, Told, exchanges
 from .facts import Facts, RequestFact, ResponseFact
 from .frame import barred, text_of
 from .log import Log
+from .not_taken import MOST_NOT_TAKEN, not_taken_of
 from .reading import moment_of
 from .records import Day
 from .refusals import Refusal, code_of, is_refusing, kind_of, refusal_of
@@ -73,6 +74,18 @@ class DayPass:
         for name, session in self.sessions.items():
             session.expected = targets.get(name)
             session.connections = len(self.log.logons(name)) if self.log.has_door else 0
+            if self.log.has_epochs:
+                self._count_own(session)
+
+    def _count_own(self, session: SessionRow) -> None:
+        """What the session itself, and the gateway, refused of the firm's."""
+        for row in self.log.own_messages(session.firm.name):
+            if row.kind == "3":
+                session.rejected += 1
+            elif row.kind == "j":
+                session.not_taken += 1
+                if session.not_taken <= MOST_NOT_TAKEN:
+                    session.first_not_taken.append(not_taken_of(row))
 
     def rows(self, exchange: Exchange, refusal: Refusal | None) -> Iterator[MessageRow]:
         """The messages of an exchange that was taken; what came stands first."""

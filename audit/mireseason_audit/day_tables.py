@@ -5,9 +5,10 @@ what a row was read off, and other columns that end in `entry` are places, too. 
 number of a request in the day, from 1.
 """
 
-from dataclasses import dataclass
+from dataclasses import dataclass, field
 
 from .facts import AskedFact, QuoteFact, RequestFact, ResponseFact, TradeFact
+from .not_taken import NotTaken
 from .records import ConnectionEvent, Firm
 from .tables import Column, Table
 
@@ -46,6 +47,9 @@ class SessionRow:
     last_entry: int | None = None
     connections: int = 0
     expected: int | None = None
+    rejected: int = 0
+    not_taken: int = 0
+    first_not_taken: list[NotTaken] = field(default_factory=list)
 
 
 @dataclass(frozen=True)
@@ -258,6 +262,8 @@ SESSIONS: Table[SessionRow] = Table(
         Column("last_entry", "", lambda row: row.last_entry),
         Column("connections", "Logons that were accepted", lambda row: row.connections),
         Column("expected", "the number (34) that comes next", lambda row: row.expected),
+        Column("rejected", "by the session itself (35=3)", lambda row: row.rejected),
+        Column("not_taken", "by the gateway (35=j)", lambda row: row.not_taken),
     ),
 )
 

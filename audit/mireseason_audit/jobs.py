@@ -12,6 +12,7 @@ from dataclasses import dataclass
 from pathlib import Path
 
 from .chain import Chained, lines_before, places_of, read_chain, write_day
+from .carrying import check_wire
 from .closing import Closing
 from .faults import Unreadable
 from .findings import Finding
@@ -31,7 +32,6 @@ from .streams import (
     lines_of,
 )
 from .venue import LineFault, Venue, message_of
-from .wire import check_wire
 
 NOT_GIVEN = "the log has a message that the venue does not give"
 NOT_SENT = "the log lacks a message that the venue gives"

@@ -7,6 +7,7 @@ from collections.abc import Iterator, Sequence
 from .closing import Closing
 from .faults import Wrong
 from .records import (
+    Carried,
     Checkpoint,
     ConnectionEvent,
     Day,
@@ -26,6 +27,7 @@ class Log(Closing):
     has_chain: bool = True  # whether the entries have hashes, and the sessions their messages
     has_door: bool = False  # whether it says who connected, and what came on which connection
     has_seals: bool = False  # whether a gateway has sealed and signed what it wrote
+    has_epochs: bool = False  # whether its sessions have what they keep, and not what they sent
 
     @abstractmethod
     def entry_blocks(self) -> Iterator[Entries]:
@@ -68,7 +70,7 @@ class Log(Closing):
         """What the venue gave for a firm, by its numbers."""
 
     @abstractmethod
-    def outgoing_blocks(self, firm: str) -> Iterator[Messages]:
+    def outgoing_blocks(self, firm: str) -> Iterator[Carried]:
         """The messages of a firm's session, by its numbers."""
 
     @abstractmethod
@@ -124,6 +126,10 @@ class Log(Closing):
         """The messages of a firm's session, one by one."""
         for block in self.outgoing_blocks(firm):
             yield from map(Outgoing, itertools.repeat(firm), *block)
+
+    def own_messages(self, firm: str) -> Iterator[Outgoing]:
+        """Of a firm's session, those that carry none of the venue."""
+        return (row for row in self.outgoing(firm) if row.sent is None)
 
     def day(self) -> Day:
         """The day in entry 0."""

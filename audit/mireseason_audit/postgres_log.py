@@ -10,7 +10,7 @@ from psycopg2 import sql
 
 from .faults import Unreadable
 from .log import Log, Source
-from .sql_log import DOOR_FORM, SEAL_FORM, Rows, SqlLog, form_of
+from .sql_log import DOOR_FORM, EPOCH_FORM, SEAL_FORM, Rows, SqlLog, form_of
 
 OLD_FORM = 2  # of the tables: without connections
 ROWS_AT_A_TIME = 1024  # each time the server is asked
@@ -49,6 +49,7 @@ class PostgresLog(SqlLog):
             raise Unreadable("%s: no log can be read: %s" % (self._name, one_line(fault))) from None
         form = form_of(self._name, forms, OLD_FORM)
         self.has_door, self.has_seals = form >= DOOR_FORM, form >= SEAL_FORM
+        self.has_epochs = form >= EPOCH_FORM
 
     def blocks(self, query: str, *values: object) -> Iterator[Rows]:
         try:

@@ -3,7 +3,7 @@
 import hashlib
 import re
 import tomllib
-from collections.abc import Iterable
+from collections.abc import Iterable, Sequence
 from dataclasses import dataclass, replace
 from typing import Any, NamedTuple
 
@@ -113,6 +113,32 @@ class Messages(NamedTuple):
     others: tuple[Any, ...]  # of `sent` the places; of `outgoing` which message each carries
     bytes: tuple[bytes, ...]
 
+    def picked(self, kept: Sequence[int]) -> "Messages":
+        """Some of them."""
+        return Messages._make(tuple(column[at] for at in kept) for column in self)
+
+
+class Kept(NamedTuple):
+    """What a session has kept of some messages, column by column: those that it may have to send
+    again, each without the header that it leaves with.
+    """
+
+    numbers: tuple[int, ...]
+    others: tuple[int | None, ...]  # the message of the venue that each carries
+    bytes: tuple[bytes, ...]
+    epochs: tuple[int, ...]
+    copies: tuple[int, ...]
+    drops: tuple[int, ...]
+    kinds: tuple[str, ...]
+    moments: tuple[str, ...]
+
+    def picked(self, kept: Sequence[int]) -> "Kept":
+        """Some of them."""
+        return Kept._make(tuple(column[at] for at in kept) for column in self)
+
+
+Carried = Messages | Kept  # the messages of a firm's session
+
 
 class Sent(NamedTuple):
     """What the venue gave for a firm: its frame, as the venue wrote it."""
@@ -124,12 +150,17 @@ class Sent(NamedTuple):
 
 
 class Outgoing(NamedTuple):
-    """A message of a session, as it stood on the wire."""
+    """A message of a session: as it stood on the wire, or, with a moment, as the session keeps it."""
 
     firm: str
     number: int  # of the session
     sent: int | None  # the number of the row of `sent` that it carries
     bytes: bytes
+    epoch: int = 0  # how often an operator had the session's numbers begin again
+    copy: int = 0  # 1: it had another number in the epoch before
+    dropped: int = 0  # 1: of the session's own, when the firm began with number 1 again
+    kind: str = ""  # MsgType (35)
+    moment: str | None = None  # at which it was kept first
 
 
 @dataclass(frozen=True)

@@ -9,6 +9,7 @@ sent, and those of its session, with their SHA-256; and a signature of all that 
 import base64
 import binascii
 import hashlib
+import itertools
 import os
 import subprocess
 import tempfile
@@ -23,7 +24,7 @@ from .faults import Unreadable, Wrong
 from .findings import Finding
 from .frame import number_in
 from .log import Log
-from .records import Day, Messages
+from .records import Carried, Day, Messages
 from .streams import digest_of
 
 TITLE = "mireseason-seal 1"
@@ -62,17 +63,26 @@ def sealed(log: Log, day: Day, chained: Chained) -> Sealed:
     return Sealed(tuple(lines))
 
 
-def digest(blocks: Iterable[Messages]) -> str:
-    """How many rows, and their SHA-256: of each its numbers, its length, its bytes."""
+def digest(blocks: Iterable[Carried]) -> str:
+    """How many rows, and their SHA-256: of each its numbers, its length, what else a session keeps
+    of it, and its bytes.
+    """
     found, count = hashlib.sha256(), 0
     for block in blocks:
         rows = [
-            b"%d %d %d\n%b" % (number, -1 if other is None else other, len(data), data)
-            for number, other, data in zip(*block)
+            b"%d %d %d%b\n%b" % (number, -1 if other is None else other, len(data), more, data)
+            for (number, other, data), more in zip(zip(*block[:3]), more_of(block))
         ]
         found.update(b"".join(rows))
         count += len(rows)
     return "%d %s" % (count, found.hexdigest())
+
+
+def more_of(block: Carried) -> Iterable[bytes]:
+    """What a session keeps of each message beside its bytes, with a space in front of each."""
+    if isinstance(block, Messages):
+        return itertools.repeat(b"")
+    return (b"".join(b" %b" % str(one).encode() for one in more) for more in zip(*block[3:]))
 
 
 def write_seal(what: Sealed, key: Path, path: Path) -> None:
@@ -146,15 +156,17 @@ class KeptLog:
         return self.log.event_hash_at(place).hex()
 
     def first(self, word: str, firm: str, count: int) -> str:
-        read = self.log.sent_blocks if word == "sent" else self.log.outgoing_blocks
-        return digest(first_of(read(firm), count))
+        blocks: Iterable[Carried] = self.log.outgoing_blocks(firm)
+        if word == "sent":
+            blocks = self.log.sent_blocks(firm)
+        return digest(first_of(blocks, count))
 
 
-def first_of(blocks: Iterable[Messages], count: int) -> Iterator[Messages]:
+def first_of(blocks: Iterable[Carried], count: int) -> Iterator[Carried]:
     """So many rows."""
     for block in blocks:
         if count > 0:
-            yield Messages(block.numbers[:count], block.others[:count], block.bytes[:count])
+            yield block.picked(range(min(count, len(block.numbers))))
         count -= len(block.numbers)
 
 

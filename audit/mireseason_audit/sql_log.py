@@ -1,15 +1,27 @@
 """A log in tables: what is read of SQLite and of PostgreSQL alike."""
 
+import itertools
 from abc import abstractmethod
 from collections.abc import Iterator, Sequence
 from typing import Any
 
 from .faults import Unreadable
 from .log import Log
-from .records import Checkpoint, ConnectionEvent, Entries, Entry, EntryRow, Messages
+from .records import (
+    Carried,
+    Checkpoint,
+    ConnectionEvent,
+    Entries,
+    Entry,
+    EntryRow,
+    Kept,
+    Messages,
+    Outgoing,
+)
 
 DOOR_FORM = 3  # of the tables: since it, a log says who connected
 SEAL_FORM = 4  # since it, it is sealed and signed
+EPOCH_FORM = 5  # since it, its sessions have what they keep, and not all that they sent
 ENTRY = "SELECT place, term, moment, firm, number, line, before, hash, %s FROM entry"
 DOOR_COLUMNS, NO_DOOR_COLUMNS = "received, connection", "NULL, NULL"
 EVENT = (
@@ -26,6 +38,10 @@ LAST_SEAL = "SELECT place, event FROM seal ORDER BY number DESC LIMIT 1"
 LINES = "SELECT line FROM entry WHERE place > 0 ORDER BY place"
 SENT = "SELECT number, place, bytes FROM sent WHERE firm = ? ORDER BY number"
 OUTGOING = "SELECT number, sent, bytes FROM outgoing WHERE firm = ? ORDER BY number"
+KEPT_ROWS = "SELECT number, sent, bytes, epoch, copy, dropped, type, moment FROM outgoing"
+KEPT = KEPT_ROWS + " WHERE firm = ? ORDER BY epoch, number"
+KEPT_OWN = KEPT_ROWS + " WHERE firm = ? AND sent IS NULL ORDER BY epoch, number"
+TARGETS, EXPECTED = "SELECT firm, target FROM session", "SELECT firm, expected FROM session"
 EXTENT = "SELECT count(*), min(place), max(place) FROM entry"
 NUMBERS = "SELECT place, number FROM entry WHERE number IS NOT NULL AND place IN (%s)"
 # From each firm to the next one by the index, since there are few and they have many rows.
@@ -40,6 +56,7 @@ DOOR_TYPES: Types = (*OLD_TYPES, {str}, {int, NONE})
 NO_DOOR_TYPES: Types = (*OLD_TYPES, {NONE}, {NONE})
 SENT_TYPES: Types = ({int}, {int}, {bytes})
 OUTGOING_TYPES: Types = ({int}, {int, NONE}, {bytes})
+KEPT_TYPES: Types = (*OUTGOING_TYPES, {int}, {int}, {int}, {str}, {str})
 
 Rows = list[tuple[Any, ...]]
 NO_HASH = bytes(32)  # of a row that is not there
@@ -153,8 +170,32 @@ class SqlLog(Log):
     def sent_blocks(self, firm: str) -> Iterator[Messages]:
         return self._messages(SENT, "sent", firm, SENT_TYPES)
 
-    def outgoing_blocks(self, firm: str) -> Iterator[Messages]:
+    def outgoing_blocks(self, firm: str) -> Iterator[Carried]:
+        if self.has_epochs:
+            return self._kept(firm)
         return self._messages(OUTGOING, "outgoing", firm, OUTGOING_TYPES)
+
+    def own_messages(self, firm: str) -> Iterator[Outgoing]:
+        if not self.has_epochs:
+            yield from super().own_messages(firm)
+            return
+        for block in self._kept(firm, KEPT_OWN):
+            yield from map(Outgoing, itertools.repeat(firm), *block)
+
+    def _kept(self, firm: str, query: str = KEPT) -> Iterator[Kept]:
+        """What a firm's session keeps."""
+        for rows in self.blocks(query, firm):
+            block = Kept._make(zip(*rows))
+            if not are_of(block, KEPT_TYPES):
+                for number, sent, _, *marks in rows:
+                    values = (number, *marks[:3], *(() if sent is None else (sent,)))
+                    check_numbers("outgoing %s" % firm, number, *values)
+                block = block._replace(
+                    bytes=tuple(map(self.bytes_of, block.bytes)),
+                    kinds=tuple(map(as_text, block.kinds)),
+                    moments=tuple(map(as_text, block.moments)),
+                )
+            yield block
 
     def _messages(self, query: str, table: str, firm: str, types: Types) -> Iterator[Messages]:
         """The messages of a firm, as rows of a table."""
@@ -200,7 +241,7 @@ class SqlLog(Log):
 
     def targets(self) -> dict[str, int]:
         found = {}
-        for firm, target in self.rows("SELECT firm, target FROM session"):
+        for firm, target in self.rows(EXPECTED if self.has_epochs else TARGETS):
             check_numbers("session", as_text(firm), target)
             found[as_text(firm)] = target
         return found
@@ -226,11 +267,11 @@ def are_of(columns: Any, types: Types) -> bool:
 
 def form_of(name: str, rows: Rows, old: int) -> int:
     """The one row of the table `form`: the form of old logs in this database, or a later one."""
-    forms = (old, DOOR_FORM, SEAL_FORM)
+    forms = (old, DOOR_FORM, SEAL_FORM, EPOCH_FORM)
     for form in forms:
         if [tuple(row) for row in rows] == [(form,)]:
             return form
-    text = "%s: the form of its tables is none of %d, %d and %d"
+    text = "%s: the form of its tables is none of %d, %d, %d and %d"
     raise Unreadable(text % (name, *forms))
 
 

@@ -8,7 +8,7 @@ from typing import Any
 
 from .faults import Unreadable
 from .log import Log, Source
-from .sql_log import DOOR_FORM, SEAL_FORM, Rows, SqlLog, form_of
+from .sql_log import DOOR_FORM, EPOCH_FORM, SEAL_FORM, Rows, SqlLog, form_of
 
 OLD_FORM = 1  # of the tables: without connections
 # So few rows, and pages of the file, that a processor's cache holds them and what is made of them.
@@ -47,6 +47,7 @@ class SqliteLog(SqlLog):
             raise Unreadable("%s is no log of the gateway: %s" % (source.path, fault)) from None
         form = form_of(str(source.path), forms, OLD_FORM)
         self.has_door, self.has_seals = form >= DOOR_FORM, form >= SEAL_FORM
+        self.has_epochs = form >= EPOCH_FORM
 
     def blocks(self, query: str, *values: object) -> Iterator[Rows]:
         try:

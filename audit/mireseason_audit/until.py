@@ -6,7 +6,7 @@ from dataclasses import dataclass
 
 from .faults import Unreadable
 from .log import Log, Source
-from .records import Checkpoint, ConnectionEvent, Entries, Entry, Messages
+from .records import Carried, Checkpoint, ConnectionEvent, Entries, Entry, Messages
 
 
 def up_to(block: Entries, last: int) -> Entries | None:
@@ -19,22 +19,13 @@ def up_to(block: Entries, last: int) -> Entries | None:
     return Entries._make(tuple(column[at] for at in kept) for column in block)
 
 
-def chosen(block: Messages, kept: Sequence[int]) -> Messages | None:
-    """Some rows of a block; None where these are none."""
-    if len(kept) == len(block.numbers):
-        return block
-    if not kept:
-        return None
-    return Messages._make(tuple(column[at] for at in kept) for column in block)
-
-
 class UntilLog(Log):
     """Shows of another log the entries up to a place, and what was sent for them."""
 
     def __init__(self, log: Log, last: int) -> None:
         self._log, self._last = log, last
         self.has_chain, self.has_door = log.has_chain, log.has_door
-        self.has_seals = log.has_seals
+        self.has_seals, self.has_epochs = log.has_seals, log.has_epochs
 
     def entry_blocks(self) -> Iterator[Entries]:
         for block in self._log.entry_blocks():
@@ -74,11 +65,11 @@ class UntilLog(Log):
 
     def sent_blocks(self, firm: str) -> Iterator[Messages]:
         for block in self._log.sent_blocks(firm):
-            kept = chosen(block, [at for at, place in enumerate(block.others) if self._has(place)])
-            if kept is not None:
-                yield kept
+            kept = [at for at, place in enumerate(block.others) if self._has(place)]
+            if kept:
+                yield block.picked(kept)
 
-    def outgoing_blocks(self, firm: str) -> Iterator[Messages]:
+    def outgoing_blocks(self, firm: str) -> Iterator[Carried]:
         """What the session carried, up to the last message of the venue that there was then; its
         own messages behind that are of later.
         """
@@ -88,10 +79,8 @@ class UntilLog(Log):
             if left <= 0:
                 return
             ends = [at for at, sent in enumerate(block.others) if sent is not None and sent >= left]
-            kept = chosen(block, range(ends[0] + 1 if ends else len(block.numbers)))
             left = 0 if ends else left
-            if kept is not None:
-                yield kept
+            yield block.picked(range(ends[0] + 1 if ends else len(block.numbers)))
 
     def line_blocks(self) -> Iterator[list[bytes]]:
         for block in self.entry_blocks():

@@ -8,15 +8,12 @@ others: Text (58) with the words of a reason, or TradeID (1003). Whether that is
 notes beside the message, the replay says.
 """
 
-import os
 import re
 from collections.abc import Callable, Iterator, Mapping
-from pathlib import Path
-from typing import IO, NamedTuple
+from typing import NamedTuple
 
 from .findings import Finding
 from .frame import CHECKSUM_BYTES, fault_of, fields_of
-from .log import Log
 from .records import SOH, Outgoing, Sent
 
 IN_FRONT_OF = {b"S": b"\x01537=", b"AI": b"\x01297=", b"R": b"\x01453="}  # where 60 stands
@@ -114,6 +111,8 @@ def header_fault(data: bytes, number: int, firm: str, carries: bool) -> str | No
 class WireReader:
     """Holds the messages of one session against what the venue gave for the firm."""
 
+    header = HEADER  # of a message that carries one of the venue's, with its 35 as the first group
+
     def __init__(
         self,
         sent: Iterator[Sent],
@@ -125,7 +124,7 @@ class WireReader:
         self._reasons = reasons or {}
         self._waiting = sent
         self._expected = next(sent, None)
-        self._number = 0
+        self._number = 0  # of the message that was taken last
         self.note = b""  # the line that the venue has to print beside the last message, or none
 
     def take(self, row: Outgoing) -> Finding | None:
@@ -173,7 +172,7 @@ class WireReader:
         if parts is None:
             return False
         head, mark, rest = data.partition(CARRIED)
-        header = HEADER.fullmatch(head)
+        header = self.header.fullmatch(head)
         if header is None or header[1] != parts.kind:
             return False
         number = self._session_number(expected.place) if parts.kind == REJECT else None
@@ -191,33 +190,3 @@ class WireReader:
             return b"trade " + about + told.removeprefix(TRADE)
         name = self._reasons.get(told.removeprefix(WHY), b"")
         return b"why " + about + name if name else b""
-
-
-def check_wire(
-    log: Log, firm: str, reasons: Mapping[bytes, bytes] | None = None, notes: Path | None = None
-) -> Iterator[Finding]:
-    """Holds a firm's session against what the venue gave for it; the first fault is told. Where
-    there is none, the lines of the notes that it tells are left in a file.
-    """
-
-    def session_number(place: int) -> int | None:
-        return log.session_numbers([place]).get(place)
-
-    reader = WireReader(log.sent(firm), session_number, reasons)
-    with (notes or Path(os.devnull)).open("wb") as file:
-        finding = first_fault(reader, log.outgoing(firm), file) or reader.rest(firm)
-    if finding is not None:
-        if notes is not None:
-            notes.unlink()
-        yield finding
-
-
-def first_fault(reader: WireReader, rows: Iterator[Outgoing], file: IO[bytes]) -> Finding | None:
-    """Reads a session up to its first fault, and writes the notes that it tells."""
-    for row in rows:
-        finding = reader.take(row)
-        if finding is not None:
-            return finding
-        if reader.note:
-            file.write(reader.note + b"\n")
-    return None

@@ -36,7 +36,7 @@ class WireTexts:
         that were asked for, or of a later one.
         """
         while self._last < number and (row := next(self._rows, None)) is not None:
-            if row.sent is not None:
+            if row.sent is not None and not row.copy:
                 self._last = row.sent
                 self._keep(row.sent, added_to(row.bytes))
         return self._kept.get(number, NOTHING)

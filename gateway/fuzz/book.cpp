@@ -1,6 +1,5 @@
 #include "book.h"
 
-#include "message.h"
 #include "strict.h"
 
 #include <algorithm>
@@ -15,11 +14,6 @@ namespace {
 const std::map<std::string, std::string> &passwords() {
     static const std::map<std::string, std::string> all = {{"F", "secret"}, {"G", "secret-of-g"}};
     return all;
-}
-
-bool is_logout(const std::string &bytes) {
-    return bytes.find("\x01"
-                      "35=5\x01") != std::string::npos;
 }
 
 } // namespace
@@ -68,19 +62,54 @@ void Book::ended(unsigned connection) {
     shown_.erase(connection);
 }
 
+// What leaves on a connection: of its firm alone, and only where the firm has shown its password
+// there. Where its Logon was not accepted, a Logout that refuses it, and nothing else.
 void Book::sent(unsigned connection, const std::string &bytes) {
     const auto found = shown_.find(connection);
     if (found == shown_.end()) {
         violated("a stranger is told " + bytes);
     }
-    if (bytes.find("\x01"
-                   "56=" +
-                   found->second + "\x01") == std::string::npos) {
-        violated(found->second + " is told what is another's: " + bytes);
+    const std::string &firm = found->second;
+    Firm &its = firms_[firm];
+    for (const std::string &message : messages_in(bytes)) {
+        if (value_in(message, 56) != firm) {
+            violated(firm + " is told what is another's: " + message);
+        }
+        const bool leaves = value_in(message, 35) == "5";
+        if (its.holder != connection && !leaves) {
+            violated("something leaves on a connection without an accepted Logon: " + message);
+        }
+        its.is_told = its.is_told || (its.holder == connection && leaves);
+        look_at_sent(firm, message);
+        note("sent " + message);
     }
-    Firm &its = firms_[found->second];
-    its.is_told = its.is_told || (its.holder == connection && is_logout(bytes));
-    note("sent " + bytes);
+}
+
+// With 43 what is kept under the number, and a gap fill over nothing that is kept; without it the
+// venue's in their order, each once.
+void Book::look_at_sent(const std::string &firm, const std::string &message) {
+    Firm &its = firms_[firm];
+    const auto number = static_cast<std::uint32_t>(std::stoul(value_in(message, 34)));
+    const auto kept = its.kept.find(number);
+    const bool is_same = kept != its.kept.end() && kept->second.type == value_in(message, 35) &&
+                         behind_header(kept->second.frame) == behind_header(message);
+    if (value_in(message, 35) == "4") {
+        const auto next = static_cast<std::uint32_t>(std::stoul(value_in(message, 36)));
+        const auto covered = its.kept.lower_bound(number);
+        const bool covers = covered != its.kept.end() && covered->first < next;
+        if (next <= number || (covers && covered->second.type != "0")) {
+            violated("a gap fill covers what is kept: " + message);
+        }
+    } else if (value_in(message, 43) == "Y") {
+        if (!is_same) {
+            violated("sent again, and not kept so: " + message);
+        }
+    } else if (!value_in(message, 1181).empty()) {
+        if (!is_same || number <= its.left) {
+            violated("of the venue, and not kept so, or not in its order: " + message);
+        }
+        its.left = number;
+    }
 }
 
 Refusal Book::judge(const LogonFacts &facts) {
@@ -123,10 +152,13 @@ void Book::logon_refused(const std::string &firm, const ConnectionFacts &, const
     note("refused " + firm + ": " + why);
 }
 
+// The one that a newer one found dead ends while that speaks.
 void Book::connection_ended(const std::string &firm, std::uint32_t connection,
                             const std::string &) {
-    need_holder("a connection ends", firm);
-    if (firms_[firm].number != connection) {
+    if (speaker_ != 0) {
+        need_password("a connection ends", firm);
+    }
+    if (firms_[firm].number != connection || firms_[firm].holder == 0) {
         violated("the end of another connection of " + firm);
     }
     firms_[firm].holder = 0;
@@ -141,60 +173,92 @@ void Book::logged_off(const std::string &firm) {
     need_password("a session ends", firm);
 }
 
-int Book::received(const std::string &firm, const WireMessage &message, const Receipt &receipt) {
+bool Book::brings_any(const std::string &field) const {
+    const auto found = brought_.find(speaker_);
+    return found != brought_.end() && found->second.find("\x01" + field) != std::string::npos;
+}
+
+// The expected number moves by one; by the firm's own SequenceReset; or, where the firm says 141=Y
+// and the venue was given nothing of it, back to that behind 1.
+void Book::look_at_numbers(const std::string &firm, const SessionNumbers &now) {
+    Firm &its = firms_[firm];
+    const SessionNumbers &before = its.numbers;
+    const bool begins = now.expected == 2 && brings_any("141=Y\x01") && its.received == 0;
+    const bool moves = now.expected > before.expected &&
+                       (now.expected == before.expected + 1 || brings_any("35=4\x01"));
+    if (now.expected != before.expected) {
+        need_holder("a number is counted", firm);
+        if (!moves && !begins) {
+            violated("the number of " + firm + " goes from " + std::to_string(before.expected) +
+                     " to " + std::to_string(now.expected));
+        }
+    }
+    if (now.next < before.next || now.next > before.next + 2 || now.expected > 1000000000) {
+        violated("the numbers to " + firm + " go from " + std::to_string(before.next) + " to " +
+                 std::to_string(now.next));
+    }
+    its.numbers = now;
+}
+
+std::uint64_t Book::put(const std::string &firm, const SessionEvent &event) {
+    if (event.given == nullptr) {
+        need_password("an event is put into the log", firm);
+    }
+    Firm &its = firms_[firm];
+    if (event.drops_rejects) {
+        std::erase_if(its.kept, [](const auto &row) {
+            return row.second.type == "j" ||
+                   (row.second.type == "3" && value_in(row.second.frame, 1181).empty());
+        });
+    }
+    if (event.kept) {
+        const KeptMessage &kept = *event.kept;
+        if (kept.number < its.numbers.next || !its.kept.emplace(kept.number, kept).second) {
+            violated("kept under a number that was used: " + kept.frame);
+        }
+        if (event.given == nullptr && kept.type != "3" && kept.type != "j" && kept.type != "0") {
+            violated("kept of the session's own: " + kept.frame);
+        }
+        note("kept " + kept.frame);
+    }
+    look_at_numbers(firm, event.numbers);
+    note("put for " + firm + ": " + std::to_string(event.numbers.expected) + " " +
+         std::to_string(event.numbers.next));
+    return 1;
+}
+
+Taken Book::take(const std::string &firm, const SessionInput &input, const SessionEvent &event) {
     need_holder("a message is accepted", firm);
     Firm &its = firms_[firm];
+    const std::string bytes(input.bytes);
     if (its.is_told) {
-        violated("accepted of " + firm + " behind a Logout: " + message.bytes);
+        violated("accepted of " + firm + " behind a Logout: " + bytes);
     }
-    if (receipt.connection != its.number) {
+    if (input.receipt.connection != its.number) {
         violated("a message of " + firm + " is put to another connection");
     }
-    const std::string fault = fault_of_accepted(message.bytes, firm, its.target);
+    const std::string fault = fault_of_accepted(bytes, firm, its.numbers.expected);
     if (!fault.empty()) {
-        violated("accepted of " + firm + ": " + fault + ": " + message.bytes);
+        violated("accepted of " + firm + ": " + fault + ": " + bytes);
     }
-    if (its.received >= its.target) {
-        violated("a number of " + firm + " is accepted two times: " + message.bytes);
+    if (input.number != its.numbers.expected || input.number <= its.received ||
+        event.numbers.expected != input.number + 1 || event.kept) {
+        violated("a message of " + firm + " is accepted otherwise than once: " + bytes);
     }
-    its.received = its.target;
-    note("received " + message.bytes);
-    return 0;
+    its.received = input.number;
+    look_at_numbers(firm, event.numbers);
+    note("received " + bytes);
+    return {};
 }
 
-std::uint64_t Book::store_outgoing(const std::string &firm, std::uint32_t number,
-                                   const std::string &bytes, const Delivery *delivery) {
-    if (delivery == nullptr) {
-        need_password("a message is stored", firm);
+std::vector<KeptMessage> Book::kept_messages(const std::string &firm, std::uint32_t from,
+                                             std::size_t limit) {
+    need_holder("what is kept is read", firm);
+    std::vector<KeptMessage> found;
+    const auto &kept = firms_[firm].kept;
+    for (auto at = kept.lower_bound(from); at != kept.end() && found.size() < limit; ++at) {
+        found.push_back(at->second);
     }
-    std::vector<StoredMessage> &stored = firms_[firm].stored;
-    if (number != stored.size() + 1) {
-        violated("a message to " + firm + " has another number than the next one: " + bytes);
-    }
-    stored.push_back({number, delivery != nullptr, bytes});
-    note("stored " + bytes);
-    return number;
-}
-
-void Book::store_target(const std::string &firm, std::uint32_t target) {
-    need_holder("a number is counted", firm);
-    Firm &its = firms_[firm];
-    if (target < its.target || target > 1000000000) {
-        violated("the number of " + firm + " goes from " + std::to_string(its.target) + " to " +
-                 std::to_string(target));
-    }
-    its.target = target;
-    note("target " + std::to_string(target) + " of " + firm);
-}
-
-std::vector<StoredMessage> Book::stored_messages(const std::string &firm, std::uint32_t first,
-                                                 std::uint32_t last) {
-    need_holder("what was sent is read", firm);
-    std::vector<StoredMessage> found;
-    const std::vector<StoredMessage> &stored = firms_[firm].stored;
-    std::copy_if(
-        stored.begin(), stored.end(), std::back_inserter(found),
-        [&](const StoredMessage &each) { return each.number >= first && each.number <= last; });
     return found;
 }
 

@@ -39,16 +39,13 @@ class Book final : public SessionHost {
                           const std::string &why) override;
     void logged_on(const std::string &firm) override;
     void logged_off(const std::string &firm) override;
-    void settled(const std::string &) override {}
-    int received(const std::string &firm, const WireMessage &message,
-                 const Receipt &receipt) override;
-    void all_received() override {}
-    std::uint64_t store_outgoing(const std::string &firm, std::uint32_t number,
-                                 const std::string &bytes, const Delivery *delivery) override;
+    std::uint64_t put(const std::string &firm, const SessionEvent &event) override;
     void wait_stored(std::uint64_t) override {}
-    void store_target(const std::string &firm, std::uint32_t target) override;
-    std::vector<StoredMessage> stored_messages(const std::string &firm, std::uint32_t first,
-                                               std::uint32_t last) override;
+    Taken take(const std::string &firm, const SessionInput &input,
+               const SessionEvent &event) override;
+    void all_received() override {}
+    std::vector<KeptMessage> kept_messages(const std::string &firm, std::uint32_t from,
+                                           std::size_t limit) override;
 
   private:
     // What a firm has.
@@ -56,14 +53,18 @@ class Book final : public SessionHost {
         unsigned holder = 0;      // the connection whose Logon was accepted, 0 without one
         bool is_told = false;     // a Logout was sent on it
         std::uint32_t number = 0; // that this connection was given
-        std::uint32_t target = 1;
-        std::uint32_t received = 0;
-        std::vector<StoredMessage> stored;
+        SessionNumbers numbers;
+        std::uint32_t received = 0; // the number of the last message that the venue was given
+        std::uint32_t left = 0;     // of the last one of the venue that left for the first time
+        std::map<std::uint32_t, KeptMessage> kept;
     };
 
     void need_holder(const char *what, const std::string &firm);
     void need_password(const char *what, const std::string &firm) const;
     void need_logon(const std::string &firm) const;
+    void look_at_numbers(const std::string &firm, const SessionNumbers &now);
+    void look_at_sent(const std::string &firm, const std::string &message);
+    bool brings_any(const std::string &field) const;
     void note(const std::string &text);
 
     const Password password_;

@@ -47,7 +47,7 @@ extern "C" int LLVMFuzzerInitialize(int *count, char ***words) {
 
 extern "C" int LLVMFuzzerTestOneInput(const std::uint8_t *data, std::size_t size) {
     using namespace gateway::fuzz;
-    const StillClock clock;
+    const gateway::tests::StillClock clock;
     ::alarm(most_seconds);
     std::vector<Bytes> connections = connections_of(text_of(data, size));
     if (connections.size() > most_connections) {

@@ -4,6 +4,7 @@
 #include "conversation.h"
 #include "line.h"
 #include "sessions.h"
+#include "strict.h"
 
 #include <algorithm>
 #include <list>
@@ -40,6 +41,7 @@ class Caller final : public Line {
         for (std::size_t at = 0; at < bytes.size() && !is_ending_; at += piece) {
             const std::size_t count = std::min(piece, bytes.size() - at);
             talk_.hear(bytes.data() + at, count, Clock::now());
+            serve();
         }
         book_.speaks(0);
     }
@@ -48,12 +50,20 @@ class Caller final : public Line {
     void look_again() {
         book_.speaks(number_);
         talk_.look_again();
+        serve();
+        book_.speaks(0);
+    }
+    // What the thread of the connection does when the session has something to say.
+    void look() {
+        book_.speaks(number_);
+        serve();
         book_.speaks(0);
     }
     void hang_up() {
         book_.speaks(number_);
         if (!is_ending_) {
             talk_.tick();
+            serve();
         }
         is_ending_ = true;
         talk_.end("the peer closed");
@@ -63,21 +73,26 @@ class Caller final : public Line {
     }
     bool has_ended() const { return has_ended_; }
 
-    bool send(const std::string &bytes) override {
+    bool send(std::string_view bytes) override {
         if (has_ended_) {
-            violated("written to a connection that has ended: " + bytes);
+            violated("written to a connection that has ended: " + std::string(bytes));
         }
-        book_.sent(number_, bytes);
+        book_.sent(number_, std::string(bytes));
         return !is_ending_;
     }
     void finish(const std::string &) override { is_ending_ = true; }
     void shut(const std::string &) override { is_ending_ = true; }
     bool is_ending() const override { return is_ending_; }
-    void drain() override {}
     void wake() override {}
     ConnectionFacts facts() const override { return {"192.0.2.1:1", "", false}; }
 
   private:
+    void serve() {
+        do {
+            talk_.serve();
+        } while (talk_.serves_from());
+    }
+
     const unsigned number_;
     Book &book_;
     Conversation talk_;
@@ -103,7 +118,12 @@ void deliver(const Sessions &sessions, std::uint32_t number) {
         delivery.session = delivery.firm = firm;
         delivery.number = delivery.place = number;
         delivery.type = "AI";
-        delivery.body = "1181=" + std::to_string(number) + "\x01" + "297=9\x01";
+        const std::string body = "35=AI\x01"
+                                 "1181=" +
+                                 std::to_string(number) +
+                                 "\x01"
+                                 "297=9\x01";
+        delivery.wire = framed(body);
         sessions.deliver(delivery);
     }
 }
@@ -135,6 +155,11 @@ std::string run_connections(const std::vector<Bytes> &connections, Password pass
             caller.look_again();
         }
         deliver(sessions, number);
+        for (Caller &each : callers) {
+            if (!each.has_ended()) {
+                each.look();
+            }
+        }
         if (connection.ends) {
             end_others(callers, nullptr);
         }

@@ -141,4 +141,37 @@ bool is_logon_of(const std::string &bytes, const std::string &firm, const std::s
            value_of(fields, 553) == firm && value_of(fields, 554) == password;
 }
 
+std::string framed(const std::string &body) {
+    const std::string front =
+        std::string("8=FIXT.1.1") + soh + "9=" + std::to_string(body.size()) + soh + body;
+    return front + trailer_of(front);
+}
+
+std::vector<std::string> messages_in(const std::string &bytes) {
+    const std::string trailer = std::string(1, soh) + "10=";
+    std::vector<std::string> found;
+    for (std::size_t at = 0; at < bytes.size();) {
+        const std::size_t end = bytes.find(trailer, at);
+        const std::size_t size = (end == std::string::npos ? bytes.size() : end + 8) - at;
+        found.push_back(bytes.substr(at, size));
+        at += size;
+    }
+    return found;
+}
+
+std::string value_in(const std::string &message, std::uint32_t tag) {
+    return value_of(fields_of(message), tag);
+}
+
+std::string behind_header(const std::string &message) {
+    static const std::set<std::uint32_t> header = {35, 49, 56, 34, 43, 52, 122, 97};
+    std::string found;
+    for (const auto &field : fields_of(message)) {
+        if (!found.empty() || header.count(field.first) == 0) {
+            found += std::to_string(field.first) + "=" + field.second + soh;
+        }
+    }
+    return found;
+}
+
 } // namespace gateway::fuzz

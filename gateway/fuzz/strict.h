@@ -5,6 +5,7 @@
 
 #include <cstdint>
 #include <string>
+#include <vector>
 
 namespace gateway::fuzz {
 
@@ -15,6 +16,18 @@ std::string fault_of_accepted(const std::string &bytes, const std::string &firm,
 
 // Whether bytes are a frame that is a Logon with these credentials.
 bool is_logon_of(const std::string &bytes, const std::string &firm, const std::string &password);
+
+// A body in its frame.
+std::string framed(const std::string &body);
+
+// The messages that stand one behind the other in bytes of the gateway's own.
+std::vector<std::string> messages_in(const std::string &bytes);
+
+// The value of the first field with a tag; empty without one.
+std::string value_in(const std::string &message, std::uint32_t tag);
+
+// What stands behind the header of a message of the gateway's, up to its sum.
+std::string behind_header(const std::string &message);
 
 } // namespace gateway::fuzz
 

@@ -102,7 +102,7 @@ const std::vector<AdminCommand> &admin_commands() {
 std::string answer_to(AdminScene &scene, const std::string &who, std::string_view line) {
     const auto request = request_of(line);
     if (!request) {
-        return std::string(answer_is_error) + "this is no request of mireseason-admin\n";
+        return fmt::format("{}this is no request of mireseason-admin\n", answer_is_error);
     }
     try {
         const AdminAnswer answer = run(scene, who, *request);

@@ -75,7 +75,7 @@ bool Ahead::settle_some(const std::string &firm, LogReader &log) {
                 firm, row.number, messages.front().frame, row.bytes));
         }
         // Before another process of the venue begins, since that takes what waits here first.
-        comparison_.check_carrier(firm, row.number, messages.front().body);
+        comparison_.check_carrier(firm, row.number, messages.front().wire);
         messages.pop_front();
     }
     changed_.notify_all();

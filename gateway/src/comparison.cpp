@@ -1,9 +1,6 @@
 #include "comparison.h"
 
-#include "frame.h"
-
 #include <stdexcept>
-#include <string_view>
 #include <utility>
 
 #include <fmt/format.h>
@@ -15,12 +12,10 @@ namespace {
 // Rows that are read at once.
 constexpr std::uint32_t chunk = 512;
 
-// Whether a message on the wire has this body between its header and its trailer.
-bool has_body(std::string_view message, std::string_view body) {
-    constexpr std::size_t trailer = 7; // `10=`, three digits and SOH
-    return message.size() > body.size() + trailer &&
-           message.substr(message.size() - trailer - body.size(), body.size()) == body &&
-           message[message.size() - trailer - body.size() - 1] == soh;
+// Whether a session has no number left.
+bool has_no_number_left(const FirmState &state) {
+    return state.session.numbers.is_spent() || state.last_number >= SessionNumbers::last ||
+           state.kept >= SessionNumbers::last;
 }
 
 } // namespace
@@ -35,7 +30,7 @@ void Comparison::begin() {
 }
 
 bool Comparison::is_new(const std::string &firm, std::uint32_t number, const std::string &frame,
-                        const std::string &body) {
+                        const std::string &wire) {
     const std::lock_guard lock(mutex_);
     Messages &messages = firms_[firm];
     ++messages.given;
@@ -47,14 +42,14 @@ bool Comparison::is_new(const std::string &firm, std::uint32_t number, const std
         return true;
     }
     compare(firm, messages, frame);
-    compare_carrier(firm, messages, number, body);
+    compare_carrier(firm, messages, number, wire);
     return false;
 }
 
 void Comparison::check_carrier(const std::string &firm, std::uint32_t number,
-                               const std::string &body) {
+                               const std::string &wire) {
     const std::lock_guard lock(mutex_);
-    compare_carrier(firm, firms_[firm], number, body);
+    compare_carrier(firm, firms_[firm], number, wire);
 }
 
 void Comparison::compare(const std::string &firm, Messages &messages, const std::string &frame) {
@@ -78,40 +73,49 @@ void Comparison::compare(const std::string &firm, Messages &messages, const std:
 
 // Each message of the venue went in one of the session, in their order.
 void Comparison::compare_carrier(const std::string &firm, Messages &messages, std::uint32_t number,
-                                 const std::string &body) {
+                                 const std::string &wire) {
     const auto carrier = next_carrier(firm, messages);
+    if (!carrier && is_over(firm, messages)) {
+        return;
+    }
     if (!carrier || carrier->sent != number) {
         throw std::runtime_error(fmt::format("the log lacks the message of {}'s session that "
                                              "carried message {}",
                                              firm, number));
     }
-    if (!has_body(carrier->bytes, body)) {
+    if (carrier->bytes != wire) {
         throw std::runtime_error(
             fmt::format("{}'s message {} is not what message {} of its session carried: {}", firm,
                         number, carrier->number, carrier->bytes));
     }
 }
 
+// Asked where a message of the venue has no carrier: what a session that is over is given has none.
+bool Comparison::is_over(const std::string &firm, Messages &messages) {
+    if (!messages.is_over) {
+        const auto states = reader_.ask([](LogReader &log) { return log.states(); });
+        const auto state = states.find(firm);
+        messages.is_over = state != states.end() && has_no_number_left(state->second);
+    }
+    return messages.is_over;
+}
+
 std::optional<Outgoing> Comparison::next_carrier(const std::string &firm, Messages &messages) {
-    for (;;) {
-        if (messages.went.empty()) {
-            const std::uint32_t first = messages.looked + 1;
-            for (Outgoing &row : reader_.ask([&](LogReader &log) {
-                     return log.outgoing(firm, first, messages.looked + chunk);
-                 })) {
-                messages.went.push_back(std::move(row));
-            }
-        }
-        if (messages.went.empty() || messages.went.front().number != messages.looked + 1) {
-            return std::nullopt;
-        }
-        ++messages.looked;
-        Outgoing next = std::move(messages.went.front());
-        messages.went.pop_front();
-        if (next.sent) {
-            return next;
+    if (messages.went.empty()) {
+        for (Outgoing &row : reader_.ask([&](LogReader &log) {
+                 return log.carriers(firm, messages.epoch, messages.looked, chunk);
+             })) {
+            messages.went.push_back(std::move(row));
         }
     }
+    if (messages.went.empty()) {
+        return std::nullopt;
+    }
+    Outgoing next = std::move(messages.went.front());
+    messages.went.pop_front();
+    messages.epoch = next.epoch;
+    messages.looked = next.number;
+    return next;
 }
 
 void Comparison::check_sent(const std::map<std::string, FirmState> &states) {
@@ -123,7 +127,7 @@ void Comparison::check_sent(const std::map<std::string, FirmState> &states) {
                 fmt::format("{} was sent message {}, and the venue gives {} for the log", firm,
                             state.sent, given));
         }
-        if (state.carried != state.sent) {
+        if (state.carried != state.sent && !has_no_number_left(state)) {
             throw std::runtime_error(
                 fmt::format("{} was sent message {}, and its session carried message {}", firm,
                             state.sent, state.carried));

@@ -21,12 +21,14 @@ struct Batch {
     std::vector<Sent> sent;
     std::vector<Outgoing> outgoing;
     std::map<std::string, SessionRow> sessions;
-    std::optional<Seal> seal; // of what connections and entries end with
+    std::vector<DroppedRejects> dropped; // of what was there before
+    std::vector<SessionReset> resets;    // of what is there with this batch
+    std::optional<Seal> seal;            // of what connections and entries end with
     std::vector<Checkpoint> checkpoints;
 
     bool empty() const {
         return connections.empty() && entries.empty() && sent.empty() && outgoing.empty() &&
-               sessions.empty() && checkpoints.empty();
+               sessions.empty() && dropped.empty() && resets.empty() && checkpoints.empty();
     }
 };
 
@@ -34,15 +36,15 @@ struct Batch {
 struct FirmState {
     SessionRow session;
     std::uint32_t entries = 0;     // messages of the firm that are in the log
-    std::uint32_t last_number = 0; // the greatest session number among them
+    std::uint32_t last_number = 0; // the greatest number of the session's epoch among them
     std::uint32_t kibibytes = 0;   // of their lines
     std::uint32_t sent = 0;        // messages of the venue
-    std::uint32_t outgoing = 0;    // messages of its session
-    std::uint32_t carried = 0;     // the last message of the venue that one of these carries
+    std::uint32_t kept = 0; // the last number of the session's epoch that something is kept under
+    std::uint32_t carried = 0; // the last message of the venue that its session keeps
 };
 
 // The form of the tables that this gateway reads and writes (schema.sql).
-constexpr std::uint32_t form_of_log = 4;
+constexpr std::uint32_t form_of_log = 5;
 
 // Why a log whose tables are of another form is not gone on with.
 inline std::string another_form(const std::string &log, std::uint32_t form) {
@@ -71,9 +73,17 @@ class LogReader {
     // What was sent to a firm, from a number on, `limit` at most, in order.
     virtual std::vector<Sent> sent(const std::string &firm, std::uint32_t from,
                                    std::uint32_t limit) = 0;
-    // The messages of a firm's session with these numbers, both included, in order.
-    virtual std::vector<Outgoing> outgoing(const std::string &firm, std::uint32_t first,
-                                           std::uint32_t last) = 0;
+    // What a firm's session keeps from a number of an epoch on, `limit` at most, in order, but for
+    // what it has dropped.
+    virtual std::vector<Outgoing> outgoing(const std::string &firm, std::uint32_t epoch,
+                                           std::uint32_t from, std::uint32_t limit) = 0;
+    // What carries the venue's messages behind a number of an epoch, `limit` at most, in order, but
+    // for copies.
+    virtual std::vector<Outgoing> carriers(const std::string &firm, std::uint32_t epoch,
+                                           std::uint32_t behind, std::uint32_t limit) = 0;
+    // How much of the venue's a session keeps behind a number of an epoch.
+    virtual std::uint32_t count_kept(const std::string &firm, std::uint32_t epoch,
+                                     std::uint32_t behind) = 0;
     // The state of every firm that stands anywhere in the log.
     virtual std::map<std::string, FirmState> states() = 0;
     virtual ConnectionState connections() = 0;
@@ -137,13 +147,19 @@ struct PostgresPlace {
 // A schema of a PostgreSQL database, which is made where there is none.
 std::unique_ptr<Database> open_postgres(PostgresPlace place);
 
-// The columns of two tables, in the order in which they are read and written, and a SELECT of them
+// The columns of tables, in the order in which they are read and written, and a SELECT of them
 // with what stands behind FROM and the table.
 constexpr std::string_view entry_columns =
     "place, term, moment, received, firm, number, connection, line, before, hash";
 constexpr std::string_view connection_columns =
     "place, term, moment, event, entry, number, firm, address, certificate, why, left_out, before, "
     "hash";
+constexpr std::string_view outgoing_columns =
+    "firm, epoch, number, sent, copy, dropped, type, moment, bytes";
+constexpr std::string_view session_columns =
+    "firm, epoch, entries_from, logged_on, expected, next, had, first_given, last_given, "
+    "last_kept, "
+    "is_one_free, was_taken, is_reset, reset_at, is_locked, last_logon, is_suspended";
 inline std::string select_entry(std::string_view rest) {
     return fmt::format("SELECT {} FROM entry {}", entry_columns, rest);
 }
@@ -170,6 +186,41 @@ inline std::string select_notes(std::string_view bytes) {
     return fmt::format("SELECT line FROM entry WHERE firm IS NULL AND substr(line, 1, 2) = {} "
                        "ORDER BY place",
                        bytes);
+}
+
+// Of the table `entry`: what each firm has there. Numbers count from its session's last reset on.
+constexpr std::string_view entries_of_firms =
+    "SELECT entry.firm, count(*), coalesce(max(CASE WHEN entry.place > "
+    "coalesce(session.entries_from, 0) THEN entry.number END), 0), sum(length(entry.line)) / 1024 "
+    "FROM entry LEFT JOIN session ON session.firm = entry.firm WHERE entry.firm IS NOT NULL "
+    "GROUP BY entry.firm";
+
+// Of the table `outgoing`: what each session keeps, and carries of the venue's.
+constexpr std::string_view outgoing_of_firms =
+    "SELECT outgoing.firm, coalesce(max(CASE WHEN outgoing.epoch = coalesce(session.epoch, 0) THEN "
+    "outgoing.number END), 0), coalesce(max(outgoing.sent), 0) "
+    "FROM outgoing LEFT JOIN session ON session.firm = outgoing.firm GROUP BY outgoing.firm";
+
+// Of the table `outgoing`.
+inline std::string select_outgoing(std::string_view rest) {
+    return fmt::format("SELECT {} FROM outgoing WHERE {}", outgoing_columns, rest);
+}
+
+// Drops the Rejects of a session, by its parameters firm and epoch.
+inline std::string drop_rejects(std::string_view firm, std::string_view epoch) {
+    return fmt::format("UPDATE outgoing SET dropped = 1 WHERE firm = {} AND epoch = {} AND sent IS "
+                       "NULL AND type IN ('3', 'j')",
+                       firm, epoch);
+}
+
+// Copies what a session keeps of the venue's, by its parameters firm, old epoch and number.
+inline std::string copy_kept(std::string_view firm, std::string_view epoch,
+                             std::string_view behind) {
+    return fmt::format(
+        "INSERT INTO outgoing ({0}) SELECT firm, epoch + 1, row_number() OVER (ORDER "
+        "BY number) + 1, sent, 1, 0, type, moment, bytes FROM outgoing WHERE firm = "
+        "{1} AND epoch = {2} AND number > {3} AND sent IS NOT NULL",
+        outgoing_columns, firm, epoch, behind);
 }
 
 // The texts of schema.sql and of terms.sql.

@@ -52,10 +52,6 @@ void Deliveries::begins_again() {
     log_.flush();
 }
 
-void Deliveries::settled(const std::string &firm) {
-    mailbox_of(firm).settled();
-}
-
 void Deliveries::wait_until_handed_over() {
     for (auto &[firm, mailbox] : mailboxes_) {
         mailbox.wait_until_empty();

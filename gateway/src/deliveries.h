@@ -29,8 +29,6 @@ class Deliveries final : public Outlet {
     void answered(std::uint32_t place) override;
     void begins_again() override;
 
-    // The firm's session settles no more; of any thread.
-    void settled(const std::string &firm);
     // Returns when the sessions have all that was taken; of any thread.
     void wait_until_handed_over();
 

@@ -125,7 +125,7 @@ FirmMetrics::Counts FirmMetrics::counts() const {
 
 bool refuses(const Delivery &delivery) {
     return delivery.type == "3" || delivery.type == "AG" ||
-           (delivery.type == "AI" && has_field(delivery.body, "297=5"));
+           (delivery.type == "AI" && has_field(delivery.wire, "297=5"));
 }
 
 } // namespace gateway

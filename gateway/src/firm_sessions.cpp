@@ -1,7 +1,6 @@
 #include "firm_sessions.h"
 
-#include "patient_reader.h"
-#include "translation.h"
+#include "cancel_of_all.h"
 
 #include <algorithm>
 #include <stdexcept>
@@ -12,31 +11,20 @@ namespace gateway {
 
 namespace {
 
-// Text (58) of the Logout of a firm whose request or quote is not taken.
-constexpr const char *bytes_are_used_up =
-    "this firm has sent all the bytes that it may send in a day: until the operator raises that, "
-    "no "
-    "request and no quote is taken; cancels, declines, hits and passes are";
-constexpr const char *clock_was_set =
-    "the clock of the venue was set: until the operator says that it is right, no request and no "
-    "quote is taken; cancels, declines, hits and passes are";
-
-// A message that begins something, and takes nothing back: a request (R), or a quote (S).
-bool begins_business(const WireMessage &message) {
-    const std::string type = message.value(35);
-    return type == "R" || type == "S";
-}
-
-// `hex FIRM HH:MM:SS.sss DIGITS`
-std::uint64_t bytes_of_line(const std::string &firm, const std::string &frame) {
-    constexpr std::size_t rest = 18;
-    return rest + firm.size() + 2 * frame.size();
+// An entry counts its message, whether its session's row was committed after it or not; and what is
+// kept has its number.
+SessionNumbers numbers_of(const FirmState &state) {
+    SessionNumbers numbers = state.session.numbers;
+    numbers.expected = std::max(numbers.expected, state.last_number + 1);
+    numbers.was_taken = numbers.was_taken || state.last_number > 0;
+    numbers.next = std::max(numbers.next, state.kept + 1);
+    return numbers;
 }
 
 } // namespace
 
-FirmSessions::FirmSessions(VenueDay &day, Log &log, Deliveries &deliveries, const States &states)
-    : day_(day), log_(log), deliveries_(deliveries), doorkeeper_(day.config), rows_(day, log) {
+FirmSessions::FirmSessions(VenueDay &day, Log &log, const States &states)
+    : day_(day), log_(log), doorkeeper_(day.config), rows_(day, log) {
     open_firms(states);
     for (const auto &[name, state] : states) {
         if (!firms_.contains(name)) {
@@ -59,9 +47,11 @@ void FirmSessions::open_firms(const States &states) {
                 .first->second;
         firm.metrics = &day_.metrics.firm(day_.config.venue, name);
         firm.cancel_on_disconnect = own.cancel_on_disconnect;
-        firm.found = found;
         firm.entries = found.entries;
-        firm.last_number = found.last_number;
+        firm.numbers = numbers_of(found);
+        firm.was_left = found.session.logged_on;
+        firm.epoch = found.session.epoch;
+        firm.entries_from = found.session.entries_from;
     }
 }
 
@@ -82,16 +72,12 @@ std::vector<SessionStart> FirmSessions::starts() {
 }
 
 SessionStart FirmSessions::start_of(const std::string &name, const Firm &firm) {
-    const FirmState &state = firm.found;
     SessionStart start;
     start.firm = name;
     start.venue = day_.config.venue;
     start.date = day_.clock.date();
     start.host = this;
-    start.sender = state.outgoing + 1;
-    start.carried = state.sent > 0 ? state.outgoing : 0;
-    // A message that is in the log came, whether the number after it was committed or not.
-    start.target = std::max(state.session.target, state.last_number + 1);
+    start.numbers = firm.numbers;
     return start;
 }
 
@@ -100,9 +86,12 @@ void FirmSessions::end_lost(const std::vector<ConnectionEvent> &connections) {
         rows_.put_end(logon, "its gateway was gone");
     }
     for (auto &[name, firm] : firms_) {
-        if (firm.found.session.logged_on) {
+        if (firm.was_left) {
             cancel_all_of(name, firm);
-            log_.put_logged_on(name, false);
+            firm.was_left = false;
+            SessionEvent event;
+            event.numbers = firm.numbers;
+            put(name, event);
         }
     }
 }
@@ -225,7 +214,6 @@ void FirmSessions::connection_ended(const std::string &name, std::uint32_t conne
 // Of sessions.
 
 void FirmSessions::logged_on(const std::string &name) {
-    log_.put_logged_on(name, true);
     day_.metrics.logged_on();
     Firm &firm = firm_of(name);
     firm.metrics->logged_on(true);
@@ -240,102 +228,15 @@ void FirmSessions::logged_off(const std::string &firm) {
     day_.events->info("logged off firm={}{}", firm, day_.of_venue());
     try {
         cancel_all_of(firm, firm_of(firm));
-        log_.put_logged_on(firm, false);
     } catch (const std::exception &) {
         // The log has told it; the cancel follows at the next start.
     }
-}
-
-void FirmSessions::settled(const std::string &firm) {
-    deliveries_.settled(firm);
-}
-
-int FirmSessions::received(const std::string &name, const WireMessage &message,
-                           const Receipt &receipt) {
-    Firm &firm = firm_of(name);
-    const std::lock_guard lock(firm.mutex);
-    if (!firm.connection || firm.connection->number != receipt.connection) {
-        throw std::runtime_error(
-            fmt::format("{}: a message on a connection that has no Logon", name));
-    }
-    if (message.number <= firm.last_number) {
-        // It came before, and is in the log.
-        return 0;
-    }
-    if (begins_business(message) && !may_begin_business(name, firm)) {
-        return not_taken;
-    }
-    const auto frame = for_venue(message, firm.entries + 1);
-    if (const auto *none = std::get_if<NoFrame>(&frame)) {
-        return none->tag;
-    }
-    // On one connection nothing comes before what came before it, also where the clock is set back.
-    firm.last_receipt = std::max(firm.last_receipt, receipt.at);
-    const Log::Came came{message.number, receipt.connection, firm.last_receipt};
-    const std::string &bytes = std::get<std::string>(frame);
-    log_.append_message(name, came, bytes, Log::Committer::caller);
-    firm.metrics->came(message.value(35), message.value(694));
-    firm.limits.bytes.add(bytes_of_line(name, bytes));
-    ++firm.entries;
-    firm.last_number = message.number;
-    return 0;
 }
 
 void FirmSessions::count_waiting(const Engine &engine) {
     for (auto &[name, firm] : firms_) {
         firm.metrics->waits(engine.waiting_bytes(session_name(day_.config.venue, name)));
     }
-}
-
-bool FirmSessions::may_begin_business(const std::string &name, Firm &firm) {
-    const bool are_used_up = firm.limits.bytes.are_used_up();
-    if (are_used_up && !firm.told_of_bytes.exchange(true)) {
-        day_.events->warn("day's bytes used up firm={}{} bytes={} limit={}", name, day_.of_venue(),
-                          firm.limits.bytes.used(), firm.limits.bytes.limit());
-    }
-    return !are_used_up && day_.clock_is_right;
-}
-
-std::string FirmSessions::why_not_taken(const std::string &name) {
-    return firm_of(name).limits.bytes.are_used_up() ? bytes_are_used_up : clock_was_set;
-}
-
-void FirmSessions::all_received() {
-    log_.commit();
-}
-
-std::uint64_t FirmSessions::store_outgoing(const std::string &firm, std::uint32_t number,
-                                           const std::string &bytes, const Delivery *delivery) {
-    Outgoing row{firm, number, {}, bytes};
-    std::optional<Sent> carried;
-    if (delivery != nullptr) {
-        row.sent = delivery->number;
-        carried = Sent{firm, delivery->number, delivery->place, delivery->frame};
-        day_.metrics.delivered();
-        firm_of(firm).metrics->was_given(*delivery);
-    }
-    return log_.put(std::move(row), std::move(carried));
-}
-
-void FirmSessions::wait_stored(std::uint64_t ticket) {
-    log_.wait(ticket);
-}
-
-void FirmSessions::store_target(const std::string &firm, std::uint32_t target) {
-    log_.put_target(firm, target);
-}
-
-std::vector<StoredMessage> FirmSessions::stored_messages(const std::string &firm,
-                                                         std::uint32_t first, std::uint32_t last) {
-    log_.flush();
-    // A reader of its own: no firm waits for what another is sent again.
-    PatientReader stored(*day_.database, day_.status.stopping());
-    std::vector<StoredMessage> messages;
-    for (Outgoing &row :
-         stored.ask([&](LogReader &log) { return log.outgoing(firm, first, last); })) {
-        messages.push_back({row.number, row.sent.has_value(), std::move(row.bytes)});
-    }
-    return messages;
 }
 
 FirmSessions::Time FirmSessions::was_read(const std::string &firm, std::size_t messages,

@@ -4,7 +4,7 @@
 
 #include "connection_rows.h"
 #include "database.h"
-#include "deliveries.h"
+#include "denials.h"
 #include "doorkeeper.h"
 #include "engine.h"
 #include "firm_limits.h"
@@ -18,6 +18,7 @@
 #include <mutex>
 #include <optional>
 #include <string>
+#include <string_view>
 #include <vector>
 
 namespace gateway {
@@ -30,7 +31,7 @@ class FirmSessions final : private SessionHost {
 
     // The states are those of the log. Throws std::runtime_error where it has a firm that the venue
     // has not.
-    FirmSessions(VenueDay &day, Log &log, Deliveries &deliveries, const States &states);
+    FirmSessions(VenueDay &day, Log &log, const States &states);
     FirmSessions(const FirmSessions &) = delete;
     FirmSessions &operator=(const FirmSessions &) = delete;
 
@@ -75,7 +76,14 @@ class FirmSessions final : private SessionHost {
         FirmLimits limits;
         std::atomic<bool> told_of_bytes{false};
         FirmMetrics *metrics = nullptr;
-        FirmState found; // as the log had it at the start
+        // The gateway before left it logged on: so it is in the log until its quotes are cancelled.
+        std::atomic<bool> was_left{false};
+
+        // Of its session, one event at a time.
+        SessionNumbers numbers;
+        std::atomic<std::uint32_t> epoch{0};
+        std::uint32_t entries_from = 0;
+        Denials denials;
 
         std::atomic<std::uint32_t> entries{
             0}; // messages of the firm in the log, with a number each
@@ -92,7 +100,7 @@ class FirmSessions final : private SessionHost {
 
         std::mutex mutex;                 // of what follows, and over changes of entries
         std::string cancel_on_disconnect; // a trader, or empty
-        std::uint32_t last_number = 0;    // the session's, of the last message in the log
+        Log::Turn turn;                   // at the log, of a message that waited
         // The row of the Logon of the connection that it has.
         std::optional<ConnectionEvent> connection;
         std::chrono::system_clock::time_point last_receipt; // on that one
@@ -102,7 +110,9 @@ class FirmSessions final : private SessionHost {
     void open_firms(const States &states);
     Firm &firm_of(const std::string &name);
     SessionStart start_of(const std::string &name, const Firm &firm);
-    bool may_begin_business(const std::string &name, Firm &firm);
+    std::optional<Taken> denied(const std::string &name, Firm &firm, std::string_view frame);
+    void tell_bytes_used_up(const std::string &name, Firm &firm);
+    static SessionRow row_of(const std::string &name, Firm &firm, const SessionEvent &event);
     void cancel_all_of(const std::string &name, Firm &firm);
 
     // SessionHost
@@ -115,23 +125,23 @@ class FirmSessions final : private SessionHost {
                           const std::string &why) override;
     void logged_on(const std::string &firm) override;
     void logged_off(const std::string &firm) override;
-    void settled(const std::string &firm) override;
-    int received(const std::string &firm, const WireMessage &message,
-                 const Receipt &receipt) override;
-    std::string why_not_taken(const std::string &firm) override;
-    void all_received() override;
-    std::uint64_t store_outgoing(const std::string &firm, std::uint32_t number,
-                                 const std::string &bytes, const Delivery *delivery) override;
+    std::uint64_t put(const std::string &firm, const SessionEvent &event) override;
     void wait_stored(std::uint64_t ticket) override;
-    void store_target(const std::string &firm, std::uint32_t target) override;
-    std::vector<StoredMessage> stored_messages(const std::string &firm, std::uint32_t first,
-                                               std::uint32_t last) override;
+    Taken take(const std::string &firm, const SessionInput &input,
+               const SessionEvent &event) override;
+    void wait_for_turn(const std::string &firm, const Receipt &receipt) override;
+    void give_turn_back(const std::string &firm) override;
+    void all_received() override;
+    std::vector<KeptMessage> kept_messages(const std::string &firm, std::uint32_t from,
+                                           std::size_t limit) override;
+    std::uint64_t count_kept(const std::string &firm, std::uint32_t behind) override;
+    void put_reset(const std::string &firm, std::uint32_t behind,
+                   const SessionEvent &event) override;
     Time was_read(const std::string &firm, std::size_t messages, std::size_t bytes) override;
     Time was_sent_again(const std::string &firm, std::size_t messages) override;
 
     VenueDay &day_;
     Log &log_;
-    Deliveries &deliveries_;
     Doorkeeper doorkeeper_;
     ConnectionRows rows_;
     std::map<std::string, Firm> firms_;

@@ -1,7 +1,8 @@
 #include "follower.h"
 
+#include "frame.h"
 #include "log_watch.h"
-#include "translation.h"
+#include "wire.h"
 
 #include <stdexcept>
 #include <utility>
@@ -187,23 +188,34 @@ void Follower::venue_starts() {
 void Follower::venue_gave(std::uint32_t place, std::uint32_t number, std::string name,
                           std::string frame, std::optional<VenueNote> note) {
     day_.open_requests.was_given(name, frame);
-    ForWire message = for_wire(frame, number);
-    if (note) {
-        add_told(message, told_by(*note, name, message.number, reasons_, day_.config.firms.date));
-    }
-    if (!comparison_.is_new(name, message.number, frame, message.body)) {
+    Delivery delivery;
+    delivery.number = number_of(value_in(frame, "34")).value_or(0);
+    delivery.wire = on_the_wire(name, delivery.number, number, frame, note);
+    if (!comparison_.is_new(name, delivery.number, frame, delivery.wire)) {
         return;
     }
-    Delivery delivery;
     delivery.session = session_name(day_.config.venue, name);
     delivery.firm = std::move(name);
-    delivery.number = message.number;
     delivery.place = place;
+    delivery.type = value_in(frame, "35");
     delivery.frame = std::move(frame);
-    delivery.type = std::move(message.type);
-    delivery.body = std::move(message.body);
     delivery.given = std::chrono::steady_clock::now();
     outlet_.load()->take(std::move(delivery));
+}
+
+// A message of the venue as its session keeps it, which answers the session's message `refers_to`.
+std::string Follower::on_the_wire(const std::string &firm, std::uint32_t number,
+                                  std::uint32_t refers_to, const std::string &frame,
+                                  const std::optional<VenueNote> &note) const {
+    if (!note) {
+        return for_wire(frame, number, refers_to, {});
+    }
+    const std::string field = told_by(*note, firm, number, reasons_, day_.config.firms.date);
+    const std::size_t equals = field.find('=');
+    const std::string_view value = std::string_view(field).substr(equals + 1);
+    return for_wire(
+        frame, number, refers_to,
+        {number_of(field.substr(0, equals)).value_or(0), value.substr(0, value.find(soh))});
 }
 
 void Follower::venue_pauses() {

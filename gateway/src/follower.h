@@ -75,6 +75,8 @@ class Follower final : private VenueListener {
     bool may_take_over();
     bool read_on(LogReader &log);
     std::unique_lock<std::mutex> all_answered(const std::function<void()> &meanwhile);
+    std::string on_the_wire(const std::string &firm, std::uint32_t number, std::uint32_t refers_to,
+                            const std::string &frame, const std::optional<VenueNote> &note) const;
 
     // VenueListener
     void venue_starts() override;

@@ -34,6 +34,18 @@ std::optional<std::string_view> value_of(const std::vector<Field> &fields, std::
     return std::nullopt;
 }
 
+std::string_view value_in(std::string_view frame, std::string_view tag) {
+    for (std::size_t at = frame.find(soh); at != std::string_view::npos;
+         at = frame.find(soh, at + 1)) {
+        const std::string_view rest = frame.substr(at + 1);
+        if (rest.size() > tag.size() && rest[tag.size()] == '=' && rest.starts_with(tag)) {
+            const std::string_view value = rest.substr(tag.size() + 1);
+            return value.substr(0, value.find(soh));
+        }
+    }
+    return {};
+}
+
 std::string framed(std::string_view body) {
     std::string frame = fmt::format("8=FIXT.1.1{}9={}{}", soh, body.size(), soh);
     frame += body;

@@ -28,6 +28,10 @@ std::optional<std::vector<Field>> fields_of(std::string_view message);
 // The first value of a tag among the fields, or nothing.
 std::optional<std::string_view> value_of(const std::vector<Field> &fields, std::string_view tag);
 
+// The value of the first field with this tag, in a frame that the gateway or the venue has made;
+// empty without one. BeginString (8) is not found.
+std::string_view value_in(std::string_view frame, std::string_view tag);
+
 // A body in its frame: 8, 9, the body, 10.
 std::string framed(std::string_view body);
 

@@ -2,6 +2,7 @@
 
 #include "begin_day.h"
 #include "certificate_end.h"
+#include "version.h"
 
 #include <future>
 
@@ -34,6 +35,9 @@ Gateway::~Gateway() {
 }
 
 void Gateway::start() {
+    if (!are_sessions_proved()) {
+        events_->warn("sessions are not proved: this gateway was built with their model");
+    }
     follow();
     if (!status_.stopping().stop_requested()) {
         listen();

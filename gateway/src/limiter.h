@@ -1,4 +1,4 @@
-// How often something is told that anybody may cause. Plain C++14: gateway/fix may use it too.
+// How often something is told that anybody may cause. Plain C++: gateway/session may use it too.
 #ifndef GATEWAY_LIMITER_H
 #define GATEWAY_LIMITER_H
 

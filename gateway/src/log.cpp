@@ -45,8 +45,7 @@ Log::Log(Database &database, Committed &committed, DayClock &clock, Metrics &met
          std::function<void(const std::string &)> failed)
     : entries_(committed), clock_(clock), metrics_(metrics), failed_(std::move(failed)),
       noted_(std::move(start.noted)), writer_(database.writer()), limit_(start.waiting),
-      shares_(start.shares), sessions_(std::move(start.sessions)),
-      next_place_(start.last.place + 1), taken_place_(start.last.place),
+      shares_(start.shares), next_place_(start.last.place + 1), taken_place_(start.last.place),
       taken_moment_(ExactMoment::end_of(moment_of(start.last.moment).value_or(Moment{}))),
       committed_place_(start.last.place),
       last_event_(start.connections.last ? start.connections.last->place : 0),
@@ -86,33 +85,42 @@ std::uint32_t Log::put_connection(ConnectionEvent event) {
     return is_logon ? ++last_connection_ : 0;
 }
 
-Log::Ticket Log::put(Outgoing outgoing, std::optional<Sent> carried) {
+Log::Ticket Log::put(SessionChange change) {
     std::unique_lock lock(mutex_);
-    wait_for_room(lock);
-    if (carried) {
-        filling_.rows.sent.push_back(std::move(*carried));
+    if (change.kept) {
+        wait_for_room(lock);
     }
-    filling_.rows.outgoing.push_back(std::move(outgoing));
-    if (++filling_.size == many) {
+    throw_if_failed();
+    if (change.drops_rejects) {
+        drop({change.row.firm, change.row.epoch});
+    }
+    if (change.carried) {
+        filling_.rows.sent.push_back(std::move(*change.carried));
+    }
+    if (change.kept) {
+        filling_.has_own = filling_.has_own || !change.kept->sent;
+        filling_.rows.outgoing.push_back(std::move(*change.kept));
+        ++filling_.size;
+    }
+    if (change.reset) {
+        filling_.rows.resets.push_back(std::move(*change.reset));
+    }
+    filling_.rows.sessions[change.row.firm] = std::move(change.row);
+    if (filling_.size == many) {
         work_.notify_one();
     }
     return filling_ticket_;
 }
 
-void Log::put_target(const std::string &firm, std::uint32_t target) {
-    const std::lock_guard lock(mutex_);
-    SessionRow &row = sessions_[firm];
-    row.firm = firm;
-    row.target = target;
-    filling_.rows.sessions[firm] = row;
-}
-
-void Log::put_logged_on(const std::string &firm, bool logged_on) {
-    const std::lock_guard lock(mutex_);
-    SessionRow &row = sessions_[firm];
-    row.firm = firm;
-    row.logged_on = logged_on;
-    filling_.rows.sessions[firm] = row;
+// Those that were put before, here and in the database. The lock is held.
+void Log::drop(DroppedRejects rejects) {
+    for (Outgoing &row : filling_.rows.outgoing) {
+        const bool is_reject = !row.sent && (row.type == "3" || row.type == "j");
+        if (is_reject && row.firm == rejects.firm && row.epoch == rejects.epoch) {
+            row.is_dropped = true;
+        }
+    }
+    filling_.rows.dropped.push_back(std::move(rejects));
 }
 
 void Log::put_checkpoint(const Checkpoint &checkpoint) {
@@ -253,7 +261,8 @@ void Log::use_lull(std::unique_lock<std::mutex> &lock, int looks) {
 
 Log::Filling Log::take(bool all) {
     const auto now = std::chrono::steady_clock::now();
-    if (all || urgent_ || now - whole_at_ >= whole_at_least || filling_.size >= many) {
+    if (all || urgent_ || filling_.has_own || now - whole_at_ >= whole_at_least ||
+        filling_.size >= many) {
         urgent_ = false;
         whole_at_ = now;
         ++filling_ticket_;

@@ -18,6 +18,7 @@
 #include <mutex>
 #include <stop_token>
 #include <thread>
+#include <utility>
 
 namespace gateway {
 
@@ -36,6 +37,13 @@ class Log {
   public:
     // The number of a batch: what wait() waits for.
     using Ticket = std::uint64_t;
+    // A message that has to wait.
+    struct Waiter {
+        std::string firm;
+        ExactMoment at; // of its receipt
+        bool is_firms = true;
+        bool has_turn = false; // it is about to be put there
+    };
 
     struct Start {
         Entry last; // the last entry of the log
@@ -43,8 +51,7 @@ class Log {
         std::uint32_t term = 0; // in which this gateway writes
         // Of each batch. Without one nothing is sealed, and no start takes the log.
         std::optional<Sealer> sealer;
-        std::uint32_t seals = 0; // the last one's number
-        std::map<std::string, SessionRow> sessions;
+        std::uint32_t seals = 0;    // the last one's number
         std::size_t waiting = 4096; // rows that may wait
         ShareLimits shares;
         // Is told the line of each note that is committed, by the thread that committed it, which
@@ -72,10 +79,35 @@ class Log {
         std::chrono::system_clock::time_point at; // of its receipt
     };
 
+    // A turn of a firm's message at the log, which waited for it: kept until the message is put
+    // there, or this ends.
+    class Turn {
+      public:
+        Turn() = default;
+        Turn(Log &log, std::list<Waiter>::iterator own) : log_(&log), own_(own) {}
+        ~Turn() { give_back(); }
+        Turn(Turn &&other) noexcept : log_(std::exchange(other.log_, nullptr)), own_(other.own_) {}
+        Turn &operator=(Turn &&other) noexcept;
+
+        bool is_held() const { return log_ != nullptr; }
+        void give_back();
+
+      private:
+        friend class Log;
+        Log *log_ = nullptr;
+        std::list<Waiter>::iterator own_;
+    };
+
     // A message of a firm: its place and its moment are given here. came is nothing where the
     // gateway speaks for the firm: that waits for no share.
     Ticket append_message(const std::string &firm, const std::optional<Came> &came,
                           std::string_view frame, Committer committer = Committer::thread);
+    // The same of a message that its caller commits, with the row of its session; but nothing, and
+    // nothing was done, where it would have to wait: then wait_for_turn(), and come with the turn.
+    std::optional<Ticket> append_at_once(const std::string &firm, const Came &came,
+                                         std::string_view frame, SessionRow session, Turn turn);
+    // Waits until a message that was received then may be put there.
+    Turn wait_for_turn(const std::string &firm, std::chrono::system_clock::time_point received);
     // Commits the entries that wait; where another thread is committing they are left to the log's.
     void commit();
     // A sweep of the clock for a deadline, at the moment of now, if this place is the last one and
@@ -102,10 +134,16 @@ class Log {
     // one whose Logon was accepted its number is given, too, and returned: it is on disk no later
     // than the first entry that names it. Waits for nothing.
     std::uint32_t put_connection(ConnectionEvent event);
-    // A message of a session, with the venue's message that it carries.
-    Ticket put(Outgoing outgoing, std::optional<Sent> carried);
-    void put_target(const std::string &firm, std::uint32_t target);
-    void put_logged_on(const std::string &firm, bool logged_on);
+    // What an event of a session changes, in one transaction: its row; what it keeps, with the
+    // venue's message that this carries; and the Rejects that it drops first.
+    struct SessionChange {
+        SessionRow row;
+        std::optional<Outgoing> kept;
+        std::optional<Sent> carried;
+        bool drops_rejects = false;
+        std::optional<SessionReset> reset;
+    };
+    Ticket put(SessionChange change);
 
     // A signature of what is committed. Waits for nothing.
     void put_checkpoint(const Checkpoint &checkpoint);
@@ -139,19 +177,20 @@ class Log {
         std::vector<std::chrono::steady_clock::time_point> received;
         std::size_t size = 0;
         bool is_whole = true; // not its entries alone
-    };
-    // A message that has to wait.
-    struct Waiter {
-        const std::string &firm;
-        ExactMoment at; // of its receipt
-        bool is_firms = true;
+        // A session keeps something of its own: no entry is committed without that, since it may be
+        // the answer to a message before.
+        bool has_own = false;
     };
     using Waiters = std::list<Waiter>;
 
+    Arrival arrival_of(const std::string &firm, const std::optional<Came> &came,
+                       std::string_view frame);
     // The lock is held.
     Ticket append_here(Arrival arrival, Committer committer);
-    // Waits for its turn; the lock is held before and after.
-    void wait_for_turn(std::unique_lock<std::mutex> &lock, const Waiter &waiter);
+    // Waits for its turn, which ends with this; the lock is held before and after.
+    void wait_until_it_may(std::unique_lock<std::mutex> &lock, Waiters::iterator own);
+    void leave(Waiters::iterator own);
+    void drop(DroppedRejects rejects);
     bool may_go(Waiters::const_iterator waiter) const;
     bool has_share(const Waiter &waiter) const;
     bool is_held(const Waiter &waiter) const;
@@ -207,7 +246,6 @@ class Log {
     Ticket filling_ticket_ = 1;
     Ticket committed_ = 0;
     std::string failure_;
-    std::map<std::string, SessionRow> sessions_;
     std::uint32_t next_place_;  // behind the arrivals
     std::uint32_t taken_place_; // the last one that was given
     ExactMoment taken_moment_;  // and its moment, or a later one

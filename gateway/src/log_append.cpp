@@ -10,8 +10,8 @@
 
 namespace gateway {
 
-Log::Ticket Log::append_message(const std::string &firm, const std::optional<Came> &came,
-                                std::string_view frame, Committer committer) {
+Arrival Log::arrival_of(const std::string &firm, const std::optional<Came> &came,
+                        std::string_view frame) {
     Arrival arrival;
     arrival.entry.firm = firm;
     arrival.at = came ? clock_.moment_at(came->at) : clock_.exact_now();
@@ -22,30 +22,92 @@ Log::Ticket Log::append_message(const std::string &firm, const std::optional<Cam
     arrival.verb = fmt::format("hex {} ", firm);
     arrival.rest = fmt::format(" {}", hexadecimal(frame));
     arrival.received = std::chrono::steady_clock::now();
+    return arrival;
+}
+
+Log::Ticket Log::append_message(const std::string &firm, const std::optional<Came> &came,
+                                std::string_view frame, Committer committer) {
+    Arrival arrival = arrival_of(firm, came, frame);
     std::unique_lock lock(mutex_);
-    wait_for_turn(lock, {firm, arrival.at, came.has_value()});
+    const auto own = waiters_.insert(waiters_.end(), Waiter{firm, arrival.at, came.has_value()});
+    wait_until_it_may(lock, own);
+    leave(own);
     throw_if_failed();
     shares_.put(firm);
     return append_here(std::move(arrival), committer);
 }
 
-void Log::wait_for_turn(std::unique_lock<std::mutex> &lock, const Waiter &waiter) {
-    const auto own = waiters_.insert(waiters_.end(), waiter);
+std::optional<Log::Ticket> Log::append_at_once(const std::string &firm, const Came &came,
+                                               std::string_view frame, SessionRow session,
+                                               Turn turn) {
+    Arrival arrival = arrival_of(firm, came, frame);
+    const std::lock_guard lock(mutex_);
+    throw_if_failed();
+    auto own = turn.own_;
+    if (!turn.is_held()) {
+        own = waiters_.insert(waiters_.end(), Waiter{firm, arrival.at});
+        if (!may_go(own)) {
+            // What this thread has not committed yet is not to wait with it.
+            work_.notify_one();
+            waiters_.erase(own);
+            return std::nullopt;
+        }
+    }
+    turn.log_ = nullptr;
+    leave(own);
+    shares_.put(firm);
+    filling_.rows.sessions[firm] = std::move(session);
+    return append_here(std::move(arrival), Committer::caller);
+}
+
+void Log::wait_until_it_may(std::unique_lock<std::mutex> &lock, Waiters::iterator own) {
     if (!may_go(own)) {
         // What this thread has not committed yet is not to wait with it.
         work_.notify_one();
     }
     room_.wait(lock, [&] { return may_go(own) || !failure_.empty(); });
+}
+
+void Log::leave(Waiters::iterator own) {
     waiters_.erase(own);
     if (!waiters_.empty()) {
         room_.notify_all();
     }
 }
 
+Log::Turn Log::wait_for_turn(const std::string &firm,
+                             std::chrono::system_clock::time_point received) {
+    const ExactMoment at = clock_.moment_at(received);
+    std::unique_lock lock(mutex_);
+    const auto own = waiters_.insert(waiters_.end(), Waiter{firm, at});
+    wait_until_it_may(lock, own);
+    if (!failure_.empty()) {
+        leave(own);
+        throw_if_failed();
+    }
+    own->has_turn = true;
+    room_.notify_all();
+    return Turn(*this, own);
+}
+
+void Log::Turn::give_back() {
+    if (Log *const log = std::exchange(log_, nullptr)) {
+        const std::lock_guard lock(log->mutex_);
+        log->leave(own_);
+    }
+}
+
+Log::Turn &Log::Turn::operator=(Turn &&other) noexcept {
+    give_back();
+    log_ = std::exchange(other.log_, nullptr);
+    own_ = other.own_;
+    return *this;
+}
+
 // One that has waited longer goes first, if it may.
 bool Log::may_go(Waiters::const_iterator waiter) const {
     const auto goes_first = [this](const Waiter &other) {
-        return !is_held(other) && has_share(other);
+        return !other.has_turn && !is_held(other) && has_share(other);
     };
     return has_room() && goes_first(*waiter) && std::none_of(waiters_.begin(), waiter, goes_first);
 }

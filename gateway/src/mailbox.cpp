@@ -1,6 +1,5 @@
 #include "mailbox.h"
 
-#include <chrono>
 #include <stdexcept>
 #include <utility>
 
@@ -44,10 +43,10 @@ void Mailbox::put_now(Delivery delivery) {
 // The lock is held. The log may lack what was being handed over when the venue began again.
 bool Mailbox::was_handed_over(const Delivery &delivery) const {
     if (delivery.number == last_number_ &&
-        (delivery.frame != last_frame_ || delivery.body != last_body_)) {
+        (delivery.frame != last_frame_ || delivery.wire != last_wire_)) {
         throw std::runtime_error(
             fmt::format("{}'s message {} is not what it was sent: the venue gives {}, and gave {}",
-                        delivery.firm, delivery.number, delivery.body, last_body_));
+                        delivery.firm, delivery.number, delivery.wire, last_wire_));
     }
     return delivery.number <= last_number_;
 }
@@ -70,11 +69,6 @@ void Mailbox::run(const std::stop_token &stop) {
         if (stop.stop_requested()) {
             return;
         }
-        wait_while_settling(lock, stop);
-        if (waiting_.empty() || handing_over_) {
-            // The venue began again meanwhile.
-            continue;
-        }
         const Delivery delivery = std::move(waiting_.front());
         waiting_.pop_front();
         hand_over(lock, delivery, [&] {
@@ -89,7 +83,7 @@ bool Mailbox::hand_over(std::unique_lock<std::mutex> &lock, const Delivery &deli
     handing_over_ = true;
     const std::uint32_t number_before = std::exchange(last_number_, delivery.number);
     std::string frame_before = std::exchange(last_frame_, delivery.frame);
-    std::string body_before = std::exchange(last_body_, delivery.body);
+    std::string wire_before = std::exchange(last_wire_, delivery.wire);
     lock.unlock();
     bool done = false;
     std::string fault;
@@ -103,7 +97,7 @@ bool Mailbox::hand_over(std::unique_lock<std::mutex> &lock, const Delivery &deli
     if (!done) {
         last_number_ = number_before;
         last_frame_ = std::move(frame_before);
-        last_body_ = std::move(body_before);
+        last_wire_ = std::move(wire_before);
     }
     broken_ = !fault.empty();
     went_.notify_all();
@@ -116,22 +110,6 @@ bool Mailbox::hand_over(std::unique_lock<std::mutex> &lock, const Delivery &deli
         lock.lock();
     }
     return done;
-}
-
-void Mailbox::settled() {
-    const std::lock_guard lock(mutex_);
-    came_.notify_one();
-}
-
-void Mailbox::wait_while_settling(std::unique_lock<std::mutex> &lock, const std::stop_token &stop) {
-    const auto is_over = [this] {
-        return std::chrono::steady_clock::now() >= engine_.settles_until(session_) ||
-               waiting_.size() >= limit_ / 2;
-    };
-    // It may be put off meanwhile.
-    while (!is_over() && !stop.stop_requested()) {
-        came_.wait_until(lock, stop, engine_.settles_until(session_), is_over);
-    }
 }
 
 } // namespace gateway

@@ -35,16 +35,12 @@ class Mailbox {
     // that is being handed over is known when it comes again.
     void begin_again();
 
-    // The session settles no more.
-    void settled();
-
     // Returns when all that was put is handed over.
     void wait_until_empty();
 
   private:
     void run(const std::stop_token &stop);
     bool was_handed_over(const Delivery &delivery) const;
-    void wait_while_settling(std::unique_lock<std::mutex> &lock, const std::stop_token &stop);
     // Without the lock, which is held before and after. What `deliver` returned, or false where it
     // failed.
     bool hand_over(std::unique_lock<std::mutex> &lock, const Delivery &delivery,
@@ -61,7 +57,7 @@ class Mailbox {
     std::deque<Delivery> waiting_;
     std::uint32_t last_number_ = 0; // of what was handed over, or is
     std::string last_frame_;        // that message, as the venue gave it
-    std::string last_body_;         // and as it goes to the firm
+    std::string last_wire_;         // and as it goes to the firm
     bool handing_over_ = false;
     bool broken_ = false;
     std::jthread thread_;

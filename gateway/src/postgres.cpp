@@ -117,9 +117,15 @@ class WritingConnection {
         add_connections(work, batch.connections);
         add_entries(work, batch.entries);
         add_sent(work, batch.sent);
+        for (const DroppedRejects &row : batch.dropped) {
+            work.exec_prepared("drop", row.firm, row.epoch);
+        }
         add_outgoing(work, batch.outgoing);
+        for (const SessionReset &row : batch.resets) {
+            work.exec_prepared("reset", row.firm, row.epoch, row.behind);
+        }
         for (const auto &[firm, row] : batch.sessions) {
-            work.exec_prepared("session", firm, row.target, row.logged_on ? 1 : 0);
+            put_session(work, row);
         }
         for (const Checkpoint &row : batch.checkpoints) {
             work.exec_prepared("checkpoint", row.number, row.at.term, row.at.place, row.at.event,
@@ -169,10 +175,13 @@ class WritingConnection {
             throw std::runtime_error(
                 another_form(schema, form.empty() ? 0 : number_of(form[0][0])));
         }
-        connection_->prepare("session",
-                             "INSERT INTO session (firm, target, logged_on) VALUES ($1, $2, $3) "
-                             "ON CONFLICT (firm) DO UPDATE SET target = excluded.target, "
-                             "logged_on = excluded.logged_on");
+        connection_->prepare(
+            "session",
+            fmt::format("INSERT INTO session ({}) VALUES ($1, $2, $3, $4, $5, $6, $7, $8, $9, $10, "
+                        "$11, $12, $13, $14, $15, $16, $17) ON CONFLICT (firm) DO UPDATE SET {}",
+                        session_columns, set_session()));
+        connection_->prepare("drop", drop_rejects("$1", "$2"));
+        connection_->prepare("reset", copy_kept("$1", "$2", "$3"));
         connection_->prepare("checkpoint", "INSERT INTO checkpoint (number, term, place, event, "
                                            "signature) VALUES ($1, $2, $3, $4, $5)");
         connection_->prepare("seal and speak",
@@ -289,12 +298,37 @@ class WritingConnection {
         if (outgoing.empty()) {
             return;
         }
-        Rows rows(work, "outgoing", {"firm", "number", "sent", "bytes"});
+        Rows rows(
+            work, "outgoing",
+            {"firm", "epoch", "number", "sent", "copy", "dropped", "type", "moment", "bytes"});
         for (const Outgoing &row : outgoing) {
             const Nullable sent(row.sent);
-            rows.add(row.firm, row.number, sent.text(), bytea(row.bytes));
+            rows.add(row.firm, row.epoch, row.number, sent.text(), row.is_copy ? 1 : 0,
+                     row.is_dropped ? 1 : 0, row.type, row.moment, bytea(row.bytes));
         }
         rows.end();
+    }
+
+    static void put_session(pqxx::work &work, const SessionRow &row) {
+        const SessionNumbers &numbers = row.numbers;
+        const auto mark = [](bool is_set) { return is_set ? 1 : 0; };
+        work.exec_prepared("session", row.firm, row.epoch, row.entries_from, mark(row.logged_on),
+                           numbers.expected, numbers.next, numbers.had, numbers.first_given,
+                           numbers.last_given, numbers.last_kept, mark(numbers.is_one_free),
+                           mark(numbers.was_taken), mark(numbers.is_reset), numbers.reset_at,
+                           mark(numbers.is_locked), numbers.last_logon, mark(numbers.is_suspended));
+    }
+
+    // `COLUMN = excluded.COLUMN` of each but the first.
+    static std::string set_session() {
+        std::string set;
+        std::string_view columns = session_columns;
+        while (columns.find(", ") != std::string_view::npos) {
+            columns.remove_prefix(columns.find(", ") + 2);
+            const std::string_view column = columns.substr(0, columns.find(','));
+            set += fmt::format("{}{} = excluded.{}", set.empty() ? "" : ", ", column, column);
+        }
+        return set;
     }
 
     std::unique_ptr<pqxx::connection> connection_;

@@ -66,6 +66,32 @@ Position read_position(const pqxx::row &row) {
             digest_of(row[5])};
 }
 
+Outgoing read_outgoing(const pqxx::row &row) {
+    return {row[0].as<std::string>(), number_of(row[1]),        number_of(row[2]),
+            number_or_null(row[3]),   number_of(row[4]) != 0,   number_of(row[5]) != 0,
+            row[6].as<std::string>(), row[7].as<std::string>(), bytes_of(row[8])};
+}
+
+SessionRow read_session(const pqxx::row &row) {
+    SessionRow session{
+        row[0].as<std::string>(), number_of(row[1]), number_of(row[2]), number_of(row[3]) != 0, {}};
+    SessionNumbers &numbers = session.numbers;
+    numbers.expected = number_of(row[4]);
+    numbers.next = number_of(row[5]);
+    numbers.had = number_of(row[6]);
+    numbers.first_given = number_of(row[7]);
+    numbers.last_given = number_of(row[8]);
+    numbers.last_kept = number_of(row[9]);
+    numbers.is_one_free = number_of(row[10]) != 0;
+    numbers.was_taken = number_of(row[11]) != 0;
+    numbers.is_reset = number_of(row[12]) != 0;
+    numbers.reset_at = row[13].as<std::uint64_t>();
+    numbers.is_locked = number_of(row[14]) != 0;
+    numbers.last_logon = row[15].as<std::uint64_t>();
+    numbers.is_suspended = number_of(row[16]) != 0;
+    return session;
+}
+
 class PostgresReader final : public LogReader {
   public:
     PostgresReader(const std::string &connection, const std::string &schema)
@@ -78,8 +104,14 @@ class PostgresReader final : public LogReader {
         connection_->prepare("sent", "SELECT number, place, bytes FROM sent "
                                      "WHERE firm = $1 AND number >= $2 ORDER BY number LIMIT $3");
         connection_->prepare("outgoing",
-                             "SELECT number, sent, bytes FROM outgoing "
-                             "WHERE firm = $1 AND number BETWEEN $2 AND $3 ORDER BY number");
+                             select_outgoing("firm = $1 AND epoch = $2 AND number >= $3 AND "
+                                             "dropped = 0 ORDER BY number LIMIT $4"));
+        connection_->prepare("carriers",
+                             select_outgoing("firm = $1 AND (epoch, number) > ($2, $3) AND sent IS "
+                                             "NOT NULL AND copy = 0 ORDER BY epoch, number LIMIT "
+                                             "$4"));
+        connection_->prepare("kept", "SELECT count(*) FROM outgoing WHERE firm = $1 AND epoch = $2 "
+                                     "AND number > $3 AND sent IS NOT NULL");
     }
 
     std::vector<Entry> entries(std::uint32_t from, std::uint32_t limit) override {
@@ -113,19 +145,21 @@ class PostgresReader final : public LogReader {
         });
     }
 
-    std::vector<Outgoing> outgoing(const std::string &firm, std::uint32_t first,
-                                   std::uint32_t last) override {
-        return told("outgoing", [&] {
+    std::vector<Outgoing> outgoing(const std::string &firm, std::uint32_t epoch, std::uint32_t from,
+                                   std::uint32_t limit) override {
+        return outgoing_by("outgoing", firm, epoch, from, limit);
+    }
+
+    std::vector<Outgoing> carriers(const std::string &firm, std::uint32_t epoch,
+                                   std::uint32_t behind, std::uint32_t limit) override {
+        return outgoing_by("carriers", firm, epoch, behind, limit);
+    }
+
+    std::uint32_t count_kept(const std::string &firm, std::uint32_t epoch,
+                             std::uint32_t behind) override {
+        return told("what is kept", [&] {
             pqxx::nontransaction work(*connection_);
-            std::vector<Outgoing> all;
-            for (const pqxx::row &row : work.exec_prepared("outgoing", firm, first, last)) {
-                Outgoing message{firm, number_of(row[0]), {}, bytes_of(row[2])};
-                if (!row[1].is_null()) {
-                    message.sent = number_of(row[1]);
-                }
-                all.push_back(std::move(message));
-            }
-            return all;
+            return number_of(work.exec_prepared("kept", firm, epoch, behind)[0][0]);
         });
     }
 
@@ -133,14 +167,11 @@ class PostgresReader final : public LogReader {
         return told("the state of firms", [&] {
             pqxx::nontransaction work(*connection_);
             std::map<std::string, FirmState> all;
-            for (const pqxx::row &row : work.exec("SELECT firm, target, logged_on FROM session")) {
-                const auto firm = row[0].as<std::string>();
-                all[firm].session = {firm, number_of(row[1]), number_of(row[2]) != 0};
-            }
             for (const pqxx::row &row :
-                 work.exec("SELECT firm, count(*), coalesce(max(number), 0), "
-                           "sum(length(line)) / 1024 FROM entry "
-                           "WHERE firm IS NOT NULL GROUP BY firm")) {
+                 work.exec(fmt::format("SELECT {} FROM session", session_columns))) {
+                all[row[0].as<std::string>()].session = read_session(row);
+            }
+            for (const pqxx::row &row : work.exec(std::string(entries_of_firms))) {
                 FirmState &state = all[row[0].as<std::string>()];
                 state.entries = number_of(row[1]);
                 state.last_number = number_of(row[2]);
@@ -150,11 +181,9 @@ class PostgresReader final : public LogReader {
                  work.exec("SELECT firm, max(number) FROM sent GROUP BY firm")) {
                 all[row[0].as<std::string>()].sent = number_of(row[1]);
             }
-            for (const pqxx::row &row :
-                 work.exec("SELECT firm, max(number), coalesce(max(sent), 0) "
-                           "FROM outgoing GROUP BY firm")) {
+            for (const pqxx::row &row : work.exec(std::string(outgoing_of_firms))) {
                 FirmState &state = all[row[0].as<std::string>()];
-                state.outgoing = number_of(row[1]);
+                state.kept = number_of(row[1]);
                 state.carried = number_of(row[2]);
             }
             return all;
@@ -214,6 +243,19 @@ class PostgresReader final : public LogReader {
     }
 
   private:
+    std::vector<Outgoing> outgoing_by(const char *statement, const std::string &firm,
+                                      std::uint32_t epoch, std::uint32_t number,
+                                      std::uint32_t limit) {
+        return told(statement, [&] {
+            pqxx::nontransaction work(*connection_);
+            std::vector<Outgoing> all;
+            for (const pqxx::row &row : work.exec_prepared(statement, firm, epoch, number, limit)) {
+                all.push_back(read_outgoing(row));
+            }
+            return all;
+        });
+    }
+
     std::unique_ptr<pqxx::connection> connection_;
 };
 

@@ -3,6 +3,7 @@
 #define GATEWAY_RECORDS_H
 
 #include "reasons.h"
+#include "session_numbers.h"
 
 #include <array>
 #include <cstdint>
@@ -62,17 +63,40 @@ struct Sent {
     std::string bytes;
 };
 
+// What a session keeps under a number.
 struct Outgoing {
     std::string firm;
+    std::uint32_t epoch = 0;
     std::uint32_t number = 0;
     std::optional<std::uint32_t> sent;
+    bool is_copy = false;
+    bool is_dropped = false;
+    std::string type;
+    std::string moment; // HH:MM:SS.sss
     std::string bytes;
 };
 
+// A session's numbers, and since when they count.
 struct SessionRow {
     std::string firm;
-    std::uint32_t target = 1;
+    std::uint32_t epoch = 0;        // how often an operator has reset it
+    std::uint32_t entries_from = 0; // the last place of `entry` at the last reset
     bool logged_on = false;
+    SessionNumbers numbers;
+};
+
+// The Rejects of a session that are kept no longer.
+struct DroppedRejects {
+    std::string firm;
+    std::uint32_t epoch = 0;
+};
+
+// What a session keeps of the venue's behind a number of an epoch gets the numbers from 2 on of the
+// next one.
+struct SessionReset {
+    std::string firm;
+    std::uint32_t epoch = 0; // that ends
+    std::uint32_t behind = 0;
 };
 
 // Up to where a log goes: its last entry, and the last row of `connection`, place 0 where there is

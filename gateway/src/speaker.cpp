@@ -30,9 +30,6 @@ Log::Start start_of(VenueDay &day, const Follower::End &end, std::uint32_t term)
     start.shares = day.config.shares;
     start.last = end.last;
     start.term = term;
-    for (const auto &[name, state] : end.states) {
-        start.sessions[name] = state.session;
-    }
     start.connections = day.database->reader()->connections();
     start.sealer = day.guard.sealer();
     start.seals = day.guard.seals();
@@ -51,7 +48,7 @@ Log::Start with_notes_told(Log::Start start, std::function<void(const std::strin
 Speaker::Speaker(VenueDay &day, std::unique_ptr<Follower> follower, const Follower::End &end,
                  Log::Start start, Engine &engine)
     : day_(day), engine_(engine), follower_(std::move(follower)), lost_(start.connections.open),
-      sessions_(day, log_, deliveries_, end.states),
+      sessions_(day, log_, end.states),
       log_(*day.database, follower_->committed(), day.clock, day.metrics,
            with_notes_told(std::move(start), [this](const std::string &line) { take_note(line); }),
            [&status = day.status](const std::string &cause) { status.fail(cause); }),
@@ -107,6 +104,18 @@ bool Speaker::commit_act(const Act &act, std::chrono::milliseconds longest) {
     const std::string text = text_of(act);
     day_.events->warn("operator{} act=\"{}\"", day_.of_venue(), text);
     return log_.wait_for(log_.append_note(note_kinds::act, text), longest);
+}
+
+void Speaker::suspend(const std::string &firm) {
+    engine_.suspend(session_name(day_.config.venue, firm));
+}
+
+void Speaker::release(const std::string &firm) {
+    engine_.release(session_name(day_.config.venue, firm));
+}
+
+void Speaker::reset_session(const std::string &firm) {
+    engine_.reset(session_name(day_.config.venue, firm));
 }
 
 void Speaker::finish() {

@@ -61,6 +61,11 @@ class Speaker final {
     // long: it takes effect when it is. Throws ActTooLong, and std::runtime_error where the log is
     // written no more.
     bool commit_act(const Act &act, std::chrono::milliseconds longest);
+    // What an operator orders of a firm's session (engine.h), once its act is committed. Throws
+    // std::runtime_error where the venue has no such firm, and where the log is written no more.
+    void suspend(const std::string &firm);
+    void release(const std::string &firm);
+    void reset_session(const std::string &firm);
     // The last entry that is committed.
     std::uint32_t last_place() { return log_.position().place; }
 

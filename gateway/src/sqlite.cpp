@@ -63,12 +63,15 @@ class SqliteWriter final : public LogWriter {
                                                 connection_columns)),
           sent_(connection_.get(),
                 "INSERT INTO sent (firm, number, place, bytes) VALUES (?, ?, ?, ?)"),
-          outgoing_(connection_.get(),
-                    "INSERT INTO outgoing (firm, number, sent, bytes) VALUES (?, ?, ?, ?)"),
+          outgoing_(connection_.get(), fmt::format("INSERT INTO outgoing ({}) VALUES (?, ?, ?, ?, "
+                                                   "?, ?, ?, ?, ?)",
+                                                   outgoing_columns)),
           session_(connection_.get(),
-                   "INSERT INTO session (firm, target, logged_on) VALUES (?, ?, ?) "
-                   "ON CONFLICT (firm) DO UPDATE SET target = excluded.target, "
-                   "logged_on = excluded.logged_on"),
+                   fmt::format("INSERT OR REPLACE INTO session ({}) VALUES (?, ?, ?, ?, ?, ?, ?, "
+                               "?, ?, ?, ?, ?, ?, ?, ?, ?, ?)",
+                               session_columns)),
+          dropped_(connection_.get(), drop_rejects("?", "?")),
+          reset_(connection_.get(), copy_kept("?", "?", "?")),
           seal_(connection_.get(),
                 "INSERT INTO seal (number, term, place, event, mac) VALUES (?, ?, ?, ?, ?)"),
           checkpoint_(connection_.get(), "INSERT INTO checkpoint (number, term, place, event, "
@@ -86,14 +89,7 @@ class SqliteWriter final : public LogWriter {
             sent_.bind(row.firm).bind(std::int64_t{row.number}).bind(std::int64_t{row.place});
             sent_.bind_bytes(row.bytes).run();
         }
-        for (const Outgoing &row : batch.outgoing) {
-            outgoing_.bind(row.firm).bind(std::int64_t{row.number}).bind(row.sent);
-            outgoing_.bind_bytes(row.bytes).run();
-        }
-        for (const auto &[firm, row] : batch.sessions) {
-            session_.bind(firm).bind(std::int64_t{row.target});
-            session_.bind(std::int64_t{row.logged_on}).run();
-        }
+        put_sessions(batch);
         if (batch.seal) {
             put(seal_, batch.seal->number, batch.seal->at, batch.seal->mac);
         }
@@ -122,6 +118,39 @@ class SqliteWriter final : public LogWriter {
     static void put(Statement &row, std::uint32_t number, const Position &at, const Bytes &bytes) {
         row.bind(std::int64_t{number}).bind(std::int64_t{at.term}).bind(std::int64_t{at.place});
         row.bind(std::int64_t{at.event}).bind_bytes(bytes).run();
+    }
+    void put_sessions(const Batch &batch) {
+        for (const DroppedRejects &row : batch.dropped) {
+            dropped_.bind(row.firm).bind(std::int64_t{row.epoch}).run();
+        }
+        for (const Outgoing &row : batch.outgoing) {
+            put(row);
+        }
+        for (const SessionReset &row : batch.resets) {
+            reset_.bind(row.firm).bind(std::int64_t{row.epoch}).bind(std::int64_t{row.behind});
+            reset_.run();
+        }
+        for (const auto &[firm, row] : batch.sessions) {
+            put(row);
+        }
+    }
+    void put(const Outgoing &row) {
+        outgoing_.bind(row.firm).bind(std::int64_t{row.epoch}).bind(std::int64_t{row.number});
+        outgoing_.bind(row.sent).bind(std::int64_t{row.is_copy}).bind(std::int64_t{row.is_dropped});
+        outgoing_.bind(row.type).bind(row.moment).bind_bytes(row.bytes).run();
+    }
+    void put(const SessionRow &row) {
+        const SessionNumbers &numbers = row.numbers;
+        session_.bind(row.firm).bind(std::int64_t{row.epoch}).bind(std::int64_t{row.entries_from});
+        session_.bind(std::int64_t{row.logged_on}).bind(std::int64_t{numbers.expected});
+        session_.bind(std::int64_t{numbers.next}).bind(std::int64_t{numbers.had});
+        session_.bind(std::int64_t{numbers.first_given}).bind(std::int64_t{numbers.last_given});
+        session_.bind(std::int64_t{numbers.last_kept}).bind(std::int64_t{numbers.is_one_free});
+        session_.bind(std::int64_t{numbers.was_taken}).bind(std::int64_t{numbers.is_reset});
+        session_.bind(static_cast<std::int64_t>(numbers.reset_at));
+        session_.bind(std::int64_t{numbers.is_locked});
+        session_.bind(static_cast<std::int64_t>(numbers.last_logon));
+        session_.bind(std::int64_t{numbers.is_suspended}).run();
     }
     void put(const Entry &entry) {
         entry_.bind(std::int64_t{entry.place}).bind(std::int64_t{entry.term}).bind(entry.moment);
@@ -157,6 +186,8 @@ class SqliteWriter final : public LogWriter {
     Statement sent_;
     Statement outgoing_;
     Statement session_;
+    Statement dropped_;
+    Statement reset_;
     Statement seal_;
     Statement checkpoint_;
 };

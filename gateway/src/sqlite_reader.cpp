@@ -44,6 +44,31 @@ Position read_position(const Statement &row) {
     return {row.number(1), row.number(2), row.digest(3), row.number(4), row.digest(5)};
 }
 
+Outgoing read_outgoing(const Statement &row) {
+    return {row.bytes(0),          row.number(1),      row.number(2),
+            row.number_or_null(3), row.number(4) != 0, row.number(5) != 0,
+            row.bytes(6),          row.bytes(7),       row.bytes(8)};
+}
+
+SessionRow read_session(const Statement &row) {
+    SessionRow session{row.bytes(0), row.number(1), row.number(2), row.number(3) != 0, {}};
+    SessionNumbers &numbers = session.numbers;
+    numbers.expected = row.number(4);
+    numbers.next = row.number(5);
+    numbers.had = row.number(6);
+    numbers.first_given = row.number(7);
+    numbers.last_given = row.number(8);
+    numbers.last_kept = row.number(9);
+    numbers.is_one_free = row.number(10) != 0;
+    numbers.was_taken = row.number(11) != 0;
+    numbers.is_reset = row.number(12) != 0;
+    numbers.reset_at = row.long_number(13);
+    numbers.is_locked = row.number(14) != 0;
+    numbers.last_logon = row.long_number(15);
+    numbers.is_suspended = row.number(16) != 0;
+    return session;
+}
+
 class SqliteReader final : public LogReader {
   public:
     explicit SqliteReader(const std::string &path)
@@ -56,15 +81,18 @@ class SqliteReader final : public LogReader {
                                "SELECT coalesce(max(number), 0) FROM connection"),
           sent_(connection_.get(), "SELECT number, place, bytes FROM sent "
                                    "WHERE firm = ? AND number >= ? ORDER BY number LIMIT ?"),
-          outgoing_(connection_.get(), "SELECT number, sent, bytes FROM outgoing "
-                                       "WHERE firm = ? AND number BETWEEN ? AND ? ORDER BY number"),
-          session_(connection_.get(), "SELECT firm, target, logged_on FROM session"),
-          came_(connection_.get(), "SELECT firm, count(*), coalesce(max(number), 0), "
-                                   "sum(length(line)) / 1024 FROM entry "
-                                   "WHERE firm IS NOT NULL GROUP BY firm"),
+          outgoing_(connection_.get(),
+                    select_outgoing("firm = ? AND epoch = ? AND number >= ? AND dropped = 0 "
+                                    "ORDER BY number LIMIT ?")),
+          carriers_(connection_.get(),
+                    select_outgoing("firm = ? AND (epoch, number) > (?, ?) AND sent IS NOT NULL "
+                                    "AND copy = 0 ORDER BY epoch, number LIMIT ?")),
+          kept_(connection_.get(), "SELECT count(*) FROM outgoing WHERE firm = ? AND epoch = ? AND "
+                                   "number > ? AND sent IS NOT NULL"),
+          session_(connection_.get(), fmt::format("SELECT {} FROM session", session_columns)),
+          came_(connection_.get(), entries_of_firms),
           gave_(connection_.get(), "SELECT firm, max(number) FROM sent GROUP BY firm"),
-          went_(connection_.get(), "SELECT firm, max(number), coalesce(max(sent), 0) "
-                                   "FROM outgoing GROUP BY firm"),
+          went_(connection_.get(), outgoing_of_firms),
           notes_(connection_.get(), select_notes("x'2320'")),
           seals_(connection_.get(), select_position("seal", "mac",
                                                     "WHERE seal.number >= ? ORDER BY "
@@ -100,25 +128,30 @@ class SqliteReader final : public LogReader {
         return all;
     }
 
-    std::vector<Outgoing> outgoing(const std::string &firm, std::uint32_t first,
-                                   std::uint32_t last) override {
-        std::vector<Outgoing> all;
-        outgoing_.bind(firm).bind(std::int64_t{first}).bind(std::int64_t{last});
-        while (outgoing_.step()) {
-            Outgoing row{firm, outgoing_.number(0), {}, outgoing_.bytes(2)};
-            if (!outgoing_.is_null(1)) {
-                row.sent = outgoing_.number(1);
-            }
-            all.push_back(std::move(row));
+    std::vector<Outgoing> outgoing(const std::string &firm, std::uint32_t epoch, std::uint32_t from,
+                                   std::uint32_t limit) override {
+        return outgoing_by(outgoing_, firm, epoch, from, limit);
+    }
+
+    std::vector<Outgoing> carriers(const std::string &firm, std::uint32_t epoch,
+                                   std::uint32_t behind, std::uint32_t limit) override {
+        return outgoing_by(carriers_, firm, epoch, behind, limit);
+    }
+
+    std::uint32_t count_kept(const std::string &firm, std::uint32_t epoch,
+                             std::uint32_t behind) override {
+        std::uint32_t count = 0;
+        kept_.bind(firm).bind(std::int64_t{epoch}).bind(std::int64_t{behind});
+        while (kept_.step()) {
+            count = kept_.number(0);
         }
-        return all;
+        return count;
     }
 
     std::map<std::string, FirmState> states() override {
         std::map<std::string, FirmState> all;
         while (session_.step()) {
-            const std::string firm = session_.bytes(0);
-            all[firm].session = {firm, session_.number(1), session_.number(2) != 0};
+            all[session_.bytes(0)].session = read_session(session_);
         }
         while (came_.step()) {
             FirmState &state = all[came_.bytes(0)];
@@ -131,7 +164,7 @@ class SqliteReader final : public LogReader {
         }
         while (went_.step()) {
             FirmState &state = all[went_.bytes(0)];
-            state.outgoing = went_.number(1);
+            state.kept = went_.number(1);
             state.carried = went_.number(2);
         }
         return all;
@@ -178,6 +211,18 @@ class SqliteReader final : public LogReader {
     }
 
   private:
+    static std::vector<Outgoing> outgoing_by(Statement &rows, const std::string &firm,
+                                             std::uint32_t epoch, std::uint32_t number,
+                                             std::uint32_t limit) {
+        std::vector<Outgoing> all;
+        rows.bind(firm).bind(std::int64_t{epoch}).bind(std::int64_t{number});
+        rows.bind(std::int64_t{limit});
+        while (rows.step()) {
+            all.push_back(read_outgoing(rows));
+        }
+        return all;
+    }
+
     ConnectionPointer connection_;
     Statement entries_;
     Statement last_;
@@ -186,6 +231,8 @@ class SqliteReader final : public LogReader {
     Statement greatest_connection_;
     Statement sent_;
     Statement outgoing_;
+    Statement carriers_;
+    Statement kept_;
     Statement session_;
     Statement came_;
     Statement gave_;

@@ -93,6 +93,9 @@ class Statement {
     std::uint32_t number(int column) const {
         return static_cast<std::uint32_t>(sqlite3_column_int64(statement_.get(), column));
     }
+    std::uint64_t long_number(int column) const {
+        return static_cast<std::uint64_t>(sqlite3_column_int64(statement_.get(), column));
+    }
     std::optional<std::uint32_t> number_or_null(int column) const {
         return is_null(column) ? std::nullopt : std::optional(number(column));
     }

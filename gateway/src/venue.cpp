@@ -298,7 +298,8 @@ void Venue::listen_to_errors(Process &process) {
         }
         // A line without an end is told in pieces.
         if (line.size() > longest_words) {
-            take_words(std::exchange(line, {}));
+            take_words(line);
+            line.clear();
         }
     }
     if (!line.empty()) {

@@ -6,7 +6,7 @@
 #include "check.h"
 #include "comparison.h"
 #include "frame.h"
-#include "translation.h"
+#include "wire.h"
 
 #include <filesystem>
 
@@ -22,24 +22,20 @@ std::string frame_of(std::uint32_t number) {
         fmt::format("35=AI|49=VENUE|56=F|34={}|52=20250314-09:00:00.000|117=q|297=9|", number)));
 }
 
-std::string body_of(std::uint32_t number) {
-    return for_wire(frame_of(number), 0).body;
+// What its session keeps of it.
+std::string kept_of(std::uint32_t number) {
+    return for_wire(frame_of(number), number, 0, {});
 }
 
-std::string on_the_wire(const std::string &type, std::uint32_t number, const std::string &body) {
-    return framed(
-        with_soh(fmt::format("35={}|34={}|49=VENUE|52=20250314-09:00:00.000|56=F|", type, number)) +
-        body);
-}
-
-// F's session: a Logon, and after it the messages of the venue.
+// F's session: a Reject of its own, and behind it the messages of the venue.
 Batch day() {
     Batch rows;
-    rows.outgoing.push_back({"F", 1, {}, on_the_wire("A", 1, with_soh("98=0|108=30|"))});
+    const std::string reject = framed(with_soh("35=3|45=2|371=58|372=S|373=17|"));
+    rows.outgoing.push_back({"F", 0, 2, {}, false, false, "3", "09:00:00.000", reject});
     for (std::uint32_t number = 1; number <= messages; ++number) {
         rows.sent.push_back({"F", number, 1, frame_of(number)});
         rows.outgoing.push_back(
-            {"F", number + 1, number, on_the_wire("AI", number + 1, body_of(number))});
+            {"F", 0, number + 2, number, false, false, "AI", "09:00:00.000", kept_of(number)});
     }
     return rows;
 }
@@ -54,7 +50,7 @@ std::string refusal_of(const std::filesystem::path &folder, const Batch &rows) {
     comparison.begin();
     try {
         for (std::uint32_t number = 1; number <= messages; ++number) {
-            comparison.is_new("F", number, frame_of(number), body_of(number));
+            comparison.is_new("F", number, frame_of(number), kept_of(number));
         }
         comparison.check_sent(database->reader()->states());
         return {};
@@ -75,11 +71,11 @@ void refused_where_it_differs(const std::filesystem::path &folder) {
     rows.sent[0].bytes = frame_of(7);
     refused_for(folder, rows, "message 1");
     rows = day();
-    rows.outgoing[1].bytes = on_the_wire("AI", 2, body_of(7));
+    rows.outgoing[1].bytes = kept_of(7);
     refused_for(folder, rows, "message 1");
-    // One whose body only ends as the venue's does.
+    // One that is told beside it what the venue does not note.
     rows = day();
-    rows.outgoing[1].bytes = on_the_wire("AI", 2, with_soh("58=x") + body_of(1));
+    rows.outgoing[1].bytes = for_wire(frame_of(1), 1, 0, {58, "x"});
     refused_for(folder, rows, "message 1");
     rows = day();
     rows.outgoing[2].sent = 1;
@@ -87,8 +83,7 @@ void refused_where_it_differs(const std::filesystem::path &folder) {
 }
 
 void refused_where_one_lacks(const std::filesystem::path &folder) {
-    // The Logon, and so a number of the session; then each message that carries.
-    for (const std::size_t at : {0, 1, 2}) {
+    for (const std::size_t at : {1, 2}) {
         Batch rows = day();
         rows.outgoing.erase(rows.outgoing.begin() + static_cast<std::ptrdiff_t>(at));
         refused_for(folder, rows, at == 2 ? "message 2" : "message 1");

@@ -8,9 +8,12 @@
 #include "line.h"
 #include "no_events.h"
 #include "sessions.h"
+#include "still_clock.h"
 
 #include <chrono>
+#include <map>
 #include <string>
+#include <string_view>
 #include <utility>
 #include <vector>
 
@@ -18,13 +21,38 @@
 
 namespace gateway::tests {
 
-// A moment of receipt, and the same as a SendingTime (52).
+// The moment at which the clock of a scene begins, and the same as a SendingTime (52).
 using Received = Conversation::Received;
 inline const Received at_nine =
     std::chrono::sys_days{std::chrono::year{2025} / 3 / 14} + std::chrono::hours{9};
+inline const std::string today = "20250314";
 inline const std::string nine = "20250314-09:00:00";
 
-// A host that keeps, in their order, the calls that change something for its firm.
+using Calls = std::vector<std::string>;
+
+inline void check_calls(const Calls &wanted, const Calls &came, const std::string &what) {
+    check(wanted == came, fmt::format("{}: wanted {}, came {}", what, wanted, came));
+}
+
+// The value of a field, in bytes with bars; empty where there is none.
+inline std::string value_of(std::string_view text, int tag) {
+    const std::string begin = fmt::format("|{}=", tag);
+    const std::size_t at = text.find(begin);
+    if (at == std::string_view::npos) {
+        return {};
+    }
+    const std::size_t from = at + begin.size();
+    return std::string(text.substr(from, text.find('|', from) - from));
+}
+
+// Whether what a session keeps is its own, and carries nothing of the venue.
+inline bool is_own(const KeptMessage &kept) {
+    return kept.frame.find("\x01"
+                           "1181=") == std::string::npos;
+}
+
+// A host that keeps, in their order, the calls that change something for its firm; and a log that
+// commits what it is asked to wait for.
 class Book final : public SessionHost {
   public:
     Refusal judge(const LogonFacts &facts) override {
@@ -43,47 +71,103 @@ class Book final : public SessionHost {
                           const std::string &) override {
         calls.push_back(fmt::format("ended {}", connection));
     }
-    void logged_on(const std::string &) override {}
-    void logged_off(const std::string &) override {}
-    void settled(const std::string &) override {}
-    int received(const std::string &, const WireMessage &message, const Receipt &receipt) override {
-        check(receipt.connection == connections_, "a message of another connection");
-        calls.push_back(fmt::format("received {}", message.number));
-        return 0;
+    void logged_on(const std::string &) override { ++logons; }
+    void logged_off(const std::string &) override { --logons; }
+
+    std::uint64_t put(const std::string &, const SessionEvent &event) override {
+        ++last_ticket;
+        if (event.drops_rejects) {
+            calls.push_back("drops");
+            std::erase_if(
+                kept, [](const auto &row) { return row.second.type != "0" && is_own(row.second); });
+        }
+        note_numbers(event.numbers);
+        if (event.kept) {
+            const KeptMessage &row = kept[event.kept->number] = *event.kept;
+            check(is_own(row) == (event.given == nullptr), "whose it is: " + with_bars(row.frame));
+            calls.push_back(fmt::format("kept {} {}", row.number, row.type));
+        }
+        return last_ticket;
     }
-    void all_received() override {}
-    std::uint64_t store_outgoing(const std::string &, std::uint32_t number,
-                                 const std::string &bytes, const Delivery *) override {
-        const std::string text = with_bars(bytes);
-        const std::size_t type = text.find("|35=") + 4;
-        calls.push_back(
-            fmt::format("sent {} {}", number, text.substr(type, text.find('|', type) - type)));
-        return 1;
-    }
-    void wait_stored(std::uint64_t) override {}
-    void store_target(const std::string &, std::uint32_t target) override {
-        calls.push_back(fmt::format("expects {}", target));
-    }
-    std::vector<StoredMessage> stored_messages(const std::string &, std::uint32_t,
-                                               std::uint32_t) override {
-        calls.push_back("read");
+    void wait_stored(std::uint64_t ticket) override { stored = std::max(stored, ticket); }
+    Taken take(const std::string &, const SessionInput &input, const SessionEvent &event) override {
+        check(input.receipt.connection == connections_, "a message of another connection");
+        if (denial.verdict != Taken::Verdict::taken) {
+            return denial;
+        }
+        calls.push_back(fmt::format("received {}", input.number));
+        ++last_ticket;
+        note_numbers(event.numbers);
         return {};
+    }
+    void all_received() override { stored = last_ticket; }
+    std::vector<KeptMessage> kept_messages(const std::string &, std::uint32_t from,
+                                           std::size_t limit) override {
+        std::vector<KeptMessage> found;
+        for (auto at = kept.lower_bound(from); at != kept.end() && found.size() < limit; ++at) {
+            found.push_back(at->second);
+        }
+        return found;
+    }
+    std::uint64_t count_kept(const std::string &, std::uint32_t behind) override {
+        return copies_behind(behind).size();
+    }
+    void put_reset(const std::string &, std::uint32_t behind, const SessionEvent &event) override {
+        std::map<std::uint32_t, KeptMessage> copies;
+        for (KeptMessage &copy : copies_behind(behind)) {
+            copy.is_copy = true;
+            copy.number = static_cast<std::uint32_t>(2 + copies.size());
+            copies.emplace(copy.number, std::move(copy));
+        }
+        kept.swap(copies);
+        tickets_.clear();
+        numbers = event.numbers;
+        calls.push_back("reset");
+    }
+
+    // Whether the number of a message of the session's own is in the log, with all lower ones.
+    bool is_stored(std::uint32_t number) const {
+        const auto found = tickets_.find(number);
+        return found != tickets_.end() && found->second <= stored;
     }
 
     Refusal verdict = Refusal::none;
+    Taken denial;                      // of what the venue is to be given
     std::vector<std::string> judged;   // the names
     std::vector<std::string> refusals; // their words
     std::vector<std::string> calls;
+    std::map<std::uint32_t, KeptMessage> kept;
+    SessionNumbers numbers;
+    int logons = 0; // that have not ended
+    std::uint64_t last_ticket = 0;
+    std::uint64_t stored = 0;
 
   private:
+    void note_numbers(const SessionNumbers &now) {
+        if (now.expected != numbers.expected) {
+            calls.push_back(fmt::format("expects {}", now.expected));
+        }
+        for (std::uint32_t number = numbers.next; number < now.next; ++number) {
+            tickets_[number] = last_ticket;
+        }
+        if (!now.is_one_free) {
+            tickets_.emplace(1, last_ticket);
+        }
+        numbers = now;
+    }
+    std::vector<KeptMessage> copies_behind(std::uint32_t number) const {
+        std::vector<KeptMessage> copies;
+        for (auto at = kept.upper_bound(number); at != kept.end(); ++at) {
+            if (!is_own(at->second)) {
+                copies.push_back(at->second);
+            }
+        }
+        return copies;
+    }
+
     std::uint32_t connections_ = 0;
+    std::map<std::uint32_t, std::uint64_t> tickets_; // by which each number was used up
 };
-
-using Calls = std::vector<std::string>;
-
-inline void check_calls(const Calls &wanted, const Calls &came, const std::string &what) {
-    check(wanted == came, fmt::format("{}: wanted {}, came {}", what, wanted, came));
-}
 
 // Keeps what strangers were turned away for.
 class Gate final : public NoEvents {
@@ -91,54 +175,105 @@ class Gate final : public NoEvents {
     void stranger(const ConnectionFacts &, const std::string &why, const std::string &) override {
         strangers.push_back(why);
     }
+    void dropped(const std::string &what, const std::string &) override { drops.push_back(what); }
 
     std::vector<std::string> strangers;
+    std::vector<std::string> drops;
 };
 
-// What is said to a peer, with bars, until its connection ends.
+// What is said to a peer, with bars, until its connection ends. What is the session's own has to be
+// in the log before.
 class Ear final : public Line {
   public:
-    bool send(const std::string &bytes) override {
-        said += with_bars(bytes);
+    explicit Ear(const Book &book) : book_(book) {}
+
+    bool send(std::string_view bytes) override {
+        std::string rest = with_bars(std::string(bytes));
+        while (!rest.empty()) {
+            const std::size_t end = rest.find("|10=") + 8;
+            take(rest.substr(0, end));
+            rest.erase(0, end);
+        }
         return !ends;
     }
     void finish(const std::string &) override { ends = true; }
     void shut(const std::string &) override { ends = true; }
     bool is_ending() const override { return ends; }
-    void drain() override {}
-    void wake() override {}
+    void wake() override { ++wakes; }
     ConnectionFacts facts() const override { return {"192.0.2.1:1", "", false}; }
 
-    // What was said since this was called last.
-    std::string heard() { return std::exchange(said, {}); }
+    // What was said since this was called last: of each message its number, its type, and 43
+    // and 97.
+    Calls heard() {
+        Calls found;
+        for (const std::string &message : messages) {
+            const bool is_again = value_of(message, 43) == "Y";
+            const bool is_copy = value_of(message, 97) == "Y";
+            found.push_back(fmt::format("{} {}{}{}", value_of(message, 34), value_of(message, 35),
+                                        is_again ? " again" : "", is_copy ? " copy" : ""));
+        }
+        last = messages;
+        messages.clear();
+        return found;
+    }
 
-    std::string said;
+    std::vector<std::string> messages; // since heard()
+    std::vector<std::string> last;     // that heard() told of
     bool ends = false;
+    int wakes = 0;
+
+  private:
+    void take(const std::string &message) {
+        const bool is_own = value_of(message, 1181).empty();
+        const auto number = static_cast<std::uint32_t>(std::stoul(value_of(message, 34)));
+        const bool is_again = value_of(message, 43) == "Y";
+        check(!is_own || is_again || book_.is_stored(number), "not in the log: " + message);
+        check(value_of(message, 49) == "VENUE" && value_of(message, 56) == "F", message);
+        messages.push_back(message);
+    }
+
+    const Book &book_;
 };
 
-// The session of firm F, and its host.
+// The session of firm F, and its host, at nine.
 struct Scene {
-    explicit Scene(std::uint32_t carried = 0, std::uint32_t sender = 1, std::uint32_t target = 1)
-        : sessions({start_of(book, carried, sender, target)}, gate) {}
+    explicit Scene(const SessionNumbers *numbers = nullptr, bool is_open = true)
+        : sessions({start_of(book, numbers, is_open)}, gate) {}
 
-    static SessionStart start_of(Book &book, std::uint32_t carried, std::uint32_t sender,
-                                 std::uint32_t target) {
+    static SessionStart start_of(Book &book, const SessionNumbers *numbers, bool is_open) {
         SessionStart start;
         start.firm = "F";
-        start.date = "20250314";
+        start.date = today;
         start.host = &book;
-        start.carried = carried;
-        start.sender = sender;
-        start.target = target;
+        start.is_open = is_open;
+        if (numbers != nullptr) {
+            start.numbers = *numbers;
+            book.numbers = *numbers;
+        }
         return start;
     }
 
+    FirmSession &session() { return sessions.of("F"); }
+    // The venue gives a message: its n-th one.
+    void give(std::uint32_t number, const std::string &type = "AI",
+              const std::string &body = "297=9|");
+
+    StillClock clock;
     Book book;
     Gate gate;
     Sessions sessions;
 };
 
-// A message of F; a field with an empty value in `more` is left out of the header.
+inline void Scene::give(std::uint32_t number, const std::string &type, const std::string &body) {
+    Delivery delivery;
+    delivery.session = delivery.firm = "F";
+    delivery.number = delivery.place = number;
+    delivery.type = type;
+    delivery.wire = framed(with_soh(fmt::format("35={}|1181={}|{}", type, number, body)));
+    sessions.deliver(delivery);
+}
+
+// A message of F.
 inline std::string message_of(const std::string &type, const std::string &number,
                               const std::string &rest, const std::string &sent = nine) {
     return framed(
@@ -156,20 +291,41 @@ inline std::string logon_of(int number = 1, const std::string &more = "",
 
 // One connection of the scene.
 struct Talk {
-    explicit Talk(Scene &scene) : scene(scene), conversation(scene.sessions, scene.gate, ear) {}
+    explicit Talk(Scene &scene)
+        : scene(scene), ear(scene.book), conversation(scene.sessions, scene.gate, ear) {}
     ~Talk() { end(); }
     Talk(const Talk &) = delete;
     Talk &operator=(const Talk &) = delete;
 
-    void say(const std::string &bytes, Received at = at_nine) {
-        conversation.hear(bytes.data(), bytes.size(), at);
+    void say(const std::string &bytes) {
+        conversation.hear(bytes.data(), bytes.size(), std::chrono::system_clock::now());
+        serve();
+    }
+    // What the connection's thread does when there is something to say.
+    void serve() {
+        do {
+            conversation.serve();
+        } while (conversation.serves_from());
+    }
+    void tick() {
+        conversation.tick();
+        serve();
+    }
+    // Time goes on, and the thread looks each second.
+    void wait(int seconds) {
+        for (int second = 0; second < seconds; ++second) {
+            scene.clock.move(std::chrono::seconds(1));
+            if (conversation.waits()) {
+                conversation.look_again();
+            }
+            tick();
+        }
     }
     // Logs on, and answers the TestRequest: its next number is 3, and that of the venue too.
     void settle() {
         say(logon_of());
-        const std::string came = ear.heard();
-        check(came.find("|35=A|") != std::string::npos, "no Logon: " + came);
-        say(message_of("0", 2, "112=MIRESEASON-1|"));
+        check_calls({"1 A", "2 1"}, ear.heard(), "what a Logon is answered");
+        say(message_of("0", 2, "112=2|"));
         scene.book.calls.clear();
     }
     void end() {

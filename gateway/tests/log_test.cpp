@@ -86,6 +86,23 @@ void check_chain(LogReader &reader, std::uint32_t count) {
 constexpr std::uint32_t threads = 4;
 constexpr std::uint32_t messages = 200;
 
+// The session's message that carries the venue's of this number, and its numbers from then on.
+Log::SessionChange carrying(const std::string &firm, std::uint32_t number) {
+    Log::SessionChange change;
+    change.row.firm = firm;
+    change.row.numbers.expected = number + 1;
+    change.row.numbers.next = number + 2;
+    Outgoing &kept = change.kept.emplace();
+    kept.firm = firm;
+    kept.number = number + 1;
+    kept.sent = number;
+    kept.type = "AI";
+    kept.moment = "09:00:00.000";
+    kept.bytes = "wire";
+    change.carried = Sent{firm, number, number, "frame"};
+    return change;
+}
+
 // Every other thread commits itself, three messages at a time, and leaves the last ones to the log.
 void write_from(Log &log, std::uint32_t thread) {
     const std::string firm = fmt::format("F{}", thread);
@@ -95,8 +112,7 @@ void write_from(Log &log, std::uint32_t thread) {
         if (committer == Log::Committer::caller && number % 3 == 0) {
             log.commit();
         }
-        log.put({firm, number, number, "wire"}, Sent{firm, number, number, "frame"});
-        log.put_target(firm, number + 1);
+        log.put(carrying(firm, number));
     }
 }
 
@@ -108,11 +124,14 @@ void check_rows(LogReader &reader) {
         same(messages, state.entries, firm + "'s entries");
         same(messages, state.last_number, firm + "'s last number");
         same(messages, state.sent, firm + "'s messages");
-        same(messages, state.outgoing, firm + "'s session");
-        same(messages + 1, state.session.target, firm + "'s target");
+        same(messages + 1, state.kept, firm + "'s session");
+        same(messages, state.carried, firm + "'s last message that is carried");
+        same(messages + 1, state.session.numbers.expected, firm + "'s next number");
     }
     same<std::string>("frame", reader.sent("F1", messages, 5).at(0).bytes, "a message");
-    same<std::size_t>(3, reader.outgoing("F1", 2, 4).size(), "messages of a session");
+    same<std::size_t>(3, reader.outgoing("F1", 0, 3, 3).size(), "messages of a session");
+    same<std::size_t>(0, reader.outgoing("F1", 1, 2, 3).size(), "messages after a reset");
+    same(messages - 4, reader.count_kept("F1", 0, 5), "messages behind the fifth number");
 }
 
 void many_threads(Database &database) {

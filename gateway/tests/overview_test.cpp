@@ -63,7 +63,7 @@ TEST_CASE("requests open and end") {
 Delivery delivery(std::string type, std::string body) {
     Delivery made;
     made.type = std::move(type);
-    made.body = frame(std::move(body));
+    made.wire = frame(std::move(body));
     return made;
 }
 

@@ -1,6 +1,6 @@
-// Attacks by somebody who has read the code, each of which the door withstood: what QuickFIX might
-// see in a message that the reader does not, the ends of all numbers, connections of one firm that
-// come at one time, and a gateway whose parts fail.
+// Attacks by somebody who has read the code: types and bytes of every kind, the ends of all
+// numbers, connections of one firm that come at one time, and what a session promises of its log,
+// of a restart and of an operator's reset.
 #define DOCTEST_CONFIG_IMPLEMENT_WITH_MAIN
 #include <doctest/doctest.h>
 
@@ -8,6 +8,7 @@
 #include "door_scene.h"
 #include "refusal_words.h"
 
+#include <algorithm>
 #include <atomic>
 #include <map>
 #include <mutex>
@@ -20,13 +21,7 @@ namespace gateway::tests {
 
 namespace {
 
-using Calls = std::vector<std::string>;
-
-void check_calls(const Calls &wanted, const Calls &came, const std::string &what) {
-    check(wanted == came, fmt::format("{}: wanted {}, came {}", what, wanted, came));
-}
-
-// ---------------------------------------------------------------- what the engine is handed
+// ---------------------------------------------------------------- what a message may be
 
 // Each of one or two letters or digits, and some longer ones; not those of the session.
 Calls types_of_the_application() {
@@ -44,7 +39,7 @@ Calls types_of_the_application() {
     return types;
 }
 
-// The engine looks into none of them, and has no opinion of its own.
+// The session looks into none of them.
 TEST_CASE("every type is counted") {
     Scene scene;
     Talk talk(scene);
@@ -54,7 +49,7 @@ TEST_CASE("every type is counted") {
         talk.say(message_of(type, ++number, "117=q|58=|"));
         check_calls({fmt::format("received {}", number), fmt::format("expects {}", number + 1)},
                     std::exchange(scene.book.calls, {}), "35=" + type);
-        check(talk.ear.heard().empty() && !talk.ear.ends, "something is said to 35=" + type);
+        check(talk.ear.messages.empty() && !talk.ear.ends, "something is said to 35=" + type);
     }
 }
 
@@ -74,68 +69,69 @@ TEST_CASE("times of every precision") {
 // A TestReqID comes back byte for byte, whatever its bytes are.
 TEST_CASE("any byte is repeated") {
     std::string any = "1181=1";
-    for (int byte = 0; byte < 256; ++byte) {
-        any += byte == 1 ? '|' : static_cast<char>(byte);
+    for (int byte = 2; byte < 256; ++byte) {
+        any += byte == '|' ? 'x' : static_cast<char>(byte);
     }
+    any += std::string(1, '\0');
     Scene scene;
     Talk talk(scene);
     talk.settle();
     talk.say(framed(with_soh("35=1|49=F|56=VENUE|34=3|52=" + nine + "|") + "112=" + any + "\x01"));
-    check(talk.ear.heard().find("|112=" + any + "|10=") != std::string::npos, "another 112");
-    check_calls({"sent 3 0", "expects 4"}, scene.book.calls, "a TestRequest with any bytes");
+    check(talk.ear.messages.at(0).find("|112=" + any + "|10=") != std::string::npos, "another 112");
+    check_calls({"expects 4"}, scene.book.calls, "a TestRequest with any bytes");
 }
 
 // However it comes, and whatever comes with it.
 TEST_CASE("byte by byte") {
     Scene scene;
     Talk talk(scene);
-    const std::string all = logon_of() + message_of("S", 2, "58=a|b|") + message_of("S", 3, "");
+    const std::string all = logon_of() + message_of("0", 2, "112=2|") +
+                            message_of("S", 3, "58=a|b|") + message_of("S", 4, "");
     for (const char byte : all) {
         talk.say(std::string(1, byte));
     }
-    check_calls({"accepted 1", "sent 1 A", "expects 2", "sent 2 1", "expects 3", "sent 3 3",
-                 "received 3", "expects 4"},
-                scene.book.calls, "a Logon and two messages, byte by byte");
+    check_calls({"1 A", "2 1", "3 3"}, talk.ear.heard(), "what is said");
+    check_calls({"accepted 1", "expects 2", "expects 3", "expects 4", "kept 3 3", "received 4",
+                 "expects 5"},
+                scene.book.calls, "a Logon and messages, byte by byte");
 }
 
-// Ahead of a gap a ResendRequest is answered; but only a message that is F's.
-TEST_CASE("request ahead that is not the firms") {
-    const std::string requests[] = {
-        framed(with_soh("35=2|49=F|56=VENUE|34=7|7=1|16=0|")),
-        framed(with_soh("35=2|49=F|56=VENUE|34=7|52=|7=1|16=0|")),
-        framed(with_soh("35=2|49=G|56=VENUE|34=7|52=" + nine + "|7=1|16=0|")),
-        message_of("2", 7, "7=1|16=0|", "20250314-08:50:00"),
+// Messages behind garbage, in whatever pieces: none is hidden by it, and none is made of it.
+TEST_CASE("behind garbage") {
+    const std::string right = message_of("S", 3, "");
+    const std::string garbage[] = {
+        "noise",
+        right.substr(0, 20),
+        right.substr(0, right.size() - 4) + with_soh("999|"),
+        with_soh("8=FIXT.1.1|9=x|"),
+        with_soh("8=FIXT.1.1|9=5|35=0|10=000|"),
     };
-    for (const std::string &request : requests) {
-        Scene scene;
-        Talk talk(scene);
-        talk.settle();
-        talk.say(request + message_of("S", 3, ""));
-        check(!talk.ear.ends, "the connection ends by " + with_bars(request));
-        check_calls({"sent 3 2", "received 3", "expects 4"}, scene.book.calls, with_bars(request));
+    for (const std::string &noise : garbage) {
+        for (const std::size_t piece : {std::size_t{1}, std::size_t{7}, std::size_t{4096}}) {
+            Scene scene;
+            Talk talk(scene);
+            talk.settle();
+            const std::string all = noise + right;
+            for (std::size_t at = 0; at < all.size(); at += piece) {
+                talk.say(all.substr(at, piece));
+            }
+            check_calls({"received 3", "expects 4"}, scene.book.calls, with_bars(noise));
+            check(talk.ear.messages.empty(), "something is said to " + with_bars(noise));
+        }
     }
 }
 
-// ---------------------------------------------------------------- the ends of all numbers
-
-// A firm that has used up the last number is told so, for the rest of the day; no number wraps.
-TEST_CASE("after the last number") {
-    Scene scene(0, 1, 999999998);
+// Ahead of a gap a ResendRequest is done; but only a message that is F's.
+TEST_CASE("request ahead that is not the firms") {
+    Scene scene;
     Talk talk(scene);
-    talk.say(logon_of(999999998));
-    talk.say(message_of("0", 999999999, "112=MIRESEASON-1|"));
-    talk.say(message_of("S", 999999999, "") + message_of("S", 1, ""));
-    check(talk.ear.heard().find("|58=MsgSeqNum too low, expecting 1000000000 ") !=
-              std::string::npos,
-          "it is not told which number is expected");
-    talk.end();
-    Talk again(scene);
-    again.say(logon_of(999999999));
-    check_calls({"accepted 1", "sent 1 A", "expects 999999999", "sent 2 1", "expects 1000000000",
-                 "sent 3 5", "ended 1", "sent 4 5"},
-                scene.book.calls, "the last number");
-    check_calls({refusal_words::number}, scene.book.refusals, "a Logon after it");
+    talk.settle();
+    talk.say(framed(with_soh("35=2|49=G|56=VENUE|34=7|52=" + nine + "|7=1|16=0|")));
+    check_calls({"3 3", "4 5"}, talk.ear.heard(), "another's ResendRequest");
+    check_calls({"kept 3 3"}, scene.book.calls, "another's ResendRequest");
 }
+
+// ---------------------------------------------------------------- the ends of all numbers
 
 // It asks for what is missing, and counts nothing.
 TEST_CASE("logon under the last number") {
@@ -143,51 +139,147 @@ TEST_CASE("logon under the last number") {
     {
         Talk talk(scene);
         talk.say(logon_of(999999999));
-        check(talk.ear.heard().find("|7=1|16=0|") != std::string::npos, "no gap is asked for");
+        check_calls({"1 A", "2 2", "3 1"}, talk.ear.heard(), "what it is answered");
     }
-    check_calls({"accepted 1", "sent 1 A", "sent 2 2", "sent 3 1", "ended 1"}, scene.book.calls,
-                "a Logon under the last number");
+    check_calls({"accepted 1", "ended 1"}, scene.book.calls, "a Logon under the last number");
     Talk right(scene);
-    right.say(logon_of(1));
-    check(right.conversation.is_admitted(), "the firm is kept out");
+    right.say(logon_of(1, "", "20250314-09:00:00.001"));
+    check_calls({"4 A", "5 1"}, right.ear.heard(), "the right one");
 }
 
-// The Logon is part of the gap, and counted once with it, also where what comes before it is
-// rejected.
-TEST_CASE("rejected up to a logon") {
+// A firm that has used up the numbers of the day has no session for the rest of it; no number
+// wraps.
+TEST_CASE("after the last number") {
     Scene scene;
     Talk talk(scene);
-    talk.say(logon_of(3));
+    talk.settle();
+    talk.say(message_of("4", 3, "123=Y|36=999999990|"));
+    talk.say(message_of("S", 999999990, "") + message_of("S", 999999991, ""));
+    check(talk.ear.ends, "the session goes on");
+    talk.end();
+    Talk again(scene);
+    again.say(logon_of(999999991));
+    check(again.ear.ends && again.ear.messages.empty(), "there is a session again");
     scene.book.calls.clear();
-    talk.say(message_of("S", 1, "58=a|b|") + message_of("S", 2, "35=0|"));
-    talk.say(message_of("4", 3, "43=Y|123=Y|36=4|") + message_of("S", 4, ""));
+    for (std::uint32_t number = 1; number < 9; ++number) {
+        scene.give(number);
+    }
+    check(scene.book.calls.size() <= 8, "more is kept than was given");
+}
+
+// ---------------------------------------------------------------- what a session promises
+
+// What is kept under a number is the venue's, byte for byte, and what leaves again is the same.
+TEST_CASE("what leaves is what was given") {
+    Scene scene;
+    Talk talk(scene);
+    talk.settle();
+    scene.give(1, "AI", "131=R1|117=a|60=20250314-09:00:00.000|297=0|58=x|");
+    const std::string body = "|1181=1|131=R1|117=a|60=20250314-09:00:00.000|297=0|58=x|10=";
+    check_calls({"3 AI"}, talk.ear.heard(), "a message of the venue");
+    check(talk.ear.last[0].find(body) != std::string::npos, talk.ear.last[0]);
+    scene.clock.move(std::chrono::seconds(7));
+    talk.say(message_of("2", 3, "7=3|16=3|"));
+    check_calls({"3 AI again"}, talk.ear.heard(), "what is sent again");
+    const std::string again = talk.ear.last[0];
+    check(again.find(body) != std::string::npos, again);
+    same<std::string>("20250314-09:00:00.000", value_of(again, 122), "when it was kept");
+    same<std::string>("20250314-09:00:07.000", value_of(again, 52), "when it leaves");
+}
+
+// Away and back: what the venue gave meanwhile leaves when the firm asks; a gap fill covers the
+// rest.
+TEST_CASE("given while the firm is away") {
+    Scene scene;
+    Talk(scene).settle();
+    for (std::uint32_t number = 1; number <= 3; ++number) {
+        scene.give(number, number == 2 ? "3" : "AI", number == 2 ? "45=2|373=1|" : "297=9|");
+    }
+    Talk talk(scene);
+    talk.say(logon_of(3));
+    check_calls({"6 A", "7 1"}, talk.ear.heard(), "what its Logon is answered");
+    talk.say(message_of("2", 4, "7=1|16=0|"));
     check_calls(
-        {"expects 2", "sent 4 3", "expects 3", "sent 5 3", "expects 4", "received 4", "expects 5"},
-        scene.book.calls, "a gap of faults in front of a Logon");
+        {"1 4 again", "3 AI again", "4 3 again", "5 AI again", "6 4 again", "7 4 again", "8 1"},
+        talk.ear.heard(), "what it is sent");
+    same<std::string>("3", value_of(talk.ear.last[0], 36), "where the first gap fill ends");
+}
+
+// A session of what was kept goes on as the first one would have.
+TEST_CASE("a restart") {
+    SessionNumbers numbers;
+    std::map<std::uint32_t, KeptMessage> kept;
+    {
+        Scene scene;
+        Talk talk(scene);
+        talk.settle();
+        scene.give(1);
+        talk.say(message_of("S", 3, "58=a|b|") + message_of("S", 4, ""));
+        numbers = scene.book.numbers;
+        kept = scene.book.kept;
+    }
+    Scene scene(&numbers);
+    scene.book.kept = kept;
+    Talk talk(scene);
+    talk.say(logon_of(5));
+    check_calls({"5 A", "6 1"}, talk.ear.heard(), "what a Logon is answered");
+    talk.say(message_of("2", 6, "7=3|16=4|"));
+    check_calls({"3 AI again", "4 3 again"}, talk.ear.heard(), "what is sent again");
+    check_calls({"accepted 1", "expects 6", "expects 7"}, scene.book.calls, "what is counted");
+}
+
+// An operator's reset: what the firm is not known to have comes again under new numbers.
+TEST_CASE("a reset") {
+    Scene scene;
+    {
+        Talk talk(scene);
+        talk.settle();
+        scene.give(1);
+        scene.give(2);
+        talk.say(message_of("S", 3, "58=a|b|"));
+        talk.ear.heard();
+        scene.session().reset();
+        talk.serve();
+        check(talk.ear.ends, "the connection stays");
+        check_calls({}, talk.ear.heard(), "what it is told");
+    }
+    scene.clock.move(std::chrono::minutes(1));
+    scene.book.calls.clear();
+    {
+        Talk talk(scene);
+        talk.say(logon_of(4, "", "20250314-09:01:00"));
+        check_calls({refusal_words::begin}, scene.book.refusals, "a Logon with old numbers");
+    }
+    Talk talk(scene);
+    talk.say(logon_of(1, "", "20250314-09:01:00"));
+    check_calls({"accepted 2", "expects 2"}, scene.book.calls, "the Logon after a reset");
+    const Calls answered = talk.ear.heard();
+    talk.say(message_of("2", 2, "7=1|16=0|", "20250314-09:01:00"));
+    const Calls heard = talk.ear.heard();
+    check(std::ranges::count(heard, "2 AI again copy") == 1 &&
+              std::ranges::count(heard, "3 AI again copy") == 1,
+          fmt::format("{} and {}", answered, heard));
+}
+
+TEST_CASE("suspended") {
+    Scene scene;
+    Talk talk(scene);
+    talk.settle();
+    scene.session().suspend();
+    talk.serve();
+    check_calls({"3 5"}, talk.ear.heard(), "what it is told");
+    talk.end();
+    Talk again(scene);
+    again.say(logon_of(3));
+    check_calls({refusal_words::suspended}, scene.book.refusals, "its next Logon");
+    again.end();
+    scene.session().release_firm();
+    Talk released(scene);
+    released.say(logon_of(3));
+    check(std::ranges::count(scene.book.calls, "accepted 2") == 1, "it is not released");
 }
 
 // ---------------------------------------------------------------- connections of one firm
-
-// Both wait for the old one; one of them has the session after it.
-TEST_CASE("two wait for one") {
-    Scene scene;
-    Talk old(scene);
-    old.settle();
-    Talk second(scene);
-    Talk third(scene);
-    second.say(logon_of(3));
-    third.say(logon_of(3));
-    check(second.conversation.waits() && third.conversation.waits(), "they do not wait");
-    old.end();
-    third.conversation.look_again();
-    second.conversation.look_again();
-    check(third.conversation.is_admitted(), "the first that looks again is kept out");
-    check(second.conversation.waits() && second.ear.said.empty(), "both have the session");
-    second.end();
-    check_calls({"ended 1", "accepted 2", "sent 3 A", "expects 4", "sent 4 1"}, scene.book.calls,
-                "three connections of a firm");
-    check_calls({refusal_words::second_connection}, scene.book.refusals, "the one that waited");
-}
 
 // A host of many threads, which looks whether all comes on the connection that is open.
 class Watch final : public SessionHost {
@@ -210,26 +302,35 @@ class Watch final : public SessionHost {
     }
     void logged_on(const std::string &) override {}
     void logged_off(const std::string &) override {}
-    void settled(const std::string &) override {}
-    int received(const std::string &, const WireMessage &message, const Receipt &receipt) override {
+    std::uint64_t put(const std::string &, const SessionEvent &event) override {
         const std::lock_guard lock(mutex_);
-        note(open_ != 0 && receipt.connection == open_ && message.number > last_);
-        last_ = message.number;
-        ++messages_;
-        return 0;
-    }
-    void all_received() override {}
-    std::uint64_t store_outgoing(const std::string &, std::uint32_t number, const std::string &,
-                                 const Delivery *) override {
-        const std::lock_guard lock(mutex_);
-        note(number == ++sent_);
+        note_numbers(event.numbers);
+        if (event.kept) {
+            note(kept_.emplace(event.kept->number, *event.kept).second);
+        }
+        if (event.drops_rejects) {
+            std::erase_if(kept_, [](const auto &row) { return is_own(row.second); });
+        }
         return 1;
     }
     void wait_stored(std::uint64_t) override {}
-    void store_target(const std::string &, std::uint32_t target) override { expected_ = target; }
-    std::vector<StoredMessage> stored_messages(const std::string &, std::uint32_t,
-                                               std::uint32_t) override {
+    Taken take(const std::string &, const SessionInput &input, const SessionEvent &event) override {
+        const std::lock_guard lock(mutex_);
+        note(open_ != 0 && input.receipt.connection == open_ && input.number > last_);
+        last_ = input.number;
+        ++messages_;
+        note_numbers(event.numbers);
         return {};
+    }
+    void all_received() override {}
+    std::vector<KeptMessage> kept_messages(const std::string &, std::uint32_t from,
+                                           std::size_t limit) override {
+        const std::lock_guard lock(mutex_);
+        std::vector<KeptMessage> found;
+        for (auto at = kept_.lower_bound(from); at != kept_.end() && found.size() < limit; ++at) {
+            found.push_back(at->second);
+        }
+        return found;
     }
 
     std::uint32_t expected() const { return expected_; }
@@ -238,12 +339,19 @@ class Watch final : public SessionHost {
 
   private:
     void note(bool holds) { wrong_ += holds ? 0 : 1; }
+    // No number is used twice, and none is taken back.
+    void note_numbers(const SessionNumbers &now) {
+        note(now.next >= next_ && now.expected >= expected_);
+        next_ = now.next;
+        expected_ = now.expected;
+    }
 
     std::mutex mutex_;
+    std::map<std::uint32_t, KeptMessage> kept_;
     std::uint32_t open_ = 0;
     std::uint32_t logons_ = 0;
     std::uint32_t last_ = 0;
-    std::uint32_t sent_ = 0;
+    std::uint32_t next_ = 2;
     int messages_ = 0;
     int wrong_ = 0;
     std::atomic<std::uint32_t> expected_{1};
@@ -252,11 +360,10 @@ class Watch final : public SessionHost {
 // What is said to a peer of many threads.
 class SafeEar final : public Line {
   public:
-    bool send(const std::string &) override { return !ends_; }
+    bool send(std::string_view) override { return !ends_; }
     void finish(const std::string &) override { ends_ = true; }
     void shut(const std::string &) override { ends_ = true; }
     bool is_ending() const override { return ends_; }
-    void drain() override {}
     void wake() override {}
     ConnectionFacts facts() const override { return {"192.0.2.1:1", "", false}; }
 
@@ -289,6 +396,7 @@ void drawn_connection(Sessions &sessions, EngineEvents &events, const Watch &hos
     Conversation talk(sessions, events, ear);
     const auto say = [&](const std::string &bytes) {
         talk.hear(bytes.data(), bytes.size(), at_nine);
+        talk.serve();
     };
     const auto number = [&] { return static_cast<int>(host.expected()); };
     say(message_of("A", number(),
@@ -300,6 +408,7 @@ void drawn_connection(Sessions &sessions, EngineEvents &events, const Watch &hos
         } else if (talk.is_admitted()) {
             say(drawn_message(random, number()));
             talk.tick();
+            talk.serve();
         }
     }
     talk.end("the peer closed");
@@ -308,10 +417,12 @@ void drawn_connection(Sessions &sessions, EngineEvents &events, const Watch &hos
 // Five that come again and again, while the venue delivers and a day ends: one at a time is heard,
 // and each number is used once. To be run under the thread sanitizer, too.
 TEST_CASE("many connections at one time") {
+    const StillClock clock;
     Watch host;
     NoEvents events;
     SessionStart start;
     start.firm = "F";
+    start.date = today;
     start.host = &host;
     Sessions sessions({start}, events);
     std::atomic<bool> is_over{false};
@@ -320,7 +431,7 @@ TEST_CASE("many connections at one time") {
         delivery.session = delivery.firm = "F";
         delivery.type = "AI";
         for (int number = 1; !is_over; ++number) {
-            delivery.body = with_soh(fmt::format("1181={}|297=9|", number));
+            delivery.wire = framed(with_soh(fmt::format("35=AI|1181={}|297=9|", number)));
             sessions.deliver(delivery);
             if (number % 50 == 0) {
                 sessions.log_out("the day is over");

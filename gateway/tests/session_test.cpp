@@ -1,12 +1,12 @@
-// What a session that stands does with each piece that comes, without a network: with each line of
-// docs/FORMATS.md, "What comes over the network", with numbers and times at fault, with gaps; and
-// that nothing is taken of a firm that was sent a Logout.
+// What a session does with each message that comes on its connection, without a network: the rows
+// of docs/SESSIONS.md, and that nothing is taken of a firm that was sent a Logout.
 #define DOCTEST_CONFIG_IMPLEMENT_WITH_MAIN
 #include <doctest/doctest.h>
 
 #include "check.h"
 #include "door_scene.h"
 
+#include <algorithm>
 #include <tuple>
 
 namespace gateway::tests {
@@ -16,11 +16,9 @@ namespace {
 struct Odd {
     std::string what;
     std::string bytes;
-    std::string reply; // a part of it; nothing is said where it is empty
-    Calls calls;
+    Calls said;  // its numbers and types
+    Calls calls; // of the host
 };
-
-const Calls rejected = {"expects 4", "sent 3 3"};
 
 // A body that is framed as it is.
 std::string raw(const std::string &body) {
@@ -33,12 +31,11 @@ const std::string again = "43=Y|122=" + nine + "|";
 struct Rejected {
     std::string what;
     std::string bytes;
-    std::string reply;
+    std::string reject;
 };
 
 std::vector<Rejected> rejected_frames() {
     const std::string x = std::string(5000, 'x');
-    const std::string time = "52=" + nine + "|";
     return {
         {"a SOH in a text", message_of("S", 3, "58=a|b|"), "|371=58|372=S|373=17|"},
         {"a second type", message_of("S", 3, "35=0|"), "|371=35|372=S|373=13|"},
@@ -47,11 +44,11 @@ std::vector<Rejected> rejected_frames() {
         {"a text too long", message_of("S", 3, "58=" + x + "|"), "|371=9|372=S|373=5|"},
         {"a TestReqID too long", message_of("1", 3, "112=" + x.substr(0, 1025) + "|"),
          "|371=112|372=1|373=5|"},
-        {"no 49", raw("35=S|56=VENUE|34=3|" + time), "|371=49|372=S|373=1|"},
-        {"an empty 56", raw("35=S|49=F|56=|34=3|" + time), "|371=56|372=S|373=4|"},
         {"no 52", raw("35=S|49=F|56=VENUE|34=3|"), "|371=52|372=S|373=1|"},
         {"a 52 that is none", message_of("S", 3, "", "yesterday"), "|371=52|372=S|373=6|"},
         {"43=Y without 122", message_of("S", 3, "43=Y|"), "|371=122|372=S|373=1|"},
+        {"43=Y with a 122 that is none", message_of("S", 3, "43=Y|122=x|"),
+         "|371=122|372=S|373=6|"},
         {"a 122 of another day", message_of("S", 3, "43=Y|122=20250313-09:00:00|"),
          "|371=122|372=S|373=5|"},
     };
@@ -60,43 +57,52 @@ std::vector<Rejected> rejected_frames() {
 std::vector<Rejected> rejected_values() {
     return {
         {"a TestRequest without 112", message_of("1", 3, ""), "|371=112|372=1|373=1|"},
+        {"a TestRequest with an empty 112", message_of("1", 3, "112=|"), "|371=112|372=1|373=4|"},
         {"a gap fill back", message_of("4", 3, "123=Y|36=3|"), "|371=36|372=4|373=5|"},
+        {"a gap fill without 36", message_of("4", 3, "123=Y|"), "|371=36|372=4|373=1|"},
         {"a gap fill past all numbers", message_of("4", 3, "123=Y|36=4294967396|"),
          "|371=36|372=4|373=6|"},
         {"a reset past all numbers", message_of("4", 3, "36=4294967396|"), "|371=36|372=4|373=6|"},
         {"a reset back", message_of("4", 3, "36=2|"), "|371=36|372=4|373=5|"},
-        {"123 that is neither", message_of("4", 3, "123=X|36=9|"), "|371=123|372=4|373=5|"},
-        {"a gap request past all numbers", message_of("2", 3, "7=4294967296|16=0|"),
-         "|371=7|372=2|373=5|"},
+        {"a reset without 36", message_of("4", 3, ""), "|371=36|372=4|373=1|"},
+        {"a request past all numbers", message_of("2", 3, "7=4294967296|16=0|"),
+         "|371=7|372=2|373=6|"},
+        {"a request without an end", message_of("2", 3, "7=1|"), "|371=16|372=2|373=1|"},
+        {"a request of what was not sent", message_of("2", 3, "7=3|16=0|"), "|371=7|372=2|373=5|"},
+        {"a request that ends before its begin", message_of("2", 3, "7=2|16=1|"),
+         "|371=16|372=2|373=5|"},
     };
 }
 
 std::vector<Odd> ignored_messages() {
     return {
-        {"a wrong sum", with_soh("8=FIXT.1.1|9=5|35=0|10=000|"), "", {}},
-        {"garbage", with_soh("abc|"), "", {}},
-        {"an old message again", message_of("S", 2, again), "", {}},
-        {"a reset to what is expected", message_of("4", 9, "36=3|"), "", {}},
+        {"a wrong sum", with_soh("8=FIXT.1.1|9=5|35=0|10=000|"), {}, {}},
+        {"garbage", with_soh("abc|"), {}, {}},
+        {"an old message again", message_of("S", 2, again), {}, {}},
+        {"a reset to what is expected", message_of("4", 9, "36=3|"), {}, {}},
     };
 }
 
 std::vector<Odd> odd_messages() {
     const std::string late = "20250314-08:50:00";
     const std::string gap = "7=2|16=2|";
-    const std::string asked = "|35=2|34=3|";
-    const Calls once = {"sent 3 2"};
+    const Calls asked = {"3 2"};
     return {
         {"a late one that is sent again",
          message_of("S", 3, "43=Y|122=" + late + "|", late),
-         "",
+         {},
          {"received 3", "expects 4"}},
-        {"one ahead of a gap", message_of("S", 5, ""), asked, once},
-        {"a fault ahead of a gap", message_of("S", 5, "58=a|b|"), asked, once},
-        {"a gap request ahead of a gap", message_of("2", 5, gap), asked, {"sent 3 2", "read"}},
-        {"the same without a time", raw("35=2|49=F|56=VENUE|34=5|" + gap), asked, once},
-        {"the same of another's", raw("35=2|49=G|56=VENUE|34=5|52=" + nine + "|" + gap), asked,
-         once},
-        {"a reset", message_of("4", 77, "36=9|"), "", {"expects 9"}},
+        {"one of two minutes ago",
+         message_of("S", 3, "", "20250314-08:58:00"),
+         {},
+         {"received 3", "expects 4"}},
+        {"one ahead of a gap", message_of("S", 5, ""), asked, {}},
+        {"a fault ahead of a gap", message_of("S", 5, "58=a|b|"), asked, {}},
+        {"a late one ahead of a gap", message_of("S", 5, "", late), asked, {}},
+        {"a reset", message_of("4", 77, "36=9|"), {}, {"expects 9"}},
+        {"a gap fill", message_of("4", 3, "123=Y|36=9|"), {}, {"expects 9"}},
+        {"a Reject of the firm", message_of("3", 3, "45=1|"), {}, {"expects 4"}},
+        {"a TestRequest", message_of("1", 3, "112=a b|"), {"3 0"}, {"expects 4"}},
     };
 }
 
@@ -107,18 +113,11 @@ void check_odd(const Odd &odd) {
     talk.settle();
     talk.say(odd.bytes);
     check(!talk.ear.ends, odd.what + ": the connection ends");
-    const std::string came = talk.ear.heard();
-    check(odd.reply.empty() ? came.empty() : came.find(odd.reply) != std::string::npos,
-          odd.what + ": it is told " + came);
+    check_calls(odd.said, talk.ear.heard(), odd.what + ": what is said");
     check_calls(odd.calls, scene.book.calls, odd.what);
 }
 
 TEST_CASE("odd message") {
-    for (const auto &table : {rejected_frames(), rejected_values()}) {
-        for (const Rejected &each : table) {
-            check_odd({each.what, each.bytes, each.reply, rejected});
-        }
-    }
     for (const auto &table : {ignored_messages(), odd_messages()}) {
         for (const Odd &each : table) {
             check_odd(each);
@@ -126,38 +125,92 @@ TEST_CASE("odd message") {
     }
 }
 
+// It uses up its number, and is kept.
+TEST_CASE("rejected message") {
+    for (const auto &table : {rejected_frames(), rejected_values()}) {
+        for (const Rejected &each : table) {
+            check_odd({each.what, each.bytes, {"3 3"}, {"expects 4", "kept 3 3"}});
+            Scene scene;
+            Talk talk(scene);
+            talk.settle();
+            talk.say(each.bytes);
+            const std::string said = talk.ear.messages.at(0);
+            check(said.find("|45=3" + each.reject) != std::string::npos,
+                  each.what + ": it is told " + said);
+        }
+    }
+}
+
+// Both sides have a gap: a ResendRequest is done all the same, or neither would fill its own. But a
+// message that is another's asks for nothing.
+TEST_CASE("resend ahead of a gap") {
+    Scene scene;
+    Talk talk(scene);
+    talk.settle();
+    scene.give(1);
+    check_calls({"3 AI"}, talk.ear.heard(), "a message of the venue");
+    talk.say(message_of("2", 5, "7=3|16=0|"));
+    const Calls heard = talk.ear.heard();
+    check(std::ranges::count(heard, "3 AI again") == 1 && std::ranges::count(heard, "4 2") == 1,
+          fmt::format("a ResendRequest ahead of a gap: {}", heard));
+}
+
 // A Logout, and then nothing of the firm is taken but its own.
 TEST_CASE("after a logout") {
-    const Calls logout = {"sent 3 5"};
-    const Calls counted = {"expects 4", "sent 3 5"};
-    const Calls rejects = {"expects 4", "sent 3 3", "sent 4 5"};
     const std::string endless = "8=FIXT.1.1\x01"
                                 "9=70000\x01" +
                                 std::string(70000, 'x');
-    const std::tuple<std::string, std::string, Calls> tries[] = {
-        {"no number", framed(with_soh("35=S|49=F|56=VENUE|52=" + nine + "|")), logout},
-        {"a number past all numbers", message_of("S", "4294967299", ""), logout},
-        {"a number twice", message_of("S", 3, "34=3|"), logout},
-        {"a number that came before", message_of("S", 2, ""), logout},
-        {"a second Logon", logon_of(3), counted},
-        {"a late message", message_of("S", 3, "", "20250314-08:50:00"), rejects},
-        {"another's name", framed(with_soh("35=S|49=G|56=VENUE|34=3|52=" + nine + "|")), rejects},
-        {"122 after 52", message_of("S", 3, "43=Y|122=20250314-09:00:01|"), rejects},
-        {"bytes without end", endless, logout},
+    const Calls logout = {"3 5"};
+    const Calls both = {"3 3", "4 5"};
+    const Calls rejected = {"expects 4", "kept 3 3"};
+    const std::tuple<std::string, std::string, Calls, Calls> tries[] = {
+        {"no number", raw("35=S|49=F|56=VENUE|52=" + nine + "|"), logout, {}},
+        {"a number past all numbers", message_of("S", "4294967299", ""), logout, {}},
+        {"a number twice", message_of("S", 3, "34=3|"), logout, {}},
+        {"a number that came before", message_of("S", 2, ""), logout, {}},
+        {"a second Logon", logon_of(3), logout, {"expects 4"}},
+        {"a late message", message_of("S", 3, "", "20250314-08:57:59"), both, rejected},
+        {"another's name", raw("35=S|49=G|56=VENUE|34=3|52=" + nine + "|"), both, rejected},
+        {"no name", raw("35=S|56=VENUE|34=3|52=" + nine + "|"), both, rejected},
+        {"to another", raw("35=S|49=F|56=OTHER|34=3|52=" + nine + "|"), both, rejected},
+        {"122 after 52", message_of("S", 3, "43=Y|122=20250314-09:00:01|"), both, rejected},
+        {"bytes without end", endless, logout, {}},
     };
-    for (const auto &[what, bytes, calls] : tries) {
+    for (const auto &[what, bytes, said, calls] : tries) {
         Scene scene;
         Talk talk(scene);
         talk.settle();
         talk.say(bytes);
-        check(talk.ear.heard().find("|35=5|") != std::string::npos, what + ": no Logout");
+        check_calls(said, talk.ear.heard(), what + ": what is said");
+        check(!value_of(talk.ear.last.back(), 58).empty(), what + ": a Logout without a reason");
         for (int number = 3; number <= 5; ++number) {
             talk.say(message_of("AJ", number, "694=1|") + message_of("4", number, "36=50|") +
                      logon_of(number));
         }
-        check(talk.ear.heard().empty(), what + ": something is answered");
+        check_calls({}, talk.ear.heard(), what + ": what is said behind the Logout");
         check_calls(calls, scene.book.calls, what);
+        check(!talk.ear.ends, what + ": the firm can't answer");
+        talk.wait(3);
+        check(talk.ear.ends, what + ": the connection stays");
     }
+}
+
+// Another version is named, and counted where it bears the number that is expected.
+TEST_CASE("another version") {
+    Scene scene;
+    Talk talk(scene);
+    talk.settle();
+    std::string other = message_of("S", 3, "");
+    unsigned sum = 0;
+    other.replace(2, 8, "FIX.4.44");
+    other.erase(other.size() - 7);
+    for (const char byte : other) {
+        sum += static_cast<unsigned char>(byte);
+    }
+    talk.say(other + with_soh(fmt::format("10={:03}|", sum % 256)));
+    check_calls({"3 5"}, talk.ear.heard(), "a message of another version");
+    check(value_of(talk.ear.last[0], 58).find("FIX.4.44") != std::string::npos, "it is not named");
+    check_calls({"expects 4"}, scene.book.calls, "a message of another version");
 }
 
 // The connection ends by the firm's Logout, which is counted.
@@ -166,12 +219,24 @@ TEST_CASE("logout is answered") {
     Talk talk(scene);
     talk.settle();
     scene.sessions.log_out("the day is over");
-    talk.conversation.tick();
-    check(talk.ear.heard().find("|58=the day is over|") != std::string::npos, "no Logout");
+    talk.serve();
+    check_calls({"3 5"}, talk.ear.heard(), "what is said at the end");
+    same<std::string>("the day is over", value_of(talk.ear.last[0], 58), "why");
     check(!talk.ear.ends, "the firm can't answer");
     talk.say(message_of("5", 3, ""));
     check(talk.ear.ends, "the connection stays");
-    check_calls({"sent 3 5", "expects 4"}, scene.book.calls, "a Logout that is answered");
+    check_calls({"expects 4", "ended 1"}, scene.book.calls, "a Logout that is answered");
+}
+
+TEST_CASE("logout of the firm") {
+    Scene scene;
+    Talk talk(scene);
+    talk.settle();
+    talk.say(message_of("5", 3, "") + message_of("AJ", 4, "694=1|"));
+    check_calls({"3 5"}, talk.ear.heard(), "the answer");
+    check(talk.ear.ends, "the connection stays");
+    check_calls({"expects 4", "ended 1"}, scene.book.calls, "a Logout");
+    same(0, scene.book.logons, "sessions that stand");
 }
 
 // What came is asked for once; what is sent again is taken in its order, whenever it comes.
@@ -180,37 +245,173 @@ TEST_CASE("gap that is filled") {
     Talk talk(scene);
     talk.settle();
     talk.say(message_of("S", 5, "") + message_of("S", 6, ""));
-    const Received late = at_nine + std::chrono::minutes(3);
+    check_calls({"3 2"}, talk.ear.heard(), "what is asked for");
+    same<std::string>("3", value_of(talk.ear.last[0], 7), "from where");
+    scene.clock.move(std::chrono::minutes(3));
     for (int number = 3; number <= 6; ++number) {
-        talk.say(message_of("S", number, again), late);
+        talk.say(message_of("S", number, again, "20250314-09:03:00"));
     }
-    check_calls({"sent 3 2", "received 3", "expects 4", "received 4", "expects 5", "received 5",
-                 "expects 6", "received 6", "expects 7"},
+    check_calls({"received 3", "expects 4", "received 4", "expects 5", "received 5", "expects 6",
+                 "received 6", "expects 7"},
                 scene.book.calls, "a gap that is filled");
+}
+
+// It is asked for again after ten seconds without the first of it, and no sooner.
+TEST_CASE("gap that is not filled") {
+    Scene scene;
+    Talk talk(scene);
+    talk.settle();
+    talk.say(message_of("S", 5, ""));
+    check_calls({"3 2"}, talk.ear.heard(), "what is asked for");
+    talk.wait(9);
+    check_calls({}, talk.ear.heard(), "what is said for nine seconds");
+    talk.wait(1);
+    check_calls({"4 2"}, talk.ear.heard(), "what is said after ten");
 }
 
 // The Logon is part of the gap: a stock engine fills it with what else was its session's own.
 TEST_CASE("logon ahead of a gap") {
-    const std::string other_day = "43=Y|122=20250313-09:00:00|";
-    const std::pair<std::string, Calls> tries[] = {
-        {again, {"received 1", "expects 2", "received 2", "expects 3"}},
-        {other_day, {"expects 2", "sent 4 3", "expects 3", "sent 5 3"}},
-    };
-    for (const auto &[fields, calls] : tries) {
+    Scene scene;
+    Talk talk(scene);
+    talk.say(logon_of(3));
+    check_calls({"1 A", "2 2", "3 1"}, talk.ear.heard(), "what a Logon ahead is answered");
+    same<std::string>("1", value_of(talk.ear.last[1], 7), "from where");
+    check_calls({"accepted 1"}, scene.book.calls, "a Logon ahead");
+    talk.say(message_of("S", 1, again) + message_of("S", 2, again));
+    talk.say(message_of("4", 3, again + "123=Y|36=4|") + message_of("0", 4, "112=3|"));
+    talk.say(message_of("S", 5, ""));
+    check_calls({"accepted 1", "received 1", "expects 2", "received 2", "expects 3", "expects 4",
+                 "expects 5", "received 5", "expects 6"},
+                scene.book.calls, "what is filled");
+    check_calls({}, talk.ear.heard(), "what is said");
+}
+
+// The engine of one that gives a 789 resends by itself: what is missing is asked for after ten
+// seconds alone.
+TEST_CASE("logon with the next number") {
+    Scene scene;
+    scene.give(1);
+    Talk talk(scene);
+    talk.say(logon_of(3, "789=1|"));
+    check_calls({"1 A", "3 1"}, talk.ear.heard(), "what it is answered");
+    same<std::string>("1", value_of(talk.ear.last[0], 789), "the number that is expected");
+    talk.wait(10);
+    check_calls({"4 2", "5 1"}, talk.ear.heard(), "what is said after ten seconds");
+}
+
+// ---------------------------------------------------------------- settling
+
+// A Reject waits for the answer, and what is numbered behind it; all else leaves.
+TEST_CASE("what waits while a session settles") {
+    Scene scene;
+    Talk talk(scene);
+    talk.say(logon_of());
+    talk.ear.heard();
+    scene.give(1);
+    check_calls({"3 AI"}, talk.ear.heard(), "a message of the venue");
+    scene.give(2, "3", "45=2|373=1|");
+    scene.give(3);
+    talk.say(message_of("S", 2, "58=a|b|"));
+    talk.serve();
+    check_calls({}, talk.ear.heard(), "what is said before the answer");
+    talk.say(message_of("0", 3, "112=2|"));
+    check_calls({"4 3", "5 AI", "6 3"}, talk.ear.heard(), "what is said behind it");
+}
+
+// Only a TestRequest overtakes what waits; its answer settles, and no earlier one's.
+TEST_CASE("asked again while it settles") {
+    Scene scene;
+    Talk talk(scene);
+    talk.say(logon_of());
+    scene.give(1, "3", "45=2|373=1|");
+    talk.ear.heard();
+    talk.wait(9);
+    check_calls({}, talk.ear.heard(), "what is said for nine seconds");
+    talk.wait(1);
+    check_calls({"4 1"}, talk.ear.heard(), "what is said after ten");
+    talk.say(message_of("0", 2, "112=2|"));
+    check_calls({}, talk.ear.heard(), "what is said to the answer of the first");
+    talk.say(message_of("0", 3, "112=4|"));
+    check_calls({"3 3"}, talk.ear.heard(), "what is said to the answer of the second");
+}
+
+// Each Logout is a disconnect.
+TEST_CASE("no logout while it settles") {
+    for (const std::string &bytes :
+         {message_of("S", 1, ""), logon_of(2), raw("35=S|49=F|56=VENUE|52=" + nine + "|")}) {
         Scene scene;
         Talk talk(scene);
-        talk.say(logon_of(3));
-        check(talk.ear.heard().find("|7=1|16=0|") != std::string::npos, "nothing is asked for");
-        check_calls({"accepted 1", "sent 1 A", "sent 2 2", "sent 3 1"}, scene.book.calls,
-                    "a Logon");
-        scene.book.calls.clear();
-        talk.say(message_of("0", 4, "112=MIRESEASON-1|"));
-        talk.say(message_of("S", 1, fields) + message_of("S", 2, fields));
-        check_calls(calls, scene.book.calls, "what is filled by " + fields);
-        talk.say(message_of("4", 3, again + "123=Y|36=5|") + message_of("S", 5, ""));
-        same<std::string>("expects 6", scene.book.calls.back(), "what follows the gap");
-        check(talk.ear.heard().find("|35=2|") == std::string::npos, "it is asked for again");
+        talk.say(logon_of());
+        talk.ear.heard();
+        talk.say(bytes);
+        check_calls({}, talk.ear.heard(), "what is said to " + with_bars(bytes));
+        check(talk.ear.ends, "the connection stays");
     }
+    Scene scene;
+    Talk talk(scene);
+    talk.say(logon_of());
+    talk.ear.heard();
+    scene.sessions.log_out("the day is over");
+    talk.serve();
+    check(talk.ear.ends && talk.ear.heard().empty(), "it is told that the day is over");
+}
+
+TEST_CASE("never settles") {
+    Scene scene;
+    Talk talk(scene);
+    talk.say(message_of("A", 1, "98=0|108=300|553=F|554=x|1137=9|"));
+    talk.wait(59);
+    check(!talk.ear.ends, "the connection ends before a minute");
+    talk.wait(1);
+    check(talk.ear.ends, "the connection stays");
+    for (const std::string &message : talk.ear.messages) {
+        check(value_of(message, 35) != "5", "it is told " + message);
+    }
+}
+
+// ---------------------------------------------------------------- time
+
+TEST_CASE("heartbeats and silence") {
+    Scene scene;
+    Talk talk(scene);
+    talk.say(message_of("A", 1, "98=0|108=10|553=F|554=x|1137=9|"));
+    talk.say(message_of("0", 2, "112=2|"));
+    talk.ear.heard();
+    talk.wait(9);
+    check_calls({}, talk.ear.heard(), "for nine seconds");
+    talk.wait(1);
+    check_calls({"3 0"}, talk.ear.heard(), "after ten");
+    talk.wait(2);
+    check_calls({"4 1"}, talk.ear.heard(), "after twelve without a word of the firm");
+    talk.wait(11);
+    check_calls({"5 0"}, talk.ear.heard(), "for 23");
+    check(!talk.ear.ends, "it ends before 24");
+    talk.wait(1);
+    check_calls({"6 5"}, talk.ear.heard(), "after 24");
+    check(talk.ear.ends, "the connection stays");
+}
+
+// ---------------------------------------------------------------- what the gateway does not take
+
+TEST_CASE("a message that is not taken") {
+    Scene scene;
+    Talk talk(scene);
+    talk.settle();
+    scene.book.denial.verdict = Taken::Verdict::denied;
+    scene.book.denial.reason = 4;
+    scene.book.denial.id = "q1";
+    scene.book.denial.text = "not now";
+    talk.say(message_of("S", 3, "117=q1|"));
+    check_calls({"3 j"}, talk.ear.heard(), "what it is told");
+    const std::string told = talk.ear.last[0];
+    check(told.find("|45=3|372=S|379=q1|380=4|58=not now|10=") != std::string::npos, told);
+    check_calls({"expects 4", "kept 3 j"}, scene.book.calls, "a message that is not taken");
+    scene.book.denial = {};
+    talk.say(message_of("S", 4, "117=q2|"));
+    check_calls({"expects 4", "kept 3 j", "received 4", "expects 5"}, scene.book.calls,
+                "the next one");
+    talk.say(message_of("2", 5, "7=3|16=3|"));
+    check_calls({"3 j again"}, talk.ear.heard(), "what is sent again");
 }
 
 } // namespace

@@ -6,13 +6,10 @@
 #include "begin_day.h"
 #include "check.h"
 #include "frame.h"
-#include "message.h"
 #include "password.h"
-#include "reader.h"
 #include "refusal_words.h"
 #include "sqlite_statement.h"
 #include "test_keys.h"
-#include "translation.h"
 
 #include <chrono>
 #include <csignal>
@@ -195,21 +192,15 @@ TEST_CASE("settings") {
     check(setting_of(new_hash("a")) == setting_of(new_hash("b")), "two settings of new hashes");
 }
 
-WireMessage message_of(std::uint32_t number) {
-    const std::string body = with_soh(
-        fmt::format("35=Z|49=F|56=VENUE|34={}|52=20250314-09:00:00.000|50=T|298=4|", number));
-    const std::string bytes = framed(body);
-    Reader reader;
-    reader.add(bytes.data(), bytes.size());
-    WireMessage message;
-    check(reader.next(message) && message.heard == Heard::message, "no message: " + message.why);
-    return message;
-}
-
 // Whether a message of F is taken on a connection.
 bool is_taken(SessionHost &host, std::uint32_t number, const Receipt &receipt) {
+    const std::string bytes = framed(with_soh(
+        fmt::format("35=Z|49=F|56=VENUE|34={}|52=20250314-09:00:00.000|50=T|298=4|", number)));
+    SessionEvent event;
+    event.numbers.expected = number + 1;
+    event.is_logged_on = true;
     try {
-        return host.received("F", message_of(number), receipt) == 0;
+        return host.take("F", {bytes, number, receipt}, event).verdict == Taken::Verdict::taken;
     } catch (const std::runtime_error &) {
         return false;
     }

@@ -9,10 +9,10 @@ from tests.gateway.stage import DEALER, Stage
 from tests.gateway.wait import LONG, until
 from tests.gateway.wire import Fields, Wire
 from tests.harness.clock import Clock
-from tests.limits.flood import cancel, logged_on
+from tests.limits.flood import cancel, logged_on, not_taken
 
-USED_UP = b"this firm has sent all the bytes that it may send in a day"
-CLOCK_SET = b"the clock of the venue was set"
+USED_UP = b"0", b"this firm has sent all the bytes that it may send in a day"
+CLOCK_SET = b"4", b"the clock of the venue was set"
 MOST = 65536
 
 
@@ -20,14 +20,10 @@ def quote(name: bytes) -> Fields:
     return [(50, b"T1"), (117, name), (131, b"R1"), (48, BOND), (22, b"4"), (133, b"99.5")]
 
 
-def refused(stage: Stage, number: int, name: bytes, reason: bytes) -> int:
-    """A quote that is not taken, and ends its session; the session's next number."""
+def refused(stage: Stage, number: int, name: bytes, why: tuple[bytes, bytes]) -> int:
+    """A quote that is not taken, for this reason (380) in these words; the session's next number."""
     with logged_on(stage, DEALER, number=number) as wire:
-        assert wire.raw(wire.message(b"S", wire.name, quote(name)))
-        logout = wire.read_kind(b"5")
-        assert logout is not None and reason in (logout.value(58) or b""), (
-            "a quote is answered %r" % logout
-        )
+        not_taken(wire, b"S", quote(name), *why)
         return wire.number
 
 

@@ -117,7 +117,7 @@ class Market:
     """The venue, its firms and what is still to come."""
 
     def __init__(
-        self, path: Path, seed: int, noise: int, firms: Firms, venue: list[str], form: int = 4
+        self, path: Path, seed: int, noise: int, firms: Firms, venue: list[str], form: int = 5
     ) -> None:
         self.draw, self.noise, self.firms = random.Random(seed), noise, firms
         self.door = random.Random("door %d" % seed)  # its own: the day is the same without it
@@ -241,6 +241,11 @@ class Market:
             self.at_some_time(partial(self.ledger.refuse, firm, left_out))
         for _ in range(2):
             self.at_some_time(self.ledger.stranger)
+        for firm in self.firms.all:
+            self.at_some_time(partial(self.ledger.reject, firm))
+            if self.ledger.form > 4:
+                kind = "S" if firm in self.firms.dealers else "R"
+                self.at_some_time(partial(self.ledger.not_take, firm, kind))
 
     def at_some_time(self, act: Callable[[int], None]) -> None:
         self.later(self.door.randrange(OPENING + 60_000, CLOSING - 1_200_000), act)
@@ -388,7 +393,7 @@ def main() -> None:
     parser.add_argument("venue", nargs="+")
     parser.add_argument("--dealers", type=int, default=len(ALL_DEALERS))
     parser.add_argument("--investors", type=int, default=len(ALL_INVESTORS))
-    parser.add_argument("--form", type=int, default=4, choices=(3, 4), help="of the log")
+    parser.add_argument("--form", type=int, default=5, choices=(3, 4, 5), help="of the log")
     parser.add_argument("--currencies", default="", help="of the bonds, with commas between them")
     parser.add_argument("--in-32nds", action="store_true", help="quotes all bonds in 32nds")
     words = parser.parse_args()

@@ -23,7 +23,16 @@ TOLD = {"why": "58", "trade": "1003"}  # the fields that tell what is noted besi
 SECRET = hashlib.sha256(b"the secret of the gateways of drawn days").digest()
 KEY = Ed25519PrivateKey.from_private_bytes(hashlib.sha256(b"and what one signs with").digest())
 SEALED = 40  # entries from one seal to the next
-OLD_TABLES = "DROP TABLE seal; DROP TABLE checkpoint; UPDATE form SET number = 3;"
+# Before form 5 a log had all that a session sent, as it stood on the wire.
+OLD_SESSIONS = """DROP TABLE outgoing; DROP TABLE session;
+    CREATE TABLE outgoing (firm TEXT NOT NULL, number INTEGER NOT NULL, sent INTEGER,
+        bytes BYTEA NOT NULL, PRIMARY KEY (firm, number));
+    CREATE TABLE session (firm TEXT PRIMARY KEY, target INTEGER NOT NULL,
+        logged_on INTEGER NOT NULL);"""
+OLD_TABLES = {
+    3: "DROP TABLE seal; DROP TABLE checkpoint; UPDATE form SET number = 3;" + OLD_SESSIONS,
+    4: "UPDATE form SET number = 4;" + OLD_SESSIONS,
+}
 
 Fields = list[tuple[str, str]]
 
@@ -66,7 +75,10 @@ def fields_of(data: bytes) -> Fields:
 class Session:
     """One firm's session: what it sent, and what is expected of the firm."""
 
-    sent: int = 0
+    next: int = 2  # of what it sends; 1 is left for the answer to the first Logon
+    has_answered: bool = False
+    kept: list[int] = field(default_factory=list)
+    given: list[int] = field(default_factory=list)  # of these, those of the venue
     came: int = 0
     messages: int = 0  # of the venue
     connection: int | None = None
@@ -88,14 +100,14 @@ class Ledger:
     connections: int = 0
     before_event: bytes = bytes(32)
     clock_at: int = 0  # microseconds, the last that it said
-    form: int = 4  # or 3, which has no seals
+    form: int = 5  # or 4; or 3, which has no seals
     notes: bool = False  # the day gives reasons and the names of trades
     seals: int = 0
     checkpoints: int = 0
 
     def __post_init__(self) -> None:
         self.database = sqlite3.connect(self.path, isolation_level=None)
-        self.database.executescript(SCHEMA.read_text() + (OLD_TABLES if self.form == 3 else ""))
+        self.database.executescript(SCHEMA.read_text() + OLD_TABLES.get(self.form, ""))
         self.database.execute("BEGIN")
         digest = hashlib.sha256(self.configuration).hexdigest()
         head = "version %s\nprogram %s\nconfiguration %s\n" % (VERSION, PROGRAM, digest)
@@ -236,7 +248,7 @@ class Ledger:
         session = self.sessions[firm]
         session.came += 2
         self.session_message(firm, "A", moment, [("98", "0"), ("108", "30"), ("1137", "9")])
-        self.session_message(firm, "1", moment, [("112", "MIRESEASON-1")])
+        self.session_message(firm, "1", moment, [("112", "%d" % session.next)])
 
     def log_on_again(self, firm: str, moment: int) -> None:
         """Its connection is lost, and it has another one."""
@@ -247,18 +259,70 @@ class Ledger:
         self.sessions[firm].came += 1
         self.session_message(firm, "5", moment, [])
         self.end_connection(firm, moment, "the firm has closed it")
-        row = (firm, self.sessions[firm].came + 1)
-        self.database.execute("INSERT INTO session VALUES (?, ?, 0)", row)
+        session = self.sessions[firm]
+        if self.form < 5:
+            row = (firm, session.came + 1)
+            self.database.execute("INSERT INTO session VALUES (?, ?, 0)", row)
+            return
+        columns = {
+            "expected": session.came + 1,
+            "next": session.next,
+            "had": session.next - 1,
+            "first_given": min(session.given, default=0),
+            "last_given": max(session.given, default=0),
+            "last_kept": max(session.kept, default=0),
+            "was_taken": int(session.came > 2),
+            "last_logon": moment,
+        }
+        query = "INSERT INTO session (firm, epoch, entries_from, logged_on, is_one_free, is_reset,"
+        query += " reset_at, is_locked, is_suspended, %s) VALUES (?, 0, 0, 0, 0, 0, 0, 0, 0%s)"
+        query %= ", ".join(columns), ", ?" * len(columns)
+        self.database.execute(query, (firm, *columns.values()))
+
+    def reject(self, firm: str, moment: int) -> None:
+        """A message of the firm that is no frame: the session's Reject."""
+        session = self.sessions[firm]
+        session.came += 1
+        body = [("45", str(session.came)), ("371", "58"), ("372", "Z"), ("373", "17")]
+        self.session_message(firm, "3", moment, body, is_kept=True)
+
+    def not_take(self, firm: str, kind: str, moment: int) -> None:
+        """A quote or a request that the gateway does not take: a BusinessMessageReject."""
+        session = self.sessions[firm]
+        session.came += 1
+        body = [("45", str(session.came)), ("372", kind), ("379", "<%d>" % session.came)]
+        body += [("380", "4"), ("58", "the clock of the venue was set")]
+        self.session_message(firm, "j", moment, body, is_kept=True)
 
     def session_message(
-        self, firm: str, kind: str, moment: int, body: Fields, carried: int | None = None
+        self,
+        firm: str,
+        kind: str,
+        moment: int,
+        body: Fields,
+        carried: int | None = None,
+        is_kept: bool = False,
     ) -> None:
+        """A message of a session; it keeps what it may have to send again."""
         session = self.sessions[firm]
-        session.sent += 1
-        head = [("35", kind), ("34", str(session.sent)), ("49", "VENUE")]
-        head += [("52", "%s-%s" % (self.date, time_text(moment))), ("56", firm)]
-        row = (firm, session.sent, carried, frame(head + body))
-        self.database.execute("INSERT INTO outgoing VALUES (?, ?, ?, ?)", row)
+        number = session.next
+        if kind == "A" and not session.has_answered:
+            number, session.has_answered = 1, True
+        else:
+            session.next += 1
+        if self.form < 5:
+            head = [("35", kind), ("34", str(number)), ("49", "VENUE")]
+            head += [("52", "%s-%s" % (self.date, time_text(moment))), ("56", firm)]
+            row = (firm, number, carried, frame(head + body))
+            self.database.execute("INSERT INTO outgoing VALUES (?, ?, ?, ?)", row)
+        elif carried is not None or is_kept:
+            session.kept.append(number)
+            session.given += [] if carried is None else [number]
+            query = "INSERT INTO outgoing (firm, epoch, number, sent, copy, dropped, type, moment,"
+            query += " bytes) VALUES (?, 0, ?, ?, 0, 0, ?, ?, ?)"
+            kept = frame([("35", kind), *body])
+            values = (firm, number, carried, kind, time_text(moment), kept)
+            self.database.execute(query, values)
 
     def came(self, firm: str, moment: int, data: bytes, number: bool = True) -> int:
         """A message of a firm; without a number the gateway's own, for a firm that is gone."""

@@ -282,31 +282,33 @@ class Tamperer:
 
     def outgoing_out(self) -> Change:
         last = LAST_OF.replace("?", "one.firm")
-        rows = self.rows("SELECT firm, number FROM outgoing one WHERE number < (%s)" % last)
-        firm, number = self.draw.choice(rows)
+        query = "SELECT firm, number, sent FROM outgoing one WHERE number < (%s)" % last
+        firm, number, sent = self.draw.choice(self.rows(query))
         self.do("DELETE FROM outgoing WHERE firm = ? AND number = ?", firm, number)
-        pattern = r"%s: its session has no message %d" % (firm, number)
-        return Change("message %d of %s's session taken out" % (number, firm), pattern)
+        # Of the session's own no number says that it was there: only a seal does.
+        is_own = sent is None
+        pattern = r"%s: .*(of its session carries number|no message of its session)" % firm
+        if is_own:
+            pattern = r"%s: its messages of its session are not those that were sealed" % firm
+        what = "message %d of %s's session taken out" % (number, firm)
+        return Change(what, pattern, needs_seal=is_own)
 
     def outgoing_last(self) -> Change:
-        """The last message of a session, one of the session itself: no number says that it was
-        there.
-        """
+        """The last message that a session keeps."""
         firm = self.draw.choice(self.rows("SELECT DISTINCT firm FROM outgoing"))[0]
         self.do("DELETE FROM outgoing WHERE firm = ? AND number = (%s)" % LAST_OF, firm, firm)
-        pattern = r"%s: its messages of its session are not those that were sealed" % firm
-        return Change("the last message of %s's session" % firm, pattern, needs_seal=True)
+        pattern = r"%s: .*(no message of its session carries it|are not those that were sealed)"
+        return Change("the last message of %s's session" % firm, pattern % firm, needs_seal=True)
 
     def outgoing_added(self) -> Change:
         """A message of the venue's types that carries none of them, behind a session's last."""
         firm = self.draw.choice(self.rows("SELECT DISTINCT firm FROM outgoing"))[0]
         ((number,),) = self.rows(LAST_OF, firm)
         kind = self.draw.choice([b"AI", b"AJ", b"S", b"R", b"AG", b"8"])
-        data = framed(
-            b"35=%b|34=%d|49=VENUE|52=20261125-17:00:00.000|56=%b|131=R1|117=x1|297=0|"
-            % (kind, number + 1, firm.encode())
-        )
-        self.do("INSERT INTO outgoing VALUES (?, ?, NULL, ?)", firm, number + 1, data)
+        data = framed(b"35=%b|131=R1|117=x1|297=0|" % kind)
+        query = "INSERT INTO outgoing (firm, epoch, number, copy, dropped, type, moment, bytes)"
+        query += " VALUES (?, 0, ?, 0, 0, ?, '17:00:00.000', ?)"
+        self.do(query, firm, number + 1, kind.decode(), data)
         pattern = r"%s: message %d of its session: it carries nothing" % (firm, number + 1)
         return Change("a message put into %s's session" % firm, pattern)
 
@@ -328,7 +330,7 @@ class Tamperer:
     def target(self) -> Change:
         """The number that a session expects next."""
         firm = self.draw.choice(self.rows("SELECT firm FROM entry WHERE number IS NOT NULL"))[0]
-        self.do("UPDATE session SET target = 1 WHERE firm = ?", firm)
+        self.do("UPDATE session SET expected = 1 WHERE firm = ?", firm)
         pattern = r"%s: .*its session expects number 1" % firm
         return Change("what %s's session expects" % firm, pattern)
 
@@ -339,7 +341,7 @@ def types(*kinds: bytes) -> list[bytes]:
 
 
 SENT_KINDS = types(b"3", b"R", b"AI", b"AJ", b"S", b"AG")
-OUTGOING_KINDS = SENT_KINDS + types(b"A", b"1", b"5")
+OUTGOING_KINDS = SENT_KINDS + types(b"j")
 CAME_KINDS = types(b"R", b"S", b"Z", b"AG", b"AJ")
 ENTRY_KINDS = [b"clock", *(kind.hex().upper().encode() for kind in CAME_KINDS)]
 Kind = Callable[[Tamperer], Change]

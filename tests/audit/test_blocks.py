@@ -10,6 +10,7 @@ from typing import cast
 from unittest.mock import patch
 
 from mireseason_audit import sqlite_log
+from mireseason_audit.carrying import check_wire
 from mireseason_audit.faults import Unreadable
 from mireseason_audit.frame import fields_of, framed
 from mireseason_audit.jobs import Files, GivenReader, keep
@@ -17,7 +18,7 @@ from mireseason_audit.log import Log
 from mireseason_audit.records import Messages, Outgoing, Sent
 from mireseason_audit.sqlite_log import SqliteSource
 from mireseason_audit.streams import lines_in
-from mireseason_audit.wire import carried, check_wire, parts_of
+from mireseason_audit.wire import carried, parts_of
 
 from tests.audit.common import DAY, LogCase, folder
 from tests.audit.samples import ACCEPTED, SHOWN, soh
@@ -151,6 +152,7 @@ class Session:
     given: list[tuple[int, int, bytes]]
     left: list[tuple[int, int | None, bytes]]
     size: int = 1  # of a block
+    has_epochs: bool = False
 
     def sent_blocks(self, firm: str) -> Iterator[Messages]:
         return blocks(self.given, self.size)

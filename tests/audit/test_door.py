@@ -459,7 +459,7 @@ class OldDays(unittest.TestCase):
         with folder() as name:
             log = Path(name) / "day.db"
             for number, text in (
-                (2, "the form of its tables is none of 1, 3 and 4"),
+                (2, "the form of its tables is none of 1, 3, 4 and 5"),
                 (3, "no such column: received"),
             ):
                 shutil.copyfile(DAY, log)

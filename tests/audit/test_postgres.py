@@ -15,6 +15,7 @@ from typing import Any
 import psycopg2
 
 from tests.audit.common import DAY, ROOT, Folder, audit, folder, venue_words
+from tests.audit.ledger import OLD_SESSIONS
 from tests.audit.ledger import public_key
 from tests.audit.tamper import ENTRIES, hash_of
 from tests.gateway.wait import LONG, until
@@ -23,8 +24,11 @@ SERVERS = sorted(Path("/usr/lib/postgresql").glob("*/bin/initdb"))
 SCHEMA, OLD_SCHEMA = "day_20261125", "day_of_form_2"
 TABLES = ("entry", "connection", "sent", "outgoing", "session", "seal", "checkpoint")
 # What the tables of form 2 lacked: the stored day is of form 1, which has the same columns.
-TO_FORM_2 = """DROP TABLE connection; DROP TABLE seal; DROP TABLE checkpoint; ALTER TABLE entry DROP COLUMN received, DROP COLUMN connection;
-    UPDATE form SET number = 2"""
+TO_FORM_2 = (
+    """DROP TABLE connection; DROP TABLE seal; DROP TABLE checkpoint; ALTER TABLE entry DROP COLUMN received, DROP COLUMN connection;
+    UPDATE form SET number = 2; """
+    + OLD_SESSIONS
+)
 # A server ends with the test that started it, however that ends.
 AS_USER = "setpriv --reuid=postgres --regid=postgres --clear-groups --pdeathsig=QUIT --".split()
 
@@ -112,9 +116,9 @@ class Postgres(unittest.TestCase):
     def test_tables_of_another_form(self) -> None:
         self.change("UPDATE form SET number = 1")
         status, text = self.check()
-        self.change("UPDATE form SET number = 4")
+        self.change("UPDATE form SET number = 5")
         self.assertEqual(status, 2)
-        self.assertIn("the form of its tables is none of 2, 3 and 4", text)
+        self.assertIn("the form of its tables is none of 2, 3, 4 and 5", text)
 
     def test_signatures(self) -> None:
         """Each is right; an entry that is put in with number and hash right has none."""

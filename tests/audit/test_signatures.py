@@ -36,7 +36,7 @@ class Signatures(unittest.TestCase):
         kept = folder()
         cls.addClassCleanup(kept.cleanup)
         cls.place = Path(kept.name)
-        for form in (3, 4):
+        for form in (3, 4, 5):
             draw(cls.place / ("drawn-%d.db" % form), form)
         (cls.place / "gateway.pub").write_bytes(ledger.public_key())
         _, other = keys(cls.place)
@@ -44,7 +44,7 @@ class Signatures(unittest.TestCase):
 
     def setUp(self) -> None:
         self.log = self.place / "day.db"
-        self.log.write_bytes((self.place / "drawn-4.db").read_bytes())
+        self.log.write_bytes((self.place / "drawn-5.db").read_bytes())
 
     def check_log(self, *words: str) -> Ran:
         key = str(self.place / "gateway.pub")
@@ -142,8 +142,15 @@ class Signatures(unittest.TestCase):
         self.assertEqual(ran.status, 2, ran.text)
         self.assertIn("signatures are of the whole log", ran.err)
 
+    def test_form_4(self) -> None:
+        """A log with all that its sessions sent: checked and signed as it was."""
+        self.log.write_bytes((self.place / "drawn-4.db").read_bytes())
+        ran = self.check_log()
+        self.assertEqual(ran.status, 0, ran.text)
+        self.assertIn("as its session carried them", ran.out)
+
     def test_form_3(self) -> None:
-        """A log of the last release: checked as it was, and nobody has signed it."""
+        """A log of an old release: checked as it was, and nobody has signed it."""
         self.log.write_bytes((self.place / "drawn-3.db").read_bytes())
         ran = audit("check", self.log)
         self.assertEqual(ran.status, 0, ran.text)

@@ -141,12 +141,20 @@ std::string with_line(const std::vector<std::string> &lines, size_t index,
 }
 
 // ApplSeqNum, TransactTime and TradeID are put into messages of the venue by the gateway, and so is
-// Text, but for the name of a refused hit: no frame of the venue's own needs them. tests/gateway has
-// firms that do.
+// Text, but for the name of a refused hit; and BusinessMessageReject is the gateway's own: no frame of
+// the venue's needs them. tests/gateway and tests/limits have firms that do.
 bool is_gateways(const std::string &message, const std::string &line) {
     const auto names = [&](const char *field) { return line.find(field) != std::string::npos; };
-    return names("\"ApplSeqNum\"") || names("\"TransactTime\"") || names("\"TradeID\"")
-           || (names("\"Text\"") && message.find("\"QuoteRequestReject\"") != std::string::npos);
+    const auto is_of = [&](const char *name) { return message.find(name) != std::string::npos; };
+    return is_of("\"BusinessMessageReject\"") || names("\"ApplSeqNum\"")
+           || names("\"TransactTime\"") || names("\"TradeID\"")
+           || (names("\"Text\"") && is_of("\"QuoteRequestReject\""));
+}
+
+// A listed value that stands in no frame of the venue's: BusinessMessageReject, and its reasons.
+bool is_gateways_value(const std::string &field, const std::string &line) {
+    return line.find("\"BUSINESS_MESSAGE_REJECT\"") != std::string::npos
+           || field.find("\"BusinessRejectReason\"") != std::string::npos;
 }
 
 // Each field of a message taken out, each listed value taken out, each field that may be left out
@@ -160,7 +168,7 @@ int plant_in_text(const std::string &text, const std::vector<std::string> &frame
     }
     int planted = 0;
     bool bodies = false;
-    std::string message; // the line that begins the one at hand
+    std::string message, field; // the lines that begin those at hand
     const auto find = [&](size_t index, const std::string &line) {
         if (!is_noticed(with_line(lines, index, line), frames)) {
             fail("no frame needs line " + std::to_string(index + 1)
@@ -175,6 +183,9 @@ int plant_in_text(const std::string &text, const std::vector<std::string> &frame
         if (line.find("<message name=") != std::string::npos) {
             message = line;
         }
+        if (line.find("<field number=") != std::string::npos) {
+            field = line;
+        }
         const bool member = line.find("<field name=") != std::string::npos
                             || line.find("<component name=") != std::string::npos;
         if (bodies && is_gateways(message, line)) {
@@ -187,7 +198,7 @@ int plant_in_text(const std::string &text, const std::vector<std::string> &frame
             find(index, replaced(line, "required=\"N\"", "required=\"Y\""));
         }
         const size_t value = line.find("<value enum=\"");
-        if (value != std::string::npos) {
+        if (value != std::string::npos && !is_gateways_value(field, line)) {
             const size_t begin = value + 13;
             find(index, std::string(line).replace(begin, line.find('"', begin) - begin, "~"));
         }

@@ -10,6 +10,7 @@ from tests.model.frames import SOH, read_frame
 
 
 TEXT, TRADE_ID = 58, 1003
+EXPECTED = "SELECT firm, expected FROM session"
 Told = dict[
     int, tuple[int, bytes]
 ]  # by the venue's number of a message, the field that tells what is noted beside it
@@ -49,6 +50,7 @@ class Ledger:
 
     entries: tuple[Entry, ...]
     sent: dict[str, list[tuple[int, bytes]]]  # of each firm, the venue's number and its frame
+    expected: dict[str, int]  # of each firm, the number that its session expects next
 
     @property
     def configuration(self) -> bytes:
@@ -107,6 +109,7 @@ def read_ledger(database: Path | PostgresLog) -> Ledger:
     return Ledger(
         tuple(Entry(place, firm, number, bytes(line)) for place, firm, number, line in entries),
         sent,
+        {str(firm): int(number) for firm, number in rows(database, EXPECTED)},
     )
 
 
@@ -128,7 +131,8 @@ def read_postgres(log: PostgresLog) -> Ledger:
         "SELECT firm, number, encode(bytes, 'hex') FROM sent ORDER BY firm, number"
     ):
         sent.setdefault(firm, []).append((int(number), bytes.fromhex(data)))
-    return Ledger(tuple(entries), sent)
+    expected = {firm: int(number) for firm, number in log.rows(EXPECTED)}
+    return Ledger(tuple(entries), sent, expected)
 
 
 def answers(program: list[str], day: bytes) -> dict[str, list[bytes]]:

@@ -317,10 +317,7 @@ def firm_away(stage: Stage, way: Way) -> Scene:
 
 
 def scene_now(stage: Stage, quote: bytes) -> Scene:
-    targets = {str(row[0]): row[1] for row in rows_of(stage, "session")}
-    target = targets[INVESTOR.name]
-    assert isinstance(target, int)
-    return Scene(quote, target)
+    return Scene(quote, stage.door.ledger().expected[INVESTOR.name])
 
 
 def said(stage: Stage, way: Way, frames: list[bytes]) -> None:

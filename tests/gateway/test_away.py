@@ -1,6 +1,7 @@
 """Firms that are away, whose quotes are cancelled for them, and deadlines that pass."""
 
 import ctypes
+import re
 import socket
 import struct
 import time
@@ -21,6 +22,9 @@ AS_AUCTIONS = (
 )
 
 SO_ATTACH_FILTER = 26  # of Linux
+
+SILENT = b"nothing came"  # told of a firm that is silent
+UNTOLD = re.compile(rb"connection ended .*firm=DLR1.*")  # of one that is told nothing itself
 
 DEADLINE = 100  # seconds: a clock that is set forward by these is still one whose 52 is taken
 ACCEPTED = 8.0  # seconds in which a request has come to the dealers, on a busy machine too
@@ -234,24 +238,36 @@ def test_one_that_says_nothing(stage: Stage) -> None:
     with Wire(stage.door.port) as wire:
         wire.logon(DEALER.name.encode(), DEALER.password.encode(), heartbeat=b"1")
         check(wire.closed_within(LONG), "the connection stays")
-    until(
-        "it is told",
-        LONG,
-        lambda: b"Timed out waiting for heartbeat" in stage.door.told.read_bytes(),
-    )
-    stage.log_on(stage.dealer)
-    stage.ping(stage.dealer)
+        check(b"\x0135=5\x01" not in wire.waiting, "it is told why, and may miss a message")
+        number = wire.number
+    until("it is told", LONG, lambda: UNTOLD.search(stage.door.told.read_bytes()) is not None)
+    check(logs_on(stage, number), "it is not logged on")
+
+
+def test_one_that_falls_silent(stage: Stage) -> None:
+    """One that had answered the TestRequest after its Logon is told why."""
+    stage.open(stage.other)
+    with Wire(stage.door.port) as wire:
+        wire.logon(DEALER.name.encode(), DEALER.password.encode(), heartbeat=b"1")
+        check(wire.read_kind(b"1") is not None, "no TestRequest after the Logon")
+        wire.answers = False
+        logout = wire.read_kind(b"5")
+        check(logout is not None and logout.value(58), "no Logout with a text")
+        check(wire.closed_within(LONG), "the connection stays")
+    until("it is told", LONG, lambda: SILENT in stage.door.told.read_bytes())
 
 
 def test_one_whose_line_is_cut(stage: Stage) -> None:
-    """A firm's machine is gone without a word: it can come on another connection long before its heartbeat is missed twice."""
+    """A firm's machine is gone without a word: its next Logon has the session once the old connection was asked and has said nothing,
+    long before its heartbeat is missed."""
     stage.open(stage.other)
     with Wire(stage.door.port) as gone:
         gone.logon(DEALER.name.encode(), DEALER.password.encode(), heartbeat=b"300")
         check(gone.read_kind(b"1") is not None, "no TestRequest after the Logon")
+        gone.ask()
         number = gone.number
         cut(gone)
-        until("it can come again", LONG, lambda: logs_on(stage, number))
+        check(logs_on(stage, number), "it is not logged on")
 
 
 def cut(wire: Wire) -> None:

@@ -1,4 +1,4 @@
-"""Programs of their own beside the gateway: two on one log, the fuzzer, and the proved reader."""
+"""Programs of their own beside the gateway: two on one log, and the fuzzer."""
 
 import os
 import re
@@ -9,7 +9,7 @@ from pathlib import Path
 import pytest
 
 from tests.harness import postgres
-from tests.harness.options import ROOT, Options
+from tests.harness.options import Options
 
 HERE = Path(__file__).resolve().parent
 LIMIT = 5400  # seconds
@@ -61,14 +61,3 @@ def test_the_fuzzer_finds_nothing(options: Options) -> None:
         pytest.skip("clang is not installed")
     inputs = sum(path.is_file() for path in (HERE / "corpus").rglob("*"))
     assert passed([HERE / "fuzz.sh", "60" if options.is_short else "3600"], options) == inputs + 1
-
-
-def test_the_proved_reader_reads_the_same(options: Options) -> None:
-    """The gateway's reader beside the proved one, on the corpus and on inputs drawn from it."""
-    library = ROOT / "crates" / "fix_fields_c" / "out" / "libfix_fields_c.a"
-    if shutil.which("rt") is None or not library.exists():
-        pytest.skip(
-            "there is no rt" if shutil.which("rt") is None else "crates/fix_fields_c is not built"
-        )
-    draws = 20_000 if options.is_short else 200_000
-    assert passed([HERE / "yardstick" / "run.sh", str(draws)], options, PROVE="no") > 0

@@ -184,12 +184,13 @@ class Numbers:
             database, "SELECT number, sent FROM outgoing WHERE firm = '%s' ORDER BY number" % firm
         )
         self.known = {sent: number for number, sent in stored if sent is not None}
-        self.last, self.last_sent = max((row[0] for row in stored), default=0), max(
-            self.known, default=0
-        )
+        self.last_sent = max(self.known, default=0)
+        following = rows(database, "SELECT next FROM session WHERE firm = '%s'" % firm)
+        # 1 is left for the answer to the day's first Logon.
+        self.next: int = following[0][0] if following else 2
 
     def of(self, venue_number: int) -> int:
-        return self.known.get(venue_number, self.last + venue_number - self.last_sent)
+        return self.known.get(venue_number, self.next + venue_number - self.last_sent - 1)
 
 
 def test_power_cuts(stage: Stage) -> None:

@@ -75,11 +75,11 @@ def test_ahead_of_a_gap(stage: Stage) -> None:
 
 
 def test_gap_without_end(stage: Stage) -> None:
-    """Messages of the session itself that come ahead of one that never does: none is kept."""
+    """Messages of the session itself that come ahead of one that comes much later: none is kept."""
     count = 3000
     stage.open(stage.other, stage.investor)
     with on_a_wire(stage) as wire:
-        before = stage.memory()
+        before, lost = stage.memory(), wire.number
         wire.number += 1
         check(
             wire.raw(
@@ -87,7 +87,11 @@ def test_gap_without_end(stage: Stage) -> None:
             ),
             "they are not read",
         )
-        until("they are dropped", LONG, lambda: stage.counters().get(GAP, 0) == count)
+        check(asked_from(wire) == lost, "what is missing is not asked for")
+        # Behind all of them.
+        again(wire, b"Z", lost, cancel(b"lost"))
+        check(answered(wire, b"lost").value(297) == b"9", "it is not answered as ever")
+        check(stage.counters().get(GAP, 0) >= 1, "no gap is counted")
         check(
             stage.memory() - before < 16 * 2**20,
             "%d bytes of memory more" % (stage.memory() - before),
@@ -156,7 +160,8 @@ def test_resent_after_a_crash(stage: Stage) -> None:
 
 def test_sent_on_another_day(stage: Stage) -> None:
     """A firm that goes on with yesterday's numbers is asked for those before, and sends yesterday's messages again: each is rejected
-    by the session, and is no message of today."""
+    by the session, and is no message of today. The Rejects come once it has answered a TestRequest.
+    """
     stage.open(stage.other, stage.investor)
     with Wire(stage.door.port) as wire:
         wire.number = 3
@@ -165,13 +170,12 @@ def test_sent_on_another_day(stage: Stage) -> None:
         for number in (1, 2):
             old = [(43, b"Y"), (122, b"20250314-09:00:00.000"), *cancel(b"old")]
             wire.raw(wire.message(b"Z", b"DLR1", old, number=number))
-            reject = wire.got_until(lambda message: message.value(45) == b"%d" % number)
-            check(
-                reject is not None and (reject.kind, reject.value(1181)) == (b"3", None),
-                "no Reject of the session",
-            )
-            check((reject.value(371), reject.value(373)) == (b"122", b"5"), "it is %r" % reject.raw)
         again(wire, b"4", 3, [(123, b"Y"), (36, b"%d" % wire.number)])
+        # They wait for the answer to a TestRequest, which is no answer as long as the gap is not filled.
+        for number in (1, 2):
+            reject = wire.got_until(lambda message: message.value(45) == b"%d" % number)
+            check((reject.kind, reject.value(1181)) == (b"3", None), "no Reject of the session")
+            check((reject.value(371), reject.value(373)) == (b"122", b"5"), "it is %r" % reject.raw)
         wire.raw(wire.message(b"Z", b"DLR1", cancel(b"new")))
         check(answered(wire, b"new").value(297) == b"9", "the next is not answered as ever")
     check(stage.entries_of(stage.dealer) == 1, "%d entries" % stage.entries_of(stage.dealer))

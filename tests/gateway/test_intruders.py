@@ -8,6 +8,7 @@ from functools import partial
 
 from tests.gateway.stage import INVESTOR, LOGON_SECONDS, Stage, check
 from tests.gateway.strangers import (
+    CALM,
     CLOSED,
     NAME,
     WAYS,
@@ -17,13 +18,14 @@ from tests.gateway.strangers import (
     refusals,
     rows_of,
     scene_now,
+    still_state,
     told_printable,
     trades,
 )
 from tests.gateway.test_connections import held
 from tests.gateway.test_strangers import Crowd, told, unchanged
 from tests.gateway.wait import LONG, until
-from tests.gateway.wire import Fields, Wire, framed
+from tests.gateway.wire import Fields, Wire, framed, now
 
 PLAIN = WAYS[0]
 PASSWORD = INVESTOR.password.encode()
@@ -183,30 +185,33 @@ def test_odd_logons(stage: Stage) -> None:
 
 
 def test_second_with_words(stage: Stage) -> None:
-    """A second connection with the right password and a message behind its Logon, while the first one stands: nothing of it is taken."""
+    """A second connection with the right password and a message behind its Logon, while the first one stands: that one is asked,
+    answers, and stands; nothing of the second is taken, and it is told nothing."""
     quiet_firms(stage)
     stage.open(*stage.firms)
     stage.ask()
     stage.answer(stage.investor, "that its request is taken", lambda message: message.kind == b"AI")
     scene = scene_now(stage, b"Q1")
 
-    def once() -> int:
-        with Wire(stage.door.port) as wire:
-            wire.name, wire.number = NAME, scene.next
-            wire.raw(
-                logon_bytes(wire)
-                + framed(
-                    body_of(
-                        "35=AJ|49=NAME|56=VENUE|34=NEXT+1|52=NOW|50=V1|693=second|694=6|131=x|",
-                        scene,
-                    )
+    still_state(stage, CALM)
+    before = [rows_of(stage, table) for table in ("entry", "sent")]
+    with Wire(stage.door.port) as wire:
+        wire.name, wire.number = NAME, scene.next
+        wire.raw(
+            logon_bytes(wire)
+            + framed(
+                body_of(
+                    "35=AJ|49=NAME|56=VENUE|34=NEXT+1|52=NOW|50=V1|693=second|694=6|131=x|",
+                    scene,
                 )
             )
-            check(wire.closed_within(CLOSED), "a second connection stays")
-            check(wire.waiting == b"", "it is told %r" % wire.waiting)
-        return 1
-
-    unchanged(stage, once)
+        )
+        check(wire.closed_within(CLOSED), "a second connection stays")
+        check(wire.waiting == b"", "it is told %r" % wire.waiting)
+    check(
+        before == [rows_of(stage, table) for table in ("entry", "sent")],
+        "something of a second connection is in the log",
+    )
     stage.auction()
     stage.whole()
 
@@ -219,18 +224,19 @@ def test_races(stage: Stage) -> None:
     number, rounds, answers = 1, 12, 0
     for _ in range(rounds):
         wires = [Wire(stage.door.port) for _ in range(8)]
+        moment = now()  # of both, so that neither comes from an engine that has lost its store
         for place, wire in enumerate(wires):
             wire.number = number
-            threading.Thread(
-                target=wire.logon, args=(NAME, PASSWORD if place in (3, 5) else b"wrong")
-            ).start()
+            words = {"password": PASSWORD if place in (3, 5) else b"wrong", "sending": moment}
+            threading.Thread(target=wire.logon, args=(NAME,), kwargs=words).start()
         found = [
             wire
             for place, wire in enumerate(wires)
             if place in (3, 5) and wire.read_kind(b"A") is not None
         ]
-        check(len(found) <= 1, "two connections have the session at once")
+        check(len(found) <= 1, "two connections have the session under one number")
         answers += len(found)
+        number += len(found)
         for wire in wires:
             wire.socket.close()
         until(
@@ -238,16 +244,14 @@ def test_races(stage: Stage) -> None:
             LONG,
             lambda: stage.counters()["mireseason_connections"] == 1,
         )
-        number = scene_number(stage, number)
+        until("the Logon is counted", LONG, lambda: scene_number(stage, number) == number)
     check(answers >= rounds // 2, "%d of %d rounds had a session" % (answers, rounds))
     one_at_a_time(stage)
     stage.ping(stage.other)
 
 
 def scene_number(stage: Stage, number: int) -> int:
-    return next(
-        (int(str(row[1])) for row in rows_of(stage, "session") if row[0] == INVESTOR.name), number
-    )
+    return stage.door.ledger().expected.get(INVESTOR.name, number)
 
 
 def one_at_a_time(stage: Stage) -> None:

@@ -311,7 +311,16 @@ def test_ended_while_one_fills(stage: Stage) -> None:
         check(stage.door.stop() == 0, "the gateway does not end well")
         check(wire.closed_within(LONG), "the connection stays")
         check(b"\x0135=5\x01" not in wire.waiting, "it was logged out")
-    goes_on(stage)
+        number = wire.number
+    stage.door.start()
+    for firm in (stage.other, stage.investor):
+        firm.wait_on()
+    with Wire(stage.door.port) as wire:
+        wire.number = number
+        wire.logon(DEALER.name.encode(), DEALER.password.encode())
+        check(wire.read_kind(b"A") is not None, "it is not logged on again")
+    stage.auction([stage.other])
+    stage.whole()
 
 
 def test_more_than_may_wait(stage: Stage) -> None:

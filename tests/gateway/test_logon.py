@@ -6,10 +6,12 @@ from pathlib import Path
 
 from tests.gateway.firm import Firm, Identity
 from tests.gateway.stage import DEALER, INVESTOR, LOGON_SECONDS, OTHER, Stage, check, quiet
+from tests.gateway.test_messages import on_a_wire
 from tests.gateway.wait import LONG, until, within
 from tests.gateway.wire import Fields, Wire, a_while_ago, framed, now
 
 SLACK = LONG  # that a limit of the gateway may be late on a busy machine
+LOST_STORE = b"lost its store"  # told of an engine that has
 
 
 def refused_for(reason: str) -> str:
@@ -70,21 +72,53 @@ def grown(before: dict[str, float], after: dict[str, float]) -> list[str]:
     return [name for name in names if after[name] > before.get(name, 0)]
 
 
-def test_refused_without_end(stage: Stage) -> None:
-    """A firm's own Logons at fault, one after the other: some are told why in a minute, and the others closed, so that an engine that
-    tries without end does not fill the log."""
+REFUSED_TIMES = 20
+
+
+def test_refused_again_and_again(stage: Stage) -> None:
+    """A firm's own Logons at fault, one after the other: each is told why under a number of its own, nothing of them is counted, and
+    a stock engine that comes after them trades."""
     stage.open(stage.other)
-    reason, told = refused_for("heartbeat"), 0
-    while told == stage.counters().get(reason, 0):
-        check(told < 200, "all are told of")
+    for count in range(REFUSED_TIMES):
         with Wire(stage.door.port) as wire:
             wire.logon(DEALER.name.encode(), DEALER.password.encode(), heartbeat=b"0")
-            told += wire.read_kind(b"5") is not None
+            logout = wire.read_kind(b"5")
+            check(logout is not None and logout.value(58), "no Logout with a text")
+            assert logout is not None
+            check(logout.session_number == count + 1, "it is %r" % logout.raw)
+            wire.raw(wire.message(b"5", DEALER.name.encode(), []))
             check(wire.closed_within(SLACK), "the connection stays")
-    check(told > 0, "none is told of")
+    check(stage.counters().get(refused_for("heartbeat")) == REFUSED_TIMES, "not all are counted")
     stage.ping(stage.other)
     stage.log_on(stage.dealer)
     stage.ping(stage.dealer)
+
+
+def test_not_told_where_it_may_miss_a_message(stage: Stage) -> None:
+    """The venue owes the firm a message, which a stock engine would lose by a Logout: a Logon at fault is closed without a word, and
+    the firm's next one brings the message. Once it has answered a TestRequest behind that, it is told again.
+    """
+    stage.open(stage.other, stage.investor)
+    with on_a_wire(stage) as wire:
+        stage.ask_of([stage.dealer, stage.other])
+        request = wire.got(b"R")
+        number = wire.number
+    for _ in range(3):
+        with Wire(stage.door.port) as wire:
+            wire.number = number
+            wire.logon(DEALER.name.encode(), DEALER.password.encode(), heartbeat=b"0")
+            check(wire.closed_within(SLACK), "the connection stays")
+            check(wire.waiting == b"", "it is told %r" % wire.waiting)
+    with on_a_wire(stage, number) as wire:
+        wire.raw(wire.message(b"2", DEALER.name.encode(), [(7, b"2"), (16, b"0")]))
+        again = wire.got(b"R")
+        check(again.session_number == request.session_number, "it is %r" % again.raw)
+        wire.ask()
+        number = wire.number
+    with Wire(stage.door.port) as wire:
+        wire.number = number
+        wire.logon(DEALER.name.encode(), DEALER.password.encode(), heartbeat=b"0")
+        check(wire.read_kind(b"5") is not None, "it is not told")
 
 
 def test_wrong_passwords_cost_nothing(stage: Stage) -> None:
@@ -106,10 +140,12 @@ def test_wrong_passwords_cost_nothing(stage: Stage) -> None:
     with Wire(stage.door.port) as wire:
         wire.logon(DEALER.name.encode(), DEALER.password.encode())
         answer = wire.read_kind(b"A")
+        # What waits for the firm has 2: 1 is left for the answer to its first Logon.
         check(
-            answer is not None and answer.session_number == 2,
+            answer is not None and answer.session_number == 1,
             "a wrong password has used up a number",
         )
+        wire.ask()
     until("all are counted", LONG, lambda: stage.counters().get(WRONG_PASSWORD) == 24)
 
 
@@ -194,6 +230,7 @@ def test_stranger_in_a_firms_name(stage: Stage) -> None:
 
 
 def test_second_connection(stage: Stage) -> None:
+    """The first one is asked, answers, and stands."""
     stage.open(stage.dealer)
     times = stage.dealer.times_on
     for _ in range(3):
@@ -208,20 +245,70 @@ def test_second_connection(stage: Stage) -> None:
 
 
 def test_numbers_are_not_reset(stage: Stage) -> None:
-    """141=Y within the day, and a Logon under a number that came before: a Logout with a text, and the numbers stand."""
-    stage.open(*stage.firms)
-    stage.log_off(stage.dealer)
-    logons: list[tuple[int, Fields]] = [(1, [(141, b"Y")]), (1, [])]
-    for number, more in logons:
+    """141=Y once the venue was given a message of the firm, and an old Logon that comes again under a number that came before: a
+    Logout with a text, and the numbers stand."""
+    stage.open(stage.other, stage.investor)
+    early = now()
+    with on_a_wire(stage) as wire:
+        cancels(wire)
+        number = wire.number
+    # It has had all that it was sent, and has said so.
+    with on_a_wire(stage, number) as wire:
+        wire.ask()
+        number = wire.number
+    logons: list[tuple[Fields, bytes]] = [([(141, b"Y")], now()), ([], early)]
+    for more, sending in logons:
         with Wire(stage.door.port) as wire:
-            wire.number = number
-            wire.logon(DEALER.name.encode(), DEALER.password.encode(), more=more)
+            wire.logon(DEALER.name.encode(), DEALER.password.encode(), more=more, sending=sending)
             message = wire.read_kind(b"5")
             check(message is not None and message.value(58), "no Logout with a text")
             check(wire.closed_within(SLACK), "the connection stays")
-    stage.log_on(stage.dealer)
-    stage.auction()
-    stage.whole()
+    with on_a_wire(stage, number) as wire:
+        wire.ask()
+    stage.auction([stage.other])
+
+
+def cancels(wire: Wire) -> None:
+    """A cancel of no quote, and its answer."""
+    fields = [(50, DEALER.trader.encode()), (298, b"5"), (117, b"none")]
+    wire.raw(wire.message(b"Z", DEALER.name.encode(), fields))
+    check(wire.read_kind(b"AI") is not None, "no answer to a cancel")
+
+
+def test_lost_store(stage: Stage) -> None:
+    """An engine that lost its store logs on below its number, now: it is kept out until an operator acts, also under the right number
+    and after a start of the gateway, and nothing that it sends is taken for what it sent before."""
+    stage.open(stage.other, stage.investor)
+    with on_a_wire(stage) as wire:
+        cancels(wire)
+        wire.ask()
+        expected = wire.number
+    until("its session is over", LONG, lambda: stage.counters()["mireseason_sessions"] == 2)
+    for number in (1, 2, expected):
+        kept_out(stage, number)
+    until("the operator is told", LONG, lambda: LOST_STORE in stage.door.told.read_bytes())
+    check(stage.counters().get(refused_for("lost its store"), 0) >= 1, "it is not counted")
+    stage.door.kill()
+    stage.door.start()
+    stage.door.wait_open()
+    kept_out(stage, expected)
+    until(
+        "the session expects what it did",
+        LONG,
+        lambda: stage.door.ledger().expected.get(DEALER.name) == expected,
+    )
+    for firm in (stage.other, stage.investor):
+        firm.wait_on()
+    stage.auction([stage.other])
+
+
+def kept_out(stage: Stage, number: int) -> None:
+    """A Logon of the dealer under this number ends its connection."""
+    with Wire(stage.door.port) as wire:
+        wire.number = number
+        wire.logon(DEALER.name.encode(), DEALER.password.encode())
+        check(wire.closed_within(SLACK), "the connection stays")
+        check(b"\x0135=A\x01" not in wire.waiting, "it is logged on with number %d" % number)
 
 
 def test_reset_as_the_first(stage: Stage) -> None:
@@ -250,7 +337,7 @@ def test_reset_behind_messages(stage: Stage) -> None:
     stage.ping(stage.dealer)
     stage.log_off(stage.dealer)
     stage.dealer.start()
-    until("it is refused", LONG, lambda: stage.counters().get(refused_for("number"), 0) > 0)
+    until("it is refused", LONG, lambda: stage.counters().get(refused_for("reset"), 0) > 0)
 
 
 def test_reset_behind_a_refusal(stage: Stage) -> None:

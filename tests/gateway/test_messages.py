@@ -182,7 +182,7 @@ def on_a_wire(stage: Stage, number: int = 1) -> Wire:
     wire.number = number
     wire.logon(DEALER.name.encode(), DEALER.password.encode())
     check(wire.read_kind(b"A") is not None, "no Logon on a wire")
-    wire.read_kind(b"1", limit=1)  # a TestRequest, if one comes after the Logon
+    check(wire.read_kind(b"1") is not None, "no TestRequest after a Logon")
     return wire
 
 
@@ -342,22 +342,44 @@ def test_no_number(stage: Stage) -> None:
     stage.whole()
 
 
-def test_no_header_field(stage: Stage) -> None:
-    """Without 49, 56 or 52 the session rejects: its number is used up, and the venue's is not."""
+def without(wire: Wire, tag: int) -> Received:
+    """A cancel that lacks a field of its header, and the session's Reject of it."""
+    number, fields = wire.number, fields_of(wire.message(b"Z", b"DLR1", cancel(b"x")))
+    wire.raw(framed(b"".join(b"%d=%s\x01" % item for item in fields if item[0] != tag)))
+    reject = wire.got_until(lambda message: message.value(45) == b"%d" % number)
+    check(
+        (reject.kind, reject.value(1181)) == (b"3", None),
+        "without %d: no Reject of the session" % tag,
+    )
+    return reject
+
+
+def test_no_time(stage: Stage) -> None:
+    """Without 52 the session rejects: its number is used up, and the venue's is not."""
     stage.open(stage.other, stage.investor)
     with on_a_wire(stage) as wire:
-        for tag in (49, 56, 52):
-            number, fields = wire.number, fields_of(wire.message(b"Z", b"DLR1", cancel(b"x")))
-            wire.raw(framed(b"".join(b"%d=%s\x01" % item for item in fields if item[0] != tag)))
-            reject = wire.got_until(lambda message: message.value(45) == b"%d" % number)
+        reject = without(wire, 52)
+        check((reject.value(371), reject.value(373)) == (b"52", b"1"), "it is %r" % reject.raw)
+        wire.raw(wire.message(b"Z", b"DLR1", cancel(b"next")))
+        check(answered(wire, b"next").value(297) == b"9", "the next is not answered as ever")
+        check(stage.entries_of(stage.dealer) == 1, "%d entries" % stage.entries_of(stage.dealer))
+    stage.whole()
+
+
+def test_no_name(stage: Stage) -> None:
+    """Without 49 or 56 a message is no more the firm's than with another's: a Reject that uses up its number, and a Logout."""
+    stage.open(stage.other, stage.investor)
+    number = 1
+    for tag in (49, 56):
+        with on_a_wire(stage, number) as wire:
+            reject = without(wire, tag)
             check(
-                reject is not None and (reject.kind, reject.value(1181)) == (b"3", None),
-                "without %d: no Reject of the session" % tag,
-            )
-            check(
-                (reject.value(371), reject.value(373)) == (b"%d" % tag, b"1"),
+                (reject.value(371), reject.value(373)) == (b"%d" % tag, b"9"),
                 "it is %r" % reject.raw,
             )
+            check(wire.read_kind(b"5") is not None, "no Logout")
+            number = wire.number
+    with on_a_wire(stage, number) as wire:
         wire.raw(wire.message(b"Z", b"DLR1", cancel(b"next")))
         check(answered(wire, b"next").value(297) == b"9", "the next is not answered as ever")
         check(stage.entries_of(stage.dealer) == 1, "%d entries" % stage.entries_of(stage.dealer))
@@ -412,7 +434,9 @@ def test_longer_than_may_be(stage: Stage) -> None:
             stage.memory() - before < 24 * 2**20,
             "%d bytes of memory more" % (stage.memory() - before),
         )
-    stage.log_on(stage.dealer)
+        number = wire.number
+    with on_a_wire(stage, number) as wire:
+        wire.ask()
     stage.ping(stage.other)
 
 

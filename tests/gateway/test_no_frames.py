@@ -7,7 +7,6 @@ from datetime import datetime, timedelta, timezone
 
 from tests.gateway.firm import Received
 from tests.gateway.stage import DEALER, Stage, check
-from tests.gateway.strangers import rows_of
 from tests.gateway.test_away import clock_of
 from tests.gateway.test_gaps import again, asked_from
 from tests.gateway.test_messages import answered, cancel, on_a_wire
@@ -52,8 +51,13 @@ def odd_message(odd: Odd, number: int, kind: bytes = b"Z") -> bytes:
     return framed(head + odd.text.replace("|", "\x01").encode())
 
 
-def target_of(stage: Stage) -> object:
-    return next((row[1] for row in rows_of(stage, "session") if row[0] == DEALER.name), 1)
+def target_of(stage: Stage) -> int:
+    """The number that the session expects next, as it stands in the log: that comes a moment later."""
+    return stage.door.ledger().expected.get(DEALER.name, 1)
+
+
+def expects(stage: Stage, number: int, what: str) -> None:
+    until("%s: the session expects %d" % (what, number), LONG, lambda: target_of(stage) == number)
 
 
 @contextmanager
@@ -117,7 +121,7 @@ def test_ahead_and_no_frame(stage: Stage) -> None:
         lost = wire.number
         wire.raw(odd_message(REJECTED[0], lost + 1))
         check(asked_from(wire) == lost, "the message before it is not asked for")
-        check(target_of(stage) == lost, "it is counted")
+        expects(stage, lost, "it is not counted")
         again(wire, b"Z", lost, cancel(b"lost"))
         answered(wire, b"lost")
         wire.raw(odd_message(REJECTED[0], lost + 1))
@@ -132,7 +136,6 @@ def test_cancels_behind_a_soh(stage: Stage) -> None:
     stage.log_off(stage.dealer)
     until("its session is over", LONG, lambda: stage.counters()["mireseason_sessions"] == 2)
     number = target_of(stage)
-    assert isinstance(number, int)
     with Wire(stage.door.port) as wire:
         wire.number = number
         wire.logon(NAME, DEALER.password.encode())
@@ -171,10 +174,7 @@ def test_no_number(stage: Stage) -> None:
             logout = wire.read_kind(b"5", SOON)
             check(logout is not None and logout.value(58), "no Logout with a text for %r" % text)
             check(wire.closed_within(LONG), "the connection stays for %r" % text)
-        check(
-            target_of(stage) == number,
-            "%r moves the number from %d to %r" % (text, number, target_of(stage)),
-        )
+        expects(stage, number, "%r moves no number" % text)
     with on_a_wire(stage, number) as wire:
         goes_on(wire)
     stage.whole()
@@ -191,10 +191,7 @@ def test_numbers_past_32_bits(stage: Stage) -> None:
         ):
             wire.raw(wire.message(kind, NAME, fields))
             reject_of(wire, wire.number - 1)
-            check(
-                target_of(stage) == wire.number,
-                "%r moves the number to %r" % (fields, target_of(stage)),
-            )
+            expects(stage, wire.number, "%r moves the number by one" % fields)
 
 
 def test_heartbeat_past_32_bits(stage: Stage) -> None:
@@ -235,7 +232,7 @@ def test_without_end(stage: Stage) -> None:
         logout = wire.read_kind(b"5")
         check(logout is not None and logout.value(58), "no Logout with a text")
         check(wire.closed_within(LONG), "the connection stays")
-    check(target_of(stage) == number + 1, "it is not counted")
+    expects(stage, number + 1, "it is counted")
     with on_a_wire(stage, number + 1) as wire:
         wire.raw(
             wire.message(
@@ -244,7 +241,7 @@ def test_without_end(stage: Stage) -> None:
         )
         check(wire.closed_within(LONG), "the connection stays")
         number = wire.number
-    check(target_of(stage) == number, "one ahead of a gap is counted")
+    expects(stage, number, "one ahead of a gap is not counted")
     with on_a_wire(stage, number) as wire:
         goes_on(wire)
     stage.whole()

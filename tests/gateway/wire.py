@@ -18,13 +18,18 @@ def now() -> bytes:
     return datetime.now(timezone.utc).strftime("%Y%m%d-%H:%M:%S.%f")[:-3].encode()
 
 
-def a_while_ago() -> bytes:
-    """A moment that is too long ago for a 52."""
+def seconds_ago(seconds: float) -> bytes:
+    """A moment that has passed, as a 52."""
     return (
-        (datetime.now(timezone.utc) - timedelta(seconds=150))
+        (datetime.now(timezone.utc) - timedelta(seconds=seconds))
         .strftime("%Y%m%d-%H:%M:%S.000")
         .encode()
     )
+
+
+def a_while_ago() -> bytes:
+    """A moment that is too long ago for a 52."""
+    return seconds_ago(150)
 
 
 def framed(body: bytes) -> bytes:
@@ -122,6 +127,12 @@ class Wire:
     def heartbeat(self, question: Received) -> bool:
         """The answer to a TestRequest."""
         return self.raw(self.message(b"0", self.name, [(112, question.value(112) or b"")]))
+
+    def ask(self) -> None:
+        """A TestRequest, and its answer: what was said before it is taken, and what was to come before it has come."""
+        name = b"asked-%d" % self.number
+        assert self.raw(self.message(b"1", self.name, [(112, name)])), "the connection has ended"
+        self.got_until(lambda message: message.kind == b"0" and message.value(112) == name)
 
     def _first_end(self) -> int | None:
         """Where the first message that came ends, if all of it came."""

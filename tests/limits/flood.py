@@ -7,7 +7,7 @@ from types import TracebackType
 from tests.gateway.firm import Identity
 from tests.gateway.stage import Stage
 from tests.gateway.wait import LONG, until
-from tests.gateway.wire import Wire, framed, now
+from tests.gateway.wire import Fields, Wire, framed, now
 
 
 def logged_on(
@@ -27,6 +27,18 @@ def logged_on(
         # Reading answers it.
         assert wire.read_kind(b"1") is not None
     return wire
+
+
+def not_taken(wire: Wire, kind: bytes, fields: Fields, reason: bytes, text: bytes) -> None:
+    """Sends a quote or a request that is counted and not taken: a BusinessMessageReject names it, and the session goes on."""
+    number, names = wire.number, dict(fields)
+    assert wire.raw(wire.message(kind, wire.name, fields))
+    reject = wire.got(b"j")
+    assert reject.value(1181) is None, "it is of the venue: %r" % reject.raw
+    found = [reject.value(tag) for tag in (45, 372, 379, 380)]
+    wanted = [b"%d" % number, kind, names[117 if kind == b"S" else 131], reason]
+    assert found == wanted and text in (reject.value(58) or b""), "it is %r" % reject.raw
+    wire.ask()
 
 
 def hang_up(stage: Stage) -> None:

@@ -7,9 +7,10 @@ from tests.gateway.stage import DEALER, Stage
 from tests.gateway.wait import LONG, until
 from tests.harness.budget import Budget, seconds_of
 from tests.harness.clock import Clock
-from tests.limits.flood import cancel, logged_on
+from tests.limits.flood import cancel, logged_on, not_taken
 
 STEPS = "mireseason_clock_steps_total"
+NOT_AVAILABLE = b"4"  # BusinessRejectReason (380)
 
 
 def tells(stage: Stage, pattern: str) -> bool:
@@ -17,7 +18,7 @@ def tells(stage: Stage, pattern: str) -> bool:
 
 
 def test_a_clock_that_is_set_back(stage: Stage, clock: Clock) -> None:
-    """By 40 seconds: told at once. No quote is taken, and its number is used up; a cancel is answered."""
+    """By 40 seconds: told at once. No quote is taken, its number is used up, and the firm is told why; a cancel is answered."""
     stage.open(stage.other, stage.investor)
     with logged_on(stage, DEALER) as wire:
         stage.ask_of([stage.dealer, stage.other])
@@ -35,16 +36,10 @@ def test_a_clock_that_is_set_back(stage: Stage, clock: Clock) -> None:
         )
         assert stage.counters()[STEPS] == 1
         fields = [(50, b"T1"), (117, b"q1"), (131, b"R1"), (48, BOND), (22, b"4"), (133, b"99.5")]
-        assert wire.raw(wire.message(b"S", wire.name, fields))
-        logout = wire.read_kind(b"5")
-        assert logout is not None and b"the clock of the venue was set" in (
-            logout.value(58) or b""
-        ), ("it is told %r" % logout)
-        number = wire.number
-    assert (
-        stage.entries_of(stage.dealer) == entries
-    ), "a quote is in the log after the clock was set"
-    with logged_on(stage, DEALER, number=number) as wire:
+        not_taken(wire, b"S", fields, NOT_AVAILABLE, b"the clock of the venue was set")
+        assert (
+            stage.entries_of(stage.dealer) == entries
+        ), "a quote is in the log after the clock was set"
         assert wire.raw(cancel(wire, wire.number, b"x1"))
         assert (
             wire.read_until(

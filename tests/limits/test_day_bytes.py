@@ -4,9 +4,10 @@ from tests.gateway.market import BOND
 from tests.gateway.stage import DEALER, Stage
 from tests.gateway.wait import LONG, until
 from tests.gateway.wire import Fields, Wire
-from tests.limits.flood import cancel, hang_up, logged_on
+from tests.limits.flood import cancel, hang_up, logged_on, not_taken
 
 TOLD = b"this firm has sent all the bytes that it may send in a day"
+OTHER = b"0"  # BusinessRejectReason (380)
 MOST = 65536  # of the lines of its entries, some 260 bytes each
 
 
@@ -25,16 +26,14 @@ def cancelled(wire: Wire, name: bytes) -> bool:
 
 
 def refused(wire: Wire, name: bytes) -> None:
-    """A quote that is not taken: the session ends, and says why."""
-    assert wire.raw(wire.message(b"S", wire.name, quote(name)))
-    logout = wire.read_kind(b"5")
-    assert logout is not None and TOLD in (logout.value(58) or b""), "it is told %r" % logout
-    assert wire.closed_within(LONG)
+    """A quote that is not taken: the firm is told why, and its session goes on."""
+    not_taken(wire, b"S", quote(name), OTHER, TOLD)
 
 
 def test_at_the_limit_of_a_day(stage: Stage) -> None:
-    """A firm that has used up its bytes can cancel and not quote; the number of a quote that is not taken is used up; the operator
-    raises the limit while the gateway runs."""
+    """A firm that has used up its bytes can cancel and not quote: the number of a quote that is not taken is used up, and the session
+    goes on, also after a start; the operator raises the limit while the gateway runs. What it was told comes again when it asks.
+    """
     stage.door.limits |= {"day_bytes": MOST}
     stage.open(stage.other, stage.investor)
     with logged_on(stage, DEALER) as wire:
@@ -48,21 +47,24 @@ def test_at_the_limit_of_a_day(stage: Stage) -> None:
         )
         entries = stage.entries_of(stage.dealer)
         refused(wire, b"q1")
+        assert cancelled(wire, b"x1"), "no cancel is taken"
+        refused(wire, b"q2")
         number = wire.number
+    entries += 1
     assert stage.entries_of(stage.dealer) == entries, "a quote beyond the limit is in the log"
     until(
         "the operator is told",
         LONG,
         lambda: "day's bytes used up firm=DLR1" in stage.door.told.read_text(),
     )
-    with logged_on(stage, DEALER, number=number) as wire:
-        assert cancelled(wire, b"x1"), "no cancel is taken"
-        refused(wire, b"q2")
-        number = wire.number
     stage.door.stop()
     stage.door.start()
     stage.door.wait_open()
     with logged_on(stage, DEALER, number=number) as wire:
+        assert wire.raw(wire.message(b"2", wire.name, [(7, b"1"), (16, b"0")]))
+        again = [wire.got(b"j") for _ in range(2)]
+        assert [message.value(379) for message in again] == [b"q1", b"q2"]
+        assert all(message.value(43) == b"Y" for message in again)
         refused(wire, b"q3")
         number = wire.number
     file = stage.door.folder / "credentials.toml"

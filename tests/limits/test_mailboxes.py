@@ -33,5 +33,9 @@ def test_a_firm_that_does_not_settle_keeps_nobody_waiting(stage: Stage) -> None:
     Budget(
         "the answer of a venue that was killed, while another firm settles", most=1, slack=6
     ).hold(measure)
-    stage.log_on(stage.dealer)
+    with logged_on(stage, DEALER, number=number) as wire:
+        assert wire.raw(wire.message(b"2", wire.name, [(7, b"1"), (16, b"0")]))
+        again = wire.got(b"R")
+        assert again.value(43) == b"Y" and again.venue_number == 1, again.raw
+        wire.ask()
     stage.whole()

@@ -72,7 +72,12 @@ def built(gateway: Path, venue: tuple[str, ...], folder: Path, version: str = VE
         (root / "CHANGELOG.md").write_text(
             "# Changes\n\n## %s\n\n- Nothing but its number.\n" % version
         )
-    environment = {**os.environ, "VENUE": venue[0], "GATEWAY": str(gateway.parent)}
+    environment = {
+        **os.environ,
+        "VENUE": venue[0],
+        "GATEWAY": str(gateway.parent),
+        "UNPROVED": "1",  # a tree without the kit has no proved sessions
+    }
     words = [str(root / "packaging" / "build.sh"), str(folder / "packages")]
     done = subprocess.run(
         words, env=environment, capture_output=True, text=True, timeout=10 * LONG, check=False

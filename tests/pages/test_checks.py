@@ -114,9 +114,6 @@ class Checks(unittest.TestCase):
             "```",
             "x",
             "```",
-            "<!-- written by tests/x.py -->",
-            "nine",
-            "<!-- end of what is written -->",
             "last",
         ]
         self.assertEqual(Page("a.md", lines).words(), 3)

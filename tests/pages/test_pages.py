@@ -1,5 +1,4 @@
-"""Each page: its commands print what it shows, its names and links are there, and what is written by a program is as it would
-write it now."""
+"""Each page: its commands print what it shows, its names and links are there, and the pages that scripts print can be printed."""
 
 import shlex
 
@@ -54,7 +53,7 @@ def test_links(pages: list[Page], words: Vocabulary) -> None:
     holds(check_links(pages, words))
 
 
-def test_what_programs_write() -> None:
+def test_what_scripts_print() -> None:
     holds(check_written(ROOT))
 
 

@@ -128,7 +128,7 @@ def test_each_message_of_the_log_is_there_once(drawn: Exported, drawn_log: Path)
             " WHERE firm IS NOT NULL"
         ).fetchall()
         messages = log.execute("SELECT firm, number, place, bytes FROM sent").fetchall()
-        targets = dict(log.execute("SELECT firm, target FROM session"))
+        targets = dict(log.execute("SELECT firm, expected FROM session"))
         doors = log.execute("SELECT place, moment, event, address FROM connection").fetchall()
     assert (len(came), len(sent)) == (len(entries), len(messages))
     for place, moment, firm, received, connection, line in entries:

@@ -1,0 +1,15 @@
+// Looks at an engine's settings before there is one.
+#ifndef GATEWAY_SESSION_CHECK_SETTINGS_H
+#define GATEWAY_SESSION_CHECK_SETTINGS_H
+
+#include "engine.h"
+
+namespace gateway {
+
+// Throws std::runtime_error where an engine could not begin with them: by the address, or by a
+// certificate or a key that can't be used.
+void check_settings(const EngineSettings &settings);
+
+} // namespace gateway
+
+#endif

@@ -1,0 +1,109 @@
+// One TCP connection.
+#ifndef GATEWAY_SESSION_CONNECTION_H
+#define GATEWAY_SESSION_CONNECTION_H
+
+#include "channel.h"
+#include "conversation.h"
+#include "engine.h"
+#include "line.h"
+#include "strangers.h"
+
+#include <atomic>
+#include <chrono>
+#include <memory>
+#include <mutex>
+#include <string>
+#include <string_view>
+#include <thread>
+
+namespace gateway {
+
+// A thread reads and writes the connection, and has its conversation. Other threads leave bytes to
+// be written, or shut it.
+class Connection final : public Line {
+  public:
+    using Clock = std::chrono::steady_clock;
+
+    Connection(Descriptor socket, std::string peer, const TlsServer *tls, StrangerSlot slot,
+               const Sessions &sessions, const EngineSettings &settings, EngineEvents &events);
+    // Shuts it and waits for the thread.
+    ~Connection() override;
+    Connection(const Connection &) = delete;
+    Connection &operator=(const Connection &) = delete;
+
+    // Line. Where more waits than may, the connection is shut: the firm does not read, and what it
+    // was to be sent is kept for it.
+    bool send(std::string_view bytes) override;
+    void finish(const std::string &why) override;
+    void shut(const std::string &why) override;
+    bool is_ending() const override;
+    void wake() override;
+    ConnectionFacts facts() const override;
+    std::size_t waiting() const override;
+    void is_judged() override { slot_.judges(); }
+
+    // Logs its firm out where that came with a certificate that this server does not take. Any
+    // thread may call it.
+    void renew(std::shared_ptr<const TlsServer> server);
+    // Ends it now, unless a firm has logged on. Any thread may call it.
+    void shut_stranger(const std::string &why);
+    // The slot that it was given.
+    Strangers::Slot slot() const { return given_; }
+    bool has_ended() const { return ended_; }
+
+  private:
+    void run();
+    void talk();
+    bool shake_hands();
+    void turn();
+    // Waits until there is something to read, where that is looked for, to write, or to look at.
+    void wait(bool reads);
+    bool is_held() const { return Clock::now() < reads_from_; }
+    Clock::duration longest_wait() const;
+    void read();
+    void write();
+    void ring();
+    void keep_time();
+    void linger();
+    void look_at_certificate();
+    std::string why() const;
+    bool is_own_thread() const { return std::this_thread::get_id() == owner_.load(); }
+
+    const std::string peer_;
+    const Strangers::Slot given_;
+    const bool tls_;
+    const EngineSettings &settings_;
+    EngineEvents &events_;
+    StrangerSlot slot_; // of the connection's thread, too
+    Channel channel_;
+    Descriptor bell_;
+    const Clock::time_point opened_;
+
+    // Of the connection's thread.
+    Conversation conversation_;
+    std::string writing_;
+    std::size_t written_ = 0;
+    bool wants_write_ = false;
+    Clock::time_point progress_;
+    Clock::time_point ticked_;
+    Clock::time_point reads_from_; // before it nothing is read: the firm is above its rate
+    Clock::time_point held_since_; // its messages wait since then; none where they do not
+
+    mutable std::mutex mutex_;
+    std::shared_ptr<const TlsServer> renewed_; // that its certificate is to be shown to
+    std::string waiting_;
+    std::size_t unwritten_ = 0; // of waiting_ and writing_
+    bool finishing_ = false;
+    Clock::time_point finish_at_;
+    std::string why_;
+
+    std::atomic<bool> shut_{false};
+    std::atomic<bool> admitted_{false};
+    std::atomic<bool> ended_{false};
+    std::atomic<std::thread::id> owner_{};
+    std::thread thread_;
+};
+
+} // namespace gateway
+
+#endif

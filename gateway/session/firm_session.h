@@ -1,0 +1,173 @@
+// One firm's FIX session.
+#ifndef GATEWAY_SESSION_FIRM_SESSION_H
+#define GATEWAY_SESSION_FIRM_SESSION_H
+
+#include "engine.h"
+#include "kept_rows.h"
+#include "machine.h"
+
+#include <chrono>
+#include <cstdint>
+#include <deque>
+#include <map>
+#include <mutex>
+#include <string>
+#include <string_view>
+
+namespace gateway {
+
+class Line;
+
+// The machine decides; this moves bytes between it and connections, puts what each event does into
+// the log, and hands the machine what it keeps. Nothing that the machine did is seen before it is
+// in the log's next batch, and no message of the session's own before that batch is committed.
+//
+// Each connection's thread calls it for its own; deliver() and deliver_at_once() are called by one
+// thread at a time, all else by any.
+class FirmSession final {
+  public:
+    using Received = std::chrono::system_clock::time_point; // when a message's last byte was read
+    using Time = SessionHost::Time;
+
+    FirmSession(const SessionStart &start, EngineEvents &events);
+    ~FirmSession();
+    FirmSession(const FirmSession &) = delete;
+    FirmSession &operator=(const FirmSession &) = delete;
+
+    // Whether a Logon with this SenderCompID (49) and TargetSubID (57) is for this session.
+    bool is_named(const std::string &firm, const std::string &desk) const;
+    SessionHost &host() const { return host_; }
+    const std::string &firm() const { return names_.firm; }
+    const std::string &date() const { return names_.date; }
+
+    // How a connection stands to the session.
+    enum class Standing {
+        on,    // it has the session
+        waits, // it may have it, once it is known whether an older connection is dead
+        parts, // it was refused with a Logout: it ends with the firm's own, or soon
+        over,  // it ends, or has ended
+    };
+
+    // The first message of a connection, a Logon with the right credentials, is judged. The line
+    // is called until release().
+    Standing enter(std::uint64_t connection, Line &line, std::string_view logon);
+    // The same again of one that waits.
+    Standing look_again(std::uint64_t connection, std::string_view logon);
+    // A message that came after the Logon. Whether something is to leave before the next one is
+    // looked at.
+    bool take(std::uint64_t connection, std::string_view message, Received at);
+    // No more has come for now.
+    void all_taken();
+    // Heartbeats, and what else time brings about.
+    void tick();
+    Standing standing(std::uint64_t connection) const;
+    // Ends what the connection had. No call reaches its line after it.
+    void release(std::uint64_t connection, const std::string &why);
+
+    // Leaves with the line what is to leave now, as far as it is committed and the firm takes it.
+    // From when on it is to be called again, if there is more.
+    struct Work {
+        bool has_more = false;
+        Time from{};
+    };
+    Work serve(std::uint64_t connection);
+
+    void deliver(const Delivery &delivery);
+    // False where another event is at work: then nothing was done.
+    bool deliver_at_once(const Delivery &delivery);
+    // Ends the connection, if there is one.
+    void shut();
+    // Bytes that the firm has not taken yet.
+    std::size_t waiting_bytes() const;
+    // Logs the firm out, if it is logged on.
+    void log_out(const std::string &reason);
+    // What an operator orders.
+    void suspend() { order(Order::suspend); }
+    void release_firm() { order(Order::release); }
+    void reset();
+
+  private:
+    // What waits for its commit.
+    struct Unsent {
+        std::uint64_t ticket = 0;
+        std::string bytes;
+    };
+    // A connection that has the session, or would have it.
+    struct Visitor {
+        Line *line = nullptr;
+        std::uint32_t number = 0; // in the log, 0 where no Logon was accepted
+        std::deque<Unsent> unsent;
+        bool parts = false;
+        std::uint32_t parts_since = 0; // a moment
+        bool is_over = false;          // it ends once that has left
+        bool was_judged = false;       // it is told what became of its Logon
+        std::string why;
+    };
+    enum class Step { idle, moved, handed, unknown };
+    enum class Came { done, waits };
+
+    // firm_session.cpp. The lock is held in each of these, but where it says otherwise.
+    std::uint32_t moment_at(Received at) const;
+    std::uint32_t moment_now() const;
+    std::uint32_t begin(Received at);
+    std::uint32_t begin();
+    Visitor *visitor(std::uint64_t connection);
+    Visitor *holder();
+    void note_line();
+    Standing standing_here(std::uint64_t connection) const;
+    void order(Order order); // takes the lock
+    void note_why(const std::string &why);
+    void note_unsaid();
+    void deliver_here(const Delivery &delivery);
+    void forget_rows();
+    SessionEvent event_of(const Delivery *delivery) const;
+    void carry_out(const Delivery *delivery);
+    void begin_if_accepted();
+    void complete(std::uint64_t ticket, const Delivery *delivery);
+    void note_kept(const SessionEvent &event, std::uint64_t ticket);
+    void post(const MachineTurn &turn, std::uint64_t ticket);
+    void end_as_told(const MachineTurn &turn);
+    void end(Visitor &ended, const std::string &why);
+    void end_parted();
+    void tell(const MachineTurn &turn);
+
+    // firm_session_came.cpp
+    Standing judge_logon(std::uint64_t connection, std::string_view logon);
+    const char *word_of_refusal(std::uint64_t connection, std::string_view logon);
+    void tell_refused(Visitor &refused, const char *word);
+    Came judge(std::uint64_t connection, std::string_view message, Received at); // takes the lock
+    void deny(std::uint64_t connection, std::string_view message, Received at, const Taken &taken);
+    void leave(std::uint64_t connection);
+
+    // firm_session_serve.cpp
+    bool has_to_say(std::uint64_t connection); // takes the lock
+    bool flush(std::uint64_t connection);      // takes the lock
+    Step step(std::uint64_t connection);       // takes the lock
+    Step hand(const Wanted &wanted);
+    void load(std::uint64_t connection); // takes the lock
+
+    const SessionNames names_;
+    const std::string name_; // for events: with the venue, where there are several
+    SessionHost &host_;
+    EngineEvents &events_;
+    const Received midnight_;
+
+    mutable std::mutex mutex_; // over all that follows
+    Machine machine_;
+    std::uint32_t moment_ = 0; // of its last event
+    std::string_view message_; // that it is, empty where it is another
+    KeptRows rows_;
+    std::uint32_t load_from_ = 0;  // the number that step() found unknown
+    std::uint64_t forgotten_ = 0;  // how often what is kept was another from then on
+    std::uint64_t own_ticket_ = 0; // of the last event but those by which the venue gives something
+    bool has_received_ = false;    // what the host was not told the end of
+    std::map<std::uint64_t, Visitor> visitors_;
+
+    // Over the line of the connection that has the session: whoever shuts it waits for no event.
+    mutable std::mutex line_mutex_;
+    Line *line_ = nullptr;
+};
+
+} // namespace gateway
+
+#endif

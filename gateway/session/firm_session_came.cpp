@@ -1,0 +1,202 @@
+// What a session does with what comes on connections.
+#include "firm_session.h"
+#include "line.h"
+#include "refusal_words.h"
+
+#include <array>
+#include <utility>
+
+namespace gateway {
+
+namespace {
+
+// What a Logout says that refuses a Logon begins with one of these.
+struct RefusalText {
+    std::string_view begin;
+    const char *word;
+};
+constexpr std::array<RefusalText, 11> refusal_texts = {{
+    {"the venue is closed", refusal_words::closed},
+    {"suspended", refusal_words::suspended},
+    {"EncryptMethod", refusal_words::encryption},
+    {"DefaultApplVerID", refusal_words::version},
+    {"HeartBtInt", refusal_words::heartbeat},
+    {"SendingTime", refusal_words::sending_time},
+    {"numbers are not reset", refusal_words::reset},
+    {"MsgSeqNum was too low", refusal_words::lost_store},
+    {"numbers begin at 1", refusal_words::begin},
+    {"MsgSeqNum too low", refusal_words::number},
+    {"NextExpectedMsgSeqNum", refusal_words::number},
+}};
+
+} // namespace
+
+FirmSession::Standing FirmSession::enter(std::uint64_t connection, Line &line,
+                                         std::string_view logon) {
+    const std::lock_guard lock(mutex_);
+    visitors_[connection].line = &line;
+    return judge_logon(connection, logon);
+}
+
+FirmSession::Standing FirmSession::look_again(std::uint64_t connection, std::string_view logon) {
+    const std::lock_guard lock(mutex_);
+    machine_.tick(begin());
+    carry_out(nullptr);
+    const Wanted wanted = machine_.wants();
+    if (wanted.kind == static_cast<std::uint32_t>(Want::logon) && wanted.number == connection) {
+        return judge_logon(connection, logon);
+    }
+    const Standing standing = standing_here(connection);
+    Visitor *const of = visitor(connection);
+    if (standing == Standing::over && of != nullptr) {
+        tell_refused(*of, refusal_words::second_connection);
+    }
+    return standing;
+}
+
+// At the moment of now: to judge a password takes its time.
+FirmSession::Standing FirmSession::judge_logon(std::uint64_t connection, std::string_view logon) {
+    machine_.came(begin(), connection, logon, true);
+    const auto notice = static_cast<Notice>(machine_.turn().told.notice);
+    carry_out(nullptr);
+    const Standing standing = standing_here(connection);
+    Visitor &of = visitors_[connection];
+    if (standing == Standing::on) {
+        of.was_judged = true;
+    } else if (standing != Standing::waits) {
+        const char *word = refusal_words::second_connection;
+        if (notice == Notice::lost_store) {
+            word = refusal_words::lost_store;
+        } else if (notice == Notice::refused) {
+            word = word_of_refusal(connection, logon);
+        } else if (machine_.numbers().is_spent()) {
+            word = refusal_words::over;
+        }
+        tell_refused(of, word);
+    }
+    return standing;
+}
+
+const char *FirmSession::word_of_refusal(std::uint64_t connection, std::string_view logon) {
+    const std::string text = machine_.why_refused(moment_now(), connection, logon);
+    for (const RefusalText &refusal : refusal_texts) {
+        if (text.starts_with(refusal.begin)) {
+            return refusal.word;
+        }
+    }
+    return refusal_words::number;
+}
+
+void FirmSession::tell_refused(Visitor &refused, const char *word) {
+    if (!std::exchange(refused.was_judged, true)) {
+        host_.logon_refused(names_.firm, refused.line->facts(), word);
+    }
+}
+
+bool FirmSession::take(std::uint64_t connection, std::string_view message, Received at) {
+    bool has_waited = false;
+    try {
+        while (judge(connection, message, at) == Came::waits) {
+            // Without the lock: what the log waits for may be that this session takes what it is
+            // given.
+            has_waited = true;
+            host_.wait_for_turn(names_.firm, Receipt{0, at});
+        }
+    } catch (...) {
+        host_.give_turn_back(names_.firm);
+        throw;
+    }
+    if (has_waited) {
+        host_.give_turn_back(names_.firm);
+    }
+    return has_to_say(connection);
+}
+
+FirmSession::Came FirmSession::judge(std::uint64_t connection, std::string_view message,
+                                     Received at) {
+    const std::lock_guard lock(mutex_);
+    Visitor *const from = visitor(connection);
+    if (from == nullptr || from->is_over) {
+        return Came::done;
+    }
+    if (from->parts) {
+        if (is_logout(message)) {
+            end(*from, "its Logon was refused");
+        }
+        return Came::done;
+    }
+    const MachineTurn &turn = machine_.came(begin(at), connection, message, false);
+    if (turn.told.takes == 0) {
+        message_ = message;
+        carry_out(nullptr);
+        return Came::done;
+    }
+    const auto number = static_cast<std::uint32_t>(turn.told.takes);
+    const Taken taken =
+        host_.take(names_.firm, {message, number, {from->number, at}}, event_of(nullptr));
+    if (taken.verdict == Taken::Verdict::waits) {
+        return Came::waits;
+    }
+    if (taken.verdict == Taken::Verdict::denied) {
+        deny(connection, message, at, taken);
+        return Came::done;
+    }
+    has_received_ = true;
+    complete(0, nullptr);
+    return Came::done;
+}
+
+// The message is judged anew, as one that the gateway does not take.
+void FirmSession::deny(std::uint64_t connection, std::string_view message, Received at,
+                       const Taken &taken) {
+    const Denial denial{taken.reason, taken.id, taken.text};
+    machine_.came(begin(at), connection, message, false, &denial);
+    carry_out(nullptr);
+    if (taken.logs_out) {
+        machine_.log_out(begin(), taken.text);
+        carry_out(nullptr);
+    }
+}
+
+// Without the lock: a commit takes its time, and what the venue answers meanwhile may be delivered.
+void FirmSession::all_taken() {
+    {
+        const std::lock_guard lock(mutex_);
+        if (!std::exchange(has_received_, false)) {
+            return;
+        }
+    }
+    host_.all_received();
+}
+
+void FirmSession::release(std::uint64_t connection, const std::string &why) {
+    const std::lock_guard lock(mutex_);
+    Visitor *const of = visitor(connection);
+    if (of == nullptr) {
+        return;
+    }
+    try {
+        tell_refused(*of, refusal_words::second_connection);
+        machine_.gone(connection);
+        carry_out(nullptr);
+        if (of->number != 0) {
+            host_.connection_ended(names_.firm, of->number, of->why.empty() ? why : of->why);
+        }
+    } catch (const std::exception &fault) {
+        // The log takes nothing any more, and the gateway ends.
+        events_.dropped("session", name_ + ": " + fault.what());
+    }
+    leave(connection);
+}
+
+// Whatever the log said, the connection has nothing of the session any more.
+void FirmSession::leave(std::uint64_t connection) {
+    if (machine_.has(connection) || machine_.waits(connection)) {
+        machine_.gone(connection);
+        machine_.adopt();
+    }
+    visitors_.erase(connection);
+    note_line();
+}
+
+} // namespace gateway

@@ -1,0 +1,125 @@
+// How what a session has to say leaves.
+#include "firm_session.h"
+#include "line.h"
+
+#include <utility>
+
+namespace gateway {
+
+namespace {
+
+// So many steps are done before the connection is read again, and no more where so many bytes wait
+// for the firm to take them.
+constexpr std::size_t most_steps = 256;
+constexpr std::size_t enough_bytes = 65536;
+
+} // namespace
+
+FirmSession::Work FirmSession::serve(std::uint64_t connection) {
+    std::size_t handed = 0;
+    Step done = Step::moved;
+    for (std::size_t steps = 0; steps < most_steps && done != Step::idle; ++steps) {
+        done = step(connection);
+        if (done == Step::unknown) {
+            load(connection);
+        }
+        handed += done == Step::handed ? 1 : 0;
+    }
+    if (!flush(connection) || done == Step::idle) {
+        return {};
+    }
+    return {true, host_.was_sent_again(names_.firm, handed)};
+}
+
+bool FirmSession::has_to_say(std::uint64_t connection) {
+    const std::lock_guard lock(mutex_);
+    const Visitor *const to = visitor(connection);
+    return to != nullptr && (!to->unsent.empty() || to->is_over ||
+                             (machine_.is_on() &&
+                              machine_.wants().kind != static_cast<std::uint32_t>(Want::nothing)));
+}
+
+// What waits for its commit leaves once that is done: without the lock, since it takes its time.
+// False where the connection ends.
+bool FirmSession::flush(std::uint64_t connection) {
+    std::unique_lock lock(mutex_);
+    for (;;) {
+        Visitor *const to = visitor(connection);
+        if (to == nullptr) {
+            return false;
+        }
+        if (to->unsent.empty()) {
+            if (to->is_over) {
+                to->line->finish(to->why);
+            }
+            return !to->is_over;
+        }
+        const std::uint64_t ticket = to->unsent.front().ticket;
+        if (ticket != 0) {
+            lock.unlock();
+            host_.wait_stored(ticket);
+            lock.lock();
+        }
+        to->line->send(to->unsent.front().bytes);
+        to->unsent.pop_front();
+    }
+}
+
+FirmSession::Step FirmSession::step(std::uint64_t connection) {
+    const std::lock_guard lock(mutex_);
+    const SessionState &state = machine_.state();
+    Visitor *const of = visitor(connection);
+    if (!machine_.is_on() || state.line.connection != connection || of == nullptr ||
+        of->line->waiting() >= enough_bytes) {
+        return Step::idle;
+    }
+    const Wanted wanted = machine_.wants();
+    switch (static_cast<Want>(wanted.kind)) {
+    case Want::tick:
+        machine_.tick(begin());
+        carry_out(nullptr);
+        return Step::moved;
+    case Want::again:
+    case Want::fresh:
+        return hand(wanted);
+    default:
+        return Step::idle;
+    }
+}
+
+// Hands the machine what is kept under the number that it asks for.
+FirmSession::Step FirmSession::hand(const Wanted &wanted) {
+    const bool is_again = wanted.kind == static_cast<std::uint32_t>(Want::again);
+    const KeptRows::Found found =
+        rows_.find(wanted.number, is_again ? machine_.state().line.again_end : wanted.number + 1);
+    if (!found.is_known) {
+        load_from_ = static_cast<std::uint32_t>(wanted.number);
+        return Step::unknown;
+    }
+    if (found.row == nullptr) {
+        machine_.hands(begin(), found.next, {}, 0, false);
+    } else {
+        const KeptMessage &kept = found.row->message;
+        machine_.hands(begin(), found.next, kept.frame, kept.first, kept.is_copy);
+    }
+    carry_out(nullptr);
+    rows_.drop_before(wanted.number);
+    return Step::handed;
+}
+
+// Reads what is kept from a number on. What is kept meanwhile is put behind it.
+void FirmSession::load(std::uint64_t connection) {
+    std::unique_lock lock(mutex_);
+    const std::uint32_t from = load_from_;
+    const std::uint32_t next = machine_.numbers().next;
+    const std::uint64_t before = forgotten_;
+    rows_.forget(next);
+    lock.unlock();
+    std::vector<KeptMessage> read = host_.kept_messages(names_.firm, from, KeptRows::chunk);
+    lock.lock();
+    if (before == forgotten_ && machine_.has(connection)) {
+        rows_.put(from, next - 1, std::move(read));
+    }
+}
+
+} // namespace gateway

@@ -1,0 +1,64 @@
+#include "sessions.h"
+
+#include "firm_session.h"
+
+#include <stdexcept>
+
+namespace gateway {
+
+std::string session_name(const std::string &venue, const std::string &firm) {
+    return venue.empty() ? firm : venue + "/" + firm;
+}
+
+Sessions::Sessions(const std::vector<SessionStart> &starts, EngineEvents &events)
+    : events_(events) {
+    add(starts);
+}
+
+Sessions::~Sessions() = default;
+
+void Sessions::add(const std::vector<SessionStart> &starts) {
+    for (const SessionStart &start : starts) {
+        sessions_[session_name(start.venue, start.firm)] =
+            std::make_unique<FirmSession>(start, events_);
+    }
+}
+
+// One by one: two names together may be another pair's, too.
+FirmSession *Sessions::named_by(const std::string &firm, const std::string &venue) const {
+    for (const auto &session : sessions_) {
+        if (session.second->is_named(firm, venue)) {
+            return session.second.get();
+        }
+    }
+    return nullptr;
+}
+
+FirmSession *Sessions::any() const {
+    return sessions_.empty() ? nullptr : sessions_.begin()->second.get();
+}
+
+FirmSession &Sessions::of(const std::string &name) const {
+    const auto found = sessions_.find(name);
+    if (found == sessions_.end()) {
+        throw std::runtime_error("no session " + name);
+    }
+    return *found->second;
+}
+
+void Sessions::deliver(const Delivery &delivery) const {
+    of(delivery.session).deliver(delivery);
+}
+
+void Sessions::log_out(const std::string &reason) const {
+    for (const auto &[name, session] : sessions_) {
+        try {
+            session->log_out(reason);
+        } catch (const std::exception &fault) {
+            // The log takes nothing any more, and has told it.
+            events_.dropped("session", name + ": " + fault.what());
+        }
+    }
+}
+
+} // namespace gateway

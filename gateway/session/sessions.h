@@ -1,0 +1,60 @@
+// All sessions of a gateway.
+#ifndef GATEWAY_SESSION_SESSIONS_H
+#define GATEWAY_SESSION_SESSIONS_H
+
+#include "engine.h"
+#include "turns.h"
+
+#include <atomic>
+#include <cstdint>
+#include <map>
+#include <memory>
+#include <string>
+#include <vector>
+
+namespace gateway {
+
+class FirmSession;
+
+// One a firm and venue, for as long as this stands.
+class Sessions {
+  public:
+    Sessions(const std::vector<SessionStart> &starts, EngineEvents &events);
+    ~Sessions();
+    Sessions(const Sessions &) = delete;
+    Sessions &operator=(const Sessions &) = delete;
+
+    // More of them, before one is looked for.
+    void add(const std::vector<SessionStart> &starts);
+
+    // The session that a Logon with this SenderCompID (49) and TargetSubID (57) names; null where
+    // it names none.
+    FirmSession *named_by(const std::string &firm, const std::string &venue) const;
+    std::size_t count() const { return sessions_.size(); }
+    // One of them, whichever; null where there is none.
+    FirmSession *any() const;
+    // A number for a connection, which no other has.
+    std::uint64_t next_connection() const { return ++connections_; }
+    // Turns at the judging of passwords, of whoever connects.
+    Turns &turns() const { return turns_; }
+    // By session_name(). Throws std::runtime_error where there is none.
+    FirmSession &of(const std::string &name) const;
+
+    // Gives a message to its session, as Engine::deliver().
+    void deliver(const Delivery &delivery) const;
+    // Logs all out that are logged on.
+    void log_out(const std::string &reason) const;
+
+  private:
+    // Each hash takes 16 MB, and a processor for tens of milliseconds.
+    static constexpr std::size_t judged_at_once = 4;
+
+    EngineEvents &events_;
+    mutable std::atomic<std::uint64_t> connections_{0};
+    mutable Turns turns_{judged_at_once};
+    std::map<std::string, std::unique_ptr<FirmSession>> sessions_; // by session_name()
+};
+
+} // namespace gateway
+
+#endif

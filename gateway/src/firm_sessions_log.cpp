@@ -1,0 +1,205 @@
+// What the firms' sessions put into the log and read of it.
+#include "firm_sessions.h"
+
+#include "frame.h"
+#include "patient_reader.h"
+#include "wire.h"
+
+#include <algorithm>
+#include <stdexcept>
+#include <utility>
+
+#include <fmt/format.h>
+
+namespace gateway {
+
+namespace {
+
+// Text (58) of what answers a request or a quote that is not taken.
+constexpr const char *bytes_are_used_up =
+    "this firm has sent all the bytes that it may send in a day: until the operator raises that, "
+    "no "
+    "request and no quote is taken; cancels, declines, hits and passes are";
+constexpr const char *too_long_for_the_venue = "the message is longer than the venue takes";
+constexpr const char *clock_was_set =
+    "the clock of the venue was set: until the operator says that it is right, no request and no "
+    "quote is taken; cancels, declines, hits and passes are";
+
+// Of what 379 names.
+constexpr std::size_t longest_denied_id = 200;
+
+// BusinessRejectReason (380).
+constexpr std::uint32_t other_reason = 0;
+constexpr std::uint32_t application_not_available = 4;
+
+// What a message begins that takes nothing back: a request (R) or a quote (S), and the tag of its
+// name; none of other messages.
+std::string_view name_of_business(std::string_view type) {
+    if (type == "R") {
+        return "131";
+    }
+    return type == "S" ? "117" : "";
+}
+
+// `hex FIRM HH:MM:SS.sss DIGITS`
+std::uint64_t bytes_of_line(const std::string &firm, const std::string &frame) {
+    constexpr std::size_t rest = 18;
+    return rest + firm.size() + 2 * frame.size();
+}
+
+} // namespace
+
+SessionRow FirmSessions::row_of(const std::string &name, Firm &firm, const SessionEvent &event) {
+    firm.numbers = event.numbers;
+    return {name, firm.epoch, firm.entries_from, event.is_logged_on || firm.was_left,
+            event.numbers};
+}
+
+std::uint64_t FirmSessions::put(const std::string &name, const SessionEvent &event) {
+    Firm &firm = firm_of(name);
+    Log::SessionChange change;
+    change.row = row_of(name, firm, event);
+    change.drops_rejects = event.drops_rejects;
+    if (event.kept) {
+        const KeptMessage &kept = *event.kept;
+        Outgoing &row = change.kept.emplace();
+        row.firm = name;
+        row.epoch = firm.epoch;
+        row.number = kept.number;
+        row.is_copy = kept.is_copy;
+        row.type = kept.type;
+        row.moment = text_of(Moment{static_cast<int>(kept.first)});
+        row.bytes = kept.frame;
+    }
+    if (const Delivery *const given = event.given) {
+        change.carried = Sent{name, given->number, given->place, given->frame};
+        if (change.kept) {
+            change.kept->sent = given->number;
+        }
+        day_.metrics.delivered();
+        firm.metrics->was_given(*given);
+    }
+    return log_.put(std::move(change));
+}
+
+void FirmSessions::wait_stored(std::uint64_t ticket) {
+    log_.wait(ticket);
+}
+
+Taken FirmSessions::take(const std::string &name, const SessionInput &input,
+                         const SessionEvent &event) {
+    Firm &firm = firm_of(name);
+    const std::lock_guard lock(firm.mutex);
+    if (!firm.connection || firm.connection->number != input.receipt.connection) {
+        throw std::runtime_error(
+            fmt::format("{}: a message on a connection that has no Logon", name));
+    }
+    const auto frame = for_venue(input.bytes, firm.entries + 1);
+    if (!frame) {
+        return {Taken::Verdict::denied,
+                other_reason,
+                {},
+                too_long_for_the_venue,
+                firm.denials.is_too_many()};
+    }
+    if (const auto why = denied(name, firm, *frame)) {
+        return *why;
+    }
+    // On one connection nothing comes before what came before it, also where the clock is set back.
+    firm.last_receipt = std::max(firm.last_receipt, input.receipt.at);
+    const Log::Came came{input.number, input.receipt.connection, firm.last_receipt};
+    if (!log_.append_at_once(name, came, *frame, row_of(name, firm, event),
+                             std::exchange(firm.turn, Log::Turn()))) {
+        return {Taken::Verdict::waits, 0, {}, {}, false};
+    }
+    firm.metrics->came(value_in(*frame, "35"), value_in(*frame, "694"));
+    firm.limits.bytes.add(bytes_of_line(name, *frame));
+    ++firm.entries;
+    return {};
+}
+
+void FirmSessions::wait_for_turn(const std::string &name, const Receipt &receipt) {
+    Log::Turn turn = log_.wait_for_turn(name, receipt.at);
+    Firm &firm = firm_of(name);
+    const std::lock_guard lock(firm.mutex);
+    firm.turn = std::move(turn);
+}
+
+void FirmSessions::give_turn_back(const std::string &name) {
+    Firm &firm = firm_of(name);
+    const std::lock_guard lock(firm.mutex);
+    firm.turn.give_back();
+}
+
+// Why a message is not taken, whose frame for the venue this is; nothing where it is.
+std::optional<Taken> FirmSessions::denied(const std::string &name, Firm &firm,
+                                          std::string_view frame) {
+    const std::string_view id = name_of_business(value_in(frame, "35"));
+    const bool are_used_up = firm.limits.bytes.are_used_up();
+    if (id.empty() || (!are_used_up && day_.clock_is_right)) {
+        return std::nullopt;
+    }
+    if (are_used_up) {
+        tell_bytes_used_up(name, firm);
+    }
+    Taken taken;
+    taken.verdict = Taken::Verdict::denied;
+    taken.reason = are_used_up ? other_reason : application_not_available;
+    taken.id = std::string(value_in(frame, id).substr(0, longest_denied_id));
+    taken.text = are_used_up ? bytes_are_used_up : clock_was_set;
+    taken.logs_out = firm.denials.is_too_many();
+    return taken;
+}
+
+void FirmSessions::tell_bytes_used_up(const std::string &name, Firm &firm) {
+    if (!firm.told_of_bytes.exchange(true)) {
+        day_.events->warn("day's bytes used up firm={}{} bytes={} limit={}", name, day_.of_venue(),
+                          firm.limits.bytes.used(), firm.limits.bytes.limit());
+    }
+}
+
+void FirmSessions::all_received() {
+    log_.commit();
+}
+
+std::vector<KeptMessage> FirmSessions::kept_messages(const std::string &name, std::uint32_t from,
+                                                     std::size_t limit) {
+    log_.flush();
+    const std::uint32_t epoch = firm_of(name).epoch;
+    // A reader of its own: no firm waits for what another is sent again.
+    PatientReader stored(*day_.database, day_.status.stopping());
+    std::vector<KeptMessage> messages;
+    for (Outgoing &row : stored.ask([&](LogReader &log) {
+             return log.outgoing(name, epoch, from, static_cast<std::uint32_t>(limit));
+         })) {
+        KeptMessage &message = messages.emplace_back();
+        message.number = row.number;
+        message.type = std::move(row.type);
+        message.frame = std::move(row.bytes);
+        message.first =
+            static_cast<std::uint32_t>(moment_of(row.moment).value_or(Moment{}).milliseconds);
+        message.is_copy = row.is_copy;
+    }
+    return messages;
+}
+
+std::uint64_t FirmSessions::count_kept(const std::string &name, std::uint32_t behind) {
+    log_.flush();
+    const std::uint32_t epoch = firm_of(name).epoch;
+    PatientReader stored(*day_.database, day_.status.stopping());
+    return stored.ask([&](LogReader &log) { return log.count_kept(name, epoch, behind); });
+}
+
+// What the firm has in the log until now counts no longer for the session's numbers.
+void FirmSessions::put_reset(const std::string &name, std::uint32_t behind,
+                             const SessionEvent &event) {
+    Firm &firm = firm_of(name);
+    Log::SessionChange change;
+    change.reset = SessionReset{name, firm.epoch, behind};
+    ++firm.epoch;
+    firm.entries_from = log_.last_place();
+    change.row = row_of(name, firm, event);
+    log_.put(std::move(change));
+}
+
+} // namespace gateway
