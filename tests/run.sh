@@ -191,6 +191,15 @@ gate() {
     fi
 }
 
+# The proved sessions, with which the gateway is linked. Without them it would be built over the second implementation.
+session_library() {
+    told=$work/library
+    (cd crates/fix_sessions_c && rt lib) >"$told" 2>&1 && return
+    tail -n 20 "$told"
+    echo "gate: crates/fix_sessions_c gives no library"
+    count 0 1
+}
+
 # folder NAME SECONDS PACKAGES WORDS ..: pytest on a folder of tests. Status 5 is that of one that has no test.
 folder() {
     name=$1 limit=$2 packages=$3
@@ -217,7 +226,7 @@ build_gateway() {
     ! can_have "$(what_is_left)" ccache || launcher=-DCMAKE_CXX_COMPILER_LAUNCHER=ccache
     # shellcheck disable=SC2016 # of the inner shell
     form ctest 7200 "$(gateway/packages.sh)" \
-        env CCACHE_BASEDIR="${CCACHE_BASEDIR:-$root}" CCACHE_NOHASHDIR=1 \
+        env CCACHE_BASEDIR="${CCACHE_BASEDIR:-$root}" CCACHE_NOHASHDIR=1 CCACHE_SLOPPINESS=pch_defines,time_macros \
         sh -c 'cmake -S gateway -B gateway/out $3 && cmake --build gateway/out -j "$1" &&
             python3 -m tests.gateway.midnight &&
             ctest --test-dir gateway/out --output-on-failure --output-junit "$2"' build "$jobs" "$work/ctest.xml" "$launcher"
@@ -293,6 +302,7 @@ debians_python
 case "${1:-}" in
 '')
     gate
+    session_library
     beside
     ;;
 --beside) beside ;;

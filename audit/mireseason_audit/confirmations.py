@@ -43,6 +43,7 @@ CONFIRMATIONS: Table[Confirmation] = Table(
         Column("quote", "the firm's name of it: 117", lambda row: row.side.quote),
         Column("reference", "693 of the message that told it", lambda row: row.side.reference),
         Column("number", "34 of that message, the venue's", lambda row: row.side.number),
+        Column("void", "why the trade is void; empty where it stands", lambda row: row.trade.void),
     ),
 )
 
@@ -76,7 +77,8 @@ def confirmation_text(firm: Firm, rows: list[Confirmation]) -> str:
 def line_of(row: Confirmation) -> str:
     trade, side = row.trade, row.side
     amount = "{:,}".format(trade.request.quantity) + (" " + row.currency if row.currency else "")
-    return "  %s  %s UTC  %s %s of %s at %s %s %s  131=%s 117=%s 693=%s, message %d" % (
+    void = ", VOID: %s" % trade.void if trade.void else ""
+    return "  %s  %s UTC  %s %s of %s at %s %s %s  131=%s 117=%s 693=%s, message %d%s" % (
         trade.name,
         trade.moment,
         "buys" if row.buys else "sells",
@@ -89,4 +91,5 @@ def line_of(row: Confirmation) -> str:
         side.quote,
         side.reference,
         side.number,
+        void,
     )

@@ -12,6 +12,7 @@ from .exchanges import Exchange, Told, exchanges
 from .facts import Facts, RequestFact, ResponseFact
 from .frame import barred, text_of
 from .log import Log
+from .notes import voided
 from .not_taken import MOST_NOT_TAKEN, not_taken_of
 from .reading import moment_of
 from .records import Day
@@ -69,7 +70,10 @@ class DayPass:
         return self.facts
 
     def end(self) -> None:
-        """What the log says of each session beside its messages."""
+        """What the log says of each session and of the trades beside the messages."""
+        void = voided(self.log) if self.log.has_chain else {}
+        for trade in self.facts.trades:
+            trade.void = void.get(trade.name, "")
         targets = self.log.targets() if self.log.has_chain else {}
         for name, session in self.sessions.items():
             session.expected = targets.get(name)

@@ -223,6 +223,11 @@ TRADES: Table[TradeRow] = Table(
             lambda row: int(row.fact.cover_lapsed),
         ),
         Column("from_cover", "points better than the cover", lambda row: row.fact.from_cover),
+        Column(
+            "void",
+            "why an operator voided it by agreement; empty where it stands",
+            lambda row: row.fact.void,
+        ),
     ),
 )
 

@@ -160,6 +160,7 @@ class TradeFact:
     second: QuoteFact | None  # the best of the others that could be hit
     cover: QuoteFact | None = None  # as its dealer was told
     cover_lapsed: bool = False  # told so though its 62 had passed
+    void: str = ""  # why an operator voided it by agreement; empty where it stands
 
     @property
     def from_best(self) -> Decimal:

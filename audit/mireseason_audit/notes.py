@@ -14,6 +14,7 @@ from .tables import Column, Table
 LONGEST = 200  # bytes of a note
 NOTE = re.compile(rb"# (act|clock) ([0-9:.]{12}) [ -~]+")
 ACT = re.compile(r'# act (\S+) (\S+) (.*?)(?: because="([^"]*)")?')
+BUST = "bust "
 CLOCK = re.compile(r"# clock (\S+) (synchronised|unsynchronised|set) (-?[0-9]{1,18})")
 
 
@@ -58,6 +59,12 @@ def acts(log: Log) -> Iterator[Act]:
         act = act_of(entry.place, entry.line) if entry.firm is None else None
         if act is not None:
             yield act
+
+
+def voided(log: Log) -> dict[str, str]:
+    """The trades that operators voided (`bust TRADE`), and why."""
+    found = (act for act in acts(log) if act.what.startswith(BUST))
+    return {act.what.removeprefix(BUST): act.because for act in found}
 
 
 def clock_notes(log: Log) -> Iterator[ClockNote]:

@@ -67,6 +67,7 @@ class Request:
     quote: str = ""  # the winning one, as its dealer names it
     cover: str = ""
     cover_lapsed: bool = False  # told so though its 62 had passed
+    void: str = ""  # why an operator voided its trade; empty where that stands
     trade: str = ""  # DATE-INVESTOR-DEALER-K
     end: str = "open"
     end_moment: str = ""

@@ -153,6 +153,7 @@ def with_facts(summary: Summary, day_pass: DayPass) -> Summary:
     for trade in facts.trades:
         request = summary.requests[trade.request.number - 1]
         request.trade, request.cover_lapsed = trade.name, trade.cover_lapsed
+        request.void = trade.void
     for asked in facts.asked:
         summary.asked[asked.dealer].append(asked)
     summary.sessions = day_pass.sessions

@@ -122,7 +122,7 @@ bool is_above(Turn &turn, const Event &event) {
         return true;
     }
     note_gap(turn.session.line, number);
-    if (is_type(event, "2") && !fault_of(event.message)) {
+    if (is_type(event, "2")) {
         resend(turn, event.clock, event.message);
     }
     return true;

@@ -9,11 +9,19 @@ namespace session_model {
 
 namespace {
 
+// Whether one of its numbers is there, and is one.
+std::optional<Fault> number_fault(const Fields &fields, std::uint32_t tag) {
+    if (!fields.has(tag)) {
+        return Fault{tag, reason::Missing};
+    }
+    return fields.number(tag) ? std::nullopt : std::optional(Fault{tag, reason::WrongFormat});
+}
+
 // What is wrong with a ResendRequest; `last` is the highest number that has left.
 std::optional<Fault> resend_fault(const Fields &fields, std::uint64_t last) {
     for (const std::uint32_t tag : {tag::BeginSeqNo, tag::EndSeqNo}) {
-        if (!fields.has(tag)) {
-            return Fault{tag, reason::Missing};
+        if (const std::optional<Fault> fault = number_fault(fields, tag)) {
+            return fault;
         }
     }
     const std::uint32_t begin = std::max(*fields.number(tag::BeginSeqNo), 1U);

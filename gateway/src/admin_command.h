@@ -31,6 +31,17 @@ class AdminScene {
     // Commits the act into each log that waits to be accepted, and accepts it. Returns what was
     // given up. Throws AdminFault where none waits, and std::runtime_error.
     virtual std::string accept_loss(const Act &act) = 0;
+
+    // The trading day that opens next, and what it opens with.
+    struct NextDay {
+        std::string date;  // eight digits
+        std::string opens; // in UTC
+        std::string ends;
+        std::vector<Config> configs;     // one of each venue
+        std::vector<std::string> faults; // of the files as they stand: it opens without them
+    };
+    // Throws AdminFault where there is none.
+    virtual NextDay next_day() = 0;
 };
 
 // Who calls it, and with which words.
@@ -54,6 +65,17 @@ struct AdminCommand {
 
 AdminAnswer run_status(AdminCall &call);
 AdminAnswer run_firms(AdminCall &call);
+AdminAnswer run_firm(AdminCall &call);
+AdminAnswer run_hand_out(AdminCall &call);
+AdminAnswer run_next_day(AdminCall &call);
+AdminAnswer run_bust(AdminCall &call);
+AdminAnswer run_suspend(AdminCall &call);
+AdminAnswer run_resume(AdminCall &call);
+AdminAnswer resume_firm(AdminCall &call); // `resume FIRM`
+AdminAnswer run_halt(AdminCall &call);
+AdminAnswer run_cancel(AdminCall &call);
+AdminAnswer run_reset_session(AdminCall &call);
+AdminAnswer run_release(AdminCall &call);
 AdminAnswer run_limit(AdminCall &call);
 AdminAnswer run_clock_accept(AdminCall &call);
 AdminAnswer run_reload(AdminCall &call);
@@ -81,6 +103,8 @@ class OpenDay {
     std::vector<Speaker *> speakers();
     // Commits the act into this venue's log, at which it takes effect. Throws AdminFault.
     static void commit(Speaker &speaker, const Act &act);
+    // The same with what ends that the firm has open, in the same transaction.
+    static void commit_with_end(Speaker &speaker, const std::string &firm, const Act &act);
 
   private:
     AdminScene::HeldDay held_;

@@ -87,6 +87,27 @@ const std::vector<AdminCommand> &admin_commands() {
     static const std::vector<AdminCommand> commands = {
         {"status", "", "says what the gateway does", run_status},
         {"firms", "", "lists the firms: who is there, what they sent, their limits", run_firms},
+        {"firm", "FIRM", "shows one firm: since when it is there, its counts, its limits",
+         run_firm},
+        {"hand-out", "FIRM", "prints what the firm may know of the venue, as a desk reads it",
+         run_hand_out},
+        {"next-day", "", "says which day opens next and what its configuration says", run_next_day},
+        {"suspend", "FIRM --because TEXT",
+         "logs a firm out, refuses it, and cancels its quotes or passes its requests", run_suspend},
+        {"resume", "[FIRM | --bond ID] [--because TEXT]",
+         "lets a suspended firm log on again; or the venue, or a bond, go on after a halt",
+         run_resume},
+        {"halt", "[--bond ID] [--because TEXT]",
+         "takes no request, quote or hit, of one bond or of any", run_halt},
+        {"cancel", "FIRM [--because TEXT]", "cancels all quotes of a dealer", run_cancel},
+        {"reset-session", "FIRM [--because TEXT]",
+         "has a firm's numbers begin at 1 again, after its engine lost its store",
+         run_reset_session},
+        {"release", "FIRM [--because TEXT]",
+         "lets a firm whose engine lost its store try again with its numbers as they are",
+         run_release},
+        {"bust", "TRADE --because TEXT", "voids a trade by agreement; no firm is sent anything",
+         run_bust},
         {"limit", "FIRM [KEY=VALUE] [--because TEXT]",
          "shows a firm's limits, or sets one for the day; VALUE may be `configured`", run_limit},
         {"clock accept", "[--because TEXT]",
@@ -149,12 +170,24 @@ std::vector<Speaker *> OpenDay::speakers_of(const std::string &firm) {
     return all;
 }
 
-void OpenDay::commit(Speaker &speaker, const Act &act) {
-    if (!speaker.commit_act(act, longest_act)) {
+namespace {
+
+void check_committed(bool is_committed) {
+    if (!is_committed) {
         throw AdminFault(fmt::format("the log has not committed this act within {} s: it takes "
                                      "effect when it has",
                                      longest_act.count()));
     }
+}
+
+} // namespace
+
+void OpenDay::commit(Speaker &speaker, const Act &act) {
+    check_committed(speaker.commit_act(act, longest_act));
+}
+
+void OpenDay::commit_with_end(Speaker &speaker, const std::string &firm, const Act &act) {
+    check_committed(speaker.commit_act_with_end(firm, act, longest_act));
 }
 
 } // namespace gateway

@@ -41,6 +41,46 @@ COMMANDS
         Each firm: when it logged on and from where, its messages, the bytes of its lines in the
         log, how many it may have, and what an operator has set for it.
 
+    firm FIRM
+        One firm: when it logged on and from where, what it sent and was refused, the bytes that
+        wait for it, all its limits, and how much of its day's bytes is used.
+
+    hand-out FIRM
+        What this firm may know of the venue: the bonds, the dealers' names, and its own limits. A
+        desk of the firm reads the file.
+
+    next-day
+        Which trading day opens next and when, what is at fault in the files for it, and which firms
+        are new or gone.
+
+    suspend FIRM --because TEXT
+        Logs a firm out and refuses it until `resume`. A dealer's quotes are cancelled, an
+        investor's open requests passed, in the same transaction as the act.
+
+    resume FIRM
+        Lets a suspended firm log on again.
+
+    halt [--bond ID]
+        Takes no request, quote or hit, of one bond or of any. Each is answered with the reason.
+        Cancels, declines and passes are taken as before.
+
+    resume [--bond ID]
+        Ends a halt.
+
+    cancel FIRM
+        Cancels all quotes of a dealer, which is told as of a cancel of its own.
+
+    reset-session FIRM
+        For a firm whose engine lost its store: its numbers begin at 1 again, its next Logon has
+        34=1, and what it is not known to have comes again under new numbers, marked as a copy.
+
+    release FIRM
+        Lets a firm whose Logons are refused for its numbers try again with them as they are.
+
+    bust TRADE --because TEXT
+        Voids a trade of this day by agreement of its two firms. TRADE is its name, which both have
+        in TradeID (1003). The record of the day says so; no firm is sent anything.
+
     limit FIRM
         All limits of a firm.
 
@@ -78,6 +118,7 @@ EXIT STATUS
 
 EXAMPLES
     mireseason-admin firms
+    mireseason-admin --json firm DLR1
     mireseason-admin limit DLR1 day_bytes=2147483648 --because "agreed with their desk"
     mireseason-admin --json status
 )";

@@ -1,6 +1,7 @@
 #include "firm_sessions.h"
 
-#include "cancel_of_all.h"
+#include "firm_row.h"
+#include "in_its_name.h"
 
 #include <algorithm>
 #include <stdexcept>
@@ -147,10 +148,37 @@ void FirmSessions::cancel_all_of(const std::string &name, Firm &firm) {
     }
     const std::string moment = fmt::format("{}-{}", day_.clock.date(), text_of(day_.clock.now()));
     log_.append_message(name, std::nullopt,
-                        cancel_of_all(name, firm.cancel_on_disconnect, firm.entries + 1, moment));
+                        cancel_of_all({name, firm.cancel_on_disconnect, firm.entries + 1, moment}));
     ++firm.entries;
     day_.events->info("cancel of all firm={} trader={}{}", name, firm.cancel_on_disconnect,
                       day_.of_venue());
+}
+
+// In the name of the firm's first trader. The firm's lock is held.
+std::vector<std::string> FirmSessions::ends_of(const std::string &name, const Firm &firm) {
+    const FirmRow row = firm_row(day_.config.configuration, name);
+    const std::string moment = fmt::format("{}-{}", day_.clock.date(), text_of(day_.clock.now()));
+    Author author{name, row.traders.at(0), firm.entries + 1, moment};
+    if (row.is_dealer) {
+        return {cancel_of_all(author)};
+    }
+    std::vector<std::string> passes;
+    for (const OpenRequests::Open &open : day_.open_requests.all()) {
+        if (open.firm == name) {
+            passes.push_back(pass_of(author, open.request));
+            ++author.number;
+        }
+    }
+    return passes;
+}
+
+Log::Ticket FirmSessions::put_act_with_end(const std::string &name, const std::string &act) {
+    Firm &firm = firm_of(name);
+    const std::lock_guard lock(firm.mutex);
+    const std::vector<std::string> frames = ends_of(name, firm);
+    const Log::Ticket ticket = log_.append_act(act, name, frames);
+    firm.entries += static_cast<std::uint32_t>(frames.size());
+    return ticket;
 }
 
 // Of connections.

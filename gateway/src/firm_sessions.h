@@ -49,6 +49,12 @@ class FirmSessions final : private SessionHost {
     // nothing for a firm that the venue has not.
     void set_limit(const LimitSet &set);
 
+    // Commits an act with what it has the gateway say in the firm's name: the cancel of all quotes
+    // of a dealer, or a pass on each open request of an investor. Returns the act's ticket.
+    Log::Ticket put_act_with_end(const std::string &firm, const std::string &act);
+    // How often an operator has reset the firm's session this day.
+    std::uint32_t epoch_of(const std::string &firm) { return firm_of(firm).epoch; }
+
     // A firm as an operator sees it.
     struct Facts {
         std::string firm;
@@ -111,6 +117,7 @@ class FirmSessions final : private SessionHost {
     Firm &firm_of(const std::string &name);
     SessionStart start_of(const std::string &name, const Firm &firm);
     std::optional<Taken> denied(const std::string &name, Firm &firm, std::string_view frame);
+    std::vector<std::string> ends_of(const std::string &name, const Firm &firm);
     void tell_bytes_used_up(const std::string &name, Firm &firm);
     static SessionRow row_of(const std::string &name, Firm &firm, const SessionEvent &event);
     void cancel_all_of(const std::string &name, Firm &firm);

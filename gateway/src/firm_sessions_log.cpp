@@ -1,6 +1,7 @@
 // What the firms' sessions put into the log and read of it.
 #include "firm_sessions.h"
 
+#include "business.h"
 #include "frame.h"
 #include "patient_reader.h"
 #include "wire.h"
@@ -15,31 +16,13 @@ namespace gateway {
 
 namespace {
 
-// Text (58) of what answers a request or a quote that is not taken.
-constexpr const char *bytes_are_used_up =
-    "this firm has sent all the bytes that it may send in a day: until the operator raises that, "
-    "no "
-    "request and no quote is taken; cancels, declines, hits and passes are";
+// Text (58) of what answers a message that no entry can have.
 constexpr const char *too_long_for_the_venue = "the message is longer than the venue takes";
-constexpr const char *clock_was_set =
-    "the clock of the venue was set: until the operator says that it is right, no request and no "
-    "quote is taken; cancels, declines, hits and passes are";
-
 // Of what 379 names.
 constexpr std::size_t longest_denied_id = 200;
 
 // BusinessRejectReason (380).
 constexpr std::uint32_t other_reason = 0;
-constexpr std::uint32_t application_not_available = 4;
-
-// What a message begins that takes nothing back: a request (R) or a quote (S), and the tag of its
-// name; none of other messages.
-std::string_view name_of_business(std::string_view type) {
-    if (type == "R") {
-        return "131";
-    }
-    return type == "S" ? "117" : "";
-}
 
 // `hex FIRM HH:MM:SS.sss DIGITS`
 std::uint64_t bytes_of_line(const std::string &firm, const std::string &frame) {
@@ -134,9 +117,13 @@ void FirmSessions::give_turn_back(const std::string &name) {
 // Why a message is not taken, whose frame for the venue this is; nothing where it is.
 std::optional<Taken> FirmSessions::denied(const std::string &name, Firm &firm,
                                           std::string_view frame) {
-    const std::string_view id = name_of_business(value_in(frame, "35"));
+    const auto business = business_in(frame);
+    if (!business) {
+        return std::nullopt;
+    }
     const bool are_used_up = firm.limits.bytes.are_used_up();
-    if (id.empty() || (!are_used_up && day_.clock_is_right)) {
+    const auto why = why_not_taken(day_, name, *business, frame, are_used_up);
+    if (!why) {
         return std::nullopt;
     }
     if (are_used_up) {
@@ -144,9 +131,9 @@ std::optional<Taken> FirmSessions::denied(const std::string &name, Firm &firm,
     }
     Taken taken;
     taken.verdict = Taken::Verdict::denied;
-    taken.reason = are_used_up ? other_reason : application_not_available;
-    taken.id = std::string(value_in(frame, id).substr(0, longest_denied_id));
-    taken.text = are_used_up ? bytes_are_used_up : clock_was_set;
+    taken.reason = why->reason;
+    taken.id = std::string(business->id.substr(0, longest_denied_id));
+    taken.text = why->text;
     taken.logs_out = firm.denials.is_too_many();
     return taken;
 }

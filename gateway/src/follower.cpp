@@ -188,6 +188,10 @@ void Follower::venue_starts() {
 void Follower::venue_gave(std::uint32_t place, std::uint32_t number, std::string name,
                           std::string frame, std::optional<VenueNote> note) {
     day_.open_requests.was_given(name, frame);
+    day_.shown_quotes.was_given(name, frame);
+    if (note && note->kind == VenueNote::Kind::trade) {
+        day_.trades.add(note->name);
+    }
     Delivery delivery;
     delivery.number = number_of(value_in(frame, "34")).value_or(0);
     delivery.wire = on_the_wire(name, delivery.number, number, frame, note);

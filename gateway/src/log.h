@@ -116,6 +116,10 @@ class Log {
 
     // A note (notes.h) of this kind, at the moment of now. Waits for nothing.
     Ticket append_note(std::string_view kind, std::string_view text);
+    // An act of an operator, and what the gateway says in a firm's name for it, in one transaction.
+    // Waits for nothing.
+    Ticket append_act(std::string_view text, const std::string &firm,
+                      const std::vector<std::string> &frames);
 
     // Messages of firms that were received at a deadline or later wait for as long as it lives;
     // sweeps do not. One at a time.
@@ -183,6 +187,7 @@ class Log {
     };
     using Waiters = std::list<Waiter>;
 
+    Arrival note_of_now(std::string_view kind, std::string_view text);
     Arrival arrival_of(const std::string &firm, const std::optional<Came> &came,
                        std::string_view frame);
     // The lock is held.

@@ -2,6 +2,7 @@
 #include "log.h"
 
 #include "frame.h"
+#include "notes.h"
 
 #include <algorithm>
 #include <utility>
@@ -147,15 +148,39 @@ std::optional<std::uint32_t> Log::append_clock_behind(std::uint32_t place, Momen
     return place + 1;
 }
 
-Log::Ticket Log::append_note(std::string_view kind, std::string_view text) {
+Arrival Log::note_of_now(std::string_view kind, std::string_view text) {
     Arrival arrival;
     arrival.verb = fmt::format("# {} ", kind);
     arrival.rest = fmt::format(" {}", text);
     arrival.received = std::chrono::steady_clock::now();
     arrival.at = clock_.exact_now();
+    return arrival;
+}
+
+Log::Ticket Log::append_note(std::string_view kind, std::string_view text) {
+    Arrival arrival = note_of_now(kind, text);
     const std::lock_guard lock(mutex_);
     throw_if_failed();
     return append_here(std::move(arrival), Committer::thread);
+}
+
+Log::Ticket Log::append_act(std::string_view text, const std::string &firm,
+                            const std::vector<std::string> &frames) {
+    std::vector<Arrival> arrivals{note_of_now(note_kinds::act, text)};
+    for (const std::string &frame : frames) {
+        arrivals.push_back(arrival_of(firm, std::nullopt, frame));
+        arrivals.back().at = arrivals.front().at;
+    }
+    const std::lock_guard lock(mutex_);
+    throw_if_failed();
+    Ticket ticket = 0;
+    for (Arrival &arrival : arrivals) {
+        if (arrival.entry.firm) {
+            shares_.put(firm);
+        }
+        ticket = append_here(std::move(arrival), Committer::thread);
+    }
+    return ticket;
 }
 
 Log::Hold::Hold(Log &log, Moment deadline) : log_(log) {

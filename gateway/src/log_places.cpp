@@ -1,11 +1,25 @@
 #include "log_places.h"
 
+#include "postgres_parts.h"
 #include "sqlite_parts.h"
 
 #include <exception>
 #include <filesystem>
+#include <vector>
 
 namespace gateway {
+
+namespace {
+
+// Null where there is no log yet. Makes nothing, whoever else has it open.
+std::unique_ptr<LogReader> reader_of(const Config &config) {
+    if (config.sqlite.empty()) {
+        return read_postgres(config.postgres, config.schema);
+    }
+    return std::filesystem::exists(config.sqlite) ? sqlite::read(config.sqlite.string()) : nullptr;
+}
+
+} // namespace
 
 std::unique_ptr<Database> open_database(const Config &config) {
     if (!config.sqlite.empty()) {
@@ -15,11 +29,9 @@ std::unique_ptr<Database> open_database(const Config &config) {
 }
 
 std::optional<std::string> begun_configuration(const Config &config) {
-    if (config.sqlite.empty() || !std::filesystem::exists(config.sqlite)) {
-        return std::nullopt;
-    }
     try {
-        const auto first = sqlite::read(config.sqlite.string())->entries(0, 1);
+        const auto log = reader_of(config);
+        const auto first = log ? log->entries(0, 1) : std::vector<Entry>();
         return first.empty() ? std::nullopt
                              : std::optional(day_of(first.front().line).configuration);
     } catch (const std::exception &) {

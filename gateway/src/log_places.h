@@ -14,8 +14,8 @@ namespace gateway {
 
 std::unique_ptr<Database> open_database(const Config &config);
 
-// The configuration of the day that the log has begun with, of a log in SQLite; nothing where there
-// is none, or it can't be read: a start says why.
+// The configuration of the day that the log has begun with; nothing where there is no log, or it
+// can't be read: a start says why.
 std::optional<std::string> begun_configuration(const Config &config);
 
 Sealer sealer_of(const Config &config);

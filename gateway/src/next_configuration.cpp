@@ -9,6 +9,20 @@
 
 namespace gateway {
 
+namespace {
+
+// One at least.
+std::vector<std::string> lines_of(const std::string &text) {
+    std::istringstream read(text);
+    std::vector<std::string> lines;
+    for (std::string line; std::getline(read, line);) {
+        lines.push_back(line);
+    }
+    return lines.empty() ? std::vector<std::string>{"no cause is known"} : lines;
+}
+
+} // namespace
+
 NextConfiguration::NextConfiguration(std::filesystem::path path, ConfigFiles files,
                                      Metrics &metrics, std::shared_ptr<spdlog::logger> events)
     : path_(std::move(path)), metrics_(metrics), events_(std::move(events)), in_force_(files),
@@ -34,25 +48,29 @@ void NextConfiguration::try_files(const TradingDay &day) {
         }
         if (!(tried_ == in_force_)) {
             events_->info("configuration changed: it is right, and applies from {} on", day.date);
-        } else if (is_faulty_) {
+        } else if (!faults_.empty()) {
             events_->info("configuration is again the one in force");
         }
         in_force_ = tried_;
-        is_faulty_ = false;
+        faults_.clear();
     } catch (const std::exception &fault) {
-        is_faulty_ = true;
-        std::istringstream faults(fault.what());
-        for (std::string line; std::getline(faults, line);) {
+        faults_ = lines_of(fault.what());
+        for (const std::string &line : faults_) {
             events_->error("configuration at fault: {}", line);
         }
         events_->error("configuration at fault: {} opens with the one in force", day.date);
     }
-    metrics_.next_configuration_is_right(!is_faulty_);
+    metrics_.next_configuration_is_right(faults_.empty());
 }
 
 std::vector<Config> NextConfiguration::in_force(std::string_view day) {
     const std::lock_guard lock(mutex_);
     return read_configs(in_force_, path_, day);
+}
+
+std::vector<std::string> NextConfiguration::faults() {
+    const std::lock_guard lock(mutex_);
+    return faults_;
 }
 
 } // namespace gateway

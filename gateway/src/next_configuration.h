@@ -10,6 +10,7 @@
 #include <filesystem>
 #include <memory>
 #include <mutex>
+#include <string>
 #include <vector>
 
 #include <spdlog/logger.h>
@@ -32,6 +33,9 @@ class NextConfiguration {
 
     // What is in force, for this day (eight digits).
     std::vector<Config> in_force(std::string_view day);
+    // What is at fault in the files as they were tried last: a line for each, none where they are
+    // right and in force.
+    std::vector<std::string> faults();
 
   private:
     void try_files(const TradingDay &day);
@@ -42,7 +46,7 @@ class NextConfiguration {
     std::mutex mutex_;
     ConfigFiles in_force_;
     ConfigFiles tried_;
-    bool is_faulty_ = false; // as they were tried last
+    std::vector<std::string> faults_; // as they were tried last
 };
 
 } // namespace gateway

@@ -1,7 +1,9 @@
 #include "notes.h"
 
 #include <algorithm>
+#include <array>
 #include <charconv>
+#include <utility>
 
 #include <fmt/format.h>
 
@@ -104,6 +106,40 @@ std::optional<LimitSet> limit_in(const Note &note) {
     LimitSet set{std::string(note.words[2]), std::string(setting.substr(0, sign)), {}};
     set.value = number_in<std::uint64_t>(value);
     return set.value || value == as_configured ? std::optional(set) : std::nullopt;
+}
+
+std::optional<FirmOrdered> firm_order_in(const Note &note) {
+    // WHO WORD FIRM
+    static constexpr std::array<std::pair<std::string_view, FirmOrder>, 4> words = {{
+        {"suspend", FirmOrder::suspend},
+        {"resume", FirmOrder::resume},
+        {"reset-session", FirmOrder::reset},
+        {"release", FirmOrder::release},
+    }};
+    if (note.kind != note_kinds::act || note.words.size() != 3) {
+        return std::nullopt;
+    }
+    for (const auto &[word, order] : words) {
+        if (note.words[1] == word) {
+            return FirmOrdered{std::string(note.words[2]), order};
+        }
+    }
+    return std::nullopt;
+}
+
+std::optional<HaltSet> halt_in(const Note &note) {
+    // WHO halt, WHO resume, and both with `--bond ID`
+    if (note.kind != note_kinds::act || note.words.size() < 2 ||
+        (note.words[1] != "halt" && note.words[1] != "resume")) {
+        return std::nullopt;
+    }
+    const bool is_halted = note.words[1] == "halt";
+    if (note.words.size() == 2) {
+        return HaltSet{{}, is_halted};
+    }
+    const bool is_of_bond = note.words.size() == 4 && note.words[2] == "--bond";
+    return is_of_bond ? std::optional(HaltSet{std::string(note.words[3]), is_halted})
+                      : std::nullopt;
 }
 
 bool accepts_clock(const Note &note) {

@@ -67,6 +67,19 @@ struct LimitSet {
 };
 std::optional<LimitSet> limit_in(const Note &note);
 bool accepts_clock(const Note &note);
+// What is ordered of a firm's session.
+enum class FirmOrder { suspend, resume, reset, release };
+struct FirmOrdered {
+    std::string firm;
+    FirmOrder order = FirmOrder::release;
+};
+std::optional<FirmOrdered> firm_order_in(const Note &note);
+// A bond that is halted, or goes on; empty for the whole venue.
+struct HaltSet {
+    std::string bond;
+    bool is_halted = false;
+};
+std::optional<HaltSet> halt_in(const Note &note);
 std::optional<std::chrono::microseconds> step_in(const Note &note);
 
 } // namespace gateway

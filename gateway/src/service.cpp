@@ -132,7 +132,7 @@ int Service::run() {
 int Service::run_days() {
     const std::jthread watching([this](const std::stop_token &stop) { watch_files(stop); });
     while (!stopping_.stop_requested()) {
-        const TradingDay day = next_day(now());
+        const TradingDay day = day_after(now());
         show(day);
         copy_days(day.date);
         if (!wait_for(day)) {
@@ -224,7 +224,7 @@ int Service::run_gateway(const std::vector<Config> &configs, std::optional<Syste
     return gateway.exit_status();
 }
 
-TradingDay Service::next_day(SystemSeconds now) {
+TradingDay Service::day_after(SystemSeconds now) {
     const std::vector<Config> configs = next_.in_force(first_.front().firms.date);
     return TradingDays(configs.front().days, now).first_after(now);
 }
@@ -323,11 +323,28 @@ std::string Service::accept_loss(const Act &act) {
     return said;
 }
 
+// The first that has not opened yet.
+TradingDay Service::day_to_open() {
+    const TradingDay today = day_after(now());
+    return today.opens <= now() ? day_after(today.ends) : today;
+}
+
+AdminScene::NextDay Service::next_day() {
+    if (first_.front().firms.has_own_date) {
+        throw AdminFault(
+            fmt::format("there is no next day: the venue's configuration is of {} alone",
+                        first_.front().firms.date));
+    }
+    const TradingDay day = day_to_open();
+    next_.look(day);
+    return {day.date, text_of(day.opens), text_of(day.ends), next_.in_force(day.date),
+            next_.faults()};
+}
+
 void Service::watch_files(const std::stop_token &stop) {
     std::string tried;
     while (!stop.stop_requested() && !wait_a_second()) {
-        const TradingDay today = next_day(now());
-        const TradingDay next = today.opens <= now() ? next_day(today.ends) : today;
+        const TradingDay next = day_to_open();
         next_.look(next);
         if (now() + last_trial >= next.opens && tried != next.date) {
             tried = next.date;

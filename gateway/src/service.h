@@ -77,8 +77,10 @@ class Service final : private AdminScene {
     HeldDay hold_day() override;
     std::string waits_for() override;
     std::string accept_loss(const Act &act) override;
+    NextDay next_day() override;
 
-    TradingDay next_day(SystemSeconds now);
+    TradingDay day_after(SystemSeconds now);
+    TradingDay day_to_open();
     bool wait_for(const TradingDay &day);
     void watch_files(const std::stop_token &stop);
     bool wait_a_second();

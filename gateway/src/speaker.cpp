@@ -77,6 +77,7 @@ void Speaker::start() {
     }
     deliveries_.wait_until_handed_over();
     log_.flush();
+    carry_out_orders();
     sessions_.end_lost(lost_);
     clock_log_.look(day_.kernel_clock(), day_.take_steps());
     log_.flush();
@@ -92,6 +93,12 @@ void Speaker::take_note(const std::string &line) {
     if (const auto limit = limit_in(*note)) {
         sessions_.set_limit(*limit);
     }
+    if (const auto halt = halt_in(*note)) {
+        day_.halts.set(*halt);
+    }
+    if (const auto ordered = firm_order_in(*note); ordered && sessions_.has_firm(ordered->firm)) {
+        orders_.note(*ordered);
+    }
     if (accepts_clock(*note)) {
         day_.clock_is_right = true;
     }
@@ -106,16 +113,32 @@ bool Speaker::commit_act(const Act &act, std::chrono::milliseconds longest) {
     return log_.wait_for(log_.append_note(note_kinds::act, text), longest);
 }
 
-void Speaker::suspend(const std::string &firm) {
-    engine_.suspend(session_name(day_.config.venue, firm));
+bool Speaker::commit_act_with_end(const std::string &firm, const Act &act,
+                                  std::chrono::milliseconds longest) {
+    const std::string text = text_of(act);
+    day_.events->warn("operator{} act=\"{}\"", day_.of_venue(), text);
+    return log_.wait_for(sessions_.put_act_with_end(firm, text), longest);
 }
 
-void Speaker::release(const std::string &firm) {
-    engine_.release(session_name(day_.config.venue, firm));
+void Speaker::carry_out_orders() {
+    orders_.carry_out([this](const std::string &firm) { return sessions_.epoch_of(firm); },
+                      [this](const FirmOrdered &ordered) { carry_out(ordered); });
 }
 
-void Speaker::reset_session(const std::string &firm) {
-    engine_.reset(session_name(day_.config.venue, firm));
+void Speaker::carry_out(const FirmOrdered &ordered) {
+    const std::string session = session_name(day_.config.venue, ordered.firm);
+    switch (ordered.order) {
+    case FirmOrder::suspend:
+        engine_.suspend(session);
+        break;
+    case FirmOrder::resume:
+    case FirmOrder::release:
+        engine_.release(session);
+        break;
+    case FirmOrder::reset:
+        engine_.reset(session);
+        break;
+    }
 }
 
 void Speaker::finish() {
@@ -145,6 +168,7 @@ void Speaker::look_at_clock() {
 void Speaker::look() {
     look_at_clock();
     try {
+        carry_out_orders();
         // Of what is committed: a log that does not answer is no silence of the venue.
         const auto silent = follower_->look_at_venue(follower_->committed().last_place());
         day_.status.pulse().put("the venue" + day_.of_venue(), silent);

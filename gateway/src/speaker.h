@@ -5,6 +5,7 @@
 #include "clock_log.h"
 #include "deliveries.h"
 #include "engine.h"
+#include "firm_orders.h"
 #include "firm_sessions.h"
 #include "follower.h"
 #include "log.h"
@@ -61,11 +62,12 @@ class Speaker final {
     // long: it takes effect when it is. Throws ActTooLong, and std::runtime_error where the log is
     // written no more.
     bool commit_act(const Act &act, std::chrono::milliseconds longest);
-    // What an operator orders of a firm's session (engine.h), once its act is committed. Throws
-    // std::runtime_error where the venue has no such firm, and where the log is written no more.
-    void suspend(const std::string &firm);
-    void release(const std::string &firm);
-    void reset_session(const std::string &firm);
+    // The same of one that ends what a firm has open: its quotes are cancelled, or its requests
+    // passed, in the same transaction.
+    bool commit_act_with_end(const std::string &firm, const Act &act,
+                             std::chrono::milliseconds longest);
+    // Does what committed acts ordered of firms' sessions.
+    void carry_out_orders();
     // The last entry that is committed.
     std::uint32_t last_place() { return log_.position().place; }
 
@@ -76,6 +78,7 @@ class Speaker final {
             Log::Start start, Engine &engine);
 
     void take_note(const std::string &line);
+    void carry_out(const FirmOrdered &ordered);
     void look_at_clock();
 
     VenueDay &day_;
@@ -83,6 +86,7 @@ class Speaker final {
     const std::unique_ptr<Follower> follower_;
     const std::vector<ConnectionEvent> lost_; // connections that the log had open
     FirmSessions sessions_;                   // outlives the log, which sets their limits
+    FirmOrders orders_;                       // likewise
     Log log_;
     const std::unique_ptr<Notary> notary_;
     Deliveries deliveries_;

@@ -5,12 +5,15 @@
 #include "clock_watch.h"
 #include "config.h"
 #include "database.h"
+#include "halts.h"
 #include "log_guard.h"
 #include "metrics.h"
 #include "moment.h"
 #include "open_requests.h"
 #include "operator_events.h"
+#include "shown_quotes.h"
 #include "status.h"
+#include "trades.h"
 
 #include <atomic>
 #include <chrono>
@@ -49,6 +52,9 @@ struct VenueDay {
     const std::shared_ptr<spdlog::logger> events;
     OperatorEvents &told;
     OpenRequests open_requests;
+    Trades trades;
+    ShownQuotes shown_quotes;
+    Halts halts;
     DayClock clock;
     LogGuard guard;
     const std::unique_ptr<Database> database;

@@ -158,7 +158,7 @@ void another_form(const std::filesystem::path &folder) {
     } catch (const std::runtime_error &fault) {
         told = fault.what();
     }
-    same(file + " has tables of form 1, and this gateway's are of form 4: no day spans two forms, "
+    same(file + " has tables of form 1, and this gateway's are of form 5: no day spans two forms, "
                 "so it ends with the version of the gateway that began it",
          told, "the cause");
 }

@@ -121,8 +121,8 @@ void tables_refuse(Schema &schema) {
 void another_form(Schema &schema) {
     schema.run("UPDATE form SET number = 2");
     const std::string told = thrown_by([&] { schema.open("fourth")->take_over(); });
-    schema.run("UPDATE form SET number = 4");
-    check(told.find("has tables of form 2, and this gateway's are of form 4: no day spans") !=
+    schema.run("UPDATE form SET number = 5");
+    check(told.find("has tables of form 2, and this gateway's are of form 5: no day spans") !=
               std::string::npos,
           "told of another form: " + told);
 }

@@ -26,8 +26,8 @@ namespace {
 
 using namespace std::chrono_literals;
 
-// Answers each message of F, as the venue does. It puts its number down when it starts, and is slow
-// to begin from the second time on.
+// Answers each of the first nine messages of F, as the venue does. It puts its number down when it
+// starts, and is slow to begin from the second time on.
 constexpr const char *venue_text = R"sh(
 echo $$ >> "$1/starts"
 [ "$(wc -l < "$1/starts")" = 1 ] || sleep 1
@@ -38,7 +38,8 @@ while IFS= read -r line; do
     %%) begun=+ ;;
     +hex*)
         given=$((given + 1))
-        echo "F 8=FIXT.1.1|9=1|35=AI|49=VENUE|56=F|34=$given|52=20250314-09:00:00.000|297=9|10=0|"
+        body="35=AI|49=VENUE|56=F|34=$given|52=20250314-09:00:00.000|297=9"
+        printf 'F 8=FIXT.1.1|9=56|%s|10=%03d|\n' "$body" "$(((74 + given) % 256))"
         echo "done $lines"
         ;;
     +*) echo "done $lines" ;;
@@ -106,7 +107,7 @@ void end_venue(const std::filesystem::path &folder) {
 bool is_stored(const Config &config) {
     const auto connection = sqlite::connect(config.sqlite.string(), SQLITE_OPEN_READONLY);
     sqlite::Statement row(connection.get(),
-                          "SELECT sent FROM outgoing WHERE firm = 'F' AND number = 1");
+                          "SELECT sent FROM outgoing WHERE firm = 'F' AND number = 2");
     return row.step() && row.number(0) == 1;
 }
 

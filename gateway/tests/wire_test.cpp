@@ -2,9 +2,9 @@
 #define DOCTEST_CONFIG_IMPLEMENT_WITH_MAIN
 #include <doctest/doctest.h>
 
-#include "cancel_of_all.h"
 #include "check.h"
 #include "frame.h"
+#include "in_its_name.h"
 #include "moment.h"
 #include "wire.h"
 
@@ -65,7 +65,7 @@ TEST_CASE("the longest") {
 TEST_CASE("cancel of one that is gone") {
     same<std::string>(
         "8=FIXT.1.1|9=64|35=Z|49=DLR2|56=VENUE|34=3|52=20250314-09:00:45.000|50=T2|298=4|10=024|",
-        with_bars(cancel_of_all("DLR2", "T2", 3, "20250314-09:00:45.000")), "a cancel of all");
+        with_bars(cancel_of_all({"DLR2", "T2", 3, "20250314-09:00:45.000"})), "a cancel of all");
 }
 
 // What a session keeps of a message of the venue, from 35 to the field before 10.

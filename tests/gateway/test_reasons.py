@@ -271,6 +271,11 @@ def test_each_reason_of_a_request(stage: Stage) -> None:
         ("TooManyDealers", b"99", request_fields(stage, new, many)),
         ("DeadlinePassed", b"4", request_fields(stage, new, both, until=moment_in(-1))),
     ]
+    stage.answer(
+        stage.investor,
+        "that its request is accepted",
+        lambda message: message.value(131) == first and message.value(297) == b"0",
+    )
     for name, code, fields in cases:
         refuses(stage, stage.investor, "R", fields, name, code)
     stage.ask()

@@ -144,7 +144,6 @@ def test_time_tells_nothing(stage: Stage) -> None:
     password = DEALER.password
     tries = {
         "nobody": ("NOBODY", "NOBODY", password),
-        "no name": ("", "", password),
         "away": (DEALER.name, DEALER.name, "wrong"),
         "on": (stage.other.name, stage.other.name, "wrong"),
         "user": (DEALER.name, "nobody", password),

@@ -49,7 +49,11 @@ def told(words: list[str], environment: dict[str, str] | None = None) -> None:
 def cmake(folder: Path, targets: Sequence[str] = ()) -> Path:
     """Builds a folder's targets, or all, into its `out`. What was compiled once, in this tree or in a copy, is not again."""
     out = folder / "out"
-    cache = {"CCACHE_BASEDIR": str(folder.parent), "CCACHE_NOHASHDIR": "1"}
+    cache = {
+        "CCACHE_BASEDIR": str(folder.parent),
+        "CCACHE_NOHASHDIR": "1",
+        "CCACHE_SLOPPINESS": "pch_defines,time_macros",  # of what uses a precompiled header
+    }
     environment = {**cache, **os.environ}
     launcher = ["-DCMAKE_CXX_COMPILER_LAUNCHER=ccache"] if shutil.which("ccache") else []
     told(["cmake", "-S", str(folder), "-B", str(out), *launcher], environment)

@@ -165,8 +165,9 @@ def test_a_day_that_has_not_opened(stage: Stage, systemd: Systemd) -> None:
     assert stage.door.stop() == 0
 
 
-def test_a_change_for_tomorrow(stage: Stage) -> None:
+def test_a_change_for_tomorrow(stage_of_log: Stage) -> None:
     """A gateway that is killed after it comes back today, with the configuration that the day began with."""
+    stage = stage_of_log
     (stage.folder / "venue.toml").write_text(VENUE)
     stage.open(*stage.firms)
     stage.auction()

@@ -1,0 +1,79 @@
+// The operator's command `bust`.
+#include "admin_command.h"
+
+#include <algorithm>
+#include <string_view>
+#include <vector>
+
+#include <fmt/format.h>
+
+namespace gateway {
+
+namespace {
+
+// DATE-INVESTOR-DEALER-K, as TradeID (1003) has it.
+struct TradeName {
+    std::string date;
+    std::string investor;
+    std::string dealer;
+};
+
+[[noreturn]] void fail_name(const std::string &text) {
+    throw AdminFault(fmt::format("`{}` is no trade's name: it is DATE-INVESTOR-DEALER-K, as both "
+                                 "firms have it in TradeID (1003)",
+                                 text.substr(0, 60)));
+}
+
+bool is_number(std::string_view text) {
+    return !text.empty() && text.size() <= 9 && text.front() != '0' &&
+           std::all_of(text.begin(), text.end(), [](char c) { return c >= '0' && c <= '9'; });
+}
+
+TradeName name_of(const std::string &text) {
+    std::vector<std::string> parts;
+    std::size_t from = 0;
+    for (std::size_t at = text.find('-'); at != std::string::npos; at = text.find('-', from)) {
+        parts.push_back(text.substr(from, at - from));
+        from = at + 1;
+    }
+    if (parts.size() != 3 || !is_number(text.substr(from))) {
+        fail_name(text);
+    }
+    return {parts[0], parts[1], parts[2]};
+}
+
+// The venue of this day that has both firms.
+Speaker &speaker_of(OpenDay &day, const TradeName &name, const std::string &text) {
+    for (Speaker *speaker : day.speakers()) {
+        const FirmSessions &sessions = speaker->sessions();
+        if (sessions.has_firm(name.investor) && sessions.has_firm(name.dealer)) {
+            if (name.date != speaker->day().clock.date()) {
+                throw AdminFault(fmt::format("{} is of another day than {}: a trade is voided on "
+                                             "its own day",
+                                             text, speaker->day().clock.date()));
+            }
+            return *speaker;
+        }
+    }
+    throw AdminFault(fmt::format("no venue has both {} and {}", name.investor, name.dealer));
+}
+
+} // namespace
+
+AdminAnswer run_bust(AdminCall &call) {
+    check_words(call, 1, 1);
+    if (call.because.empty()) {
+        throw AdminFault("say why: --because \"both firms agreed by phone\"");
+    }
+    const std::string &trade = call.words[0];
+    const TradeName name = name_of(trade);
+    OpenDay day(call.scene);
+    Speaker &speaker = speaker_of(day, name, trade);
+    if (!speaker.day().trades.has(trade)) {
+        throw AdminFault(fmt::format("there is no trade {} today", trade));
+    }
+    OpenDay::commit(speaker, call.act(fmt::format("bust {}", trade)));
+    return {fmt::format("{} is void: the record says so, and no firm is sent anything", trade), {}};
+}
+
+} // namespace gateway

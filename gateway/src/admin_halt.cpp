@@ -1,0 +1,63 @@
+// The operator's commands `halt` and `resume`.
+#include "admin_command.h"
+
+#include "firm_row.h"
+
+#include <fmt/format.h>
+
+namespace gateway {
+
+namespace {
+
+// The bond that `--bond ID` names; empty where there are no words.
+std::string bond_of(const AdminCall &call) {
+    if (call.words.empty()) {
+        return "";
+    }
+    if (call.words.size() != 2 || call.words[0] != "--bond") {
+        throw WrongWords();
+    }
+    return call.words[1];
+}
+
+// Whom it is about: all venues, or those that have the bond.
+std::vector<Speaker *> speakers_of(OpenDay &day, const std::string &bond) {
+    std::vector<Speaker *> all = day.speakers();
+    std::erase_if(all, [&](Speaker *each) {
+        return !bond.empty() && !has_bond(each->day().config.configuration, bond);
+    });
+    if (all.empty()) {
+        throw AdminFault(fmt::format("the venue has no bond {}", bond));
+    }
+    return all;
+}
+
+void commit(AdminCall &call, const char *word, const std::string &bond) {
+    OpenDay day(call.scene);
+    const std::string act = bond.empty() ? word : fmt::format("{} --bond {}", word, bond);
+    for (Speaker *speaker : speakers_of(day, bond)) {
+        OpenDay::commit(*speaker, call.act(act));
+    }
+}
+
+} // namespace
+
+AdminAnswer run_halt(AdminCall &call) {
+    const std::string bond = bond_of(call);
+    commit(call, "halt", bond);
+    return {fmt::format("no request, quote or hit {}is taken until `resume`; cancels, declines and "
+                        "passes are",
+                        bond.empty() ? "" : fmt::format("of {} ", bond)),
+            {}};
+}
+
+AdminAnswer run_resume(AdminCall &call) {
+    if (call.words.size() == 1) {
+        return resume_firm(call);
+    }
+    const std::string bond = bond_of(call);
+    commit(call, "resume", bond);
+    return {fmt::format("{} goes on", bond.empty() ? "the venue" : bond), {}};
+}
+
+} // namespace gateway

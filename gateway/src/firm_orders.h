@@ -1,0 +1,55 @@
+// What operators ordered of firms' sessions.
+#ifndef GATEWAY_FIRM_ORDERS_H
+#define GATEWAY_FIRM_ORDERS_H
+
+#include "notes.h"
+
+#include <cstdint>
+#include <functional>
+#include <map>
+#include <mutex>
+#include <string>
+#include <utility>
+#include <vector>
+
+namespace gateway {
+
+// An order is noted when its act is committed, and done by another thread: the one that commits the
+// log must wait for no firm. A start notes all orders of the day again, in their order: to suspend
+// and to release do the same twice, and a reset is done once.
+class FirmOrders {
+  public:
+    using Epoch = std::function<std::uint32_t(const std::string &firm)>; // resets that were done
+    using Do = std::function<void(const FirmOrdered &)>;
+
+    // Of any thread; waits for nothing.
+    void note(const FirmOrdered &ordered) {
+        const std::lock_guard lock(mutex_);
+        noted_.push_back(ordered);
+    }
+    // Does what was noted and is not done yet.
+    void carry_out(const Epoch &epoch_of, const Do &carry_out_one) {
+        const std::lock_guard one_at_a_time(doing_);
+        for (const FirmOrdered &ordered : take()) {
+            const bool is_reset = ordered.order == FirmOrder::reset;
+            if (!is_reset || ++resets_[ordered.firm] > epoch_of(ordered.firm)) {
+                carry_out_one(ordered);
+            }
+        }
+    }
+
+  private:
+    std::vector<FirmOrdered> take() {
+        const std::lock_guard lock(mutex_);
+        return std::exchange(noted_, {});
+    }
+
+    std::mutex mutex_;
+    std::vector<FirmOrdered> noted_;
+    std::mutex doing_;                            // over what follows
+    std::map<std::string, std::uint32_t> resets_; // that were ordered of each firm
+};
+
+} // namespace gateway
+
+#endif

@@ -1,0 +1,27 @@
+// What the gateway says to the venue in a firm's name: for one that is gone, or that an operator
+// has suspended.
+#ifndef GATEWAY_IN_ITS_NAME_H
+#define GATEWAY_IN_ITS_NAME_H
+
+#include <string>
+#include <string_view>
+
+namespace gateway {
+
+// Whose message it is: number is that of 34, and moment that of 52, with its date.
+struct Author {
+    std::string_view firm;
+    std::string_view trader; // 50
+    unsigned number = 0;
+    std::string_view moment;
+};
+
+// The cancel of all quotes (35=Z, 298=4) of a dealer.
+std::string cancel_of_all(const Author &author);
+
+// The pass (35=AJ, 694=6) on a request (131) of an investor. Its 693 begins with `gateway-`.
+std::string pass_of(const Author &author, std::string_view request);
+
+} // namespace gateway
+
+#endif
