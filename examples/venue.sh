@@ -40,11 +40,13 @@ stop() {
 # log: the log of the last day in the folder.
 log() { find "$day" -maxdepth 1 -name 'day-*.db' 2>/dev/null | sort | tail -n 1; }
 
+# runs: whether the venue of this folder runs.
+runs() { [ -e "$day/pid" ] && grep -qa venue.sh "/proc/$(cat "$day/pid")/cmdline" 2>/dev/null; }
+
 down() {
-    if [ -e "$day/pid" ] && grep -qa venue.sh "/proc/$(cat "$day/pid")/cmdline" 2>/dev/null; then
-        runs=$(cat "$day/pid")
-        kill "$runs"
-        while kill -0 "$runs" 2>/dev/null; do sleep 0.1; done
+    if runs; then
+        kill "$(cat "$day/pid")"
+        while runs; do sleep 0.1; done
         echo "The venue has ended."
     fi
     log=$(log)
@@ -100,7 +102,7 @@ run() {
 }
 umask 077 # the folder has passwords
 mkdir -p "$day"
-[ ! -e "$day/pid" ] || ! grep -qa venue.sh "/proc/$(cat "$day/pid")/cmdline" 2>/dev/null ||
+! runs ||
     fail "a venue runs in $day already: examples/venue.sh down ends it"
 trap stop EXIT
 trap 'exit 0' HUP INT TERM

@@ -2,21 +2,35 @@
 
 export const amount = quantity => quantity.toLocaleString('en-US');
 
-// 2,000,000; 2m; 1.5m; 2mm; 500k; 1b. Null where it is none.
+// 2,000,000; 2m; 1.5m; 2mm; 500k; 1b. Null where it is none: a comma stands before three digits, or 0,5m would be 5m.
 export function parseAmount(entry) {
-  const parts = /^([\d,]*\.?\d*)\s*(k|mm|m|b)?$/i.exec(entry.trim());
+  const parts = /^((?:\d{1,3}(?:,\d{3})+|\d*)\.?\d*)\s*(k|mm|m|b)?$/i.exec(entry.trim());
   if (!parts || !/\d/.test(parts[1])) return null;
   const factor = {k: 1e3, m: 1e6, mm: 1e6, b: 1e9}[parts[2]?.toLowerCase()] ?? 1;
   const number = Math.round(Number(parts[1].replaceAll(',', '')) * factor * 1e6) / 1e6;
   return Number.isSafeInteger(number) && number > 0 ? number : null;
 }
 
-// In seconds, of 90, 2:00, 2m or 1h. Null where it is none.
+// Why a quantity is none, in words.
+export function whyNoAmount(entry) {
+  return entry.includes(',') ? `${entry.trim()} has a comma that parts no thousands: write 0.5m or 500,000.`
+    : 'A quantity is more than 0: 2,000,000, 2m or 500k.';
+}
+
+// In seconds, of 90, 2:00, 1:30:00, 2m or 1h. Null where it is none.
 export function parseSpan(entry) {
-  const parts = /^(?:(\d{1,2}):(\d{2})|(\d{1,5})\s*([smh])?)$/.exec(entry.trim());
+  const parts = /^(?:(?:(\d{1,2}):)?(\d{1,2}):([0-5]\d)|(\d{1,5})\s*([smh])?)$/i.exec(entry.trim());
   if (!parts) return null;
-  if (parts[1] !== undefined) return Number(parts[1]) * 60 + Number(parts[2]);
-  return Number(parts[3]) * {s: 1, m: 60, h: 3600}[parts[4] ?? 's'];
+  const [hours, minutes, seconds] = parts.slice(1, 4).map(part => Number(part ?? 0));
+  const number = parts[4] === undefined ? hours * 3600 + minutes * 60 + seconds
+    : Number(parts[4]) * {s: 1, m: 60, h: 3600}[parts[5]?.toLowerCase() ?? 's'];
+  return number || null;
+}
+
+// 1 min 30 s, of 90.
+export function spanWords(seconds) {
+  const parts = [[Math.floor(seconds / 3600), 'h'], [Math.floor(seconds / 60) % 60, 'min'], [seconds % 60, 's']];
+  return parts.filter(([number]) => number).map(part => part.join(' ')).join(' ');
 }
 
 // 1:05 of 64.2 seconds, from milliseconds.

@@ -31,7 +31,7 @@ export class Blotter {
       h('div', {className: 'bar'}, h('h2', {}, 'Today'), this.filter, this.ends,
         h('button', {type: 'button', className: 'small export', onclick: () => this.export()}, 'Export CSV'), this.sums),
       h('table', {className: 'blotter'},
-        h('thead', {}, h('tr', {}, head('UTC'), head('Side'), head('Quantity', 'number'), head('Bond'), head(isDealer ? 'My price' : 'Price', 'number'),
+        h('thead', {}, h('tr', {}, head('Asked, UTC'), head('Ended'), head('Side'), head('Quantity', 'number'), head('Bond'), head(isDealer ? 'My price' : 'Price', 'number'),
           head(isDealer ? 'Investor' : 'Dealer'), head('Result'), head('Trader'), head('Note'))), this.list), this.more);
   }
   side(request) {
@@ -48,18 +48,19 @@ export class Blotter {
     if (!this.model.isDealer()) return request.award?.trader ?? request.trader;
     return request.quotes.at(-1)?.trader ?? '';
   }
-  note(request) {
+  // write(price) is how prices stand in it.
+  note(request, write = text) {
     if (request.told?.refusal && !hasTraded(request)) return request.told.text;
     if (this.model.isDealer()) {
       return request.declined ? 'declined' : request.quotes.at(-1)?.state === 'withdrawn' ? 'withdrawn'
         : request.quotes.length > 1 ? `${request.quotes.length} quotes` : request.quotes.length || isOpen(request) ? '' : 'no quote';
     }
-    if (hasTraded(request)) return request.cover ? `cover ${text(request.cover.price)}, ${request.cover.dealer}` : 'no cover';
+    if (hasTraded(request)) return request.cover ? `cover ${write(request.cover.price)}, ${request.cover.dealer}` : 'no cover';
     if (isOpen(request)) {
       return `${request.dealers.filter(one => one.answer === 'quoted').length} of ${request.dealers.length} quoted`;
     }
     const [best] = ranked(request, request.ended);
-    return best ? `best ${text(best.price)}, ${best.dealer}` : `${request.dealers.length} asked`;
+    return best ? `best ${write(best.price)}, ${best.dealer}` : `${request.dealers.length} asked`;
   }
   // Those that the filter lets through, in order.
   chosen() {
@@ -83,7 +84,7 @@ export class Blotter {
   sum(chosen) {
     const done = chosen.filter(hasTraded), isDealer = this.model.isDealer();
     const of = side => done.filter(one => one.side === side).reduce((sum, one) => sum + one.quantity, 0);
-    return `${chosen.length} requests, ${done.length} done: bought ${amount(of(isDealer ? 'sell' : 'buy'))}, sold ${amount(of(isDealer ? 'buy' : 'sell'))}`;
+    return `${chosen.length} ${chosen.length === 1 ? 'request' : 'requests'}, ${done.length} done: bought ${amount(of(isDealer ? 'sell' : 'buy'))}, sold ${amount(of(isDealer ? 'buy' : 'sell'))}`;
   }
   row(request) {
     const before = this.rows.get(request.id);
@@ -96,22 +97,24 @@ export class Blotter {
     const bond = this.model.bond(request.bond), price = this.price(request);
     const again = this.repeat ? [h('button', {type: 'button', className: 'small again', 'aria-label': `Ask again: ${bond.name}`,
       onclick: () => this.repeat(request)}, 'Again')] : [];
-    const node = h('tr', {className: hasTraded(request) ? 'traded' : ''},
-      cell(clock(request.ended || request.made), 'number at'), cell(this.side(request), 'which'), cell(amount(request.quantity), 'number size'),
+    const node = h('tr', {className: `${hasTraded(request) ? 'traded' : ''} ${request.ended ? 'ended' : ''}`},
+      cell(clock(request.made), 'number asked'), cell(clock(request.ended), 'number at'), cell(this.side(request), 'which'), cell(amount(request.quantity), 'number size'),
       cell(bond.name, 'bond'), cell(price ? aligned(price, bond.grid) : '', 'number price'), cell(this.whom(request), 'whom'),
       cell(ends[request.state] ?? request.state, 'end'), cell(this.trader(request), 'trader'), h('td', {className: 'note'}, ...again, history));
     this.rows.set(request.id, {request, as: mode.thirtySeconds, node, history});
     return node;
   }
+  // Prices are decimals, whatever the page shows; `price` is that of a trade, so that it can be summed.
   export() {
-    const {firm, date} = this.model.hello;
+    const {firm, date} = this.model.hello, isDealer = this.model.isDealer();
     const moment = at => at ? new Date(at).toISOString() : '';
-    const head = ['request', 'asked_utc', 'ended_utc', 'side', 'quantity', 'bond', 'bond_name', 'price', 'counterparty', 'result', 'trader', 'trade', 'note'];
-    const rows = this.chosen().map(one => {
-      const price = this.price(one);
-      return [one.id, moment(one.made), moment(one.ended), this.side(one), one.quantity, one.bond, this.model.bond(one.bond).name,
-        price ? Number(decimal(price)) : '', this.whom(one), ends[one.state], this.trader(one), one.trade, this.note(one)];
-    });
-    save(`${firm}-${date}.csv`, csv([head, ...rows]));
+    const number = price => price ? Number(decimal(price)) : '';
+    const head = ['request', 'asked_utc', 'ended_utc', 'side', 'quantity', 'bond', 'bond_name', 'price', 'counterparty', 'result', 'trader', 'trade',
+      isDealer ? 'last_quote' : 'cover', 'note'];
+    const rows = this.chosen().map(one => [one.id, moment(one.made), moment(one.ended), this.side(one), one.quantity, one.bond,
+      this.model.bond(one.bond).name, hasTraded(one) ? number(this.price(one)) : '', this.whom(one), ends[one.state], this.trader(one), one.trade,
+      number(isDealer ? this.price(one) : one.cover?.price), this.note(one, decimal)]);
+    const isPart = this.filter.value.trim() || this.ends.value;
+    save(`${firm}-${date}${isPart ? '-filtered' : ''}.csv`, csv([head, ...rows]));
   }
 }

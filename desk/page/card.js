@@ -16,7 +16,7 @@ export class Card {
     this.text = h('p', {className: 'told', role: 'status'});
     this.close = h('button', {type: 'button', className: 'small', onclick: () => desk.close(request.id)}, 'Close');
     this.head = h('div', {className: 'head'}, this.side, this.what, this.isin, this.left);
-    this.node = h('article', {className: 'card', tabIndex: -1});
+    this.node = h('article', {className: 'card', tabIndex: -1, 'data-made': request.made});
     this.own = ''; // why the desk did not do what was asked
     this.request = request;
   }

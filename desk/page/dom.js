@@ -22,14 +22,16 @@ export function show(node, is) {
 
 // Puts the nodes in this order. Those that stand right are not moved, and the focus stays.
 export function arrange(parent, nodes) {
-  const focus = document.activeElement;
+  const focus = document.activeElement, stays = new Set(nodes);
   let moved = false;
-  nodes.forEach((node, at) => {
-    if (parent.children[at] === node) return;
-    parent.insertBefore(node, parent.children[at] ?? null);
-    moved = true;
-  });
-  while (parent.children.length > nodes.length) parent.lastElementChild.remove();
+  for (const node of [...parent.children]) if (!stays.has(node)) node.remove();
+  nodes.toReversed().reduce((behind, node) => { // from the end, so that what goes there moves alone
+    if (node.parentNode !== parent || node.nextSibling !== behind) {
+      parent.insertBefore(node, behind);
+      moved = true;
+    }
+    return node;
+  }, null);
   if (moved && focus !== document.activeElement && parent.contains(focus)) {
     focus.focus({preventScroll: true});
   }

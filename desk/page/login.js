@@ -17,8 +17,10 @@ export class Login {
     event.preventDefault();
     this.button.disabled = true;
     set(this.why, '');
+    set(this.button, 'Logging in \u2026');
     const why = await link.logIn(this.login.value, this.password.value);
     this.button.disabled = false;
+    set(this.button, 'Log in');
     this.password.value = '';
     set(this.why, why);
     if (why) this.password.focus();

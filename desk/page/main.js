@@ -14,8 +14,9 @@ const leaveAfter = 600; // milliseconds between the two presses that leave live 
 const leaveFor = 8000;  // as long the question stands
 const keys = {
   dealer: 'F2 next request without a quote \u00b7 Enter send \u00b7 \u2191\u2193 one step of the grid \u00b7 Escape clear \u00b7 F4 decimals or 32nds \u00b7 F9 cancel all',
-  investor: 'F2 ticket \u00b7 F3 best quote of the next request \u00b7 \u2191\u2193 from quote to quote \u00b7 Enter twice hits \u00b7 Escape takes the first back \u00b7 F4 decimals or 32nds'};
+  investor: 'F2 ticket \u00b7 B or S side \u00b7 F3 best quote of the next request \u00b7 \u2191\u2193 from quote to quote \u00b7 Enter chooses, Enter again hits \u00b7 Escape takes the first back \u00b7 F4 decimals or 32nds'};
 
+const narrow = matchMedia('(max-width: 760px)');
 const of = id => document.getElementById(id);
 
 class Page {
@@ -26,6 +27,7 @@ class Page {
     this.cards = new Cards(of('cards'), this.model, this.link);
     this.top = new Top({toggle: () => this.toggle(), cancelAll: () => this.cancelAll(), logOut: () => this.logOut()});
     this.isKnown = true; // whether somebody is logged in
+    this.isNew = true;   // to whoever looks at it: the keys go where the work begins
     this.leavesAt = -leaveFor;
     this.ticket = null;
     this.blotter = null;
@@ -43,6 +45,13 @@ class Page {
     else if (changed === null) this.begin();
     else this.change(changed);
     this.draw();
+    if (message.last && this.isNew) this.goToWork();
+  }
+  goToWork() {
+    this.isNew = false;
+    if (document.activeElement !== document.body || narrow.matches) return;
+    if (this.ticket) this.ticket.focus();
+    else this.cards.next()?.focus();
   }
   // Nothing of the day stays in the page of one who has left.
   leave() {
@@ -109,6 +118,7 @@ class Page {
     const moment = this.link.now();
     this.top.tick(moment);
     this.cards.tick(moment);
+    this.ticket?.tick();
     if (this.model.hello && !this.model.isOn()) this.draw();
   }
 
@@ -119,7 +129,9 @@ class Page {
     this.draw();
   }
   cancelAll() {
-    if (this.model.hello && this.model.isDealer()) this.link.act({do: 'cancel all'}, why => why && this.top.say(why, true));
+    if (!this.model.hello || !this.model.isDealer()) return;
+    this.cards.clearEntries();
+    this.link.act({do: 'cancel all'}, why => why && this.top.say(why, true));
   }
   // Live quotes outlive a login: whoever leaves is asked first.
   logOut() {
@@ -132,12 +144,16 @@ class Page {
     if (live && moment - this.leavesAt < leaveAfter) return;
     this.link.logOut();
   }
+  nextCard() {
+    const card = this.cards.next();
+    if (card) card.focus();
+    else if (this.model.hello) this.top.say('No request is open.');
+  }
   key(event) {
-    if (event.key === 'F2') {
-      if (this.ticket) this.ticket.focus();
-      else this.cards.next()?.focus();
-    } else if (event.key === 'F3' && this.ticket) {
-      this.cards.next()?.focus();
+    if (event.key === 'F2' && this.ticket) {
+      this.ticket.focus();
+    } else if (event.key === 'F2' || (event.key === 'F3' && this.ticket)) {
+      this.nextCard();
     } else if (event.key === 'F4') {
       this.toggle();
     } else if (event.key === 'F9') {

@@ -45,11 +45,12 @@ export const hasTraded = request => request.state === 'done';
 export const pendingOf = (request, act) => request.pending.find(one => one.act === act);
 export const liveQuote = request => request.quotes.find(quote => quote.state === 'live');
 
-// Of an investor: best first; of equal prices the earlier. What can't be hit any more, since its
-// validity is over, comes last.
+// Whether a quote can't be hit any more, since its validity is over.
+export const isOver = (quote, moment) => quote.state !== 'hit' && quote.valid !== null && quote.valid <= moment;
+
+// Of an investor: best first; of equal prices the earlier. What is over comes last.
 export function ranked(request, moment) {
   const sign = request.side === 'buy' ? 1 : -1;
-  const isOver = quote => quote.state !== 'hit' && quote.valid !== null && quote.valid <= moment;
   return request.quotes.filter(quote => quote.state !== 'gone')
-    .sort((a, b) => isOver(a) - isOver(b) || sign * (a.price - b.price) || a.at - b.at);
+    .sort((a, b) => isOver(a, moment) - isOver(b, moment) || sign * (a.price - b.price) || a.at - b.at);
 }

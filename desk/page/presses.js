@@ -23,9 +23,15 @@ function sees(button) {
   return stands ? now.since - before.since : 0;
 }
 
-// Guards every button with data-binds under this node; tell(button) is called where a press did nothing.
+// Guards every button and field with data-binds under this node; tell(node) is called where a press did nothing.
 export function guardPresses(root, tell) {
-  setInterval(() => { for (const button of root.querySelectorAll('button[data-binds]')) sees(button); }, look);
+  setInterval(() => { for (const node of root.querySelectorAll('[data-binds]')) sees(node); }, look);
+  root.addEventListener('mousedown', event => { // a price would be typed for another request
+    const field = event.target.closest('input[data-binds]');
+    if (!field || field === document.activeElement || sees(field) >= settled) return;
+    event.preventDefault();
+    tell(field);
+  }, true);
   root.addEventListener('click', event => {
     const button = event.target.closest('button[data-binds]');
     if (!button || event.detail === 0) return; // a key presses what has the focus, wherever it stands

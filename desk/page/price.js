@@ -34,34 +34,34 @@ export function aligned(price, grid) {
   return out + '\u2007'.repeat(Math.max(0, width - behind));
 }
 
-// How far two prices are apart, in 32nds, with a sign.
+// How far two prices are apart, in 32nds.
 export function apart(difference, grid) {
   const [whole, part = ''] = String(Math.abs(difference) / 8).split('.');
   const places = Math.log2(grid) - 5;
-  const sign = difference > 0 ? '+' : difference < 0 ? '\u2212' : '';
   const point = part ? `.${part}` : places ? '\u2008' : '';
-  return sign + whole + point + '\u2007'.repeat(places - part.length);
+  return whole + point + '\u2007'.repeat(places - part.length);
 }
 
 function in256ths(typed) {
-  const parts = /^(\d{1,3})[-'](\d{1,2})([+1-7])?$/.exec(typed);
+  const parts = /^(\d{1,9})[-'](\d{1,2})([+1-7])?$/.exec(typed);
   if (parts) {
     if (Number(parts[2]) > 31) return {why: 'There are 32 thirty-seconds: 00 to 31.'};
     const eighths = parts[3] === '+' ? 4 : Number(parts[3] ?? 0);
     return {price: Number(parts[1]) * 256 + Number(parts[2]) * 8 + eighths};
   }
-  if (/^(\d{1,3}(\.\d{0,10})?|\.\d{1,10})$/.test(typed)) return {price: Number(typed) * 256};
-  return {why: 'A price is 99.515625 or 99-16+.'};
+  if (/^(\d{1,9}(\.\d{0,10})?|\.\d{1,10})$/.test(typed)) return {price: Number(typed) * 256};
+  return {why: typed ? 'A price is 99.515625 or 99-16+.' : 'Type a price: 99.515625 or 99-16+.'};
 }
 
 // What a trader typed, as {price}, or {why} it is none, in words.
 export function parse(entry, grid) {
   const {price, why} = in256ths(entry.trim());
   if (why) return {why};
+  if (price <= 0 || price > greatest) return {why: `A price is more than 0, and ${text(greatest)} at most.`};
   const step = 256 / grid;
   if (price % step !== 0) {
     const below = Math.floor(price / step) * step;
     return {why: `Off the grid of 1/${grid}: ${text(below)} or ${text(below + step)}.`};
   }
-  return price < 1 || price > greatest ? {why: 'Out of range.'} : {price};
+  return {price};
 }

@@ -14,10 +14,10 @@ export class Top {
     this.used = h('span', {className: 'counts'});
     this.clock = h('span', {className: 'number clock'});
     this.said = h('span', {className: 'said', role: 'status'});
-    this.cancel = h('button', {type: 'button', className: 'panic', id: 'cancelall', onclick: acts.cancelAll}, 'Cancel all F9');
+    this.cancel = h('button', {type: 'button', className: 'panic', id: 'cancelall', onclick: acts.cancelAll}, 'Cancel all', h('kbd', {}, 'F9'));
     this.format = h('button', {type: 'button', id: 'format', onclick: acts.toggle});
     this.out = h('button', {type: 'button', id: 'logout', onclick: acts.logOut}, 'Log out');
-    this.nodes = [h('span', {className: 'who'}, this.firm, ' ', this.role), this.light, this.used, this.said, this.cancel, this.format, this.out, this.clock];
+    this.nodes = [h('span', {className: 'who'}, this.firm, ' ', this.role), this.light, this.used, this.cancel, this.format, this.out, this.clock, this.said];
     for (const button of [this.cancel, this.format, this.out]) show(button, false);
   }
   draw(model, isKnown) {
@@ -32,8 +32,10 @@ export class Top {
     show(this.cancel, Boolean(hello) && isKnown && model.isDealer() && model.mayAct());
     if (!hello || !isKnown) return;
     set(this.firm, hello.firm);
-    set(this.role, `${hello.trader.name}, ${hello.market.role}${hello.trader.mayAct ? '' : ', may look'}`);
+    set(this.role, `${hello.trader.login} (trader ${hello.trader.name}), ${hello.market.role}${hello.trader.mayAct ? '' : ', may look'}`);
     set(this.used, usage(model));
+    this.used.title = model.isDealer() ? 'Exposure: the nominal of all live quotes of the firm, on both sides. Quotes: those that the venue accepted today.'
+      : 'Of the firm: requests that are open, and those that the venue accepted today.';
   }
   tick(moment) { set(this.clock, `${clock(moment)} UTC`); }
   say(what, isBad) {
@@ -47,9 +49,9 @@ export class Top {
 function usage(model) {
   const {session, hello: {market: {limits}}} = model;
   const skew = Math.abs(session.clock) > apart ? ` \u00b7 the venue\u2019s clock is ${(session.clock / 1000).toFixed(1)} s apart` : '';
-  if (!model.isDealer()) return `Open ${session.open} of ${limits.open} \u00b7 requests ${session.accepted} of ${limits.requests}${skew}`;
+  if (!model.isDealer()) return `Requests open ${session.open} of ${limits.open} \u00b7 today ${session.accepted} of ${amount(limits.requests)}${skew}`;
   const part = Math.round(100 * session.exposure / limits.exposure);
-  return `Exposure ${amount(session.exposure)} of ${amount(limits.exposure)} (${part} %) \u00b7 quotes ${session.accepted} of ${amount(limits.quotes)}${skew}`;
+  return `Exposure ${amount(session.exposure)} of ${amount(limits.exposure)} (${part} %) \u00b7 quotes today ${session.accepted} of ${amount(limits.quotes)}${skew}`;
 }
 
 // What a person has to know and do at once, as lines; most often none.

@@ -75,6 +75,9 @@ void Day::apply_received(const Entry &entry) {
     const Moment at = message.moment(tag::transact_time).value_or(left);
     if (message.type() == "3") {
         apply_failure(message.get(tag::ref_seq_num), "refused: " + reject_words(message), true, at);
+    } else if (message.type() == "j") {
+        apply_failure(message.get(tag::ref_seq_num), "refused: " + not_taken_words(message), true,
+                      at);
     } else {
         received(message, at);
     }

@@ -108,6 +108,8 @@ void DealerDay::set(DealerRequest &request, OwnQuote &quote, Quote state) {
     exposure_[quote.trader] += (counts(state) ? request.quantity : 0) - own_before;
     if (!counts(state)) {
         request.settle(Act::withdraw, quote.id);
+        const bool is_cancelled = cancelling_.erase(quote.id) > 0 && state == Quote::withdrawn;
+        cancelled_ += is_cancelled ? 1 : 0;
     }
 }
 
@@ -140,15 +142,27 @@ void DealerDay::quoted(DealerRequest &request, const Message &message, const Sen
 
 // Each quote that it may reach is answered for itself.
 void DealerDay::cancelled_all(const Sent &own, Moment at) {
+    cancelling_.clear();
+    cancelled_ = 0;
     for (auto &[id, request] : requests_) {
         for (const OwnQuote &quote : request.quotes) {
             if (request.is_open() && counts(quote.state)) {
                 request.pending.push_back(Pending{Act::withdraw, quote.id, own.trader, at});
+                cancelling_.insert(quote.id);
                 changed(id);
             }
         }
     }
-    notice(at, "Cancel of all quotes sent by " + own.trader, false);
+    notice(at, "Cancel all sent by " + own.trader + ", not answered yet", false);
+}
+
+// Once each of its quotes has come to an end.
+void DealerDay::tell_cancelled(Moment at) {
+    notice(at,
+           "Cancel all: " + std::to_string(cancelled_) +
+               (cancelled_ == 1 ? " quote withdrawn, " : " quotes withdrawn, ") +
+               (usage_.exposure == 0 ? "none is live" : "and others are live"),
+           false);
 }
 
 void DealerDay::received(const Message &message, Moment at) {
@@ -165,14 +179,24 @@ void DealerDay::received(const Message &message, Moment at) {
                          std::string(incomplete));
     }
     changed(request->id);
+    const bool is_cancelling = !cancelling_.empty();
+    answered(*request, message, at);
+    if (is_cancelling && cancelling_.empty()) {
+        tell_cancelled(at);
+    }
+}
+
+// What the venue says of a request that this desk knows.
+void DealerDay::answered(DealerRequest &request, const Message &message, Moment at) {
+    const bool has_request = message.has(tag::quote_req_id);
     if (message.type() == "AJ") {
-        closed(*request, message, at);
-    } else if (name.empty()) {
-        cancel_answered(*request, message, at);
-    } else if (own.empty()) {
-        decline_answered(*request, message, at);
+        closed(request, message, at);
+    } else if (!has_request) {
+        cancel_answered(request, message, at);
+    } else if (!message.has(tag::quote_id)) {
+        decline_answered(request, message, at);
     } else {
-        quote_answered(*request, message, at);
+        quote_answered(request, message, at);
     }
 }
 
@@ -192,6 +216,7 @@ void DealerDay::shown(const Message &message, Moment at) {
 }
 
 void DealerDay::nothing_cancelled(const Message &message, Moment at) {
+    cancelling_.clear();
     for (auto &[id, request] : requests_) {
         const auto gone = std::erase_if(
             request.pending, [](const Pending &one) { return one.act == Act::withdraw; });
@@ -292,6 +317,7 @@ void DealerDay::failed(const Sent &own, const std::string &why, bool is_refusal,
 }
 
 void DealerDay::cancel_all_failed(const std::string &why, bool is_refusal, Moment at) {
+    cancelling_.clear();
     for (auto &[id, request] : requests_) {
         if (std::erase_if(request.pending,
                           [](const Pending &one) { return one.act == Act::withdraw; }) > 0) {

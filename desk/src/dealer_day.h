@@ -6,6 +6,7 @@
 
 #include <map>
 #include <optional>
+#include <set>
 #include <string>
 #include <vector>
 
@@ -55,8 +56,10 @@ class DealerDay final : public Day {
     void shown(const Message &message, Moment at);
     void quoted(DealerRequest &request, const Message &message, const Sent &own, Moment at);
     void cancelled_all(const Sent &own, Moment at);
+    void tell_cancelled(Moment at);
     void nothing_cancelled(const Message &message, Moment at);
     void cancel_all_failed(const std::string &why, bool is_refusal, Moment at);
+    void answered(DealerRequest &request, const Message &message, Moment at);
     void closed(DealerRequest &request, const Message &message, Moment at);
     void quote_answered(DealerRequest &request, const Message &message, Moment at);
     void cancel_answered(DealerRequest &request, const Message &message, Moment at);
@@ -67,6 +70,8 @@ class DealerDay final : public Day {
     std::map<std::string, DealerRequest> requests_;
     std::map<std::string, std::string> request_of_quote_;
     std::map<std::string, Quantity> exposure_;
+    std::set<std::string> cancelling_; // the quotes that the last cancel of all has to end yet
+    int cancelled_ = 0;                // and how many it has withdrawn
     Usage usage_;
 };
 

@@ -34,6 +34,20 @@ void set_answer(InvestorRequest &request, const std::string &dealer, AskedDealer
     }
 }
 
+constexpr const char *withdraws = " withdraws ";
+
+// A replacement is told as a withdrawal and a quote of one moment; a trader reads one line.
+void note_quote(InvestorRequest &request, const ShownQuote &quote) {
+    const std::string gone = quote.dealer + withdraws;
+    const Told last = request.history.empty() ? Told{} : request.history.back();
+    if (last.at == quote.at && last.text.starts_with(gone)) {
+        request.history.pop_back();
+        return request.note(quote.at, quote.dealer + " replaces " + last.text.substr(gone.size()) +
+                                          " by " + text_of(quote.price));
+    }
+    request.note(quote.at, quote.dealer + " quotes " + text_of(quote.price));
+}
+
 ShownQuote *quote_of(InvestorRequest &request, const std::string &id) {
     const auto found = std::find_if(request.quotes.begin(), request.quotes.end(),
                                     [&](const ShownQuote &one) { return one.id == id; });
@@ -130,7 +144,7 @@ void InvestorDay::shown(InvestorRequest &request, const Message &message, Moment
     ShownQuote quote{message.get(tag::quote_id), message.get(tag::party),
                      message.price(field).value_or(Price{}), message.moment(tag::valid_until), at};
     set_answer(request, quote.dealer, AskedDealer::Answer::quoted);
-    request.note(at, quote.dealer + " quotes " + text_of(quote.price));
+    note_quote(request, quote);
     request_of_quote_[quote.id] = request.id;
     request.quotes.push_back(std::move(quote));
 }
@@ -165,7 +179,7 @@ void InvestorDay::taken_back(InvestorRequest &request, const std::string &id, Mo
         quote->state = ShownQuote::State::gone;
     }
     set_answer(request, quote->dealer, AskedDealer::Answer::took_back);
-    request.note(at, quote->dealer + " takes back " + text_of(quote->price));
+    request.note(at, quote->dealer + withdraws + text_of(quote->price));
 }
 
 // The answer to a hit or a pass.

@@ -113,6 +113,10 @@ std::string response_refusal(const Message &answer) {
                                                             : "the venue gives no reason");
 }
 
+std::string not_taken_words(const Message &reject) {
+    return words_of(reject, "the venue does not take it now (BusinessMessageReject)");
+}
+
 std::string reject_words(const Message &reject) {
     const auto field = names_of_fields().find(reject.number(tag::ref_tag));
     const auto reason = session_reasons().find(reject.number(tag::session_reason));

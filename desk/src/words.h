@@ -17,6 +17,8 @@ std::string cancel_refusal(const Message &answer);
 std::string decline_refusal(const Message &answer);
 // To a hit or a pass; 58 has the room's name for it, whose words are the desk's.
 std::string response_refusal(const Message &answer);
+// A BusinessMessageReject (35=j): what the venue did not take, though it is well formed.
+std::string not_taken_words(const Message &reject);
 // A Reject (35=3): the field of 371 and the reason of 373.
 std::string reject_words(const Message &reject);
 

@@ -124,9 +124,32 @@ TEST_CASE_FIXTURE(Fixture, "a cancel of all waits for each quote, and for one th
     CHECK(shown("R2").awaits(Act::withdraw));
     receive("35=AI|117=q1|297=17|");
     CHECK(shown("R1").pending.empty());
+    CHECK(day.notice()->text == "Cancel all sent by T3, not answered yet");
     receive("35=AI|117=q2|297=17|");
     CHECK(shown("R2").pending.empty());
     CHECK(day.usage().exposure == 0);
+    CHECK(day.notice()->text == "Cancel all: 2 quotes withdrawn, none is live");
+}
+
+TEST_CASE_FIXTURE(Fixture, "of a cancel of all is told what it withdrew, not what was hit first") {
+    quote_live(2, "q1", "R1");
+    quote_live(3, "q2", "R2");
+    send(4, "35=Z|298=4|");
+    receive("35=AJ|693=N1|131=R1|117=q1|694=1|133=99.5|");
+    receive("35=AI|117=q2|297=17|");
+    CHECK(day.notice()->text == "Cancel all: 1 quote withdrawn, none is live");
+}
+
+TEST_CASE_FIXTURE(Fixture, "a quote that the venue does not take has ended, in the venue's words") {
+    send(2, "35=S|131=R1|117=q1|133=99.5|");
+    day.apply(entry(Kind::received, 1500,
+                    "35=j|34=3|52=20260314-00:00:02.000|45=2|372=S|379=q1|380=4|"
+                    "58=the venue's clock is in doubt|"));
+    CHECK(shown("R1").quotes[0].state == Quote::refused);
+    CHECK(shown("R1").told->text == "Quote 99.5 refused: the venue's clock is in doubt");
+    CHECK(shown("R1").pending.empty());
+    CHECK(day.exposure_of("T3") == 0);
+    CHECK(day.alarm().empty());
 }
 
 TEST_CASE_FIXTURE(Fixture, "a cancel of all that finds nothing is told, and waits for nothing") {

@@ -180,6 +180,43 @@ TEST_CASE_FIXTURE(Fixture, "what comes again counts once, and what is missing is
     CHECK(day.alarm().find("ApplSeqNum 3 to 3") != std::string::npos);
 }
 
+TEST_CASE("a request that the venue does not take has ended, in the venue's words") {
+    InvestorDay day;
+    day.apply(entry(Kind::sent, 1000, request));
+    day.apply(entry(Kind::received, 1100,
+                    "35=j|34=2|52=20260314-00:00:01.100|45=2|372=R|379=A1|380=0|"
+                    "58=the day's bytes of your firm are used up|"));
+    CHECK(day.request("A1")->state == State::refused);
+    CHECK(day.request("A1")->told->text ==
+          "Request refused: the day's bytes of your firm are used up");
+    CHECK(day.request("A1")->pending.empty());
+    CHECK(day.usage().open == 0);
+}
+
+TEST_CASE_FIXTURE(Fixture,
+                  "a hit that the venue does not take has ended, and the request has not") {
+    receive(2000, quote(2, "Q1", "DLR1", "99.5"));
+    send(2100, "35=AJ|34=3|50=T8|52=20260314-00:00:02.100|693=H1|117=Q1|694=1|");
+    receive(2200, "35=j|34=4|52=20260314-00:00:02.200|45=3|372=AJ|380=4|");
+    CHECK(asked().state == State::open);
+    CHECK(asked().pending.empty());
+    CHECK(asked().told->text ==
+          "Hit refused: the venue does not take it now (BusinessMessageReject)");
+}
+
+TEST_CASE_FIXTURE(Fixture, "a replacement is one line of the history") {
+    receive(2000, quote(2, "Q1", "DLR1", "99.5", "60=20260314-00:00:02.000|"));
+    receive(3000, "35=AI|34=4|52=20260314-00:00:03.000|60=20260314-00:00:03.000|1181=3|131=A1|117="
+                  "Q1|297=17|");
+    receive(3001, quote(4, "Q2", "DLR1", "99.25", "60=20260314-00:00:03.000|"));
+    CHECK(asked().history.back().text == "DLR1 replaces 99.5 by 99.25");
+    receive(4000, "35=AI|34=6|52=20260314-00:00:04.000|60=20260314-00:00:04.000|1181=5|131=A1|117="
+                  "Q2|297=17|");
+    CHECK(asked().history.back().text == "DLR1 withdraws 99.25");
+    receive(5000, quote(6, "Q3", "DLR1", "99", "60=20260314-00:00:05.000|"));
+    CHECK(asked().history.back().text == "DLR1 quotes 99");
+}
+
 TEST_CASE_FIXTURE(Fixture, "a Reject ends what it answers, in words") {
     send(3000, "35=AJ|34=3|50=T9|693=P1|131=A1|694=6|");
     receive(3100, "35=3|34=3|52=20260314-00:00:03.100|1181=2|45=3|371=50|373=5|");

@@ -1,7 +1,8 @@
 """Tells in a sentence how each auction of a running venue ends: tell.py LOG
 
 It reads the gateway's log, a file of SQLite, as an operator may: what the venue sent whom, and on which
-entry. Of the entries that end a request it tells one sentence each.
+entry. Of the entries that end a request it tells one sentence each, but of none that was there before it
+began: an earlier start of the venue has told these.
 """
 
 import sqlite3
@@ -67,7 +68,7 @@ class Teller:
 
 
 def follow(log: Path) -> None:
-    teller, told = Teller(), -1
+    teller, told, is_first = Teller(), -1, True
     database = sqlite3.connect(f"file:{log}?mode=ro", uri=True, timeout=30)
     while True:
         # What an entry leads to is committed with a later one: the last is left for the next look.
@@ -86,9 +87,10 @@ def follow(log: Path) -> None:
         if fresh != sum(map(len, by_place.values())):
             continue  # more came for these entries meanwhile
         for place in sorted(by_place):
-            for sentence in teller.sentences(by_place[place]):
+            sentences = teller.sentences(by_place[place])
+            for sentence in [] if is_first else sentences:
                 print(f"  {time.strftime('%H:%M:%S', time.gmtime())} UTC  {sentence}", flush=True)
-        told = last
+        told, is_first = last, False
 
 
 if __name__ == "__main__":

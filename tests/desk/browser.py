@@ -174,8 +174,16 @@ class Browser:
         self.one("#quantity").clear()
         self.one("#quantity").send_keys(quantity, Keys.ENTER)
 
+    def cards(self) -> list[WebElement]:
+        """In the order in which the requests came: on the page those that have ended stand last."""
+        return list(
+            self.script(
+                "return [...document.querySelectorAll('article.card')].sort((a, b) => a.dataset.made - b.dataset.made)"
+            )
+        )
+
     def card(self, number: int = -1) -> WebElement:
-        return self.all("article.card")[number]
+        return self.cards()[number]
 
     def card_says(self, *words: str, number: int = -1) -> None:
         self.until(
@@ -249,6 +257,19 @@ class Browser:
         entry = self.in_card("input.entry", number)
         entry.clear()
         entry.send_keys(price, Keys.ENTER)
+        self.confirm_first(number)
+
+    def confirm_first(self, number: int = -1) -> None:
+        """Enter, until no first price of a bond is asked about."""
+
+        def done() -> bool:
+            entry = self.card(number).find_element(By.CSS_SELECTOR, "input.entry")
+            if not (entry.get_attribute("data-asks") or "").startswith("Your first price:"):
+                return True
+            entry.send_keys(Keys.ENTER)
+            return False
+
+        self.until("the first price is confirmed", done)
 
     def arm(self, dealer: str, number: int = -1) -> WebElement:
         """The first press of a hit, again where a quote changed under it; the button."""

@@ -21,8 +21,12 @@ def test_an_auction_by_keys_is_won(house: House) -> None:
         each.card_says("OFFER", "2,000,000", "Alder 4.125 03/29", "INV1 buys", "No live quote")
     dealer.press(Keys.F2)
     dealer.press("99-16+", Keys.ENTER)
+    dealer.card_says(
+        "Your first price: OFFER 2,000,000 Alder 4.125 03/29 at 99.515625: Enter again"
+    )
+    dealer.confirm_first()
     dealer.card_says("Live 99.515625 (99-16+), to the deadline", "Replace", "Withdraw")
-    dealer.until_says("#top", "Exposure 2,000,000 of 1,000,000,000", "quotes 1 of 4,096")
+    dealer.until_says("#top", "Exposure 2,000,000 of 1,000,000,000", "quotes today 1 of 4,096")
     other.quote("99.5")
     investor.card_says("99.515625", "99.5", "2 of 2 quoted")
     assert "DLR2" in investor.text("tr.best")  # the lowest offer is the best
@@ -30,7 +34,8 @@ def test_an_auction_by_keys_is_won(house: House) -> None:
     investor.card_says("99-16+", "99-16")
     investor.press(Keys.F4)
     dealer.quote("99-15")
-    investor.card_says("99.46875", "best", "+1")
+    investor.card_says("99.46875", "best", "DLR2")
+    assert "1" in investor.text("tr:not(.best) td.number:not(.price)")  # 32nds behind the best
     investor.until(
         "the first press shows what the second does",
         lambda: armed(investor, "Once more: buy 2,000,000 at 99.46875 from DLR1"),
@@ -61,7 +66,7 @@ def test_a_key_that_is_held_down_and_a_double_click_hit_nothing(house: House) ->
     investor, dealer = house.browser(house.investor), house.view(house.dealer)
     investor.ask("alder", "buy", "1m", dealers=("DLR1",))
     dealer.quote(dealer.wait_shown(1), 99 * POINT)
-    investor.card_says("99", "Hit")
+    investor.card_says("99", "Buy")
     button = investor.arm("DLR1")
     investor.script(
         """for (let count = 0; count < 40; ++count)
@@ -90,7 +95,7 @@ def test_a_quote_that_changes_under_a_press_is_not_hit(house: House) -> None:
     investor.ask("alder", "buy", "1m", dealers=("DLR1",))
     request = dealer.wait_shown(1)
     dealer.quote(request, 99 * POINT)
-    investor.card_says("99", "Hit")
+    investor.card_says("99", "Buy")
     price = 99 * POINT
 
     def changed() -> bool:
@@ -120,7 +125,7 @@ def test_each_way_that_a_request_ends(house: House) -> None:
     investor.card_says("SELL", "99.25")
     dealer.press_in_card("button.withdraw")
     dealer.card_says("No live quote")
-    investor.card_says("took back")
+    investor.card_says("withdrew")
     dealer.press_twice("button.decline")
     dealer.card_says("Declined")
     investor.card_says("declined")
@@ -132,12 +137,13 @@ def test_each_way_that_a_request_ends(house: House) -> None:
     investor.until_says("#cards", "No open request")
 
     investor.ask("cedar", "buy", "500k", deadline="25")
-    dealer.card_says("Cedar", "grid 1/32")
+    dealer.card_says("Cedar", "steps of 1/32")
     dealer.quote("100")
     dealer.card_says("Live 100")
-    dealer.press(Keys.F9)
+    dealer.press("9", Keys.F9)
     dealer.card_says("No live quote")
-    dealer.until_says("#top", "Exposure 0 of")
+    dealer.until_says("#top", "Exposure 0 of", "Cancel all: 1 quote withdrawn, none is live")
+    assert dealer.in_card("input.entry").get_attribute("value") == "", "a typed price outlives F9"
     dealer.press(Keys.F9)
     dealer.until_says("#top", "no live quote is left to cancel")
     investor.card_says("Expired")
@@ -150,7 +156,7 @@ def test_the_dealers_entry(house: House) -> None:
     """Prices in decimals and 32nds, the grid, arrow keys, and a price far from the last one."""
     dealer, investor = house.browser(house.dealer), house.view(house.investor)
     investor.ask_for(["DLR1"], bond="BONDB0000002")
-    dealer.card_says("grid 1/128")
+    dealer.card_says("steps of 1/128")
     dealer.quote("99-171")
     dealer.card_says("Off the grid of 1/128: 99.53125 or 99.5390625.")
     dealer.quote("99-40")
@@ -226,6 +232,47 @@ def test_presses_that_were_meant_for_what_stood_there_before(house: House) -> No
     assert view.requests[second]["state"] == "open" and "Declined" not in dealer.card().text
 
 
+PLACE = """const card = [...document.querySelectorAll('article.card')].find(one => one.textContent.includes('Cedar'));
+const {left, top} = card.querySelector('button.send').getBoundingClientRect(); return [left, top + scrollY];"""
+
+
+def test_a_card_keeps_its_place(house: House) -> None:
+    """Where the card before it ends, and is closed, nothing of it moves."""
+    view, dealer = house.view(house.investor), house.browser(house.dealer)
+    first = view.ask_for(["DLR1"])
+    view.ask_for(["DLR1"], bond="BONDC0000003")
+    dealer.card_says("Cedar")
+    before = dealer.script(PLACE)
+    assert view.act(do="pass", request=first) == ""
+    dealer.card_says("The investor passed", number=0)
+    assert dealer.script(PLACE) == before
+    dealer.press_in_card("button.small", 0)
+    dealer.until("it is closed", lambda: len(dealer.all("article.card")) == 1)
+    assert dealer.script(PLACE) == before
+
+
+def test_rows_keep_their_order_under_the_keys(house: House) -> None:
+    """While the focus is in a card, a better quote is marked where it stands; afterwards it stands first."""
+    investor = house.browser(house.investor)
+    dealer, other = house.view(house.dealer), house.view(house.other)
+    investor.ask("alder", "buy", "1m")
+    dealer.quote(dealer.wait_shown(1), 99 * POINT)
+    investor.until("the focus is on it", lambda: focus_on_best(investor))
+    other.quote(other.wait_shown(1), 98 * POINT)
+    investor.until("the better is marked", lambda: "DLR2" in investor.text("tr.best"))
+    assert investor.text(".quotes tbody th").split() == ["DLR1", "DLR2"]
+    investor.press(Keys.F2)
+    investor.until(
+        "the better stands first",
+        lambda: investor.text(".quotes tbody th").split() == ["DLR2", "DLR1"],
+    )
+
+
+def focus_on_best(page: Browser) -> bool:
+    page.press(Keys.F3)
+    return page.focused().startswith("buy from DLR1")
+
+
 def test_who_leaves_live_quotes_is_asked(house: House) -> None:
     """The first press of Log out says how many quotes stay live, and the last price is known at the next login."""
     view, dealer = house.view(house.investor), house.browser(house.dealer)
@@ -256,10 +303,13 @@ def test_the_ticket(house: House) -> None:
     investor.press(Keys.ESCAPE, Keys.CONTROL + "a" + Keys.NULL, "bondb")
     investor.until_says("#bonds", MARKUP)
     assert investor.all("#bonds img") == []
-    investor.press(Keys.TAB)
+    investor.press(Keys.TAB, "s")
+    assert investor.one("#sell").is_selected()
     for quantity, says in (
-        ("x", "A quantity is"),
-        ("9m", "The limit is 5,000,000"),
+        ("x", "A quantity is more than 0"),
+        ("0", "A quantity is more than 0"),
+        ("0,5m", "0,5m has a comma that parts no thousands: write 0.5m or 500,000."),
+        ("9m", "9,000,000 is above the limit of 5,000,000 a request."),
         ("1m", "Choose buy or sell"),
     ):
         investor.one("#quantity").clear()
@@ -268,7 +318,8 @@ def test_the_ticket(house: House) -> None:
             investor.one("#quantity").send_keys(quantity, Keys.ENTER)
             investor.until_says(".ticket", says)
     investor.ask("cedar", "buy", "1.5m", deadline="never")
-    investor.until_says(".ticket", "A deadline is 90, 2:00, 5m or 1h.")
+    investor.until_says(".ticket", "A deadline is a time from now: 90 (seconds), 2:00, 5m or 1h.")
+    assert investor.focused() == "deadline", "the field at fault has not got the focus"
     investor.ask("cedar", "buy", "1.5m", dealers=())
     investor.until_says(".ticket", "Choose the dealers to ask.")
     investor.click(".picks label", "DLR2")
@@ -333,7 +384,7 @@ def test_blotter_filter_and_export(house: House) -> None:
     investor.click("button.export")
     folder = investor.profile / "downloads"
     investor.until("the file is there", lambda: any(folder.glob("INV1-*.csv")))
-    lines = next(folder.glob("INV1-*.csv")).read_text().splitlines()
+    lines = next(folder.glob("INV1-*-filtered.csv")).read_text().splitlines()
     assert lines[0].startswith("request,asked_utc,ended_utc,side,quantity,bond,bond_name,price,")
     assert sorted(line.split(",")[4] for line in lines[1:]) == ["1000000", "3000000"]
     assert all(",100,DLR1,DONE,T8," in line for line in lines[1:])

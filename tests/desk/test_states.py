@@ -186,15 +186,15 @@ def test_a_desk_that_goes_and_comes_back_under_its_page(house: House) -> None:
     _, dealer, _, shown = one_open(house)
     page = house.browser(house.investor)
     dealer.quote(shown, 99 * POINT)
-    page.card_says("99", "Hit")
+    page.card_says("99", "Buy")
     house.investor.kill()
     page.until_says("#top", "No connection to the desk: trying")
     page.until("nothing can be hit", lambda: not page.in_card("button.hit").is_enabled())
     house.investor.start()
     page.until_says("#top", "Venue connected")
-    page.card_says("99", "Hit")
+    page.card_says("99", "Buy")
     page.driver.refresh()
-    page.card_says("99", "Hit")
+    page.card_says("99", "Buy")
 
 
 def test_a_quote_that_is_withdrawn_at_the_moment_of_the_hit(house: House) -> None:

@@ -1,0 +1,78 @@
+"""examples/venue.sh, the first command of README: a venue to trade on, and its end."""
+
+import os
+import re
+import subprocess
+from pathlib import Path
+
+from tests.desk.desks import DEALER, INVESTOR, ROOT, Desk, FirmOf
+from tests.desk.view import View, log_in
+from tests.gateway.wait import LONG, until
+
+COMMAND = ROOT / "examples" / "venue.sh"
+BOND = "XS0000000036"
+POINT = 256
+
+
+def page(text: str, firm: str, role: FirmOf, program: Path, folder: Path) -> View:
+    """The page of a firm whose address, login and password stand in this text."""
+    found = re.search(firm + r", .* http://127\.0\.0\.1:(\d+)/ +login (\S+) +password (\S+)", text)
+    assert found, text
+    desk = Desk(program, folder, role, 0, "")
+    desk.port.number = int(found[1])
+    view = View(desk, found[2], ticket=log_in(desk, found[2], found[3]))
+    view.wait_on()
+    return view
+
+
+def trade(investor: View, dealer: View) -> None:
+    """The investor asks this dealer alone, and hits its quote of 100."""
+    asked = investor.ask_for(["DLR3"], bond=BOND)
+
+    def own() -> list[str]:
+        return [name for name, one in dealer.requests.items() if one["investor"] == "INV1"]
+
+    dealer.until("it is shown", own)
+    dealer.quote(own()[0], 100 * POINT)
+    investor.until("its quote is there", lambda: investor.requests[asked]["quotes"])
+    assert investor.hit(asked, "DLR3") == ""
+
+
+def test_a_venue_to_try(desk_program: Path, gateway_program: Path, place: Path) -> None:
+    """Its two desks trade, it tells how that auction ended, and the audit finds the day in order."""
+    told = place / "told"
+    environment = {
+        **os.environ,
+        "PATH": "/usr/bin:" + os.environ["PATH"],
+        "FOLDER": str(place / "day"),
+        "GATEWAY": str(gateway_program.parent),
+        "DESK": str(desk_program.parent),
+    }
+    with told.open("wb") as out:
+        running = subprocess.Popen([COMMAND], env=environment, stdout=out, stderr=out)
+    try:
+        until(
+            "it runs",
+            LONG,
+            lambda: "How each auction ends" in told.read_text() or running.poll() is not None,
+        )
+        investor, dealer = (
+            page(told.read_text(), firm, role, desk_program, place)
+            for firm, role in (("INV1", INVESTOR), ("DLR3", DEALER))
+        )
+        trade(investor, dealer)
+        sentence = "INV1 bought 2,000,000 of %s from DLR3 at 100; there was no cover" % BOND
+        until("its end is told", LONG, lambda: sentence in told.read_text())
+    finally:
+        ended = subprocess.run(
+            [COMMAND, "down"],
+            env=environment,
+            stdout=subprocess.PIPE,
+            stderr=subprocess.STDOUT,
+            text=True,
+            timeout=LONG,
+            check=False,
+        )
+        running.wait(LONG)
+    assert ended.returncode == 0, ended.stdout
+    assert "The venue has ended." in ended.stdout and "the record is whole" in ended.stdout
