@@ -1,0 +1,1 @@
+"""FIX's session level, definition by definition."""
