@@ -9,6 +9,8 @@ namespace session_model {
 
 namespace {
 
+constexpr std::uint64_t MOST_OFF = 120 * SECOND;
+
 std::uint64_t take_number(SessionState &session) {
     return session.day.next++;
 }
@@ -33,8 +35,19 @@ std::uint64_t passed(std::uint64_t since, std::uint64_t now) {
     return now > since ? now - since : 0;
 }
 
-bool is_used_up(const Day &day) {
-    return day.next > LAST_NUMBER || day.expected > LAST_NUMBER;
+bool is_off(const Time &time, const Clock &clock) {
+    const std::uint64_t one = instant_of(time);
+    const std::uint64_t other = instant_of(clock);
+    return passed(one, other) > MOST_OFF || passed(other, one) > MOST_OFF;
+}
+
+bool is_used_up(const SessionState &session) {
+    const Day &day = session.day;
+    const Line &line = session.line;
+    const bool is_broken =
+        session.phase == ON &&
+        (line.fresh > day.next || line.again_end > day.next || line.overtook > day.next);
+    return day.next > LAST_NUMBER || day.expected > LAST_NUMBER || is_broken;
 }
 
 bool is_clear(const SessionState &session) {
@@ -51,6 +64,10 @@ void go_away(SessionState &session) {
     session.line = Line{};
     session.connection = 0;
     session.since = 0;
+}
+
+void something_came(SessionState &session) {
+    session.waiting.is_alive = session.waits;
 }
 
 void end_waiting(SessionState &session, std::uint64_t connection) {

@@ -13,8 +13,11 @@ constexpr std::uint64_t LAST_NUMBER = 999'999'990;
 // A time since another one; none where the clock was set back.
 std::uint64_t passed(std::uint64_t since, std::uint64_t now);
 
-// The numbers of the day are used up.
-bool is_used_up(const Day &day);
+// Whether a time is more than two minutes from that of arrival.
+bool is_off(const Time &time, const Clock &clock);
+
+// The numbers of the day are used up, or those of the connection are none that it can have.
+bool is_used_up(const SessionState &session);
 
 // All that has a number has left, and nothing leaves again.
 bool is_clear(const SessionState &session);
@@ -24,6 +27,9 @@ std::uint64_t connection_of(const SessionState &session);
 
 // The session is no connection's.
 void go_away(SessionState &session);
+
+// Something came on the connection that has the session: who waits for its end waits in vain.
+void something_came(SessionState &session);
 
 // A connection waits no longer, if it does.
 void end_waiting(SessionState &session, std::uint64_t connection);

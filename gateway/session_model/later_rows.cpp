@@ -9,8 +9,6 @@ namespace session_model {
 
 namespace {
 
-constexpr std::uint64_t MOST_OFF = 120 * SECOND;
-
 // A row: true where it holds, and then it has decided.
 using Row = bool (*)(Turn &turn, const Event &event);
 
@@ -20,13 +18,6 @@ const Fields &fields_of(const Event &event) {
 
 bool is_type(const Event &event, Text type) {
     return event.message.type() == type;
-}
-
-// How far two times are from one another.
-bool is_off(const Time &time, const Clock &clock) {
-    const std::uint64_t one = instant_of(time);
-    const std::uint64_t other = instant_of(clock);
-    return passed(one, other) > MOST_OFF || passed(other, one) > MOST_OFF;
 }
 
 std::optional<Time> time_at(const Event &event, std::uint32_t tag) {
@@ -169,7 +160,7 @@ std::optional<Fault> again_fault(const Day &day, const Event &event) {
         }
     }
     const Time original = *time_at(event, tag::OrigSendingTime);
-    if (original.date != event.clock.date || instant_of(original) < day.reset_at) {
+    if (!is_of_day(original, event.clock) || instant_of(original) < day.reset_at) {
         return Fault{tag::OrigSendingTime, reason::WrongValue};
     }
     return std::nullopt;
@@ -309,7 +300,7 @@ void judge_later(Turn &turn, const Event &event) {
     if (event.message.kind == Incoming::Kind::message) {
         turn.session.line.received = event.clock.moment;
         turn.session.line.is_asked = false;
-        turn.session.waiting.is_alive = turn.session.waits;
+        something_came(turn.session);
     }
     for (const Row row : ROWS) {
         if (row(turn, event)) {

@@ -12,7 +12,6 @@ namespace {
 
 constexpr std::uint32_t VERSION = 9; // DefaultApplVerID (1137): FIX 5.0 SP2
 constexpr std::uint32_t MOST_HEARTBEAT = 300;
-constexpr std::uint64_t MOST_OFF = 120 * SECOND;
 
 // What the rows ask of a Logon.
 struct Logon {
@@ -37,8 +36,7 @@ std::uint64_t answer_number(const Day &day, bool is_reset) {
 }
 
 bool is_of_now(const std::optional<Time> &sent, const Clock &clock) {
-    return sent && sent->date == clock.date && passed(sent->moment, clock.moment) <= MOST_OFF &&
-           passed(clock.moment, sent->moment) <= MOST_OFF;
+    return sent && is_of_day(*sent, clock) && !is_off(*sent, clock);
 }
 
 // Row 5.
@@ -191,6 +189,7 @@ void accept(Turn &turn, const Event &event, const Logon &logon) {
     }
     day.is_reset = false;
     day.last_logon = instant_of(*logon.sent);
+    something_came(session);
     LogonAnswer answer;
     answer.heartbeat = *event.message.fields.number(tag::HeartBtInt);
     answer.is_reset = logon.is_reset;
@@ -207,10 +206,6 @@ void accept(Turn &turn, const Event &event, const Logon &logon) {
 
 void judge_logon(Turn &turn, const Event &event) {
     const Logon logon = logon_of(event);
-    if (is_used_up(turn.session.day)) {
-        turn.ending = Ending::ends;
-        return;
-    }
     if (const std::optional<std::string> why = refusal_of(event, logon, turn.session.day)) {
         refuse_logon(turn, logon, *why);
         return;

@@ -3,6 +3,8 @@
 #include "acts.h"
 #include "reasons.h"
 
+#include <algorithm>
+
 namespace session_model {
 
 namespace {
@@ -14,7 +16,7 @@ void reset(Turn &turn, const Clock &clock, std::uint64_t copies) {
     const Day before = session.day;
     Day day{};
     day.expected = 1;
-    day.next = FIRST_COPY + copies;
+    day.next = FIRST_COPY + std::min(copies, LAST_NUMBER);
     day.first_given = copies == 0 ? 0 : FIRST_COPY;
     day.last_given = copies == 0 ? 0 : day.next - 1;
     day.last_kept = day.last_given;
@@ -34,15 +36,12 @@ void reset(Turn &turn, const Clock &clock, std::uint64_t copies) {
 } // namespace
 
 void log_out_by_gateway(Turn &turn, const Clock &clock, Text reason) {
-    if (turn.session.phase != ON) {
-        return;
-    }
-    turn.connection = turn.session.line.connection;
-    if (is_used_up(turn.session.day)) {
+    turn.connection = connection_of(turn.session);
+    if (is_used_up(turn.session)) {
         disconnect(turn);
-        return;
+    } else if (turn.session.phase == ON) {
+        log_out(turn, clock, reason);
     }
-    log_out(turn, clock, reason);
 }
 
 void obey(Turn &turn, const Clock &clock, Order order, std::uint64_t copies) {

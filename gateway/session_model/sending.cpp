@@ -33,6 +33,12 @@ bool is_sent_again(const Stored &stored) {
     return stored.body.type != "0";
 }
 
+// Where a gap fill ends: before what is kept next, or behind the one answer that is not sent again.
+std::uint64_t fill_end(const Line &line, std::uint64_t next_kept, bool is_kept) {
+    const std::uint64_t one = line.again + 1;
+    return is_kept ? one : std::max(one, std::min({next_kept, line.again_end, line.split}));
+}
+
 // The numbers up to one, and not that one, have left again.
 void went_again(Line &line, const Clock &clock, std::uint64_t to) {
     line.again = to;
@@ -57,7 +63,7 @@ void hand_again(Turn &turn, const Clock &clock, std::uint64_t next_kept,
         said.first = stored->first;
         said.is_copy = stored->is_copy;
     } else {
-        to = std::max(to, std::min({next_kept, line.again_end, line.split}));
+        to = fill_end(line, next_kept, stored.has_value());
         said.body = gap_fill(to);
         said.first = clock.moment;
     }
@@ -89,7 +95,7 @@ void hand_fresh(Turn &turn, const Clock &clock, std::optional<Stored> stored) {
 void give(Turn &turn, const Clock &clock, Body body) {
     SessionState &session = turn.session;
     Day &day = session.day;
-    if (is_used_up(day)) {
+    if (is_used_up(session)) {
         return;
     }
     const bool leaves =
@@ -111,7 +117,7 @@ void give(Turn &turn, const Clock &clock, Body body) {
 
 void hand(Turn &turn, const Clock &clock, std::uint64_t next_kept, std::optional<Stored> stored) {
     turn.connection = connection_of(turn.session);
-    if (is_used_up(turn.session.day)) {
+    if (is_used_up(turn.session)) {
         disconnect(turn);
         return;
     }

@@ -9,10 +9,20 @@ namespace {
 
 constexpr std::size_t MOST_ASKED = 1'024; // of each text that a Logon is asked for
 
-// A text of a Logon that is asked for; nothing where it is none.
+// A text of a Logon, where it is there and may be asked for.
+std::optional<Text> text_of(const Incoming &logon, std::uint32_t tag) {
+    const std::optional<Text> text = logon.fields.value(tag);
+    return text && text->size() <= MOST_ASKED ? text : std::nullopt;
+}
+
 Text asked(const Incoming &logon, std::uint32_t tag) {
-    const Text text = logon.fields.value(tag).value_or(Text());
-    return text.size() > MOST_ASKED ? Text() : text;
+    return text_of(logon, tag).value_or(Text());
+}
+
+// Whether a message is a Logon that names a session.
+bool is_question(const Incoming &message) {
+    return is_logon(message) && text_of(message, tag::SenderCompID) &&
+           text_of(message, tag::TargetCompID);
 }
 
 bool is_clock(Bytes date, std::size_t date_len, std::uint32_t moment) {
@@ -32,7 +42,7 @@ bool fix_sessions_question(Bytes bytes, std::size_t length, std::uint8_t *out, s
                            Asked *lengths) {
     return answered([&] {
         const Incoming logon = read_incoming(text_at(bytes, length));
-        if (!is_logon(logon)) {
+        if (!is_question(logon)) {
             return false;
         }
         const Text texts[] = {asked(logon, tag::SenderCompID), asked(logon, tag::TargetCompID),

@@ -123,7 +123,7 @@ constexpr Act ACTS[] = {ends_old_or_new, ends_parting, ends_unsettled, ends_sile
 void tick(Turn &turn, const Clock &clock) {
     const SessionState &session = turn.session;
     turn.connection = connection_of(session);
-    if (is_used_up(session.day)) {
+    if (is_used_up(session)) {
         disconnect(turn);
         return;
     }

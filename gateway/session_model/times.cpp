@@ -83,6 +83,12 @@ std::uint64_t instant_of(const Clock &clock) {
     return days_of(clock.date) * DAY + clock.moment;
 }
 
+bool is_of_day(const Time &time, const Clock &clock) {
+    const std::uint64_t midnight = instant_of(clock) - clock.moment;
+    const std::uint64_t instant = instant_of(time);
+    return midnight <= instant && instant < midnight + DAY;
+}
+
 std::string written_time(Text date, std::uint32_t moment) {
     const std::uint64_t seconds = moment / SECOND;
     return std::string(date) + '-' + two_digits(seconds / HOUR) + ':' +

@@ -32,6 +32,9 @@ struct Clock {
 std::uint64_t instant_of(const Time &time);
 std::uint64_t instant_of(const Clock &clock);
 
+// Whether a time is of a clock's day: the leap second behind its last minute is not.
+bool is_of_day(const Time &time, const Clock &clock);
+
 // `YYYYMMDD-HH:MM:SS.sss`
 std::string written_time(Text date, std::uint32_t moment);
 

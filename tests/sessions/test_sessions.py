@@ -100,11 +100,7 @@ def test_each_message_comes_once_and_in_order(days: Path, kind: str, batch: int,
     play([str(days), str(first), str(first + DAYS - 1), *KINDS[kind]], DAYS)
 
 
-def test_both_libraries_say_the_same(
-    events: Path, batch: int, seed: int, request: pytest.FixtureRequest
-) -> None:
+def test_both_libraries_say_the_same(events: Path, batch: int, seed: int) -> None:
     """Of each event, whatever it is: the next state, the bytes, and what is told."""
-    if Form(request.config.getoption("form")) is Form.SHORT:
-        pytest.skip("they differ still in rare events (README.md): of the long form alone")
     first = seed + batch * EVENT_DAYS
     play([str(events), str(first), str(first + EVENT_DAYS - 1)], EVENT_DAYS)

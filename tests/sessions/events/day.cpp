@@ -1,6 +1,5 @@
 #include "day.h"
 
-#include "../clock.h"
 #include "../differ.h"
 #include "../library.h"
 #include "../texts.h"
@@ -144,7 +143,20 @@ void EventDay::disturb() {
 void EventDay::pass_time() {
     const Millis most = !draw_.ill(15) ? 500 : draw_.one_of<Millis>({1, 2500, 11000, 70000});
     const Millis then = now() + draw_.below(static_cast<unsigned>(most));
-    set_now(std::min(then, MIDNIGHT + DAY_LENGTH - 1));
+    const Millis limit = draw_.ill(10) ? drawn_limit() : 0;
+    set_now(std::min(limit > now() ? limit : then, MIDNIGHT + DAY_LENGTH - 1));
+}
+
+// The end of one of the session's waits, or a millisecond before or behind it.
+Millis EventDay::drawn_limit() {
+    const SessionState &state = machine_.state();
+    const Line &line = state.line;
+    const std::uint64_t end = draw_.one_of<std::uint64_t>(
+        {line.gap_since + 10000, line.test_since + 10000, line.settling_since + 60000,
+         line.received + 6000, line.received + line.heartbeat * 6 / 5,
+         line.received + line.heartbeat * 12 / 5, line.sent + line.heartbeat,
+         state.waiting.since + 2000, state.since + 2000});
+    return MIDNIGHT + static_cast<Millis>(end) + draw_.below(3) - 1;
 }
 
 void EventDay::come() {

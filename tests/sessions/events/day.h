@@ -3,6 +3,7 @@
 #ifndef SESSIONS_EVENTS_DAY_H
 #define SESSIONS_EVENTS_DAY_H
 
+#include "../clock.h"
 #include "messages.h"
 
 #include <map>
@@ -27,6 +28,7 @@ class EventDay {
     void step();
     void disturb();
     void pass_time();
+    Millis drawn_limit();
     void come();
     void come_on(std::uint64_t connection, const std::string &bytes);
     void flow();
