@@ -2,3 +2,4 @@ mod DayLemmas
 mod DutyFits
 mod FitLemmas
 mod ReplayFits
+mod WordLemmas

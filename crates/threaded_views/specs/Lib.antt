@@ -1,1 +1,2 @@
 pub mod DayViews
+pub mod DayWords

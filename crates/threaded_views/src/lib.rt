@@ -1,4 +1,4 @@
-//! Laws of what an investor is sent on a day on threads.
+//! Laws of days on threads: of what an investor is sent, and of how words are settled.
 //!
 //! What was due to an investor on such a day stands in the events at its desk
 //! (`investor_dues_of`), by its own numbers of requests and quotes, as in a day that is replayed.
@@ -14,13 +14,17 @@
 //!   which an investor sees one market and one list was due to it, sent it the same bytes.
 //! - [`lists_of_a_replay_fit`]: for what is due to an investor in a list of steps the desk view and
 //!   the investor view are one.
+//! - [`words_of_a_day_have_one_settlement`]: all who asked a word on a day on threads, at desks and
+//!   in rooms, were told the same; and where its quote won, that it is lifted.
 //!
 //! No code stands on this crate.
 #![tactic(auto)]
 
 mod laws;
+mod words;
 
 pub use laws::{
     investors_are_isolated_on_threads, investors_of_a_day_are_sent_their_view,
     lists_of_a_replay_fit,
 };
+pub use words::words_of_a_day_have_one_settlement;
