@@ -24,7 +24,7 @@ def main() -> None:
     words = parser.parse_args()
     try:
         site = read_site(words.site)
-        make_certificates({**site.databases, **site.gateways}, words.folder)
+        make_certificates(site.hosts, words.folder)
     except (Fault, OSError) as fault:
         sys.exit("certificates.py: %s" % fault)
 

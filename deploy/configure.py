@@ -4,8 +4,8 @@
 usage: configure.py SITE HOST FOLDER
 
 SITE is a file as site.toml, which names all hosts. Of a database host etcd.yml, patroni.yml,
-make_database.sh and database.sql are written into FOLDER, of a gateway host gateway.toml and pgpass; README.md says
-where each has its place.
+make_database.sh and database.sql are written into FOLDER, of a gateway host gateway.toml and pgpass, of a host of copies
+keeper.toml and pgpass; README.md says where each has its place.
 """
 
 import argparse
@@ -21,6 +21,9 @@ DATABASE_HOST = Folders(
 GATEWAY_HOST = Folders(
     "/etc/mireseason", "/var/lib/mireseason", "/run/mireseason", tls="/etc/mireseason/site"
 )
+KEEPER_HOST = Folders(
+    "/etc/mireseason-keeper", "/var/lib/mireseason-keeper", tls="/etc/mireseason-keeper/site"
+)
 MODES = {"make_database.sh": 0o750}  # the others have passwords, too: 0640
 SECRET = 0o640
 
@@ -28,6 +31,8 @@ SECRET = 0o640
 def write(words: argparse.Namespace) -> None:
     site = read_site(words.site)
     folders = DATABASE_HOST if words.host in site.databases else GATEWAY_HOST
+    if words.host in site.keepers:
+        folders = KEEPER_HOST
     files = site.files(words.host, folders)
     words.folder.mkdir(parents=True, exist_ok=True)
     for name, text in files.items():

@@ -1,5 +1,6 @@
 #!/bin/sh
-# Builds the Debian packages mireseason-venue, mireseason-gateway and mireseason-audit from a tree whose gate has passed.
+# Builds the Debian packages mireseason-venue, mireseason-gateway, mireseason-audit and mireseason-keeper from a tree whose gate
+# has passed.
 #
 #     packaging/build.sh [FOLDER]     puts the packages into FOLDER (packaging/out)
 #
@@ -95,9 +96,11 @@ cp "$root/gateway/README.md" "$files/docs/gateway.md"
 for page in OPERATING FORMATS CONNECTING SESSIONS SUPERVISING; do
     cp "$root/docs/$page.md" "$files/docs"
 done
+cp "$root/deploy/README.md" "$files/docs/deploy.md"
 # A page finds the others that are installed beside it.
 sed -i 's|(\.\./gateway/README\.md|(gateway.md|g; s|(\.\./docs/|(|g' "$files"/docs/*.md
 cp -R "$root/audit/mireseason_audit" "$root/audit/mireseason-audit" "$files"
+cp -R "$root/deploy/mireseason_keeper" "$root/deploy/mireseason-keeper" "$files"
 find "$files" -name __pycache__ -prune -exec rm -r {} +
 echo "$version" >"$files/VERSION"
 echo "$commit" >"$files/COMMIT"

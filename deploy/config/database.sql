@@ -7,11 +7,16 @@ DO $$ BEGIN
     IF NOT EXISTS (SELECT FROM pg_roles WHERE rolname = 'log_owner') THEN
         CREATE ROLE log_owner NOLOGIN;
     END IF;
+    -- It makes the tables of days to come, copies those that are over, and removes old ones; without a password it is let in
+    -- nowhere.
+    IF NOT EXISTS (SELECT FROM pg_roles WHERE rolname = 'keeper') THEN
+        CREATE ROLE keeper LOGIN;
+    END IF;
 END $$;
 DO $$ BEGIN
     EXECUTE format('ALTER DATABASE %I OWNER TO log_owner', current_database());
-    EXECUTE format('REVOKE ALL ON DATABASE %I FROM PUBLIC, gateway, reader', current_database());
-    EXECUTE format('GRANT CONNECT ON DATABASE %I TO gateway, reader', current_database());
+    EXECUTE format('REVOKE ALL ON DATABASE %I FROM PUBLIC, gateway, reader, keeper', current_database());
+    EXECUTE format('GRANT CONNECT ON DATABASE %I TO gateway, reader, keeper', current_database());
 END $$;
 
 -- A reader reads, and nobody waits for it for long. (It may set the two timeouts otherwise: what it can hold is a snapshot.)
@@ -22,6 +27,9 @@ ALTER ROLE reader SET lock_timeout = '5s';
 ALTER ROLE reader SET idle_in_transaction_session_timeout = '10min';
 ALTER ROLE gateway CONNECTION LIMIT 50;
 ALTER ROLE gateway SET lock_timeout = '10s';
+ALTER ROLE keeper CONNECTION LIMIT 5;
+ALTER ROLE keeper SET lock_timeout = '5s';
+ALTER ROLE keeper SET idle_in_transaction_session_timeout = '10min';
 
 -- What PostgreSQL lets everybody do that no role here needs: large objects, words in the WAL, and locks by a number, which
 -- whoever holds one could keep others waiting with.
@@ -39,10 +47,10 @@ END $$;
 REVOKE ALL ON SCHEMA public FROM PUBLIC;
 
 CREATE SCHEMA IF NOT EXISTS mireseason AUTHORIZATION log_owner;
-GRANT USAGE ON SCHEMA mireseason TO gateway;
+GRANT USAGE ON SCHEMA mireseason TO gateway, keeper;
 
 -- Makes the schema of a day with its tables, which belong to the owner, and says what the others may: a gateway puts rows
--- there, and changes where a session stands and who speaks; a reader reads. Two gateways that begin at once: the second waits
+-- there, and changes where a session stands and who speaks; a reader and the keeper read. Two gateways that begin at once: the second waits
 -- for the first by the schema's name, and fails then.
 CREATE OR REPLACE FUNCTION mireseason.make_log(name TEXT) RETURNS VOID
 LANGUAGE plpgsql SECURITY DEFINER SET search_path = pg_catalog, pg_temp AS $make_log$
@@ -54,11 +62,47 @@ BEGIN
     EXECUTE format('SET LOCAL search_path TO %I, pg_temp', name);
     EXECUTE $tables$@SCHEMA_SQL@$tables$;
     EXECUTE $tables$@TERMS_SQL@$tables$;
-    EXECUTE format('GRANT USAGE ON SCHEMA %I TO gateway, reader', name);
-    EXECUTE format('GRANT SELECT ON ALL TABLES IN SCHEMA %I TO gateway, reader', name);
+    EXECUTE format('GRANT USAGE ON SCHEMA %I TO gateway, reader, keeper', name);
+    EXECUTE format('GRANT SELECT ON ALL TABLES IN SCHEMA %I TO gateway, reader, keeper', name);
     GRANT INSERT ON entry, connection, sent, outgoing, session, seal, checkpoint TO gateway;
     GRANT UPDATE ON session, speaker TO gateway;
 END $make_log$;
 ALTER FUNCTION mireseason.make_log(TEXT) OWNER TO log_owner;
 REVOKE ALL ON FUNCTION mireseason.make_log(TEXT) FROM PUBLIC;
-GRANT EXECUTE ON FUNCTION mireseason.make_log(TEXT) TO gateway;
+GRANT EXECUTE ON FUNCTION mireseason.make_log(TEXT) TO gateway, keeper;
+
+-- Removes a day that is over, by the server's own clock. Where somebody reads it, it fails within five seconds.
+CREATE OR REPLACE FUNCTION mireseason.remove_log(name TEXT) RETURNS VOID
+LANGUAGE plpgsql SECURITY DEFINER SET search_path = pg_catalog, pg_temp SET lock_timeout = '5s' AS $remove_log$
+BEGIN
+    IF name !~ '^[a-z][a-z0-9_]{0,50}_[0-9]{8}$' THEN
+        RAISE 'no log is called %', name;
+    END IF;
+    IF right(name, 8) >= to_char(clock_timestamp() AT TIME ZONE 'UTC', 'YYYYMMDD') THEN
+        RAISE 'the day of % is not over', name;
+    END IF;
+    EXECUTE format('DROP SCHEMA %I CASCADE', name);
+END $remove_log$;
+ALTER FUNCTION mireseason.remove_log(TEXT) OWNER TO log_owner;
+REVOKE ALL ON FUNCTION mireseason.remove_log(TEXT) FROM PUBLIC;
+GRANT EXECUTE ON FUNCTION mireseason.remove_log(TEXT) TO keeper;
+
+-- Days that were there before. The keeper reads them; and tables that were made ahead for a day that has not begun go: those of
+-- this version are made in their place.
+DO $$
+DECLARE
+    log NAME;
+    has_begun BOOLEAN;
+BEGIN
+    FOR log IN SELECT nspname FROM pg_namespace
+        WHERE nspowner = 'log_owner'::regrole AND nspname ~ '^[a-z][a-z0-9_]{0,50}_[0-9]{8}$'
+    LOOP
+        EXECUTE format('SELECT EXISTS (SELECT FROM %I.entry)', log) INTO has_begun;
+        IF has_begun THEN
+            EXECUTE format('GRANT USAGE ON SCHEMA %I TO keeper', log);
+            EXECUTE format('GRANT SELECT ON ALL TABLES IN SCHEMA %I TO keeper', log);
+        ELSE
+            EXECUTE format('DROP SCHEMA %I CASCADE', log);
+        END IF;
+    END LOOP;
+END $$;

@@ -6,7 +6,7 @@ import json
 import re
 import tomllib
 from collections.abc import Mapping
-from dataclasses import dataclass
+from dataclasses import dataclass, field
 from pathlib import Path
 from typing import Any
 
@@ -17,6 +17,7 @@ GATEWAY = CONFIG.parent.parent / "gateway"
 DATABASE_FILES = ("etcd.yml", "patroni.yml", "make_database.sh", "database.sql")
 TABLES = {"SCHEMA_SQL": "schema.sql", "TERMS_SQL": "terms.sql"}  # of the gateway
 WORDS = ("GATEWAY", "READER", "REPLICATION", "REWIND", "REST")  # what has a password
+KEEPER = "KEEPER"  # and what has one where there is a host for copies
 ALONE = ""  # the name of a venue that is the only one
 LEFT = re.compile(r"@[A-Z0-9_]+@")
 # They stand in YAML, in SQL within a command of a shell, and in a pgpass: no other character is the
@@ -47,6 +48,12 @@ class Site:
     security: str  # the part [tls] of a gateway, or what stands for it
     venues: tuple[str, ...] = (ALONE,)
     synchronous: str = "on"
+    keepers: Mapping[str, str] = field(default_factory=dict)  # hosts of copies
+
+    @property
+    def hosts(self) -> dict[str, str]:
+        """All of them, with their addresses."""
+        return {**self.databases, **self.gateways, **self.keepers}
 
     def files(self, host: str, folders: Folders) -> dict[str, str]:
         """The configurations of a host, by their names."""
@@ -54,6 +61,8 @@ class Site:
             return self._database_files(host, folders)
         if host in self.gateways:
             return self._gateway_files(host, folders)
+        if host in self.keepers:
+            return self._keeper_files(folders)
         raise Fault("there is no host %s" % host)
 
     def _database_files(self, host: str, folders: Folders) -> dict[str, str]:
@@ -66,6 +75,7 @@ class Site:
             "CONFIG": folders.config,
             "TLS": folders.tls,
             "ETCD_TLS": folders.etcd_tls,
+            KEEPER: "'%s'" % self.passwords[KEEPER] if KEEPER in self.passwords else "NULL",
         }
         words |= {word: (GATEWAY / name).read_text() for word, name in TABLES.items()}
         return {name: self._filled(name, words) for name in DATABASE_FILES}
@@ -87,6 +97,23 @@ class Site:
         return {
             "gateway.toml": self._filled("gateway.toml", words),
             "pgpass": "*:*:*:gateway:%s\n" % self.passwords["GATEWAY"],
+        }
+
+    def _keeper_files(self, folders: Folders) -> dict[str, str]:
+        if KEEPER not in self.passwords:
+            raise Fault("the keeper has no password")
+        words = {
+            "CONFIG": folders.config,
+            "TLS": folders.tls,
+            "STATE": folders.data,
+            "GATEWAY_KEYS": self._gateway_keys(),
+            "SCHEMA": self.schema,
+            "PROGRAM": self.command[0],
+            "NAMES": "" if self.venues == (ALONE,) else "names = %s\n" % json.dumps(self.venues),
+        }
+        return {
+            "keeper.toml": self._filled("keeper.toml", words),
+            "pgpass": "*:*:*:keeper:%s\n" % self.passwords[KEEPER],
         }
 
     def _gateway_keys(self) -> str:
@@ -143,8 +170,10 @@ def read_site(path: Path) -> Site:
         passwords = {
             word.upper(): password(word, secret) for word, secret in table["passwords"].items()
         }
-        if set(passwords) != set(WORDS):
-            raise ValueError("the passwords are those of %s" % ", ".join(WORDS).lower())
+        keepers = texts(table.get("keepers", {}))
+        wanted = {*WORDS, KEEPER} if keepers else set(WORDS)
+        if not wanted <= set(passwords) <= {*WORDS, KEEPER}:
+            raise ValueError("the passwords are those of %s" % ", ".join(sorted(wanted)).lower())
         venue = table["venue"]
         return Site(
             text(table["network"]),
@@ -154,6 +183,7 @@ def read_site(path: Path) -> Site:
             tuple(map(text, venue["command"])),
             text(table["security"]),
             tuple(map(text, venue.get("names", [ALONE]))),
+            keepers=keepers,
         )
     except (OSError, ValueError, AttributeError, TypeError) as fault:
         raise Fault("%s: %s" % (path, fault)) from fault

@@ -10,9 +10,12 @@ import time
 import urllib.request
 from collections.abc import Iterator
 from contextlib import contextmanager
+from datetime import datetime, timezone
 from pathlib import Path
 
 import pytest
+from mireseason_keeper.keeper import Counts
+from mireseason_keeper.metrics import text_of
 
 from tests.gateway.door import free_port
 from tests.gateway.market import BOND
@@ -145,8 +148,9 @@ def test_each_alert_has_a_case() -> None:
 
 
 def test_rules_know_the_metrics(stage: Stage) -> None:
-    """Each metric that a rule names is one that the gateway has, once it has looked at what waits."""
+    """Each metric that a rule names is one of the keeper's, or one that the gateway has, once it has looked at what waits."""
     stage.open(stage.dealer)
+    keepers = set(re.findall(r"(?m)^mireseason_\w+", text_of(Counts(), datetime.now(timezone.utc))))
     of_tls = {
         "mireseason_certificate_expiry_timestamp_seconds",
         "mireseason_wrong_passwords_total",
@@ -156,7 +160,7 @@ def test_rules_know_the_metrics(stage: Stage) -> None:
     assert len(named) > len(of_tls)
 
     def unknown() -> set[str]:
-        return named - of_tls - {name.split("{")[0] for name in stage.counters()}
+        return named - of_tls - keepers - {name.split("{")[0] for name in stage.counters()}
 
     until("the gateway has each metric that a rule names", LONG, lambda: not unknown())
 

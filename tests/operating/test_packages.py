@@ -18,11 +18,11 @@ from tests.gateway.stage import Stage, Tools
 from tests.gateway.wait import LONG, until
 from tests.harness.options import ROOT
 
-PACKAGES = ("mireseason-venue", "mireseason-gateway", "mireseason-audit")
+PACKAGES = ("mireseason-venue", "mireseason-gateway", "mireseason-audit", "mireseason-keeper")
 VERSION = (ROOT / "VERSION").read_text().strip()
 # What the packages depend on. A fresh system has these from the mirror, and nothing that builds anything.
 BELOW = (
-    "init-system-helpers systemd tzdata openssl python3 python3-jinja2 python3-cryptography libquickfix17 libsqlite3-0 libpqxx-6.4"
+    "init-system-helpers systemd tzdata openssl python3 python3-jinja2 python3-cryptography python3-psycopg2 libsqlite3-0 libpqxx-6.4"
     " libprometheus-cpp-core1.0 libspdlog1.10 libdate-tz3 libssl3 libcrypt1 curl"
 )
 MINUTES = 15  # for a fresh system, from a mirror that may be slow
@@ -134,6 +134,10 @@ def test_versions(packages: Packages, place: Path) -> None:
     assert printed(
         "/usr/bin/python3", audit / "usr/share/mireseason/audit/mireseason-audit", "--version"
     ) == "mireseason-audit %s (%s)" % (VERSION, commit)
+    keeper = packages.unpacked("mireseason-keeper", place / "audit")
+    assert printed(
+        "/usr/bin/python3", keeper / "usr/share/mireseason/keeper/mireseason-keeper", "--version"
+    ) == "mireseason-keeper %s (%s)" % (VERSION, commit)
     told = printed(gateway / "usr/bin/mireseason-gateway", "--version")
     assert re.fullmatch(r"mireseason-gateway %s \(\S+\)" % re.escape(VERSION), told), told
     for name in PACKAGES:
@@ -141,10 +145,11 @@ def test_versions(packages: Packages, place: Path) -> None:
     assert "## %s\n" % VERSION in (ROOT / "CHANGELOG.md").read_text()
 
 
-def test_what_an_operator_edits_stays(packages: Packages) -> None:
+@pytest.mark.parametrize("name", ["mireseason-gateway", "mireseason-keeper"])
+def test_what_an_operator_edits_stays(packages: Packages, name: str) -> None:
     """Each file below /etc is one that an upgrade asks about, and never writes over."""
     files = subprocess.run(
-        ["dpkg-deb", "-c", packages.file("mireseason-gateway")],
+        ["dpkg-deb", "-c", packages.file(name)],
         capture_output=True,
         text=True,
         check=True,
@@ -154,9 +159,7 @@ def test_what_an_operator_edits_stays(packages: Packages) -> None:
         for line in files.splitlines()
         if line.split()[5].startswith("./etc/") and not line.endswith("/")
     }
-    conffiles = set(
-        printed("dpkg-deb", "-I", packages.file("mireseason-gateway"), "conffiles").splitlines()
-    )
+    conffiles = set(printed("dpkg-deb", "-I", packages.file(name), "conffiles").splitlines())
     assert below == conffiles != set()
 
 

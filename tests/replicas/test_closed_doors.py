@@ -4,18 +4,34 @@ of etcd, of Patroni's interface, of replication, or of the log.
 
 import subprocess
 from collections.abc import Iterator
+from dataclasses import replace
 from pathlib import Path
 
 import pytest
+from parts.certificates import make_certificates, put_certificate
+from parts.site import KEEPER, Folders, Site
 
 from tests.lab.database import PSQL
-from tests.lab.machine import Machine, check_root, remove, site_here
+from tests.lab.machine import GATEWAYS, Machine, check_root, remove, site_here
 from tests.gateway.wait import LONG
 from tests.harness import lab
+from tests.harness.options import ROOT
 
 ATTACKER = "firms"  # a host in the same network, which has nothing of the site's
+COPIES = GATEWAYS[1]  # the host of copies: in this site there is one gateway
 PREFIX = "closed"
 CONFIG_KEY = "/v2/keys/service/mireseason/config"
+
+
+def site() -> Site:
+    """With a host of copies."""
+    usual = site_here(("/bin/true",))
+    return replace(
+        usual,
+        gateways={GATEWAYS[0].name: GATEWAYS[0].address},
+        keepers={COPIES.name: COPIES.address},
+        passwords={**usual.passwords, KEEPER: "keeper-secret"},
+    )
 
 
 @pytest.fixture(scope="module")
@@ -26,7 +42,7 @@ def machine(tmp_path_factory: pytest.TempPathFactory) -> Iterator[Machine]:
         pytest.skip(lacking)
     check_root()
     folder = Path("/tmp/mireseason-closed")
-    made = Machine(folder, folder / "images", Path("/bin/true"), site_here(()), PREFIX)
+    made = Machine(folder, folder / "images", Path("/bin/true"), site(), PREFIX)
     try:
         made.bring_up_databases()
         yield made
@@ -116,10 +132,12 @@ def test_postgres(machine: Machine) -> None:
     for role, database in (
         ("gateway", "mireseason"),
         ("rewinder", "postgres"),
+        ("keeper", "mireseason"),
         ("reader", "mireseason"),
     ):
         secret = {
             "gateway": "gateway-secret",
+            "keeper": "keeper-secret",
             "rewinder": "rewind-secret",
             "reader": "reader-secret",
         }[role]
@@ -140,6 +158,31 @@ def test_postgres(machine: Machine) -> None:
     assert (
         connected(machine, "db2", "user=gateway dbname=mireseason " + own, "gateway-secret") == "1"
     )
+    assert connected(machine, "db2", "user=keeper dbname=mireseason " + own, "keeper-secret") == "1"
+
+
+def test_the_keeper(machine: Machine, place: Path) -> None:
+    """By what configure.py writes for the host of copies, the keeper is let in, and makes the tables of the days that are next."""
+    folder = place / "keeper"
+    for name in ("copies", "keys"):
+        (folder / name).mkdir(parents=True)
+    make_certificates(machine.site.hosts, machine.folder / "certificates")
+    put_certificate(machine.folder / "certificates", COPIES.name, folder / "site", "root")
+    places = Folders(str(folder), str(folder), tls=str(folder / "site"))
+    for name, text in machine.site.files(COPIES.name, places).items():
+        (folder / name).write_text(text)
+        (folder / name).chmod(0o600)
+    for name in ("seal.pem", "keys/gw1.pub"):
+        (folder / name).touch()
+    words = [str(ROOT / "deploy" / "mireseason-keeper"), str(folder / "keeper.toml")]
+    checked = on(machine, COPIES.name, *words, "--check")
+    assert checked.returncode == 0, checked.stdout + checked.stderr
+    done = on(machine, COPIES.name, *words)
+    assert done.returncode == 0 and done.stderr.count("tables made log=day_") == 2, done.stderr
+    primary = machine.cluster.primary()
+    assert primary is not None
+    query = "SELECT count(*) FROM pg_tables WHERE tablename = 'entry' AND tableowner = 'log_owner'"
+    assert primary.asked(query) == "2"
 
 
 def test_replication(machine: Machine) -> None:

@@ -1,0 +1,193 @@
+"""Copies of days: a folder for each, with all that it takes to check the day in five years.
+
+The log as a file of SQLite, the venue's configuration of its entry 0, the venue's program where that is still the one of entry
+0, what the audit said of it, the seal where that was good, and SHA256SUMS. It is read again before it has its name: so it is
+there whole or not at all.
+"""
+
+import hashlib
+import os
+import shutil
+import subprocess
+import tempfile
+from dataclasses import dataclass
+from pathlib import Path
+
+from .database import Log
+from .day_file import digest_of_file, first_line, on_disk, write_day
+from .faults import Fault, one_line
+from .settings import Settings
+
+SUMS, REPORT = "SHA256SUMS", "check.txt"
+LONGEST_CHECK = 6 * 3600  # seconds
+PIECE = 1 << 20
+
+
+@dataclass(frozen=True)
+class DayCopy:
+    """What stands in a copy that was made now."""
+
+    has_program: bool
+    verdict: str  # the audit's last line
+
+
+@dataclass(frozen=True)
+class Copies:
+    settings: Settings
+
+    def begin(self, log: Log, schema: str, folder: Path) -> None:
+        """Writes a day's rows to the place of a copy which is not there yet. The place of all copies is never made: what is
+        mounted there may be gone.
+        """
+        part = part_of(folder)
+        shutil.rmtree(part, ignore_errors=True)
+        part.mkdir(mode=0o750)
+        file = file_of(part, schema)
+        if write_day(log, file) != digest_of_file(file):
+            raise Fault("%s is not what %s is: look at the disk" % (file, schema))
+
+    def finish(self, schema: str, folder: Path) -> DayCopy:
+        """Has a copy that was begun checked and sealed, and gives it its name."""
+        part = part_of(folder)
+        file = file_of(part, schema)
+        head, configuration = parts_of(first_line(file))
+        (part / "venue.toml").write_bytes(configuration)
+        program = self.put_program(part, head)
+        status, verdict = self.check(part, file, program)
+        if status == 0:
+            self.seal(file)
+        self.close(part, folder)
+        return DayCopy(program is not None, verdict)
+
+    def put_program(self, part: Path, head: dict[str, str]) -> Path | None:
+        """Puts the venue's program beside the log; None where it is another by now."""
+        program = self.settings.program
+        if not program.is_file() or sum_of(program) != head.get("program"):
+            return None
+        copy = part / program.name
+        shutil.copyfile(program, copy)
+        copy.chmod(0o550)
+        return copy if sum_of(copy) == head["program"] else None
+
+    def check(self, part: Path, file: Path, program: Path | None) -> tuple[int, str]:
+        """The audit's status and its verdict; what it says stands in the folder."""
+        done = self.audited("check", file, *self.venue(program), *self.gateway_keys())
+        lines = (done.stdout + done.stderr).splitlines()
+        (part / REPORT).write_text("".join(line + "\n" for line in lines))
+        return done.returncode, lines[-1] if lines else "it says nothing"
+
+    def seal(self, file: Path) -> None:
+        done = self.audited("seal", file, "--key", str(self.settings.key))
+        if done.returncode != 0:
+            raise Fault("%s is not sealed: %s" % (file.name, one_line(Fault(done.stderr))))
+
+    @staticmethod
+    def is_sealed(schema: str, folder: Path) -> bool:
+        """Whether a copy has a seal, which only that of a day has which was as it should be."""
+        file = file_of(folder, schema)
+        return file.with_name(file.name + ".seal").exists()
+
+    @staticmethod
+    def close(part: Path, folder: Path) -> None:
+        """Gives a copy its name, once all of it is on disk."""
+        files = sorted(path for path in part.iterdir())
+        (part / SUMS).write_text("".join("%s  %s\n" % (sum_of(path), path.name) for path in files))
+        for path in [*files, part / SUMS]:
+            path.chmod(path.stat().st_mode & 0o550 | 0o440)
+            on_disk(path)
+        on_disk(part)
+        part.rename(folder)
+        on_disk(folder.parent)
+
+    def check_anew(self, digest: str, schema: str, folder: Path) -> None:
+        """Fault where a copy is not whole, not sealed, not as it should be, or has not the rows of this digest. All of it is
+        read anew: one that was lost or changed meanwhile takes no log with it.
+        """
+        check_sums(folder)
+        file = file_of(folder, schema)
+        with tempfile.TemporaryDirectory(prefix="mireseason-") as name:
+            public = Path(name) / "seal.pub"
+            words = [
+                "openssl",
+                "pkey",
+                "-in",
+                str(self.settings.key),
+                "-pubout",
+                "-out",
+                str(public),
+            ]
+            subprocess.run(words, check=True, capture_output=True, timeout=60)
+            program = folder / self.settings.program.name
+            venue = self.venue(program if program.is_file() else None)
+            done = self.audited("check", file, *venue, *self.gateway_keys(), "--key", str(public))
+        if done.returncode != 0:
+            text = (done.stdout + done.stderr).strip().splitlines() or ["it says nothing"]
+            raise Fault("the audit of its copy: %s" % text[-1])
+        if digest_of_file(file) != digest:
+            raise Fault("its copy is another")
+
+    def venue(self, program: Path | None) -> list[str]:
+        """The program by which the audit goes: the copy's own, or that of this host."""
+        return ["--venue", str(program or self.settings.program)]
+
+    def gateway_keys(self) -> list[str]:
+        return [word for key in self.settings.gateways for word in ("--gateway-key", str(key))]
+
+    def audited(self, command: str, file: Path, *words: str) -> "subprocess.CompletedProcess[str]":
+        call = [*self.settings.audit, command, str(file), *words]
+        try:
+            return subprocess.run(
+                call,
+                stdin=subprocess.DEVNULL,
+                capture_output=True,
+                text=True,
+                errors="replace",
+                timeout=LONGEST_CHECK,
+                check=False,
+            )
+        except (OSError, subprocess.TimeoutExpired) as fault:
+            raise Fault("mireseason-audit: %s" % one_line(fault)) from None
+
+
+def part_of(folder: Path) -> Path:
+    """Where a copy stands until it is whole."""
+    return folder.with_name(folder.name + ".part")
+
+
+def file_of(folder: Path, schema: str) -> Path:
+    """The log in a copy."""
+    return folder / (schema + ".db")
+
+
+def parts_of(line: bytes | None) -> tuple[dict[str, str], bytes]:
+    """What entry 0 says before its configuration, a word a line, and that configuration."""
+    head, found, configuration = (line or b"").partition(b"%%\n")
+    if not found:
+        raise Fault("it has no entry 0")
+    lines = [line.partition(" ") for line in head.decode(errors="replace").splitlines()]
+    return {name: value for name, _, value in lines}, configuration
+
+
+def sum_of(path: Path) -> str:
+    """The SHA-256 of a file of any length."""
+    found = hashlib.sha256()
+    with path.open("rb") as file:
+        os.posix_fadvise(file.fileno(), 0, 0, os.POSIX_FADV_DONTNEED)
+        while piece := file.read(PIECE):
+            found.update(piece)
+    return found.hexdigest()
+
+
+def check_sums(folder: Path) -> None:
+    """Fault where a file of a copy is missing, new, or not what it was."""
+    try:
+        lines = (folder / SUMS).read_text().splitlines()
+        sums = {name: digest for digest, _, name in (line.partition("  ") for line in lines)}
+        there = {path.name for path in folder.iterdir()} - {SUMS}
+        wrong = sorted(there ^ sums.keys()) or [
+            name for name in sorted(sums) if sum_of(folder / name) != sums[name]
+        ]
+    except (OSError, ValueError) as fault:
+        raise Fault("its copy can't be read: %s" % one_line(fault)) from None
+    if wrong:
+        raise Fault("its copy is another: %s" % wrong[0])

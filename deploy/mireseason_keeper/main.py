@@ -1,0 +1,94 @@
+"""The command mireseason-keeper: one look at the logs, as its timer calls it every five minutes."""
+
+import argparse
+import fcntl
+import os
+import sys
+from collections.abc import Iterator
+from contextlib import contextmanager
+from pathlib import Path
+
+from .database import Database
+from .faults import Fault
+from .keeper import Counts, Keeper, say
+from .metrics import write_metrics
+from .settings import Settings, read_settings
+from .version import version_text
+
+USUAL = Path("/etc/mireseason-keeper/keeper.toml")
+EPILOG = "Status 0: all that was due is done; 1: something is at fault, as it says; 2: wrong words or configuration."
+
+
+@contextmanager
+def alone(configuration: Path) -> Iterator[bool]:
+    """Whether no other run of this configuration goes on; it is so to the end of the block."""
+    number = os.open(configuration, os.O_RDONLY)
+    try:
+        fcntl.flock(number, fcntl.LOCK_EX | fcntl.LOCK_NB)
+        yield True
+    except BlockingIOError:
+        yield False
+    finally:
+        os.close(number)
+
+
+def run(configuration: Path, settings: Settings) -> int:
+    keeper = Keeper(settings)
+    try:
+        with alone(configuration) as is_alone:
+            if not is_alone:
+                say("another run goes on")
+                return 0
+            counts = keeper.run()
+    except (Fault, OSError) as fault:
+        say('nothing is done cause="%s"' % fault)
+        counts = Counts(at_fault=1)
+    if settings.metrics is not None:
+        write_metrics(settings.metrics, counts, keeper.now())
+    return 1 if counts.at_fault else 0
+
+
+def faults_of(settings: Settings) -> list[str]:
+    """What a run would find: a file that is missing, or a database that does not answer."""
+    files = (settings.program, settings.key, *settings.gateways)
+    found = ["%s: there is no such file" % path for path in files if not path.is_file()]
+    if not settings.folder.is_dir():
+        found.append("%s: there is no such folder" % settings.folder)
+    try:
+        Database(settings.postgres).logs()
+    except Fault as fault:
+        found.append("the database: %s" % fault)
+    return found
+
+
+def parser_of() -> argparse.ArgumentParser:
+    parser = argparse.ArgumentParser(
+        prog="mireseason-keeper",
+        description="Keeps the days of venues in PostgreSQL: their tables, copies and seals.",
+        epilog=EPILOG,
+    )
+    parser.add_argument("configuration", metavar="CONFIG", type=Path, nargs="?", default=USUAL)
+    parser.add_argument("--check", action="store_true", help="look for what a run would find")
+    parser.add_argument("--version", action="store_true", help="print version and commit")
+    return parser
+
+
+def main() -> int:
+    words = parser_of().parse_args()
+    if words.version:
+        print(version_text())
+        return 0
+    try:
+        settings = read_settings(words.configuration)
+    except Fault as fault:
+        print("mireseason-keeper: %s" % fault, file=sys.stderr)
+        return 2
+    if not words.check:
+        return run(words.configuration, settings)
+    faults = faults_of(settings)
+    for line in faults:
+        print("mireseason-keeper: %s" % line, file=sys.stderr)
+    print(
+        "%s is %s" % (words.configuration, "at fault" if faults else "a configuration of a keeper")
+    )
+    return 1 if faults else 0

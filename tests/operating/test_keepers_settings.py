@@ -1,0 +1,114 @@
+"""What keeper.toml says, and what is wrong with it."""
+
+from datetime import datetime, timezone
+from pathlib import Path
+
+import pytest
+from mireseason_keeper.faults import Fault
+from mireseason_keeper.settings import read_settings
+
+RIGHT = """[log]
+postgres = "host=db1"
+[copies]
+folder = "copies"
+[seal]
+key = "seal.pem"
+gateways = ["gw1.pub", "gw2.pub"]
+"""
+NEW_YORK = 'zone = "America/New_York"\nopens = "08:00"\nends = "17:30"\n'
+
+# The days that are next at a moment, with opening and end in UTC: by hand, from a calendar.
+NEXT = {
+    "without rules": ("", "2026-11-25T13:00", "20261125 00:00 00:00, 20261126 00:00 00:00"),
+    "in winter": (NEW_YORK, "2026-11-25T22:29", "20261125 13:00 22:30, 20261126 13:00 22:30"),
+    "one is over, and one a holiday": (
+        NEW_YORK + 'holidays = "holidays"\n',
+        "2026-11-25T22:30",
+        "20261127 13:00 22:30, 20261128 13:00 22:30",
+    ),
+    "over a weekend in which summer time ends": (
+        'zone = "Europe/London"\nopens = "08:00"\nends = "16:30"\n'
+        'weekdays = ["Mon", "Tue", "Wed", "Thu", "Fri"]\n',
+        "2026-10-23T12:00",
+        "20261023 07:00 15:30, 20261026 08:00 16:30",
+    ),
+    "a morning that is the evening before in UTC": (
+        'zone = "Australia/Sydney"\nopens = "08:00"\nends = "10:30"\n',
+        "2026-11-24T23:00",
+        "20261124 21:00 23:30, 20261125 21:00 23:30",
+    ),
+}
+
+# What stands in the place of a lawful text, and what is said of it.
+FAULTS = {
+    "no place for copies": ('folder = "copies"\n', "", "[copies] folder is missing"),
+    "no key": ('key = "seal.pem"\n', "", "[seal] key is missing"),
+    "no gateway": ('["gw1.pub", "gw2.pub"]', "[]", "has to be a list of texts"),
+    "a misspelt key": ("folder", "foldr", "[copies] has no key foldr"),
+    "another part": ("[copies]", "[copy]", "there is no part [copy]"),
+    "a number as a text": ('folder = "copies"', "folder = 1", "has to be a text"),
+    "nothing kept": ("[seal]", "keep = 0\n[seal]", "has to be a number from 1 on"),
+    "a schema without a date": ("[copies]", 'schema = "day"\n[copies]', "schema has {date}"),
+    "a venue without a name": (
+        "[copies]",
+        'schema = "{venue}_{date}"\n[copies]',
+        "{venue} where [venue] has names",
+    ),
+    "names in one schema": ("[copies]", '[venue]\nnames = ["north"]\n[copies]', "schema has"),
+    "no zone": ("[copies]", '[day]\nzone = "New York"\n[copies]', "none of the tz database"),
+    "no time": ("[copies]", '[day]\nends = "24:01"\n[copies]', "[day] ends is 24:01"),
+    "no weekday": ("[copies]", '[day]\nweekdays = ["Sum"]\n[copies]', "weekdays are of Mon"),
+    "no file of holidays": ("[copies]", '[day]\nholidays = "none"\n[copies]', "No such file"),
+    "no holiday": ("[copies]", '[day]\nholidays = "faulty"\n[copies]', "line 2: a holiday is"),
+    "no TOML": ("[copies]", "[copies", "keeper.toml"),
+}
+
+
+@pytest.fixture
+def file(place: Path) -> Path:
+    (place / "holidays").write_text("\n2026-11-26   # Thanksgiving\n")
+    (place / "faulty").write_text("2026-11-26\n2026-11-31\n")
+    return place / "keeper.toml"
+
+
+@pytest.mark.parametrize("name", NEXT)
+def test_days_that_are_next(file: Path, name: str) -> None:
+    """As the gateway has them, from the same lines."""
+    rules, now, expected = NEXT[name]
+    file.write_text(RIGHT + "[day]\n" + rules)
+    at = datetime.fromisoformat(now).replace(tzinfo=timezone.utc)
+    days = read_settings(file).days.next_days(at, 2)
+    found = [
+        "%s %s %s" % (day.date, *(f"{one:%H:%M}" for one in (day.opens, day.ends))) for day in days
+    ]
+    assert ", ".join(found) == expected
+
+
+def test_when_a_day_ended(file: Path) -> None:
+    """A day of the rules at its end; one that none of them trades on, at midnight in UTC."""
+    file.write_text(RIGHT + "[day]\n" + NEW_YORK + 'holidays = "holidays"\n')
+    days = read_settings(file).days
+    assert days.end_of("20261125") == datetime(2026, 11, 25, 22, 30, tzinfo=timezone.utc)
+    assert days.end_of("20261126") == datetime(2026, 11, 27, tzinfo=timezone.utc)
+
+
+def test_logs_of_venues(file: Path) -> None:
+    """Each venue has its own; another schema is nobody's."""
+    names = 'schema = "{venue}_{date}"\n[venue]\nnames = ["north", "south"]\n[copies]'
+    file.write_text(RIGHT.replace("[copies]", names))
+    settings = read_settings(file)
+    assert settings.day_of("north", "north_20261127") == "20261127"
+    assert settings.copy_of("north", "20261127").name == "20261127-north"
+    for schema in ("south_20261127", "north_20261131", "north_2026112", "xnorth_20261127"):
+        assert settings.day_of("north", schema) is None, schema
+
+
+@pytest.mark.parametrize("name", FAULTS)
+def test_a_fault_is_told(file: Path, name: str) -> None:
+    """With the file and the key."""
+    old, new, expected = FAULTS[name]
+    assert old in RIGHT
+    file.write_text(RIGHT.replace(old, new))
+    with pytest.raises(Fault) as fault:
+        read_settings(file)
+    assert expected in str(fault.value) and str(fault.value).startswith(str(file.parent))
