@@ -1,7 +1,9 @@
 """A week of one gateway that nobody touches, from Friday to Friday, under a clock that the test moves."""
 
+import json
 import os
 import shlex
+import shutil
 import subprocess
 from dataclasses import dataclass
 from datetime import date, datetime, time, timedelta, timezone
@@ -10,6 +12,9 @@ from zoneinfo import ZoneInfo
 
 import pytest
 
+from tests.admin.desk import did, rows
+from tests.gateway.door import Programs
+from tests.gateway.firm import Firm
 from tests.gateway.ledger import read_ledger
 from tests.gateway.stage import DEALER, INVESTOR, OTHER, Stage
 from tests.gateway.wait import LONG, until
@@ -79,24 +84,44 @@ class Week:
             self.stage.firm(who) for who in (DEALER, OTHER, INVESTOR)
         ]
         for firm in self.stage.firms:
-            firm.places.folder = self.stage.folder / name
-            firm.places.folder.mkdir(exist_ok=True)
-            firm.environment = self.clock.environment
+            self.place(firm, name)
         self.stage.log_on(*self.stage.firms)
+
+    def place(self, firm: Firm, name: str) -> None:
+        """A firm's store, whose clock is the venue's, is in a folder of this name."""
+        firm.places.folder = self.stage.folder / name
+        firm.places.folder.mkdir(exist_ok=True)
+        firm.environment = self.clock.environment
+
+    def audited(self, command: str, log: Path, *words: str) -> str:
+        """What the audit says of a log, whose day has to be as it should be."""
+        call = [str(ROOT / "audit" / "mireseason-audit"), command, str(log), *words]
+        call += ["--venue", shlex.join(self.stage.door.programs.venue)]
+        path = {**os.environ, "PATH": "/usr/bin:/bin"}
+        found = subprocess.run(
+            call, env=path, capture_output=True, text=True, timeout=LONG, check=False
+        )
+        assert found.returncode == 0, found.stdout + found.stderr
+        return found.stdout
 
     def check_log(self, number: int) -> None:
         """The audit finds the closed day's log whole."""
-        words = [
-            str(ROOT / "audit" / "mireseason-audit"),
-            "check",
-            str(self.log_of(self.day(number))),
-        ]
-        words += ["--venue", shlex.join(self.stage.door.programs.venue)]
-        path = {**os.environ, "PATH": "/usr/bin:/bin"}
-        found = subprocess.run(
-            words, env=path, capture_output=True, text=True, timeout=LONG, check=False
-        )
-        assert found.returncode == 0, found.stdout + found.stderr
+        self.audited("check", self.log_of(self.day(number)))
+
+    def acts(self, number: int) -> list[str]:
+        """What operators did on a day, as the audit has it."""
+        found = json.loads(self.audited("acts", self.log_of(self.day(number)), "--json"))
+        return [row["act"] for row in found]
+
+    def check_copy(self, number: int, key: Path) -> None:
+        """A day has a copy, which is whole, and is sealed there by somebody else."""
+        log = self.log_of(self.day(number))
+        copy = self.stage.folder / "copies" / log.stem
+        until("the day is copied", LONG, copy.exists)
+        sums = ["sha256sum", "--check", "--strict", "SHA256SUMS"]
+        subprocess.run(sums, cwd=copy, check=True, capture_output=True)
+        self.audited("seal", copy / log.name, "--key", str(key))
+        assert (copy / (log.name + ".seal")).exists()
 
     def end_day(self, number: int) -> None:
         """The clock comes to the day's end: the gateway logs all out and waits for the next day; the log is whole."""
@@ -125,24 +150,95 @@ def week(stage: Stage, clock: Clock) -> Week:
     return Week(stage, clock, first_friday())
 
 
-def test_a_week_from_friday_to_friday(week: Week) -> None:
-    """Five trading days, a weekend, a holiday, a change, a fault that is mended and one that is not, and a gateway that is killed."""
+def trade_of(stage: Stage) -> str:
+    """The name of the day's first trade, as the dealer was told it."""
+    return next(
+        message.given(1003).decode()
+        for message in stage.dealer.looked()
+        if message.value(694) == b"1"
+    )
+
+
+def set_limits(stage: Stage) -> list[str]:
+    """What an operator has set for a firm, beside its configuration."""
+    return [row["limit"] for row in rows(stage, "limit", "DLR1") if row["set"]]
+
+
+def order_until_night(stage: Stage) -> list[str]:
+    """A suspension, a halt, a limit and a void that nobody takes back; the acts."""
+    acts = ["bust " + trade_of(stage), "suspend DLR2", "halt", "limit DLR1 day_bytes=100000000"]
+    for act in acts:
+        did(stage, *act.split(), "--because", "by phone")
+    until("it is logged out", LONG, lambda: not stage.other.logged_on())
+    assert set_limits(stage) == ["day_bytes"]
+    return acts
+
+
+def lose_a_store(week: Week) -> None:
+    """A dealer's engine has lost its store, and begins anew after the operator's word."""
     stage = week.stage
+    stage.dealer.kill()
+    did(stage, "reset-session", "DLR1", "--because", "their disk is gone")
+    stage.dealer = stage.firm(DEALER)
+    week.place(stage.dealer, "new-disk")
+    stage.log_on(stage.dealer)
+
+
+def upgrade(week: Week) -> None:
+    """Another program of the venue takes the place of the one that is stopped, with a request open; nothing of it is lost."""
+    stage = week.stage
+    request = stage.ask(dealers=[stage.dealer])
+    assert stage.door.stop() == 0, stage.door.last_words()
+    venue = stage.door.programs.venue
+    if len(venue) == 1:  # else it is a program of an interpreter
+        newer = stage.folder / "newer" / Path(venue[0]).name
+        newer.parent.mkdir()
+        shutil.copy2(venue[0], newer)
+        with newer.open("ab") as file:
+            file.write(b"\n")
+        config = stage.folder / "gateway.toml"
+        config.write_text(config.read_text().replace(venue[0], str(newer)))
+        stage.door.programs = Programs(stage.door.programs.gateway, (str(newer),))
+    start_again(week)
+    stage.quote(stage.dealer, request)
+
+
+def start_again(week: Week) -> None:
+    week.stage.door.start()
+    week.stage.door.wait_open()
+    until("all are back", LONG, lambda: all(firm.logged_on() for firm in week.stage.firms))
+
+
+def test_a_week_from_friday_to_friday(week: Week) -> None:
+    """Five trading days, a weekend, a holiday, a change, a fault that is mended and one that is not, a gateway that is killed and
+    one that is upgraded. What an operator ordered is over with its day, and not with its gateway.
+    """
+    stage = week.stage
+    stage.door.operators = ""
     week.write()
+    (stage.folder / "copies").mkdir()
+    with (stage.folder / "gateway.toml").open("a") as file:
+        file.write('[copies]\nfolder = "copies"\n')
     week.set_clock(week.day(0), OPENS, -30)
     stage.door.start()
     week.wait_told("closed until=")
 
     week.open_day(0)
     stage.auction()
+    ordered = order_until_night(stage)
     week.end_day(0)
+    assert week.acts(0) == ordered
 
+    # The suspended firm logs on, the halted venue takes a request, and the limit is the configured one.
     week.open_day(1)
+    assert set_limits(stage) == []
+    lose_a_store(week)
     stage.auction()
     week.change_venue(FAULTY, "line 12: dealer DLR1: exposre is no key of a dealer; exposure?")
     week.change_venue(MORE_BONDS, "configuration changed: it is right, and applies from")
     stage.auction()
     week.end_day(1)
+    assert week.acts(1) == ["reset-session DLR1"]
 
     week.open_day(2)
     stage.auction()
@@ -155,14 +251,26 @@ def test_a_week_from_friday_to_friday(week: Week) -> None:
     assert b"BONDB0000002" in read_ledger(week.log_of(week.day(4))).entries[0].line
     stage.auction()
     week.change_venue(MORE_BONDS, "configuration is again the one in force")
+    upgrade(week)
+    stage.auction()
     week.end_day(4)
     assert not week.log_of(week.day(3)).exists()
 
     week.open_day(5)
     stage.auction()
+    did(stage, "suspend", "DLR2", "--because", "by phone")
+    until("it is logged out", LONG, lambda: not stage.other.logged_on())
     stage.door.kill()
+    before = week.told()
     stage.door.start()
-    stage.door.wait_open()
+    week.wait_told('refused what="suspended" firm=DLR2', before)
+    did(stage, "resume", "DLR2")
     until("all are back", LONG, lambda: all(firm.logged_on() for firm in stage.firms))
     stage.auction()
     week.end_day(5)
+
+    key = stage.folder / "supervisor.pem"
+    words = ["openssl", "genpkey", "-algorithm", "ed25519", "-out", str(key)]
+    subprocess.run(words, check=True, capture_output=True)
+    for number in (0, 1, 2, 4, 5):
+        week.check_copy(number, key)
