@@ -1,16 +1,17 @@
 #!/bin/sh
-# Builds the Debian packages mireseason-venue, mireseason-gateway, mireseason-audit and mireseason-keeper from a tree whose gate
-# has passed.
+# Builds the Debian packages mireseason-venue, mireseason-gateway, mireseason-audit, mireseason-keeper and mireseason-desk from
+# a tree whose gate has passed.
 #
 #     packaging/build.sh [FOLDER]     puts the packages into FOLDER (packaging/out)
 #
 # VENUE names the proved program, where it is not crates/rfq_venue/out/rfq_venue (examples/prove_venue.py proves what
-# is not proved yet), and GATEWAY a folder in which the gateway is built already. All packages have the version of the
+# is not proved yet), GATEWAY a folder in which the gateway is built already, and DESK one of the desk, or `none`, without
+# which there is no package of it. All packages have the version of the
 # file VERSION, whose changes stand in CHANGELOG.md, and the commit of the tree; one with changes that are not
 # committed is marked with a `+` behind it, and is for trials alone. A gateway whose sessions are not the proved ones
 # is refused; UNPROVED=1 takes it, for trials alone.
 #
-# Needs debhelper and dpkg-dev, and what gateway/packages.sh names.
+# Needs debhelper and dpkg-dev, and what gateway/packages.sh and desk/packages.sh name.
 set -eu
 root=$(cd "$(dirname "$0")/.." && pwd)
 [ $# -le 1 ] || {
@@ -65,6 +66,12 @@ if [ -z "${GATEWAY:-}" ]; then
 fi
 gateway=${GATEWAY:-$root/gateway/out}
 [ -x "$gateway/mireseason-gateway" ] || fail "there is no gateway in $gateway"
+if [ -z "${DESK:-}" ]; then
+    cmake -S "$root/desk" -B "$root/desk/out" >&2
+    cmake --build "$root/desk/out" -j "$(nproc)" --target mireseason-desk >&2
+fi
+desk=${DESK:-$root/desk/out}
+[ "$desk" = none ] || [ -x "$desk/mireseason-desk" ] || fail "there is no desk in $desk"
 case ${UNPROVED:-0}$("$gateway/mireseason-gateway" --version) in
 0*"not proved"*) fail "the gateway in $gateway was built with the sessions' second implementation" ;;
 esac
@@ -93,7 +100,8 @@ cp "$root/gateway/mireseason-gateway.service" "$place/debian/mireseason-gateway.
 cp -R "$root/fix" "$files/fix"
 cp -R "$root/deploy/prometheus" "$files/prometheus"
 cp "$root/gateway/README.md" "$files/docs/gateway.md"
-for page in OPERATING FORMATS CONNECTING SESSIONS SUPERVISING; do
+cp "$root/desk/README.md" "$files/docs/desk.md"
+for page in OPERATING FORMATS CONNECTING SESSIONS SUPERVISING TRADING; do
     cp "$root/docs/$page.md" "$files/docs"
 done
 cp "$root/deploy/README.md" "$files/docs/deploy.md"
@@ -102,6 +110,12 @@ sed -i 's|(\.\./gateway/README\.md|(gateway.md|g; s|(\.\./docs/|(|g' "$files"/do
 cp -R "$root/audit/mireseason_audit" "$root/audit/mireseason-audit" "$files"
 cp -R "$root/deploy/mireseason_keeper" "$root/deploy/mireseason-keeper" "$files"
 find "$files" -name __pycache__ -prune -exec rm -r {} +
+if [ "$desk" = none ]; then
+    rm "$place/debian"/mireseason-desk.*
+    sed -i '/^Package: mireseason-desk$/,$d' "$place/debian/control"
+else
+    install -m 0755 "$desk/mireseason-desk" "$files"
+fi
 echo "$version" >"$files/VERSION"
 echo "$commit" >"$files/COMMIT"
 find "$place" -type d -exec chmod 0755 {} + -o -type f -perm /0100 -exec chmod 0755 {} + -o -type f -exec chmod 0644 {} +

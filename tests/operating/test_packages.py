@@ -7,6 +7,7 @@ import shutil
 import signal
 import subprocess
 from collections.abc import Iterator
+from contextlib import contextmanager
 from dataclasses import dataclass
 from pathlib import Path
 
@@ -19,6 +20,7 @@ from tests.gateway.wait import LONG, until
 from tests.harness.options import ROOT
 
 PACKAGES = ("mireseason-venue", "mireseason-gateway", "mireseason-audit", "mireseason-keeper")
+DESK = "mireseason-desk"  # a package of a firm's own host, where the desk is built
 VERSION = (ROOT / "VERSION").read_text().strip()
 # What the packages depend on. A fresh system has these from the mirror, and nothing that builds anything.
 BELOW = (
@@ -31,9 +33,10 @@ MINUTES = 15  # for a fresh system, from a mirror that may be slow
 @dataclass(frozen=True)
 class Packages:
     folder: Path
+    version: str
 
     def file(self, name: str) -> Path:
-        (found,) = self.folder.glob("%s_%s_*.deb" % (name, VERSION))
+        (found,) = self.folder.glob("%s_%s_*.deb" % (name, self.version))
         return found
 
     @property
@@ -62,7 +65,7 @@ def built(gateway: Path, venue: tuple[str, ...], folder: Path, version: str = VE
     root = ROOT
     if version != VERSION:
         root = folder / "tree"
-        for part in ("packaging", "gateway", "deploy", "docs", "fix", "audit"):
+        for part in ("packaging", "gateway", "deploy", "docs", "fix", "audit", "desk"):
             shutil.copytree(
                 ROOT / part, root / part, ignore=shutil.ignore_patterns("out", "__pycache__")
             )
@@ -76,6 +79,7 @@ def built(gateway: Path, venue: tuple[str, ...], folder: Path, version: str = VE
         **os.environ,
         "VENUE": venue[0],
         "GATEWAY": str(gateway.parent),
+        "DESK": str(desk_folder() or "none"),
         "UNPROVED": "1",  # a tree without the kit has no proved sessions
     }
     words = [str(root / "packaging" / "build.sh"), str(folder / "packages")]
@@ -83,7 +87,13 @@ def built(gateway: Path, venue: tuple[str, ...], folder: Path, version: str = VE
         words, env=environment, capture_output=True, text=True, timeout=10 * LONG, check=False
     )
     assert done.returncode == 0, done.stdout + done.stderr
-    return Packages(folder / "packages")
+    return Packages(folder / "packages", version)
+
+
+def desk_folder() -> Path | None:
+    """Where the desk is built: these tests build none."""
+    program = Path(os.environ.get("DESK", ROOT / "desk" / "out" / DESK))
+    return program.parent if program.exists() else None
 
 
 @pytest.fixture(scope="module")
@@ -101,7 +111,8 @@ def printed(*words: str | Path) -> str:
 
 def test_lintian_finds_no_error(packages: Packages) -> None:
     needs("lintian")
-    words = ["lintian", "--allow-root", "--fail-on", "error", *map(str, packages.files)]
+    files = [*packages.files, *packages.folder.glob(DESK + "_*.deb")]
+    words = ["lintian", "--allow-root", "--fail-on", "error", *map(str, files)]
     done = subprocess.run(words, capture_output=True, text=True, timeout=10 * LONG, check=False)
     assert done.returncode == 0, done.stdout + done.stderr
 
@@ -147,9 +158,11 @@ def test_versions(packages: Packages, place: Path) -> None:
     assert "## %s\n" % VERSION in (ROOT / "CHANGELOG.md").read_text()
 
 
-@pytest.mark.parametrize("name", ["mireseason-gateway", "mireseason-keeper"])
+@pytest.mark.parametrize("name", ["mireseason-gateway", "mireseason-keeper", DESK])
 def test_what_an_operator_edits_stays(packages: Packages, name: str) -> None:
     """Each file below /etc is one that an upgrade asks about, and never writes over."""
+    if name == DESK and desk_folder() is None:
+        pytest.skip("the desk is not built")
     files = subprocess.run(
         ["dpkg-deb", "-c", packages.file(name)],
         capture_output=True,
@@ -217,22 +230,20 @@ class System:
         """As from a folder, without a mirror: all that they need is there."""
         for file in packages.files:
             shutil.copy2(file, self.root / "root")
-        self.run(
-            "sh",
-            "-c",
-            "apt-get install -y -o Dpkg::Use-Pty=0 --allow-downgrades /root/*_%s_*.deb"
-            % packages.files[0].name.split("_")[1],
-        )
+        words = "apt-get install -y -o Dpkg::Use-Pty=0 --allow-downgrades /root/*_%s_*.deb"
+        self.run("sh", "-c", words % packages.version)
 
     def start(self) -> None:
         """As the unit does: by its user, with its command."""
         words = [
             "chroot",
             "--userspec=mireseason:mireseason",
+            "--groups=mireseason-operators",
             str(self.root),
             "/usr/bin/mireseason-gateway",
             "/etc/mireseason/gateway.toml",
         ]
+        self.run("install", "-d", "-o", "mireseason", "/run/mireseason")
         with (self.root / "var/lib/mireseason.told").open("ab") as told:
             self.gateway = subprocess.Popen(
                 words, stdin=subprocess.DEVNULL, stdout=told, stderr=subprocess.STDOUT
@@ -251,6 +262,21 @@ class System:
         text = path.read_text()
         assert old in text, (file, old)
         path.write_text(text.replace(old, new))
+
+
+@contextmanager
+def mounted(proc: Path) -> Iterator[None]:
+    """What the packages' scripts ask of the kernel (systemd-tmpfiles) is there."""
+    subprocess.run(["mount", "-t", "proc", "proc", proc], check=True)
+    try:
+        yield
+    finally:
+        # What was started there may be ending still.
+        until(
+            "it is free",
+            LONG,
+            lambda: subprocess.run(["umount", proc], check=False).returncode == 0,
+        )
 
 
 @pytest.fixture
@@ -287,11 +313,12 @@ def fresh(place: Path) -> Iterator[System]:
             device.unlink(missing_ok=True)
             os.mknod(device, 0o020666, os.makedev(1, number))
             device.chmod(0o666)
-    system = System(root)
-    yield system
-    if system.gateway:
-        system.gateway.kill()
-        system.gateway.wait()
+    with mounted(root / "proc"):
+        system = System(root)
+        yield system
+        if system.gateway:
+            system.gateway.kill()
+            system.gateway.wait()
     shutil.rmtree(root)
 
 
@@ -351,6 +378,7 @@ def test_a_fresh_system(
     try:
         stage.log_on(stage.dealer, stage.investor)
         stage.auction([stage.dealer])
+        assert "DLR1" in fresh.run("mireseason-admin", "firms")
         request = stage.ask(dealers=[stage.dealer])
 
         # The package's own restart is played too.
