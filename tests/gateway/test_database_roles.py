@@ -10,10 +10,11 @@ from pathlib import Path
 import pytest
 from parts.site import Folders, Site
 
-from tests.gateway.door import today
+from tests.gateway.door import Door, today
 from tests.gateway.ledger import PostgresLog
 from tests.gateway.stage import DEALER, INVESTOR, OTHER
 from tests.gateway.wait import LONG
+from tests.gateway.wire import Fields, Wire
 from tests.harness import postgres
 from tests.harness.fixtures import MakeGateway
 
@@ -101,6 +102,41 @@ def test_a_day_is_written(written: Owned) -> None:
     assert count.stdout.strip() == "1", count.stderr
 
 
+def logged_on(door: Door, more: Fields) -> Wire:
+    """A session of the dealer that begins with 34=1, and has answered the TestRequest after its Logon."""
+    wire = Wire(door.port)
+    assert wire.logon(DEALER.name.encode(), DEALER.password.encode(), more=more)
+    wire.got(b"A")
+    wire.got(b"1")
+    wire.ask()
+    return wire
+
+
+def test_what_sessions_put_into_a_day(owned: Owned, make_gateway: MakeGateway) -> None:
+    """A session keeps a Reject, its firm begins again with 141=Y, and an operator resets it: the gateway's role may put each of
+    these into the log, and goes on."""
+    door = make_gateway(
+        [DEALER, OTHER], [INVESTOR], log=PostgresLog(owned.of("gateway"), owned.schema)
+    )
+    door.operators = ""
+    door.write()
+    door.start()
+    door.wait_open()
+    with logged_on(door, []) as wire:
+        assert wire.raw(wire.message(b"1", wire.name, []))  # without 112
+        assert wire.got(b"3").value(371) == b"112"
+    with logged_on(door, [(141, b"Y")]):
+        pass
+    dropped = "SELECT count(*) FROM %s.outgoing WHERE type = '3' AND dropped = 1" % owned.schema
+    assert said(owned.superuser, dropped).stdout.strip() == "1"
+    program = door.programs.gateway.parent / "mireseason-admin"
+    words = [str(program), "--socket", str(door.folder / "admin.sock"), "reset-session"]
+    subprocess.run([*words, DEALER.name], check=True, timeout=LONG)
+    with logged_on(door, []):
+        pass
+    assert door.stop() == 0, door.last_words()
+
+
 GATEWAY_MAY_NOT = [
     "UPDATE entry SET moment = moment",
     "DELETE FROM entry",
@@ -112,6 +148,8 @@ GATEWAY_MAY_NOT = [
     "UPDATE checkpoint SET signature = signature",
     "UPDATE sent SET bytes = bytes",
     "UPDATE outgoing SET bytes = bytes",
+    "UPDATE outgoing SET sent = NULL",
+    "DELETE FROM outgoing",
     "UPDATE connection SET why = why",
     "DELETE FROM session",
     "DELETE FROM speaker",
