@@ -60,7 +60,7 @@ value_here tag found v (x ∷ xs) some is same =
     ap (λ fields. value_of tag fields) (fields_in-step x xs ∙ ap (λ f. onto_fields f rest) is)
     ∙ ap (λ b. if b then Some v else value_of tag rest) same
 
-times_cons : (tag found : ℕ) (v : List ℕ) (rest : List Field) → times_of tag ((found, v) ∷ rest) ≡ cond (found == tag) 1 0 + times_of tag rest
+pub times_cons : (tag found : ℕ) (v : List ℕ) (rest : List Field) → times_of tag ((found, v) ∷ rest) ≡ cond (found == tag) 1 0 + times_of tag rest
 times_cons tag found v rest = sum_by-cons (λ f. cond (f.0 == tag) 1 0) (found, v) rest
 
 -- how often a tag stands, past a piece that is no field, past another, and here

@@ -37,6 +37,13 @@ enough (suc a) (suc b) body at in_a in_b =
           (enough a b body next (omega (arith, in_a)) (omega (arith, in_b)))))
     ]
 
+-- the first fault of a place on is the piece's there, or one behind it
+pub step_from : (body : List ℕ) (at : ℕ) → at < length body
+    → flaw_from (length body) body at ≡ or_else (piece_flaw (take at body) (front_piece (drop at body)))
+    (flaw_from (length body) body (at + (length (front_piece (drop at body)) + 1)))
+step_from body at within =
+    enough (length body) (suc (length body)) body at (omega arith) (omega arith) ∙ one_step (length body) body at within
+
 -- a piece that has no fault is passed over
 pub passes : (body : List ℕ) (at : ℕ) → at < length body → piece_flaw (take at body) (front_piece (drop at body)) ≡ None
     → flaw_from (length body) body at

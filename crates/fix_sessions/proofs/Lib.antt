@@ -2,8 +2,10 @@ mod CutLemmas
 mod FieldLemmas
 mod FlawLemmas
 mod NumberLemmas
+mod ScanLemmas
 mod ShortTexts
 mod StreamLemmas
+mod TagLemmas
 mod WrittenLemmas
 mod StreamCuts
 mod StreamFinds

@@ -1,12 +1,12 @@
 -- Numbers in digits, digit by digit.
 use Rattle.std.proofs.Common.{◌≡◌, ℕ, ◌+◌, ◌-◌, ◌*◌, ◌^◌, ◌<◌, ◌≤◌, Bool, true, false, List, length}
-use Rattle.std.proofs.Common.{take, drop, get_or, arith, lit<, ap, ◌∙◌, sym, refl, ◌&&◌}
+use Rattle.std.proofs.Common.{take, drop, get_or, length-take, arith, lit<, ◌==◌, ap, ◌∙◌, sym, refl, ◌&&◌}
 use Rattle.std.specs.List.{list_all}
 use Rattle.std.specs.Char.{is_ascii_digit, digit_value}
 use Rattle.std.specs.Str.Parse.{digits_value}
 use Rattle.std.proofs.lemmas.Int.Digits.{digits_value-lt, digits_value_more}
 use Rattle.std.proofs.lemmas.Str.Parse.{digits_value-take-le}
-use Rattle.std.proofs.lemmas.List.Folds.{list_all_at, list_all-append}
+use Rattle.std.proofs.lemmas.List.Folds.{list_all_at, list_all_more, list_all-append}
 use Rattle.std.proofs.lemmas.List.{take-append-drop}
 use Rattle.std.proofs.lemmas.Bool.{and_parts}
 use Rattle.std.proofs.lemmas.Bool.Decides.{nat_tests}
@@ -77,3 +77,24 @@ part_digits start n text h =
     sym (list_all-append is_ascii_digit (take start text) (drop start text))
     ∙ ap (λ t. list_all is_ascii_digit t) (take-append-drop start text) ∙ h in
     front_digits n (drop start text) (and_parts (list_all is_ascii_digit (take start text)) (list_all is_ascii_digit (drop start text)) parts).1
+
+-- the digits at the front of a text
+pub front_small : (text : List ℕ) (i number : ℕ) → i ≤ 9 → list_all is_ascii_digit (take i text) ≡ true → number ≡ digits_value 10 (take i text) → number < 1000000000
+front_small text i number few all is =
+    let low = of_nine (take i text) (omega (arith, length-take i text, few)) all in
+    omega (arith, is, low)
+
+pub front_more : (text : List ℕ) (i number : ℕ) → i < length text → list_all is_ascii_digit (take i text) ≡ true → number ≡ digits_value 10 (take i text) → is_ascii_digit (get_or text i 0) ≡ true
+    → (list_all is_ascii_digit (take (i + 1) text) ≡ true) × (number * 10 + (get_or text i 0 - 48) ≡ digits_value 10 (take (i + 1) text))
+front_more text i number inside all is digit = (
+  list_all_more is_ascii_digit text i 0 inside ∙ ap (λ b. b && is_ascii_digit (get_or text i 0)) all ∙ digit,
+  ap (λ v. v * 10 + (get_or text i 0 - 48)) is
+      ∙ ap (λ d. digits_value 10 (take i text) * 10 + d) (sym (value_of_digit (get_or text i 0) digit))
+      ∙ sym (digits_value_more 10 text i inside),
+)
+
+pub no_equals : (c : ℕ) → is_ascii_digit c ≡ true → (c == 61) ≡ false
+no_equals c h = grind (arith, nat_tests)
+
+pub digit_up_to : (c : ℕ) → is_ascii_digit c ≡ true → c ≤ 57
+digit_up_to c h = grind (arith, nat_tests)

@@ -9,7 +9,7 @@ ghost use Rattle.fix_sessions.specs.Texts.{has_text};
 ghost use Rattle.fix_sessions.specs.Fields as spec;
 ghost use Rattle.fix_sessions.specs.Flaws.{last_tag};
 
-use crate::numbers::{are_digits, number_of_digits};
+use crate::numbers::{are_digits, leading_number, number_of_digits};
 
 /// SOH, the byte that ends a field.
 const SOH: u8 = 1;
@@ -69,6 +69,18 @@ pub(crate) fn piece_field(piece: &[u8]) -> Option<(u64, &[u8])>
     ensures { MatchOption result (spec.piece_field piece.now ≡ None)
         (λ field. spec.piece_field piece.now ≡ Some (field.0, field.1.now)) }
 {
+    let (tag, count) = leading_number(piece);
+    if count == 0 || count == piece.len() || piece[0] == b'0' || piece[count] != b'=' {
+        return any_field(piece);
+    }
+    Some((tag, &piece[count + 1..]))
+}
+
+/// The same of a piece with anything before its equals sign.
+fn any_field(piece: &[u8]) -> Option<(u64, &[u8])>
+    ensures { MatchOption result (spec.piece_field piece.now ≡ None)
+        (λ field. spec.piece_field piece.now ≡ Some (field.0, field.1.now)) }
+{
     let Some(place) = place_of(piece, b'=') else {
         return None;
     };
@@ -112,7 +124,8 @@ pub(crate) fn value(body: &[u8], tag: u64) -> Option<&[u8]>
 /// How many fields have a tag.
 #[tactic(auto, using(crate::proofs::FieldLemmas::times_past_none, crate::proofs::FieldLemmas::times_past_other, crate::proofs::FieldLemmas::times_here, crate::proofs::FlawLemmas::behind_shorter))]
 pub(crate) fn times(body: &[u8], tag: u64) -> usize
-    ensures { result ≡ times_of tag (fields_in body.now) }
+    ensures value { result ≡ times_of tag (fields_in body.now) }
+    ensures few { result ≤ length body.now }
 {
     let mut rest = body;
     let mut count = 0;

@@ -1,5 +1,5 @@
 //! What is wrong with the form of a message.
-ghost use Rattle.std.specs.Prelude.{◌≡◌, ◌≤◌, length};
+ghost use Rattle.std.specs.Prelude.{◌≡◌, ◌≤◌, ◌+◌, ◌-◌, length, nat_lt, MatchOption, Some, None};
 ghost use Rattle.std.specs.Option.{option_copied};
 ghost use Rattle.std.specs.List.{list_all};
 ghost use Rattle.std.specs.Char.{is_ascii_alphanumeric};
@@ -7,9 +7,10 @@ ghost use Rattle.fix_sessions.specs.Fields.{fields_in, piece_field};
 ghost use Rattle.fix_sessions.specs.Flaws as spec;
 
 use crate::fields::{
-    front_piece, has, has_equals, last_tag, near, past, piece_field, split_piece, times, value,
+    front_piece, has_equals, last_tag, near, past, piece_field, split_piece, times,
 };
 use crate::numbers::are_digits;
+use crate::scanned::Scanned;
 use crate::turns::Fault;
 
 /// The longest message, in bytes, without what a resend adds.
@@ -30,47 +31,56 @@ fn fault_at(tag: u64, reason: u64) -> Option<Fault>
 
 /// What is wrong with a message of this length and this body.
 #[tactic(auto, unfolding(crate::specs::Flaws::flaw_of))]
-pub(crate) fn flaw_of(whole: usize, body: &[u8]) -> Option<Fault>
+pub(crate) fn flaw_of(whole: usize, body: &Scanned) -> Option<Fault>
     requires { length body.now ≤ whole }
     ensures { result ≡ spec.flaw_of whole body.now }
 {
     if let Some(fault) = form_flaw(body) {
         return Some(fault);
     }
-    if whole - added_len(body) > MOST_TAKEN {
+    if is_too_long(whole, body.bytes()) {
         return fault_at(9, 5);
     }
     value_flaw(body)
 }
 
+/// Whether a message is too long.
+fn is_too_long(whole: usize, body: &[u8]) -> bool
+    requires { length body.now ≤ whole }
+    ensures { result ≡ nat_lt 4096 (whole - spec.added_within (length body.now) body.now) }
+{
+    whole > MOST_TAKEN && whole - added_len(body) > MOST_TAKEN
+}
+
 /// What is wrong with the form of a body.
-fn form_flaw(body: &[u8]) -> Option<Fault>
+fn form_flaw(body: &Scanned) -> Option<Fault>
     ensures { result ≡ spec.form_flaw body.now }
 {
-    if times(body, 35) == 0 {
+    if body.times(35) == 0 {
         return fault_at(35, 1);
     }
-    if let Some(fault) = pieces_flaw(body) {
+    if let Some(fault) = body.pieces_flaw() {
         return Some(fault);
     }
-    if !is_closed(body) {
+    if !is_closed(body.bytes()) {
         return Some(Fault {
-            tag: last_tag(body),
+            tag: last_tag(body.bytes()),
             reason: 6,
         });
     }
     None
 }
 
-/// What is wrong with the pieces of a body.
+/// What is wrong with the pieces of a body from a place on.
 #[tactic(auto, using(crate::proofs::FlawLemmas::passes, crate::proofs::FlawLemmas::is_told, crate::proofs::FlawLemmas::no_more))]
-fn pieces_flaw(body: &[u8]) -> Option<Fault>
-    ensures { result ≡ spec.flaw_from (length body.now) body.now 0 }
+pub(crate) fn pieces_flaw(body: &[u8], start: usize) -> Option<Fault>
+    requires { start ≤ length body.now + 1 }
+    ensures { result ≡ spec.flaw_from (length body.now) body.now start }
 {
-    let mut at = 0;
+    let mut at = start;
     while at < body.len() {
         let piece = front_piece(past(body, at));
-        if let Some(fault) = piece_flaw(near(body, at), piece) {
+        if let Some(fault) = piece_flaw(near(body, at), piece, piece_field(piece)) {
             return Some(fault);
         }
         at += piece.len() + 1;
@@ -86,10 +96,12 @@ fn is_closed(text: &[u8]) -> bool
 }
 
 /// What is wrong with a piece, behind these bytes.
-fn piece_flaw(before: &[u8], piece: &[u8]) -> Option<Fault>
+pub(crate) fn piece_flaw(before: &[u8], piece: &[u8], field: Option<(u64, &[u8])>) -> Option<Fault>
+    requires { MatchOption field (piece_field piece.now ≡ None)
+        (λ f. piece_field piece.now ≡ Some (f.0, f.1.now)) }
     ensures { result ≡ spec.piece_flaw before.now piece.now }
 {
-    let Some((tag, value)) = piece_field(piece) else {
+    let Some((tag, value)) = field else {
         return Some(no_field(before, piece));
     };
     if before.is_empty() && tag != 35 {
@@ -216,13 +228,13 @@ fn or_else(first: Option<Fault>, other: Option<Fault>) -> Option<Fault>
 }
 
 /// What is wrong with the values of what the session reads of its own messages.
-fn value_flaw(body: &[u8]) -> Option<Fault>
+fn value_flaw(body: &Scanned) -> Option<Fault>
     ensures { result ≡ spec.value_flaw (fields_in body.now) }
 {
-    let id = or_else(some_flaw(112, value(body, 112)), flag_flaw(body));
-    let new = or_else(number_flaw(36, value(body, 36)), id);
-    let last = or_else(number_flaw(16, value(body, 16)), new);
-    or_else(number_flaw(7, value(body, 7)), last)
+    let id = or_else(some_flaw(112, body.value(112)), flag_flaw(body));
+    let new = or_else(number_flaw(36, body.value(36)), id);
+    let last = or_else(number_flaw(16, body.value(16)), new);
+    or_else(number_flaw(7, body.value(7)), last)
 }
 
 /// What is wrong with a value: it is empty.
@@ -237,17 +249,17 @@ fn some_flaw(tag: u64, text: Option<&[u8]>) -> Option<Fault>
 }
 
 /// What is wrong with GapFillFlag (123).
-fn flag_flaw(body: &[u8]) -> Option<Fault>
+fn flag_flaw(body: &Scanned) -> Option<Fault>
     ensures { result ≡ spec.flag_flaw 123 (fields_in body.now) }
 {
-    or_else(some_flaw(123, value(body, 123)), letter_flaw(body))
+    or_else(some_flaw(123, body.value(123)), letter_flaw(body))
 }
 
 /// What is wrong with a GapFillFlag that stands: it is neither Y nor N.
-fn letter_flaw(body: &[u8]) -> Option<Fault>
+fn letter_flaw(body: &Scanned) -> Option<Fault>
     ensures { result ≡ spec.letter_flaw 123 (fields_in body.now) }
 {
-    if times(body, 123) == 0 || has(body, 123, b"Y") || has(body, 123, b"N") {
+    if body.times(123) == 0 || body.has(123, b"Y") || body.has(123, b"N") {
         return None;
     }
     fault_at(123, 6)

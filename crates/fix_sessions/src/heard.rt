@@ -8,10 +8,11 @@ ghost use Rattle.fix_sessions.specs.Texts as texts;
 ghost use Rattle.fix_sessions.specs.Texts.{number_of};
 
 use crate::cuts::{Front, behind_length, body_of, front_of, version_of};
-use crate::fields::{has, times, value};
+use crate::fields::has;
 use crate::flaws::{flaw_of, is_msg_type};
 use crate::messages::{Heard, Incoming, Kind, Origin, Reading, Terms, TestId};
 use crate::numbers::read_number;
+use crate::scanned::Scanned;
 use crate::texts::{Names, Text};
 use crate::times::read_time;
 
@@ -36,15 +37,15 @@ pub struct Logon<'a> {
 pub fn question(bytes: &[u8]) -> Option<Logon<'_>>
     ensures { result ≡ spec.question bytes.now }
 {
-    let body = logon_body(bytes)?;
-    let firm = text(body, 49)?;
-    let venue = text(body, 56)?;
+    let body = Scanned::of(logon_body(bytes)?);
+    let firm = text(&body, 49)?;
+    let venue = text(&body, 56)?;
     Some(Logon {
         firm,
         venue,
-        desk: text(body, 57),
-        username: text(body, 553),
-        password: text(body, 554),
+        desk: text(&body, 57),
+        username: text(&body, 553),
+        password: text(&body, 554),
     })
 }
 
@@ -64,32 +65,32 @@ pub fn is_logout(bytes: &[u8]) -> bool
 pub(crate) fn logon_of(names: &Names, bytes: &[u8]) -> Option<Terms>
     ensures { result ≡ spec.logon_of names.now bytes.now }
 {
-    let body = logon_body(bytes)?;
-    if stranger_of(names, body).is_some() {
+    let body = Scanned::of(logon_body(bytes)?);
+    if stranger_of(names, &body).is_some() {
         return None;
     }
-    if !names_desk(&names.desk, body) {
+    if !names_desk(&names.desk, &body) {
         return None;
     }
-    let number = number_once(body)?;
+    let number = number_once(&body)?;
     Some(Terms {
         number,
-        sent: time_at(body, 52),
-        is_plain: has(body, 98, b"0"),
-        is_fix50: has(body, 1137, b"9"),
-        seconds: number_at(body, 108),
-        resets: has(body, 141, b"Y"),
-        expects: number_at(body, 789),
+        sent: time_at(&body, 52),
+        is_plain: body.has(98, b"0"),
+        is_fix50: body.has(1137, b"9"),
+        seconds: number_at(&body, 108),
+        resets: body.has(141, b"Y"),
+        expects: number_at(&body, 789),
     })
 }
 
 /// Whether a Logon names this one of several venues, if it has to.
-fn names_desk(desk: &Option<Text>, body: &[u8]) -> bool
+fn names_desk(desk: &Option<Text>, body: &Scanned) -> bool
     ensures { result ≡ spec.names_desk desk.now (fields_in body.now) }
 {
     match desk {
         None => true,
-        Some(desk) => has(body, 57, desk.as_bytes()),
+        Some(desk) => body.has(57, desk.as_bytes()),
     }
 }
 
@@ -103,7 +104,7 @@ pub(crate) fn heard_of<'a>(names: &Names, bytes: &'a [u8]) -> Heard<'a>
         Front::Garbled => Heard::Garbled,
         Front::Wrong { .. } => Heard::Garbled,
         Front::TooLong => Heard::TooLong {
-            number: number_once(behind_length(bytes)),
+            number: number_once(&Scanned::of(behind_length(bytes))),
         },
         Front::Whole { len } => {
             if len != bytes.len() {
@@ -137,10 +138,14 @@ fn logon_body(bytes: &[u8]) -> Option<&[u8]>
     ensures { option_copied result ≡ spec.logon_body bytes.now }
 {
     let body = whole_body(bytes)?;
-    if !is_fixt(version_of(bytes)) || flaw_of(bytes.len(), body).is_some() {
+    if !is_fixt(version_of(bytes)) {
         return None;
     }
-    if !has(body, 35, b"A") || number_once(body).is_none() {
+    let scanned = Scanned::of(body);
+    if flaw_of(bytes.len(), &scanned).is_some() {
+        return None;
+    }
+    if !scanned.has(35, b"A") || number_once(&scanned).is_none() {
         return None;
     }
     Some(body)
@@ -152,19 +157,20 @@ fn incoming_of<'a>(names: &Names, version: &'a [u8], whole: usize, body: &'a [u8
     ensures { result ≡ spec.incoming_of names.now version.now whole body.now }
 {
     let version = foreign_of(version);
+    let body = Scanned::of(body);
     let origin = Origin {
-        number: number_once(body),
-        msg_type: msg_type_of(body),
+        number: number_once(&body),
+        msg_type: msg_type_of(&body),
     };
     Incoming {
         version,
         origin,
-        stranger: stranger_of(names, body),
-        is_repeat: has(body, 43, b"Y"),
-        sent: time_at(body, 52),
-        first_sent: time_at(body, 122),
-        flaw: flaw_of(whole, body),
-        kind: kind_of(body),
+        stranger: stranger_of(names, &body),
+        is_repeat: body.has(43, b"Y"),
+        sent: time_at(&body, 52),
+        first_sent: time_at(&body, 122),
+        flaw: flaw_of(whole, &body),
+        kind: kind_of(&body),
     }
 }
 
@@ -186,7 +192,7 @@ fn foreign_of(version: &[u8]) -> Option<Text<'_>>
 }
 
 /// MsgType (35) as a Reject names it: 1 to 4 letters or digits.
-fn msg_type_of(body: &[u8]) -> Option<Text<'_>>
+fn msg_type_of<'a>(body: &Scanned<'a>) -> Option<Text<'a>>
     ensures { result ≡ spec.msg_type_of (fields_in body.now) }
 {
     let name = text(body, 35)?;
@@ -198,43 +204,43 @@ fn msg_type_of(body: &[u8]) -> Option<Text<'_>>
 }
 
 /// What it says beside its header.
-fn kind_of(body: &[u8]) -> Kind<'_>
+fn kind_of<'a>(body: &Scanned<'a>) -> Kind<'a>
     ensures { result ≡ spec.kind_of (fields_in body.now) }
 {
-    if has(body, 35, b"A") {
+    if body.has(35, b"A") {
         return Kind::Logon;
     }
-    if has(body, 35, b"0") {
+    if body.has(35, b"0") {
         let answers = answered(body);
         return Kind::Heartbeat { answers };
     }
-    if has(body, 35, b"1") {
+    if body.has(35, b"1") {
         let id = test_id_of(body);
         return Kind::TestRequest { id };
     }
-    if has(body, 35, b"2") {
+    if body.has(35, b"2") {
         let first = number_at(body, 7);
         let last = number_at(body, 16);
         return Kind::ResendRequest { first, last };
     }
-    if has(body, 35, b"3") {
+    if body.has(35, b"3") {
         return Kind::Reject;
     }
-    if has(body, 35, b"4") {
+    if body.has(35, b"4") {
         return reset_of(body);
     }
-    if has(body, 35, b"5") {
+    if body.has(35, b"5") {
         return Kind::Logout;
     }
     Kind::Other
 }
 
 /// A SequenceReset, by its GapFillFlag (123): absent or N is reset mode.
-fn reset_of(body: &[u8]) -> Kind<'_>
+fn reset_of<'a>(body: &Scanned<'a>) -> Kind<'a>
     ensures { result ≡ spec.reset_of (fields_in body.now) }
 {
     let next = number_at(body, 36);
-    if times(body, 123) == 0 || has(body, 123, b"N") {
+    if body.times(123) == 0 || body.has(123, b"N") {
         Kind::Reset { next }
     } else {
         Kind::Fill { next }
@@ -242,18 +248,18 @@ fn reset_of(body: &[u8]) -> Kind<'_>
 }
 
 /// The number of the TestRequest that a Heartbeat answers.
-fn answered(body: &[u8]) -> Option<u64>
+fn answered(body: &Scanned) -> Option<u64>
     ensures { result ≡ option_and_then number_of (value_of 112 (fields_in body.now)) }
 {
-    let id = value(body, 112)?;
+    let id = body.value(112)?;
     read_number(id)
 }
 
 /// What a TestRequest asks for.
-fn test_id_of(body: &[u8]) -> TestId<'_>
+fn test_id_of<'a>(body: &Scanned<'a>) -> TestId<'a>
     ensures { result ≡ spec.test_id_of (value_of 112 (fields_in body.now)) }
 {
-    let Some(id) = value(body, 112) else {
+    let Some(id) = body.value(112) else {
         return TestId::Missing;
     };
     match Text::new(id) {
@@ -263,44 +269,44 @@ fn test_id_of(body: &[u8]) -> TestId<'_>
 }
 
 /// The tag of the name that is another's.
-fn stranger_of(names: &Names, body: &[u8]) -> Option<u64>
+fn stranger_of(names: &Names, body: &Scanned) -> Option<u64>
     ensures { result ≡ spec.stranger_of names.now (fields_in body.now) }
 {
-    if !has(body, 49, names.firm.as_bytes()) {
+    if !body.has(49, names.firm.as_bytes()) {
         return Some(49);
     }
-    if !has(body, 56, names.venue.as_bytes()) {
+    if !body.has(56, names.venue.as_bytes()) {
         return Some(56);
     }
     None
 }
 
 /// MsgSeqNum (34): there once, and a number from 1 on.
-fn number_once(body: &[u8]) -> Option<u64>
+fn number_once(body: &Scanned) -> Option<u64>
     ensures { result ≡ spec.number_once (fields_in body.now) }
 {
-    if times(body, 34) != 1 {
+    if body.times(34) != 1 {
         return None;
     }
-    let number = read_number(value(body, 34)?)?;
+    let number = read_number(body.value(34)?)?;
     if number == 0 { None } else { Some(number) }
 }
 
 /// The number that a tag has.
-fn number_at(body: &[u8], tag: u64) -> Reading
+fn number_at(body: &Scanned, tag: u64) -> Reading
     ensures { result ≡ texts.number_at tag (fields_in body.now) }
 {
-    let Some(text) = value(body, tag) else {
+    let Some(text) = body.value(tag) else {
         return Reading::Missing;
     };
     read_as(read_number(text))
 }
 
 /// The time that a tag has.
-fn time_at(body: &[u8], tag: u64) -> Reading
+fn time_at(body: &Scanned, tag: u64) -> Reading
     ensures { result ≡ texts.time_at tag (fields_in body.now) }
 {
-    let Some(text) = value(body, tag) else {
+    let Some(text) = body.value(tag) else {
         return Reading::Missing;
     };
     read_as(read_time(text))
@@ -317,8 +323,8 @@ fn read_as(value: Option<u64>) -> Reading
 }
 
 /// The short text that a tag has.
-fn text(body: &[u8], tag: u64) -> Option<Text<'_>>
+fn text<'a>(body: &Scanned<'a>, tag: u64) -> Option<Text<'a>>
     ensures { result ≡ texts.text_at tag (fields_in body.now) }
 {
-    Text::new(value(body, tag)?)
+    Text::new(body.value(tag)?)
 }

@@ -33,6 +33,7 @@ mod orders;
 mod outcomes;
 mod requests;
 mod rows;
+mod scanned;
 mod sending;
 mod settling;
 mod state;

@@ -1,5 +1,5 @@
 //! Numbers written in digits.
-ghost use Rattle.std.specs.Prelude.{◌≡◌, ◌≤◌, ◌<◌, length, IsTrue};
+ghost use Rattle.std.specs.Prelude.{◌≡◌, ◌≤◌, ◌<◌, true, length, take, IsTrue};
 ghost use Rattle.std.specs.List.{list_all};
 ghost use Rattle.std.specs.Char.{is_ascii_digit};
 ghost use Rattle.std.specs.Str.Parse.{digits_value};
@@ -27,6 +27,23 @@ pub(crate) fn number_of_digits(text: &[u8]) -> u64
         value = value * 10 + u64::from(*digit) - u64::from(b'0');
     }
     value
+}
+
+/// The number that the digits at the front of a text write, and how many these are: of more than
+/// nine the first nine.
+pub(crate) fn leading_number(text: &[u8]) -> (u64, usize)
+    ensures few { result.1 ≤ 9 }
+    ensures within { result.1 ≤ length text.now }
+    ensures digits { list_all is_ascii_digit (take result.1 text.now) ≡ true }
+    ensures value { result.0 ≡ digits_value 10 (take result.1 text.now) }
+{
+    let mut number: u64 = 0;
+    let mut count = 0;
+    while count < text.len() && count < 9 && text[count].is_ascii_digit() {
+        number = number * 10 + u64::from(text[count]) - u64::from(b'0');
+        count += 1;
+    }
+    (number, count)
 }
 
 /// The number that at most nine digits write.

@@ -45,8 +45,8 @@ loop-rest-preserved c =
       omega (arith, c.loop-rest.invariant.1, behind_shorter rest some, ap length c.split_piece.ensures.behind),
     )
 
-pub returns : goal.returns
-returns c =
+pub returns-clause-value : goal.returns-clause-value
+returns-clause-value c =
     let none : length c.loop-rest.rest.now ≤ 0 = search rules in
     let no_more = ap (times_of c.args.tag) (no_fields c.loop-rest.rest.now none) in
     omega (arith, c.loop-rest.invariant.0, no_more)
