@@ -1,5 +1,5 @@
 //! What a turn tells C.
-ghost use Rattle.std.specs.Prelude.{◌≡◌, length, take, true, false};
+ghost use Rattle.std.specs.Prelude.{◌≡◌, ◌<◌, length, take, true, false};
 ghost use Rattle.fix_sessions_c.specs.Told as spec;
 
 use crate::parts::{Parts, Setting, joined, parts_of};
@@ -146,7 +146,8 @@ fn told_of(turn: &Turn, first: usize, second: usize, kept: usize) -> Told
 
 /// Bytes are copied to the front of a place, where there is room for them.
 pub(crate) fn copy(out: &mut [u8], bytes: &[u8]) -> bool
-    ensures { result ≡ true → take (length bytes.now) out.new ≡ bytes.now }
+    ensures done { result ≡ true → take (length bytes.now) out.new ≡ bytes.now }
+    ensures not_done { result ≡ false → length out.old < length bytes.now }
 {
     if bytes.len() > out.len() {
         return false;

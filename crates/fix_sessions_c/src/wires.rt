@@ -1,8 +1,8 @@
 //! Messages between the venue and the wire.
-ghost use Rattle.std.specs.Prelude.{◌≡◌, true, take};
+ghost use Rattle.std.specs.Prelude.{◌≡◌, true, false, length, take};
 ghost use Rattle.wire_messages.specs.ToVenue.{IsGiven};
 ghost use Rattle.fix_sessions_c.specs.Wires as spec;
-ghost use Rattle.fix_sessions_c.specs.Wires.{IsWireOut};
+ghost use Rattle.fix_sessions_c.specs.Wires.{IsNotIn, IsNotOut, IsWireOut};
 
 use crate::told::copy;
 use fix_sessions::MOST_KEPT;
@@ -15,8 +15,8 @@ const _: () = prove!(MOST_WIRE_BODY == MOST_KEPT);
 /// A message of the venue as the session is given it. `appl_number` is the number that is due: the
 /// venue's count of its messages to the firm. `reference` is the session's number of the message that
 /// a Reject refuses; 0 leaves 45 as it is. What is told is a reason (`told_tag` 58), a trade's name
-/// (1003), or nothing (0). False where the frame is no message of the venue's under that number, what
-/// is told is none or stands in it already, memory is refused, or there is no room.
+/// (1003), or nothing (0). False where what is told is none, where the message does not cross, or where
+/// there is no room.
 #[unsafe(no_mangle)]
 pub extern "C" fn fix_sessions_wire_out(
     alloc: Global,
@@ -28,8 +28,10 @@ pub extern "C" fn fix_sessions_wire_out(
     out: &mut [u8],
     written: &mut usize,
 ) -> bool
-    ensures { result ≡ true
+    ensures done { result ≡ true
         → IsWireOut frame.now appl_number reference told_tag told.now out.new written.new }
+    ensures not_done { result ≡ false
+        → IsNotOut frame.now appl_number reference told_tag told.now (length out.old) }
 {
     let Some(told) = told_of(told_tag, told) else {
         return false;
@@ -45,7 +47,7 @@ pub extern "C" fn fix_sessions_wire_out(
 }
 
 /// A firm's message, which the session has taken, as the venue is given it under a number. False
-/// where it is no message, memory is refused, or there is no room.
+/// where it does not cross, or where there is no room.
 #[unsafe(no_mangle)]
 pub extern "C" fn fix_sessions_wire_in(
     alloc: Global,
@@ -54,7 +56,8 @@ pub extern "C" fn fix_sessions_wire_in(
     out: &mut [u8],
     written: &mut usize,
 ) -> bool
-    ensures { result ≡ true → IsGiven (take written.new out.new) bytes.now number }
+    ensures done { result ≡ true → IsGiven (take written.new out.new) bytes.now number }
+    ensures not_done { result ≡ false → IsNotIn bytes.now number (length out.old) }
 {
     let Ok(given) = to_venue(alloc, bytes, u64::from(number)) else {
         return false;

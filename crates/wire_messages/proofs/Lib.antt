@@ -1,4 +1,5 @@
 pub mod PlaceLemmas
+pub mod UnwrittenLemmas
 pub mod WritingLemmas
 pub mod WireLemmas
 pub mod GivenLemmas

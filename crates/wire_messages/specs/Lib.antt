@@ -1,2 +1,3 @@
 pub mod ToFirm
 pub mod ToVenue
+pub mod Unwritten

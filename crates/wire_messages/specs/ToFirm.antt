@@ -2,7 +2,7 @@
 -- its order, except for the named fields. MsgSeqNum (34) stands in ApplSeqNum (1181), SendingTime (52)
 -- in TransactTime (60), RefSeqNum (45) of a Reject names the session's number, and what the firm is
 -- told beside the message stands last.
-use Rattle.std.specs.Prelude.{◌≡◌, ◌≢◌, ◌⊎◌, ℕ, ◌≤◌, ◌==◌, ◌&&◌, ◌||◌, Bool, true, false, not, List, [], ◌∷◌, ◌++◌}
+use Rattle.std.specs.Prelude.{◌≡◌, ◌≢◌, ◌⊎◌, ℕ, ◌<◌, ◌≤◌, ◌==◌, ◌&&◌, ◌||◌, Bool, true, false, not, List, [], ◌∷◌, ◌++◌}
 use Rattle.std.specs.Prelude.{codes, decimal, map, nat_eq, nat_lt, length, if◌then◌else◌, Option, Some, None}
 use Rattle.std.specs.Cmp.Lexicographic.{pointwise}
 use Rattle.fix_fields.specs.Frame.{Field, IsValue, frame_of, frame_text, fields_len, is_value}
@@ -108,17 +108,20 @@ pub record IsOnWire (bytes : List ℕ) (reference : ℕ) (told : Option Field) (
   pub frame : frame_of bytes ≡ Some (to_firm reference told m)
   pub fits : fields_len (to_firm reference told m) ≤ MOST_WIRE_BODY
 
--- Why a message is not translated: the first of these, in this order. Behind them it is too long, or
--- memory is refused.
-abbrev pub IsNotForFirm : Untranslated → List ℕ → ℕ → Option Field → Type 0
-IsNotForFirm fault.Form bytes number told =
+-- Why a message is not translated: the first of these that holds, in this order. One of which none
+-- holds is translated, unless memory is refused, which is asked for behind the first three.
+abbrev pub IsNotForFirm : Untranslated → List ℕ → ℕ → ℕ → Option Field → Type 0
+IsNotForFirm fault.Form bytes number reference told =
     (m : VenueMessage) → frame_of bytes ≢ Some (venue_fields m)
-IsNotForFirm fault.Number bytes number told =
+IsNotForFirm fault.Number bytes number reference told =
     (m : VenueMessage) × (frame_of bytes ≡ Some (venue_fields m)) × (m.number ≢ decimal number)
-IsNotForFirm fault.Added bytes number told =
+IsNotForFirm fault.Added bytes number reference told =
     (m : VenueMessage) × IsOfVenue bytes number m × (has_added told m.behind ≡ true)
-IsNotForFirm fault.TooLong bytes number told = Unit {0}
-IsNotForFirm fault.Memory bytes number told = Unit {0}
+IsNotForFirm fault.TooLong bytes number reference told =
+    (m : VenueMessage) × IsOfVenue bytes number m × (has_added told m.behind ≡ false)
+    × (MOST_WIRE_BODY < fields_len (to_firm reference told m))
+IsNotForFirm fault.Memory bytes number reference told =
+    (m : VenueMessage) × IsOfVenue bytes number m × (has_added told m.behind ≡ false)
 
 -- Reading back.
 

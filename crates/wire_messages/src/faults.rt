@@ -2,7 +2,7 @@
 
 use thiserror::Error;
 
-/// Why a message is not translated.
+/// Why a message is not translated: the first of these.
 #[derive(Clone, Copy, Debug, PartialEq, Eq, Error)]
 pub enum Untranslated {
     /// To a firm: it is no frame that begins with 35, 49, 56, 34 and 52. To the venue: it is no
@@ -15,11 +15,11 @@ pub enum Untranslated {
     /// To a firm: it has a field that the wire adds: 1181, 60, or that of what is told beside it.
     #[error("the venue's message has a field that the wire adds")]
     Added,
-    /// To a firm: it leaves no room for the session's header. To the venue: it would be longer than
-    /// a frame may be.
+    /// To a firm: what stands behind the session's header would be longer than
+    /// [`MOST_WIRE_BODY`](crate::MOST_WIRE_BODY). To the venue: it would be longer than a frame may be.
     #[error("the message is too long")]
     TooLong,
-    /// Memory is refused.
+    /// Memory is refused. It is asked for of messages without the faults above, but for the length.
     #[error("memory is refused")]
     Memory,
 }

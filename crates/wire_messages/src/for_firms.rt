@@ -1,8 +1,9 @@
 //! The venue's messages, as a firm has them on the wire.
-ghost use Rattle.std.specs.Prelude.{◌≡◌, ◌≢◌, ◌≤◌, ◌++◌, [], ◌∷◌, ◌||◌, true, false, decimal, MatchResult, IfOk, OnOk, Some};
+ghost use Rattle.std.specs.Prelude.{◌≡◌, ◌≢◌, ◌≤◌, ◌++◌, [], ◌∷◌, ◌||◌, true, false, decimal, MatchResult, Some};
 ghost use Rattle.fix_fields.specs.Frame.{IsField, frame_text, frame_of, fields_len};
 ghost use Rattle.wire_messages.specs.ToFirm.{VenueMessage, IsOfVenue, IsOnWire, IsNotForFirm};
 ghost use Rattle.wire_messages.specs.ToFirm as spec;
+ghost use Rattle.wire_messages.specs.Unwritten.{IsUnwritten};
 
 use crate::faults::Untranslated;
 use crate::limits::MOST_WIRE_BODY;
@@ -27,7 +28,7 @@ pub fn to_firm(
     ensures { MatchResult result
         (λ wire. (m : VenueMessage) × IsOfVenue bytes.now number m
         × IsOnWire wire.items reference told.now m)
-        (λ why. IsNotForFirm why bytes.now number told.now) }
+        (λ why. IsNotForFirm why bytes.now number reference told.now) }
 {
     let Ok(frame) = read_frame(bytes) else {
         return Err(Untranslated::Form);
@@ -41,11 +42,7 @@ pub fn to_firm(
     if has_added(&message, told) {
         return Err(Untranslated::Added);
     }
-    match write(alloc, &message, reference, told) {
-        Ok(wire) => Ok(wire),
-        Err(Untranslated::Memory) => Err(Untranslated::Memory),
-        Err(_) => Err(Untranslated::TooLong),
-    }
+    write(alloc, &message, reference, told)
 }
 
 /// Whether a text is a number as it is written.
@@ -96,10 +93,11 @@ fn write(
     reference: u64,
     told: &Option<Told>,
 ) -> Result<Vec<u8>, Untranslated>
-    ensures { IfOk result (λ wire.
-        (wire.items ≡ frame_text (spec.to_firm reference told.now message.now))
+    ensures { MatchResult result
+        (λ wire. (wire.items ≡ frame_text (spec.to_firm reference told.now message.now))
         × (frame_of wire.items ≡ Some (spec.to_firm reference told.now message.now))
-        × (fields_len (spec.to_firm reference told.now message.now) ≤ MOST_WIRE_BODY)) }
+        × (fields_len (spec.to_firm reference told.now message.now) ≤ MOST_WIRE_BODY))
+        (λ why. IsUnwritten MOST_WIRE_BODY why (spec.to_firm reference told.now message.now)) }
 {
     let mut writer = start(alloc, message.kind())?;
     put(&mut writer, 1181, message.number())?;
@@ -118,7 +116,10 @@ fn put_behind(
     message: &OfVenue,
     reference: u64,
 ) -> Result<(), Untranslated>
-    ensures { OnOk result (writer.new ≡ writer.old ++ spec.wire_behind reference message.now) }
+    ensures { MatchResult result
+        (λ _. writer.new ≡ writer.old ++ spec.wire_behind reference message.now)
+        (λ why. IsUnwritten MOST_BODY why
+        (writer.old ++ spec.wire_behind reference message.now)) }
 {
     let mut is_timed = false;
     for (tag, value) in message.behind() {
@@ -135,10 +136,12 @@ fn put_time_before(
     is_timed: bool,
     tag: u32,
 ) -> Result<bool, Untranslated>
-    ensures stands { IfOk result (λ stands.
-        stands ≡ (is_timed || spec.time_stands_before message.now.kind tag)) }
-    ensures fields { OnOk result (writer.new ≡ writer.old
-        ++ spec.time_before is_timed message.now.kind message.now.moment tag) }
+    ensures { MatchResult result
+        (λ stands. (stands ≡ (is_timed || spec.time_stands_before message.now.kind tag))
+        × (writer.new ≡ writer.old
+        ++ spec.time_before is_timed message.now.kind message.now.moment tag))
+        (λ why. IsUnwritten MOST_BODY why (writer.old
+        ++ spec.time_before is_timed message.now.kind message.now.moment tag)) }
 {
     if is_timed {
         return Ok(true);
@@ -156,8 +159,11 @@ fn put_time_behind(
     message: &OfVenue,
     is_timed: bool,
 ) -> Result<(), Untranslated>
-    ensures { OnOk result (writer.new ≡ writer.old
-        ++ spec.timed_from is_timed message.now.kind message.now.moment []) }
+    ensures { MatchResult result
+        (λ _. writer.new ≡ writer.old
+        ++ spec.timed_from is_timed message.now.kind message.now.moment [])
+        (λ why. IsUnwritten MOST_BODY why (writer.old
+        ++ spec.timed_from is_timed message.now.kind message.now.moment [])) }
 {
     if is_timed {
         return Ok(());
@@ -186,8 +192,11 @@ fn put_referred(
     value: &[u8],
 ) -> Result<(), Untranslated>
     requires { IsField (tag, value.now) }
-    ensures { OnOk result (writer.new ≡ writer.old
-        ++ spec.referred kind.now reference (tag, value.now) ∷ []) }
+    ensures { MatchResult result
+        (λ _. writer.new ≡ writer.old
+        ++ spec.referred kind.now reference (tag, value.now) ∷ [])
+        (λ why. IsUnwritten MOST_BODY why
+        (writer.old ++ spec.referred kind.now reference (tag, value.now) ∷ [])) }
 {
     if tag == 45 && kind == b"3".as_slice() && reference != 0 {
         return put_number(writer, 45, reference);
@@ -197,7 +206,8 @@ fn put_referred(
 
 /// What is told.
 fn put_told(writer: &mut FrameWriter, told: &Option<Told>) -> Result<(), Untranslated>
-    ensures { OnOk result (writer.new ≡ writer.old ++ spec.told_fields told.now) }
+    ensures { MatchResult result (λ _. writer.new ≡ writer.old ++ spec.told_fields told.now)
+        (λ why. IsUnwritten MOST_BODY why (writer.old ++ spec.told_fields told.now)) }
 {
     let Some(told) = told else {
         return Ok(());

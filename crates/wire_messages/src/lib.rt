@@ -7,8 +7,9 @@
 //! - [`to_venue`]: MsgSeqNum (34) is the venue's count, SendingTime (52) is cut to milliseconds, and
 //!   PossDupFlag (43), PossResend (97) and OrigSendingTime (122) are left out.
 //!
-//! Each is proved to give what its definition says (`specs/ToFirm`, `specs/ToVenue`), and each of its
-//! errors comes where the definition says. Laws of the definitions:
+//! Each is proved to give what its definition says (`specs/ToFirm`, `specs/ToVenue`). A message that
+//! does not cross has the fault that is told, the first in the order of [`Untranslated`], and each
+//! message without one crosses, unless memory is refused. Laws of the definitions:
 //!
 //! - [`the_wire_reads_back`]: the wire's message without what the wire adds is the venue's.
 //! - [`the_wire_tells_messages_apart`]: two messages that are one on the wire are one.

@@ -1,6 +1,7 @@
 //! Fields that are written where there is room for them.
-ghost use Rattle.std.specs.Prelude.{◌≡◌, ◌++◌, [], ◌∷◌, decimal, IfOk, OnOk, Some};
+ghost use Rattle.std.specs.Prelude.{◌≡◌, ◌++◌, [], ◌∷◌, decimal, MatchResult, Some};
 ghost use Rattle.fix_fields.specs.Frame.{IsTag, IsValue, frame_text, frame_of};
+ghost use Rattle.wire_messages.specs.Unwritten.{IsUnwritten};
 
 use crate::faults::Untranslated;
 use fix_fields::{FrameWriter, MOST_BODY, decimal_len, fits};
@@ -9,7 +10,8 @@ use std::alloc::Global;
 /// A frame with MsgType (35) alone.
 pub(crate) fn start(alloc: Global, kind: &[u8]) -> Result<FrameWriter, Untranslated>
     requires { IsValue kind.now }
-    ensures { IfOk result (λ writer. writer ≡ (35, kind.now) ∷ []) }
+    ensures { MatchResult result (λ writer. writer ≡ (35, kind.now) ∷ [])
+        (λ why. IsUnwritten MOST_BODY why ((35, kind.now) ∷ [])) }
 {
     if !fits(35, kind.len(), MOST_BODY) {
         return Err(Untranslated::TooLong);
@@ -24,7 +26,8 @@ pub(crate) fn start(alloc: Global, kind: &[u8]) -> Result<FrameWriter, Untransla
 pub(crate) fn put(writer: &mut FrameWriter, tag: u32, value: &[u8]) -> Result<(), Untranslated>
     requires tag { IsTag tag }
     requires value { IsValue value.now }
-    ensures { OnOk result (writer.new ≡ writer.old ++ (tag, value.now) ∷ []) }
+    ensures { MatchResult result (λ _. writer.new ≡ writer.old ++ (tag, value.now) ∷ [])
+        (λ why. IsUnwritten MOST_BODY why (writer.old ++ (tag, value.now) ∷ [])) }
 {
     if !fits(tag, value.len(), writer.left()) {
         return Err(Untranslated::TooLong);
@@ -42,7 +45,8 @@ pub(crate) fn put_number(
     number: u64,
 ) -> Result<(), Untranslated>
     requires { IsTag tag }
-    ensures { OnOk result (writer.new ≡ writer.old ++ (tag, decimal number) ∷ []) }
+    ensures { MatchResult result (λ _. writer.new ≡ writer.old ++ (tag, decimal number) ∷ [])
+        (λ why. IsUnwritten MOST_BODY why (writer.old ++ (tag, decimal number) ∷ [])) }
 {
     if !fits(tag, decimal_len(number), writer.left()) {
         return Err(Untranslated::TooLong);
@@ -55,8 +59,9 @@ pub(crate) fn put_number(
 
 /// The frame of what was written.
 pub(crate) fn finish(writer: FrameWriter) -> Result<Vec<u8>, Untranslated>
-    ensures text { IfOk result (λ bytes. bytes.items ≡ frame_text writer) }
-    ensures frame { IfOk result (λ bytes. frame_of bytes.items ≡ Some writer) }
+    ensures { MatchResult result
+        (λ bytes. (bytes.items ≡ frame_text writer) × (frame_of bytes.items ≡ Some writer))
+        (λ why. why ≡ Untranslated.Memory) }
 {
     match writer.finish() {
         Ok(bytes) => Ok(bytes),

@@ -7,6 +7,7 @@ use Rattle.wire_messages.proofs.for_venue.put_fields.Given as goal
 abbrev pub invariant-loop-rest : goal.invariant-loop-rest
 invariant-loop-rest l = record {
   held : HoldsFields l.rest → HoldsFields l.fn.text;
+  holds : HoldsFields l.fn.text → HoldsFields l.rest;
   fields : l.writer ++ to_venue l.number (fields_of l.rest) ≡ l.fn.writer ++ to_venue l.number (fields_of l.fn.text);
 }
 
