@@ -1,4 +1,5 @@
-"""The gate's cases of the session, row by row of docs/SESSIONS.md, over the second implementation."""
+"""The gate's cases over the second implementation: of the session, row by row of docs/SESSIONS.md, and of messages
+between the wire and the venue."""
 
 import hashlib
 from pathlib import Path
@@ -8,9 +9,11 @@ import pytest
 from tests.harness import build
 from tests.harness.options import ROOT
 from tests.sessions.case_file import cases_of
+from tests.sessions.crossing import REFUSED, Crossing
 from tests.sessions.desk import Desk
 
 CASES = ROOT / "crates" / "session_cases" / "data"
+WIRE_CASES = ROOT / "crates" / "wire_cases" / "data"
 HEADER = ROOT / "gateway" / "session"
 MODEL = ROOT / "gateway" / "session_model"
 FORM = (
@@ -35,3 +38,20 @@ def test_cases(library: Path, name: str) -> None:
         desk = Desk(library)
         for step in case.steps:
             assert desk.call(step.call) == step.lines, (case.name, step.call)
+
+
+def without_reason(line: str) -> str:
+    """A line of the cases as C++ is told it."""
+    return REFUSED if line.startswith(REFUSED + " ") else line
+
+
+@pytest.mark.parametrize("name", sorted(path.stem for path in WIRE_CASES.glob("*.cases")))
+def test_wire_cases(library: Path, name: str) -> None:
+    """Each message crosses, or is refused, as the case says."""
+    cases = cases_of(WIRE_CASES / ("%s.cases" % name))
+    assert cases
+    for case in cases:
+        crossing = Crossing(library)
+        for step in case.steps:
+            expected = list(map(without_reason, step.lines))
+            assert crossing.call(step.call) == expected, (case.name, step.call)
