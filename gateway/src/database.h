@@ -94,6 +94,13 @@ class LogReader {
     virtual std::vector<Seal> seals(std::uint32_t from, std::uint32_t limit) = 0;
     // The last checkpoint, likewise, if there is one.
     virtual std::optional<Checkpoint> last_checkpoint() = 0;
+    // What a session keeps behind a number of an epoch that no message of the venue's vouches for:
+    // its own, copies, and what it has dropped; `limit` at most, in order.
+    virtual std::vector<Outgoing> own(const std::string &firm, std::uint32_t epoch,
+                                      std::uint32_t behind, std::uint32_t limit) = 0;
+    // The first copy of an epoch that is not what it is a copy of, by its number.
+    virtual std::optional<std::uint32_t> wrong_copy(const std::string &firm,
+                                                    std::uint32_t epoch) = 0;
 };
 
 // Writes through a connection of its own; one thread at a time.
@@ -204,6 +211,16 @@ constexpr std::string_view outgoing_of_firms =
 // Of the table `outgoing`.
 inline std::string select_outgoing(std::string_view rest) {
     return fmt::format("SELECT {} FROM outgoing WHERE {}", outgoing_columns, rest);
+}
+
+// LogReader::wrong_copy(), by its parameters firm and epoch.
+inline std::string select_wrong_copy(std::string_view firm, std::string_view epoch) {
+    return fmt::format("SELECT coalesce(min(copied.number), 0) FROM outgoing AS copied LEFT JOIN "
+                       "outgoing AS given ON given.firm = copied.firm AND given.sent = copied.sent "
+                       "AND given.copy = 0 WHERE copied.firm = {} AND copied.epoch = {} AND "
+                       "copied.copy = 1 AND (given.number IS NULL OR given.bytes <> copied.bytes "
+                       "OR given.moment <> copied.moment OR given.type <> copied.type)",
+                       firm, epoch);
 }
 
 // Drops the Rejects of a session, by its parameters firm and epoch.

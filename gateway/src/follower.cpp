@@ -1,6 +1,7 @@
 #include "follower.h"
 
 #include "frame.h"
+#include "kept_check.h"
 #include "log_watch.h"
 #include "wire.h"
 
@@ -134,6 +135,7 @@ std::optional<Follower::End> Follower::catch_up() {
     ahead_.settle(*reader);
     End end{last_, reader->states(), reader->notes()};
     comparison_.check_sent(end.states);
+    check_kept(*reader, end.states);
     return end;
 }
 

@@ -110,6 +110,11 @@ class PostgresReader final : public LogReader {
                              select_outgoing("firm = $1 AND (epoch, number) > ($2, $3) AND sent IS "
                                              "NOT NULL AND copy = 0 ORDER BY epoch, number LIMIT "
                                              "$4"));
+        connection_->prepare("own",
+                             select_outgoing("firm = $1 AND epoch = $2 AND number > $3 AND (sent "
+                                             "IS NULL OR copy = 1 OR dropped = 1) ORDER BY number "
+                                             "LIMIT $4"));
+        connection_->prepare("wrong copy", select_wrong_copy("$1", "$2"));
         connection_->prepare("kept", "SELECT count(*) FROM outgoing WHERE firm = $1 AND epoch = $2 "
                                      "AND number > $3 AND sent IS NOT NULL");
     }
@@ -153,6 +158,19 @@ class PostgresReader final : public LogReader {
     std::vector<Outgoing> carriers(const std::string &firm, std::uint32_t epoch,
                                    std::uint32_t behind, std::uint32_t limit) override {
         return outgoing_by("carriers", firm, epoch, behind, limit);
+    }
+
+    std::vector<Outgoing> own(const std::string &firm, std::uint32_t epoch, std::uint32_t behind,
+                              std::uint32_t limit) override {
+        return outgoing_by("own", firm, epoch, behind, limit);
+    }
+
+    std::optional<std::uint32_t> wrong_copy(const std::string &firm, std::uint32_t epoch) override {
+        return told("copies", [&] {
+            pqxx::nontransaction work(*connection_);
+            const auto number = number_of(work.exec_prepared("wrong copy", firm, epoch)[0][0]);
+            return number > 0 ? std::optional(number) : std::nullopt;
+        });
     }
 
     std::uint32_t count_kept(const std::string &firm, std::uint32_t epoch,

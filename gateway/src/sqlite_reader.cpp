@@ -87,6 +87,11 @@ class SqliteReader final : public LogReader {
           carriers_(connection_.get(),
                     select_outgoing("firm = ? AND (epoch, number) > (?, ?) AND sent IS NOT NULL "
                                     "AND copy = 0 ORDER BY epoch, number LIMIT ?")),
+          own_(
+              connection_.get(),
+              select_outgoing("firm = ? AND epoch = ? AND number > ? AND (sent IS NULL OR copy = 1 "
+                              "OR dropped = 1) ORDER BY number LIMIT ?")),
+          wrong_copy_(connection_.get(), select_wrong_copy("?", "?")),
           kept_(connection_.get(), "SELECT count(*) FROM outgoing WHERE firm = ? AND epoch = ? AND "
                                    "number > ? AND sent IS NOT NULL"),
           session_(connection_.get(), fmt::format("SELECT {} FROM session", session_columns)),
@@ -136,6 +141,20 @@ class SqliteReader final : public LogReader {
     std::vector<Outgoing> carriers(const std::string &firm, std::uint32_t epoch,
                                    std::uint32_t behind, std::uint32_t limit) override {
         return outgoing_by(carriers_, firm, epoch, behind, limit);
+    }
+
+    std::vector<Outgoing> own(const std::string &firm, std::uint32_t epoch, std::uint32_t behind,
+                              std::uint32_t limit) override {
+        return outgoing_by(own_, firm, epoch, behind, limit);
+    }
+
+    std::optional<std::uint32_t> wrong_copy(const std::string &firm, std::uint32_t epoch) override {
+        std::uint32_t number = 0;
+        wrong_copy_.bind(firm).bind(std::int64_t{epoch});
+        while (wrong_copy_.step()) {
+            number = wrong_copy_.number(0);
+        }
+        return number > 0 ? std::optional(number) : std::nullopt;
     }
 
     std::uint32_t count_kept(const std::string &firm, std::uint32_t epoch,
@@ -232,6 +251,8 @@ class SqliteReader final : public LogReader {
     Statement sent_;
     Statement outgoing_;
     Statement carriers_;
+    Statement own_;
+    Statement wrong_copy_;
     Statement kept_;
     Statement session_;
     Statement came_;

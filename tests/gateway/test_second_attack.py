@@ -1,0 +1,232 @@
+"""What was tried against a gateway by somebody who knows its code: a firm with a password, somebody
+who can write to the log while no gateway runs, and a browser's page of another origin."""
+
+import re
+import socket
+from collections.abc import Callable
+from dataclasses import dataclass
+
+from tests.admin.desk import did
+from tests.admin.test_orders import quoted, request_fields
+from tests.gateway.firm import Received
+from tests.gateway.market import moment_in
+from tests.gateway.stage import DEALER, INVESTOR, Stage, check
+from tests.gateway.test_seals import Intruder
+from tests.gateway.wait import LONG, until
+from tests.gateway.wire import Fields, Wire, framed
+from tests.limits.flood import cancel, logged_on
+
+LAST = 999_999_990  # the last number of a session
+
+
+def asked(dealer: Wire, investor: Wire, name: bytes = b"A1") -> None:
+    """A request of the investor, which the dealer is shown."""
+    fields = request_fields(name, moment_in(600))
+    assert investor.raw(investor.message(b"R", investor.name, fields))
+    assert dealer.read_kind(b"R") is not None
+
+
+def hit(wire: Wire, name: bytes, quote: bytes, kind: bytes = b"1") -> Received:
+    """A hit, and what it is answered, by the session or by the venue."""
+    fields: Fields = [(50, b"V1"), (693, name), (694, kind), (117, quote)]
+    assert wire.raw(wire.message(b"AJ", wire.name, fields))
+    return wire.got_until(lambda message: name in (message.value(379), message.value(693)))
+
+
+def numbers_of(stage: Stage, firm: str) -> list[int]:
+    """The numbers (34) of a firm's messages, as the venue was given them; those that the gateway said in its name too."""
+    entries = [entry for entry in stage.door.ledger().entries if entry.firm == firm]
+    found = [re.search(rb"\x0134=(\d+)\x01", entry.message) for entry in entries]
+    return [int(each[1]) for each in found if each]
+
+
+# ---------------------------------------------------------------- numbers
+
+
+def test_numbers_at_their_end(stage: Stage) -> None:
+    """A firm that uses up all numbers of its day harms itself alone: others trade, and a start opens the day."""
+    stage.open(stage.other)
+    with logged_on(stage, DEALER) as wire:
+        assert wire.raw(wire.message(b"4", wire.name, [(36, b"%d" % (LAST - 2))]))
+        for number in range(LAST - 2, LAST + 1):
+            assert wire.raw(cancel(wire, number))
+        check(wire.closed_within(LONG), "a session without a number goes on")
+    check(stage.door.stop() == 0, "the gateway does not end well")
+    stage.door.start()
+    stage.door.wait_open()
+    until("the other is back", LONG, stage.other.logged_on)
+    stage.ping(stage.other)
+    with Wire(stage.door.port) as wire:
+        wire.number = LAST + 1
+        assert wire.logon(b"DLR1", DEALER.password.encode())
+        check(wire.closed_within(LONG) and not wire.waiting, "it is told %r" % wire.waiting)
+    check(numbers_of(stage, "DLR1") == [1, 2, 3], "other messages of it are in the log")
+
+
+# ---------------------------------------------------------------- the log, while no gateway runs
+
+TRADE = framed(
+    b"35=AI\x011181=77\x01131=A1\x01693=h9\x01117=Q1\x0155=[N/A]\x01"
+    b"60=20261128-01:00:00.000\x01297=0\x011003=20261128-INV1-DLR1-9\x01"
+)
+PUT_IN = (
+    "INSERT INTO outgoing (firm, epoch, number, sent, copy, dropped, type, moment, bytes) "
+    "SELECT 'INV1', 0, next, NULL, %d, 0, 'AI', '01:00:00.000', %s FROM session WHERE firm = 'INV1'"
+)
+TAKE_OUT = "DELETE FROM outgoing WHERE firm = 'INV1' AND sent IS NULL"
+COPIES = "WHERE firm = 'DLR1' AND epoch = 1"
+
+
+@dataclass(frozen=True)
+class Change:
+    """What somebody does to what sessions keep, the firm whose session that is, and how it is undone."""
+
+    firm: str
+    statement: str
+    undone: str
+
+
+def changes(trade: str) -> list[Change]:
+    """`trade` is a trade's notice that never was, as it stands in a statement."""
+    drop = "UPDATE outgoing SET dropped = %d "
+    return [
+        Change("INV1", PUT_IN % (0, trade), TAKE_OUT),
+        Change("INV1", PUT_IN % (1, trade), TAKE_OUT),
+        Change("INV1", drop % 1 + "WHERE firm = 'INV1'", drop % 0 + "WHERE firm = 'INV1'"),
+        Change("DLR1", drop % 1 + COPIES, drop % 0 + COPIES),
+        Change(
+            "DLR1",
+            "UPDATE outgoing SET bytes = %s %s" % (trade, COPIES),
+            "UPDATE outgoing SET bytes = (SELECT bytes FROM outgoing AS given WHERE given.firm = 'DLR1' "
+            "AND given.copy = 0 AND given.sent = outgoing.sent) " + COPIES,
+        ),
+    ]
+
+
+def test_what_a_start_believes(stage_of_log: Stage) -> None:
+    """What sessions keep is changed while no gateway runs, where nothing else in the log says what it has to be: no start takes it;
+    and once it is undone the day goes on."""
+    stage = stage_of_log
+    stage.door.operators = ""
+    stage.open(*stage.firms)
+    stage.quote(stage.dealer, stage.ask())
+    shown = stage.answer(stage.investor, "a quote", lambda message: message.kind == b"S")
+    stage.log_off(stage.dealer)
+    stage.hit(shown.given(117))
+    did(stage, "reset-session", "DLR1")  # the notice of the trade is copied
+    check(stage.door.stop() == 0, "the gateway does not end well")
+    intruder = Intruder(stage.door)
+    all_of_them = changes(intruder.literal(TRADE))
+    for change in all_of_them if stage.door.postgres is None else all_of_them[::4]:
+        intruder.rows(change.statement)
+        stage.refused("session")
+        check("of %s's session" % change.firm in stage.door.last_words(), stage.door.last_words())
+        intruder.rows(change.undone)
+    stage.door.start()
+    stage.door.wait_open()
+
+
+def test_what_was_not_taken_is_not_asked_for(stage: Stage) -> None:
+    """A hit is not taken during a halt, and the firm is told so. Somebody sets the session's number back while no gateway runs: the
+    hit is not asked for again, and trades at no later start."""
+    stage.door.operators = ""
+    stage.open()
+    with logged_on(stage, DEALER) as dealer, logged_on(stage, INVESTOR) as investor:
+        asked(dealer, investor)
+        quoted(dealer, b"q1")
+        quote = investor.got(b"S").given(117)
+        did(stage, "halt")
+        answer = hit(investor, b"h1", quote)
+        check(answer.kind == b"j", "a hit during a halt is answered %r" % answer.raw)
+        number = investor.number
+        did(stage, "resume")
+    check(stage.door.stop() == 0, "the gateway does not end well")
+    Intruder(stage.door).rows("UPDATE session SET expected = 3 WHERE firm = 'INV1'")
+    stage.door.start()
+    stage.door.wait_open()
+    with logged_on(stage, INVESTOR, number=number) as investor:
+        investor.ask()
+    expected = stage.door.ledger().expected["INV1"]
+    check(expected > number, "the session expects %d, and %d came" % (expected, number))
+
+
+# ---------------------------------------------------------------- a page of another origin
+
+HOST = "Host: 127.0.0.1:%d\r\n"
+PAGES: dict[str, tuple[str, bytes]] = {
+    "another host": ("GET / HTTP/1.1\r\nHost: evil.example\r\n\r\n", b"403"),
+    "no host": ("GET /metrics HTTP/1.1\r\n\r\n", b"403"),
+    "another host first": ("GET / HTTP/1.1\r\nHost: evil.example\r\n" + HOST + "\r\n", b"403"),
+    "a post": ("POST / HTTP/1.1\r\n" + HOST + "Content-Length: 1\r\n\r\nx", b"403"),
+    "a post of another origin": (
+        "POST / HTTP/1.1\r\n" + HOST + "Origin: http://evil.example\r\nContent-Length: 0\r\n\r\n",
+        b"403",
+    ),
+    "a socket": (
+        "GET / HTTP/1.1\r\n" + HOST + "Connection: Upgrade\r\nUpgrade: websocket\r\n"
+        "Sec-WebSocket-Version: 13\r\nSec-WebSocket-Key: dGhlIHNhbXBsZSBub25jZQ==\r\n\r\n",
+        b"403",
+    ),
+    "another file": ("GET /../../etc/passwd HTTP/1.1\r\n" + HOST + "\r\n", b"404"),
+    "a long header": ("GET / HTTP/1.1\r\n" + HOST + "X: " + "y" * 20000 + "\r\n\r\n", b""),
+}
+
+
+def page_says(port: int, text: str) -> bytes:
+    with socket.create_connection(("127.0.0.1", port), timeout=LONG) as connection:
+        connection.sendall(text.replace("%d", str(port)).encode())
+        answer = b""
+        try:
+            while b"\r\n\r\n" not in answer and (data := connection.recv(65536)):
+                answer += data
+        except ConnectionError:
+            pass
+        return answer
+
+
+def test_pages_of_another_origin(stage: Stage) -> None:
+    """The gateway's page is for this machine's own names, is read alone, and lets no other page show or read it."""
+    stage.open()
+    port = stage.door.metrics
+    for what, (text, status) in PAGES.items():
+        answer = page_says(port, text)
+        seen = answer.split(b" ")[1] if answer else b""
+        check(seen == status, "%s is answered %r" % (what, answer[:60]))
+    head = page_says(port, "GET / HTTP/1.1\r\n" + HOST + "\r\n").lower()
+    for words in (
+        b"cross-origin-resource-policy: same-origin",
+        b"x-content-type-options: nosniff",
+        b"frame-ancestors 'none'",
+        b"default-src 'none'",
+    ):
+        check(words in head, "the page's head lacks %r" % words)
+    check(b"access-control-allow" not in head, "another origin may read it")
+
+
+# ---------------------------------------------------------------- the last checkpoint
+
+SWAPPED: dict[str, Callable[[bytes, bytes], bytes]] = {
+    "nothing": lambda old, new: b"",
+    "half of it": lambda old, new: new[: len(new) // 2],
+    "the signature of an older one": lambda old, new: (
+        new.split(b"signature ")[0] + b"signature " + old.split(b"signature ")[1]
+    ),
+}
+
+
+def test_a_checkpoint_that_is_swapped(stage: Stage) -> None:
+    """The file of the last checkpoint is none that a gateway of this log has signed: no start; with its own bytes again the day goes
+    on."""
+    stage.open(stage.dealer)
+    until("there is a checkpoint", LONG, lambda: b"signature " in stage.door.kept.read_bytes())
+    old = stage.door.kept.read_bytes()
+    stage.ping(stage.dealer)
+    check(stage.door.stop() == 0, "the gateway does not end well")
+    new = stage.door.kept.read_bytes()
+    check(old != new, "the last checkpoint is the one before")
+    for swapped in SWAPPED.values():
+        stage.door.kept.write_bytes(swapped(old, new))
+        stage.refused("no checkpoint of this log")
+    stage.door.kept.write_bytes(new)
+    stage.door.start()
+    stage.door.wait_open()
