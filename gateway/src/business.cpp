@@ -2,6 +2,9 @@
 
 #include "frame.h"
 
+#include <fmt/chrono.h>
+#include <fmt/format.h>
+
 namespace gateway {
 
 namespace {
@@ -10,26 +13,65 @@ namespace {
 constexpr std::uint32_t other_reason = 0;
 constexpr std::uint32_t application_not_available = 4;
 
-constexpr NotTaken venue_is_halted{
-    application_not_available, "the venue is halted: until the operator lets it go on, no request, "
-                               "quote or hit is taken; cancels, declines and passes are"};
-constexpr NotTaken bond_is_halted{
-    application_not_available, "this bond is halted: until the operator lets it go on, no request, "
-                               "quote or hit of it is taken; cancels, declines and passes are"};
-constexpr NotTaken bytes_are_used_up{
-    other_reason, "this firm has sent all the bytes that it may send in a day: until the operator "
-                  "raises that, no request and no quote is taken; cancels, declines, hits and "
-                  "passes are"};
-constexpr NotTaken clock_was_set{
-    application_not_available, "the clock of the venue was set: until the operator says that it is "
-                               "right, no request and no quote is taken; cancels, declines, hits "
-                               "and passes are"};
+constexpr const char *venue_is_halted =
+    "the venue is halted: until the operator lets it go on, no request, quote or hit is taken; "
+    "cancels, declines and passes are";
+constexpr const char *bond_is_halted =
+    "this bond is halted: until the operator lets it go on, no request, quote or hit of it is "
+    "taken; cancels, declines and passes are";
+constexpr const char *bytes_are_used_up =
+    "this firm has sent all the bytes that it may send in a day: until the operator raises that, "
+    "no request and no quote is taken; cancels, declines, hits and passes are";
+constexpr const char *clock_was_set =
+    "the clock of the venue was set: until the operator says that it is right, no request and no "
+    "quote is taken; cancels, declines, hits and passes are";
 
-std::string bond_of(const VenueDay &day, const std::string &firm, const Business &business,
-                    std::string_view frame) {
+NotTaken not_available(std::string text) {
+    return {application_not_available, std::move(text)};
+}
+
+// YYYYMMDD-HH:MM:SS, in UTC.
+std::string text_of(SystemSeconds moment) {
+    return fmt::format("{:%Y%m%d-%H:%M:%S}", fmt::gmtime(moment.time_since_epoch().count()));
+}
+
+std::string bond_of(const VenueDay &day, const std::string &firm, const Business &business) {
     return business.kind == Business::Kind::hit
-               ? day.shown_quotes.bond_of(firm, value_in(frame, "117"))
-               : std::string(value_in(frame, "48"));
+               ? day.shown_quotes.bond_of(firm, value_in(business.frame, "117"))
+               : std::string(value_in(business.frame, "48"));
+}
+
+// Whether a deadline (126) of this day lies behind the day's end. What is no moment of the day is
+// the venue's to reject.
+bool is_behind_end(std::string_view deadline, const TradingDay &day) {
+    const std::string ends = text_of(day.ends);
+    constexpr std::size_t before_time = 9; // YYYYMMDD-
+    if (deadline.substr(0, before_time) != day.date + "-") {
+        return false;
+    }
+    const std::string_view seconds = deadline.substr(0, ends.size());
+    const bool has_more = deadline.find_first_of("123456789", seconds.size()) != deadline.npos;
+    return seconds > ends || (seconds == ends && has_more);
+}
+
+// A request whose notice would come when the day has ended, or that comes when it closes.
+std::optional<NotTaken> why_no_request(const VenueDay &day, const Sender &sender,
+                                       const Business &business) {
+    if (!day.hours) {
+        return std::nullopt;
+    }
+    if (sender.received >= day.hours->closes) {
+        return not_available(fmt::format("the venue has closed for new requests, at {} UTC: those "
+                                         "that are open go on to their deadlines",
+                                         text_of(day.hours->closes)));
+    }
+    if (is_behind_end(value_in(business.frame, "126"), *day.hours)) {
+        return NotTaken{other_reason,
+                        fmt::format("the day ends at {} UTC, and this deadline (ExpireTime, 126) "
+                                    "is behind that: give one that is not",
+                                    text_of(day.hours->ends))};
+    }
+    return std::nullopt;
 }
 
 } // namespace
@@ -37,33 +79,37 @@ std::string bond_of(const VenueDay &day, const std::string &firm, const Business
 std::optional<Business> business_in(std::string_view frame) {
     const std::string_view type = value_in(frame, "35");
     if (type == "R") {
-        return Business{Business::Kind::request, value_in(frame, "131")};
+        return Business{Business::Kind::request, value_in(frame, "131"), frame};
     }
     if (type == "S") {
-        return Business{Business::Kind::quote, value_in(frame, "117")};
+        return Business{Business::Kind::quote, value_in(frame, "117"), frame};
     }
     if (type == "AJ" && value_in(frame, "694") == "1") {
-        return Business{Business::Kind::hit, value_in(frame, "693")};
+        return Business{Business::Kind::hit, value_in(frame, "693"), frame};
     }
     return std::nullopt;
 }
 
-std::optional<NotTaken> why_not_taken(const VenueDay &day, const std::string &firm,
-                                      const Business &business, std::string_view frame,
-                                      bool are_bytes_used_up) {
+std::optional<NotTaken> why_not_taken(const VenueDay &day, const Sender &sender,
+                                      const Business &business) {
     if (day.halts.is_venue_halted()) {
-        return venue_is_halted;
+        return not_available(venue_is_halted);
     }
-    if (day.halts.has(bond_of(day, firm, business, frame))) {
-        return bond_is_halted;
+    if (day.halts.has(bond_of(day, sender.firm, business))) {
+        return not_available(bond_is_halted);
     }
     if (business.kind == Business::Kind::hit) {
         return std::nullopt;
     }
-    if (are_bytes_used_up) {
-        return bytes_are_used_up;
+    if (business.kind == Business::Kind::request) {
+        if (auto why = why_no_request(day, sender, business)) {
+            return why;
+        }
     }
-    return day.clock_is_right ? std::nullopt : std::optional(clock_was_set);
+    if (sender.are_bytes_used_up) {
+        return NotTaken{other_reason, bytes_are_used_up};
+    }
+    return day.clock_is_right ? std::nullopt : std::optional(not_available(clock_was_set));
 }
 
 } // namespace gateway

@@ -4,6 +4,7 @@
 
 #include "venue_day.h"
 
+#include <chrono>
 #include <cstdint>
 #include <optional>
 #include <string>
@@ -16,20 +17,26 @@ namespace gateway {
 struct Business {
     enum class Kind { request, quote, hit };
     Kind kind = Kind::request;
-    std::string_view id; // the firm's name of it: 131, 117 or 693
+    std::string_view id;    // the firm's name of it: 131, 117 or 693
+    std::string_view frame; // as the venue is given it
 };
-// Of a frame as the venue is given it.
 std::optional<Business> business_in(std::string_view frame);
+
+// Who sends it, when it was received, and how that firm stands.
+struct Sender {
+    const std::string &firm;
+    std::chrono::system_clock::time_point received;
+    bool are_bytes_used_up = false; // of its day
+};
 
 // Why it is not taken: BusinessRejectReason (380) and Text (58).
 struct NotTaken {
     std::uint32_t reason = 0;
-    std::string_view text;
+    std::string text;
 };
 // Nothing where it is. A hit is stopped by a halt alone: the request that it ends is open already.
-std::optional<NotTaken> why_not_taken(const VenueDay &day, const std::string &firm,
-                                      const Business &business, std::string_view frame,
-                                      bool are_bytes_used_up);
+std::optional<NotTaken> why_not_taken(const VenueDay &day, const Sender &sender,
+                                      const Business &business);
 
 } // namespace gateway
 

@@ -1,5 +1,6 @@
 #include "config.h"
 
+#include "config_day.h"
 #include "config_section.h"
 #include "password.h"
 #include "private_file.h"
@@ -128,47 +129,7 @@ class ConfigReader {
     }
 
     // All venues of one gateway have the same days.
-    void read_days() {
-        Section day = section("day");
-        DayRules &days = config_.days;
-        days.zone = day.text("zone", "UTC");
-        days.opens = time_in(day, "opens", days.opens);
-        days.ends = time_in(day, "ends", days.ends);
-        if (day.has("weekdays")) {
-            days.weekdays = weekdays_in(day);
-        }
-        if (const fs::path file = day.path("holidays"); !file.empty()) {
-            try {
-                days.holidays = holidays_of(files_.text(file));
-            } catch (const std::runtime_error &fault) {
-                fail(file, fault.what());
-            }
-        }
-        day.end();
-    }
-
-    static std::chrono::minutes time_in(Section &day, std::string_view key,
-                                        std::chrono::minutes otherwise) {
-        const std::string text = day.text(key);
-        const auto time = time_of_day(text);
-        if (!text.empty() && !time) {
-            day.fail_at(key, "is no time of day, from 00:00 to 24:00");
-        }
-        return time.value_or(otherwise);
-    }
-
-    static std::set<unsigned> weekdays_in(Section &day) {
-        std::set<unsigned> weekdays;
-        for (const std::string &word : day.words("weekdays")) {
-            const auto weekday = weekday_of(word);
-            if (!weekday) {
-                day.fail_at("weekdays",
-                            "has something else than Mon, Tue, Wed, Thu, Fri, Sat, Sun");
-            }
-            weekdays.insert(*weekday);
-        }
-        return weekdays;
-    }
+    void read_days() { config_.days = day_rules_of(section("day"), files_); }
 
     // With the day's date and the venue's name: each venue has a log of its own.
     std::string filled(std::string text) const {

@@ -102,8 +102,12 @@ class Section {
         }
     }
 
+    // With the line of the key, where it stands there.
     [[noreturn]] void fail_at(std::string_view key, std::string_view what) const {
-        fail(file_, fmt::format("[{}] {} {}", name_, key, what));
+        const toml::node *node = table_ == nullptr ? nullptr : table_->get(key);
+        const std::string line =
+            node == nullptr ? "" : fmt::format("line {}: ", node->source().begin.line);
+        fail(file_, fmt::format("{}[{}] {} {}", line, name_, key, what));
     }
 
   private:

@@ -116,7 +116,8 @@ class FirmSessions final : private SessionHost {
     void open_firms(const States &states);
     Firm &firm_of(const std::string &name);
     SessionStart start_of(const std::string &name, const Firm &firm);
-    std::optional<Taken> denied(const std::string &name, Firm &firm, std::string_view frame);
+    std::optional<Taken> denied(const std::string &name, Firm &firm, std::string_view frame,
+                                const Receipt &receipt);
     std::vector<std::string> ends_of(const std::string &name, const Firm &firm);
     void tell_bytes_used_up(const std::string &name, Firm &firm);
     static SessionRow row_of(const std::string &name, Firm &firm, const SessionEvent &event);

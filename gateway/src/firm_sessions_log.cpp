@@ -85,8 +85,8 @@ Taken FirmSessions::take(const std::string &name, const SessionInput &input,
                 too_long_for_the_venue,
                 firm.denials.is_too_many()};
     }
-    if (const auto why = denied(name, firm, *frame)) {
-        return *why;
+    if (auto why = denied(name, firm, *frame, input.receipt)) {
+        return std::move(*why);
     }
     // On one connection nothing comes before what came before it, also where the clock is set back.
     firm.last_receipt = std::max(firm.last_receipt, input.receipt.at);
@@ -116,13 +116,13 @@ void FirmSessions::give_turn_back(const std::string &name) {
 
 // Why a message is not taken, whose frame for the venue this is; nothing where it is.
 std::optional<Taken> FirmSessions::denied(const std::string &name, Firm &firm,
-                                          std::string_view frame) {
+                                          std::string_view frame, const Receipt &receipt) {
     const auto business = business_in(frame);
     if (!business) {
         return std::nullopt;
     }
     const bool are_used_up = firm.limits.bytes.are_used_up();
-    const auto why = why_not_taken(day_, name, *business, frame, are_used_up);
+    const auto why = why_not_taken(day_, {name, receipt.at, are_used_up}, *business);
     if (!why) {
         return std::nullopt;
     }

@@ -10,14 +10,15 @@ namespace gateway {
 
 using namespace std::chrono_literals;
 
-Gateway::Gateway(std::filesystem::path path, std::vector<Config> configs, Metrics &metrics,
+Gateway::Gateway(std::filesystem::path path, std::vector<Config> configs,
+                 std::optional<TradingDay> hours, Metrics &metrics,
                  std::shared_ptr<spdlog::logger> events)
-    : path_(std::move(path)), configs_(std::move(configs)), events_(std::move(events)),
-      metrics_(metrics), status_(events_), engine_events_(metrics_, events_),
-      engine_(configs_.front().engine, {}, engine_events_) {
+    : path_(std::move(path)), configs_(std::move(configs)), hours_(std::move(hours)),
+      events_(std::move(events)), metrics_(metrics), status_(events_),
+      engine_events_(metrics_, events_), engine_(configs_.front().engine, {}, engine_events_) {
     for (const Config &config : configs_) {
-        days_.push_back(
-            std::make_unique<VenueDay>(config, metrics_, status_, events_, engine_events_));
+        days_.push_back(std::make_unique<VenueDay>(config, metrics_, status_, events_,
+                                                   engine_events_, hours_));
     }
     engine_events_.tell_strangers_to([this](const ConnectionFacts &facts, const std::string &why) {
         for (const auto &speaker : speakers_) {
@@ -156,10 +157,22 @@ void Gateway::ask_to_stop(const std::string &why) {
     status_.ask_to_stop(why);
 }
 
-std::optional<std::string> Gateway::run(std::optional<SystemSeconds> ends) {
+bool Gateway::has_day_ended() {
+    return hours_ && std::chrono::system_clock::now() >= hours_->ends;
+}
+
+// What is due by now is told before the sessions are logged out.
+void Gateway::end_day() {
+    for (const auto &speaker : speakers_) {
+        speaker->tell_what_is_due();
+    }
+    status_.ask_to_stop("the day has ended");
+}
+
+std::optional<std::string> Gateway::run() {
     while (!status_.wait(1s)) {
-        if (ends && std::chrono::system_clock::now() >= *ends) {
-            status_.ask_to_stop("the day has ended");
+        if (has_day_ended()) {
+            end_day();
             break;
         }
         if (is_to_renew_.exchange(false)) {

@@ -31,9 +31,11 @@ constexpr int log_not_accepted = 3;
 
 class Gateway final {
   public:
-    // One configuration for each venue, and the file that they come from. Throws
-    // std::runtime_error where a log can't be served.
-    Gateway(std::filesystem::path path, std::vector<Config> configs, Metrics &metrics,
+    // One configuration for each venue, and the file that they come from; the hours of the day,
+    // nothing where it is one of UTC that stands alone. Throws std::runtime_error where a log can't
+    // be served.
+    Gateway(std::filesystem::path path, std::vector<Config> configs,
+            std::optional<TradingDay> hours, Metrics &metrics,
             std::shared_ptr<spdlog::logger> events);
     // Ends everything at once.
     ~Gateway();
@@ -66,10 +68,9 @@ class Gateway final {
     // Asks run() to end; of any thread.
     void ask_to_stop(const std::string &why);
 
-    // Until it is asked to stop, the day is over or comes to this moment, or something fails. Logs
-    // sessions out, lets the venue answer what came, and commits. Returns the cause of a failure,
-    // or nothing.
-    std::optional<std::string> run(std::optional<SystemSeconds> ends = std::nullopt);
+    // Until it is asked to stop, the day ends, or something fails. Logs sessions out, lets the
+    // venue answer what came, and commits. Returns the cause of a failure, or nothing.
+    std::optional<std::string> run();
     // What it does now, and the part that has been silent longest; of any thread.
     Phase phase() const { return status_.phase(); }
     std::optional<Pulse::Silent> silent() { return status_.pulse().longest(); }
@@ -79,6 +80,8 @@ class Gateway final {
     int exit_status() { return status_.exit_status(); }
 
   private:
+    bool has_day_ended();
+    void end_day();
     void follow();
     std::unique_ptr<Speaker> follow_one(std::size_t at);
     void listen();
@@ -89,6 +92,7 @@ class Gateway final {
 
     const std::filesystem::path path_;
     const std::vector<Config> configs_;
+    const std::optional<TradingDay> hours_;
     std::shared_ptr<spdlog::logger> events_;
     Metrics &metrics_;
     Status status_;

@@ -37,7 +37,7 @@ TradingDay whole_day_of(const std::string &date) {
     const std::chrono::sys_days day = std::chrono::year(static_cast<int>(number(0, 4))) /
                                       std::chrono::month(number(4, 2)) /
                                       std::chrono::day(number(6, 2));
-    return {date, day, day + std::chrono::days(1)};
+    return {date, day, day + std::chrono::days(1), day + std::chrono::days(1)};
 }
 
 } // namespace
@@ -139,7 +139,7 @@ int Service::run_days() {
             break;
         }
         next_.look(day);
-        if (const int status = run_day(as_begun(next_.in_force(day.date)), day.ends); status != 0) {
+        if (const int status = run_day(as_begun(next_.in_force(day.date)), day); status != 0) {
             return status;
         }
     }
@@ -200,23 +200,24 @@ Service::Shown::~Shown() {
 }
 
 // With an operator's socket a log that is not accepted waits for the operator.
-int Service::run_day(std::vector<Config> configs, std::optional<SystemSeconds> ends) {
+int Service::run_day(std::vector<Config> configs, const std::optional<TradingDay> &hours) {
     for (;;) {
-        const int status = run_gateway(configs, ends);
+        const int status = run_gateway(configs, hours);
         if (status != log_not_accepted || !socket_) {
             return status;
         }
-        if (!wait_for_acceptance(configs, ends)) {
+        if (!wait_for_acceptance(configs, hours)) {
             return 0;
         }
     }
 }
 
-int Service::run_gateway(const std::vector<Config> &configs, std::optional<SystemSeconds> ends) {
-    Gateway gateway(path_, configs, metrics_, events_);
+int Service::run_gateway(const std::vector<Config> &configs,
+                         const std::optional<TradingDay> &hours) {
+    Gateway gateway(path_, configs, hours, metrics_, events_);
     const Shown shown(*this, gateway);
     gateway.start();
-    gateway.run(ends);
+    gateway.run();
     const std::lock_guard lock(mutex_);
     not_accepted_ = gateway.not_accepted();
     waits_for_ = not_accepted_.empty() ? "the day has ended"
@@ -267,13 +268,14 @@ void Service::open_operator_socket() {
 }
 
 // Whether each log was accepted; false where the day is over, or the service is to stop.
-bool Service::wait_for_acceptance(std::vector<Config> &configs, std::optional<SystemSeconds> ends) {
+bool Service::wait_for_acceptance(std::vector<Config> &configs,
+                                  const std::optional<TradingDay> &hours) {
     events_->error("waits for the operator: mireseason-admin log accept-loss, or put the log back "
                    "and restart");
     is_now(Phase::closed);
     std::unique_lock lock(mutex_);
     waiting_configs_ = &configs;
-    while (!not_accepted_.empty() && !stopping_.stop_requested() && !(ends && now() >= *ends)) {
+    while (!not_accepted_.empty() && !stopping_.stop_requested() && !(hours && now() >= hours->ends)) {
         changed_.wait_for(lock, 1s);
     }
     waiting_configs_ = nullptr;

@@ -68,9 +68,10 @@ class Service final : private AdminScene {
 
     int run_days();
     std::vector<Config> as_begun(std::vector<Config> configs);
-    int run_day(std::vector<Config> configs, std::optional<SystemSeconds> ends);
-    int run_gateway(const std::vector<Config> &configs, std::optional<SystemSeconds> ends);
-    bool wait_for_acceptance(std::vector<Config> &configs, std::optional<SystemSeconds> ends);
+    // The hours are nothing where the day stands alone.
+    int run_day(std::vector<Config> configs, const std::optional<TradingDay> &hours);
+    int run_gateway(const std::vector<Config> &configs, const std::optional<TradingDay> &hours);
+    bool wait_for_acceptance(std::vector<Config> &configs, const std::optional<TradingDay> &hours);
     void open_operator_socket();
 
     // AdminScene

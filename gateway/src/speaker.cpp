@@ -14,6 +14,10 @@ using namespace std::chrono_literals;
 // How long the venue has to answer what came, at the end.
 constexpr auto longest_end = 10s;
 
+// How long what is due at the day's end may take, and how long it is waited for at once.
+constexpr auto longest_due = 5s;
+constexpr auto look_at_due = 10ms;
+
 // No moment is given that is before one of the log.
 void set_clock_behind(DayClock &clock, const Entry &last, const ConnectionState &connections) {
     if (const auto latest = moment_of(last.moment)) {
@@ -139,6 +143,19 @@ void Speaker::carry_out(const FirmOrdered &ordered) {
         engine_.reset(session);
         break;
     }
+}
+
+// The sweeper has it told; a request of that deadline may be hit meanwhile, and so end otherwise.
+void Speaker::tell_what_is_due() {
+    const auto latest = std::chrono::steady_clock::now() + longest_due;
+    const std::stop_token stop = day_.status.failed();
+    for (auto next = follower_->answers().deadline();
+         next && day_.clock.until(next->moment) <= 0ms && !stop.stop_requested() &&
+         std::chrono::steady_clock::now() < latest;
+         next = follower_->answers().deadline()) {
+        follower_->answers().wait_for_other(next->moment, look_at_due, stop);
+    }
+    deliveries_.wait_until_handed_over();
 }
 
 void Speaker::finish() {

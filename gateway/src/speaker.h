@@ -42,6 +42,8 @@ class Speaker final {
     // logs on; ends what the last gateway left behind; and lets the clock be told to the venue.
     // Does nothing where the gateway is to stop.
     void start();
+    // Returns when all notices are handed over that are due by now, or after some seconds.
+    void tell_what_is_due();
     // Lets the venue answer what came, and hands that over.
     void finish();
     // Ends the venue's process, and commits.

@@ -55,13 +55,18 @@ SystemSeconds moment_of(const date::time_zone &zone, date::local_days day,
 
 TradingDay day_of(const DayRules &rules, const date::time_zone &zone, date::local_days day) {
     const SystemSeconds opens = moment_of(zone, day, rules.opens);
+    const SystemSeconds closes = moment_of(zone, day, rules.closes.value_or(rules.ends));
     const SystemSeconds ends = moment_of(zone, day, rules.ends);
-    return {plain(floor<days>(opens)), opens, ends};
+    return {plain(floor<days>(opens)), opens, closes, ends};
 }
 
 void check_day(const TradingDay &day, date::local_days local) {
     if (day.ends <= day.opens) {
         throw std::runtime_error(fmt::format("{} would end before it opens", dashed(local)));
+    }
+    if (day.closes <= day.opens || day.closes > day.ends) {
+        throw std::runtime_error(
+            fmt::format("{} would not close between its opening and its end", dashed(local)));
     }
     // The end of a day of UTC is that of its last second.
     if (floor<days>(day.opens) != floor<days>(day.ends - std::chrono::seconds(1))) {
@@ -141,6 +146,10 @@ std::optional<std::chrono::minutes> time_of_day(std::string_view text) {
         return std::nullopt;
     }
     return std::chrono::minutes(*hours * 60 + *minutes);
+}
+
+std::string text_of_time(std::chrono::minutes time) {
+    return fmt::format("{:02}:{:02}", time.count() / 60, time.count() % 60);
 }
 
 std::optional<unsigned> weekday_of(std::string_view text) {

@@ -18,6 +18,8 @@ using SystemSeconds = std::chrono::sys_seconds;
 struct DayRules {
     std::string zone = "UTC"; // as the tz database names it
     std::chrono::minutes opens{0};
+    // From when on no new request is taken; `ends` where it is not set.
+    std::optional<std::chrono::minutes> closes{};
     std::chrono::minutes ends{std::chrono::hours(24)};
     std::set<unsigned> weekdays = {0, 1, 2, 3, 4, 5, 6}; // from Sunday, 0
     std::set<std::string> holidays;                      // days of the zone, YYYY-MM-DD
@@ -27,13 +29,15 @@ struct DayRules {
 struct TradingDay {
     std::string date; // YYYYMMDD, in UTC
     SystemSeconds opens;
+    SystemSeconds closes; // for new requests; at the latest when it ends
     SystemSeconds ends;
 };
 
 class TradingDays {
   public:
     // Throws std::runtime_error where the zone is none, where no day is left, or where a day of the
-    // two years from `now` on would not lie within one day of UTC, or not open before it ends.
+    // two years from `now` on would not lie within one day of UTC, not open before it ends, or not
+    // close between the two.
     TradingDays(DayRules rules, SystemSeconds now);
 
     // The first one that has not ended at this moment, as long as there is one within a year.
@@ -45,6 +49,7 @@ class TradingDays {
 
 // HH:MM, from 00:00 to 24:00; nothing else.
 std::optional<std::chrono::minutes> time_of_day(std::string_view text);
+std::string text_of_time(std::chrono::minutes time);
 // Sun to Sat, as a number from 0.
 std::optional<unsigned> weekday_of(std::string_view text);
 // The days of a file: one a line, YYYY-MM-DD, with what stands behind a `#` left out. Throws

@@ -26,8 +26,10 @@ std::unique_ptr<Database> open_database(const Config &config, DayClock &clock) {
 } // namespace
 
 VenueDay::VenueDay(const Config &given, Metrics &counted, Status &state,
-                   std::shared_ptr<spdlog::logger> lines, OperatorEvents &listener)
-    : config(given), metrics(counted), status(state), events(std::move(lines)), told(listener),
+                   std::shared_ptr<spdlog::logger> lines, OperatorEvents &listener,
+                   std::optional<TradingDay> of)
+    : config(given), hours(std::move(of)), metrics(counted), status(state),
+      events(std::move(lines)), told(listener),
       clock(config.firms.date), guard(sealer_of(config), config.checkpoints, events),
       database(open_database(config, clock)) {}
 

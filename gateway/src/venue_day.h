@@ -14,10 +14,12 @@
 #include "shown_quotes.h"
 #include "status.h"
 #include "trades.h"
+#include "trading_days.h"
 
 #include <atomic>
 #include <chrono>
 #include <memory>
+#include <optional>
 #include <string>
 #include <vector>
 
@@ -27,10 +29,12 @@ namespace gateway {
 
 // Outlives its Follower and its Speaker, and is outlived by what it is given.
 struct VenueDay {
-    // Opens the log's database. Throws std::runtime_error where that can't be done, and where the
-    // day is another one than today's in UTC.
+    // Opens the log's database. hours is nothing where the day is one of UTC that stands alone.
+    // Throws std::runtime_error where that can't be done, and where the day is another one than
+    // today's in UTC.
     VenueDay(const Config &config, Metrics &metrics, Status &status,
-             std::shared_ptr<spdlog::logger> events, OperatorEvents &told);
+             std::shared_ptr<spdlog::logger> events, OperatorEvents &told,
+             std::optional<TradingDay> hours = std::nullopt);
 
     ~VenueDay();
     VenueDay(const VenueDay &) = delete;
@@ -47,6 +51,7 @@ struct VenueDay {
     std::string of_venue() const;
 
     const Config &config;
+    const std::optional<TradingDay> hours;
     Metrics &metrics;
     Status &status;
     const std::shared_ptr<spdlog::logger> events;

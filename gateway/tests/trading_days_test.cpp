@@ -84,9 +84,18 @@ TEST_CASE("the first day that has not ended") {
             const TradingDay day = days.first_after(at(each.now));
             CHECK(day.date == each.date);
             CHECK(day.opens == at(each.opens));
+            CHECK(day.closes == at(each.ends));
             CHECK(day.ends == at(each.ends));
         }
     }
+}
+
+TEST_CASE("a day closes at a time of its zone, which summer time moves") {
+    DayRules rules = london();
+    rules.closes = 16h;
+    const TradingDays days(rules, at("2026-01-01 00:00:00"));
+    CHECK(days.first_after(at("2026-11-27 00:00:00")).closes == at("2026-11-27 16:00:00"));
+    CHECK(days.first_after(at("2026-07-01 00:00:00")).closes == at("2026-07-01 15:00:00"));
 }
 
 TEST_CASE("without rules every day is one, from midnight to midnight in UTC") {
@@ -118,6 +127,11 @@ TEST_CASE("rules that give no lawful day are refused, in words") {
     rules = london();
     rules.ends = 8h;
     CHECK(refused(rules) == "2026-11-27 would end before it opens");
+    for (const auto closes : {8h, 18h}) {
+        rules = london();
+        rules.closes = closes;
+        CHECK(refused(rules) == "2026-11-27 would not close between its opening and its end");
+    }
     rules = london();
     rules.zone = "Asia/Tokyo";
     CHECK(refused(rules) ==

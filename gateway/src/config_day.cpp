@@ -1,0 +1,85 @@
+#include "config_day.h"
+
+#include "printable.h"
+
+#include <optional>
+#include <stdexcept>
+
+#include <fmt/format.h>
+
+namespace gateway {
+
+namespace {
+
+// Of a value that is at fault, in what is told of it.
+constexpr std::size_t longest_shown = 40;
+
+std::optional<std::chrono::minutes> time_in(Section &day, std::string_view key) {
+    const std::string text = day.text(key);
+    const auto time = time_of_day(text);
+    if (day.has(key) && !time) {
+        day.fail_at(key, fmt::format("= \"{}\": it has to be a time of day as HH:MM, from 00:00 to "
+                                     "24:00",
+                                     printable(text, longest_shown)));
+    }
+    return time;
+}
+
+void check_hours(const Section &day, const DayRules &rules) {
+    if (rules.ends <= rules.opens) {
+        day.fail_at(day.has("ends") ? "ends" : "opens",
+                    fmt::format("= \"{}\": a day opens before it ends, and this one opens at {} and "
+                                "ends at {}",
+                                text_of_time(day.has("ends") ? rules.ends : rules.opens),
+                                text_of_time(rules.opens), text_of_time(rules.ends)));
+    }
+    if (rules.closes && (*rules.closes <= rules.opens || *rules.closes > rules.ends)) {
+        day.fail_at("closes",
+                    fmt::format("= \"{}\": it has to be after opens, {}, and not after ends, {}",
+                                text_of_time(*rules.closes), text_of_time(rules.opens),
+                                text_of_time(rules.ends)));
+    }
+}
+
+std::set<unsigned> weekdays_in(Section &day) {
+    std::set<unsigned> weekdays;
+    for (const std::string &word : day.words("weekdays")) {
+        const auto weekday = weekday_of(word);
+        if (!weekday) {
+            day.fail_at("weekdays", "has something else than Mon, Tue, Wed, Thu, Fri, Sat, Sun");
+        }
+        weekdays.insert(*weekday);
+    }
+    return weekdays;
+}
+
+std::set<std::string> holidays_in(Section &day, ConfigFiles &files) {
+    const std::filesystem::path file = day.path("holidays");
+    if (file.empty()) {
+        return {};
+    }
+    try {
+        return holidays_of(files.text(file));
+    } catch (const std::runtime_error &fault) {
+        fail(file, fault.what());
+    }
+}
+
+} // namespace
+
+DayRules day_rules_of(Section day, ConfigFiles &files) {
+    DayRules rules;
+    rules.zone = day.text("zone", "UTC");
+    rules.opens = time_in(day, "opens").value_or(rules.opens);
+    rules.closes = time_in(day, "closes");
+    rules.ends = time_in(day, "ends").value_or(rules.ends);
+    check_hours(day, rules);
+    if (day.has("weekdays")) {
+        rules.weekdays = weekdays_in(day);
+    }
+    rules.holidays = holidays_in(day, files);
+    day.end();
+    return rules;
+}
+
+} // namespace gateway
