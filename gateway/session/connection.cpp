@@ -246,6 +246,10 @@ void Connection::wait(bool reads) {
     set[1].events = POLLIN;
     const auto limit = std::chrono::ceil<milliseconds>(longest_wait());
     ::poll(set.data(), set.size(), static_cast<int>(limit.count()));
+    if (set[0].events == 0 && (set[0].revents & (POLLERR | POLLHUP)) != 0) {
+        // poll() says it again at once each time, and nothing is read that would find the end.
+        shut("the peer has closed it");
+    }
     if ((set[1].revents & POLLIN) != 0) {
         std::uint64_t rung = 0;
         const ssize_t count = ::read(bell_.number(), &rung, sizeof rung);

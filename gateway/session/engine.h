@@ -104,7 +104,6 @@ struct Taken {
     std::uint32_t reason = 0; // 380
     std::string id;           // 379
     std::string text;         // 58
-    bool logs_out = false;    // too many are denied: the firm is logged out, too
 };
 
 // What the sessions need of the gateway. Called on the threads of connections and of deliveries;
@@ -138,6 +137,9 @@ class SessionHost {
     // Puts an event of a session into the log. What it returns is waited for before a message of
     // the session's own leaves.
     virtual std::uint64_t put(const std::string &firm, const SessionEvent &event) = 0;
+    // Whether the row of the session's own that was kept last for the firm was one too many: then
+    // the firm is logged out.
+    virtual bool keeps_too_much(const std::string & /*firm*/) { return false; }
     virtual void wait_stored(std::uint64_t ticket) = 0;
     // The same of an event by which a message of the application, the next one of its session,
     // comes to the venue.

@@ -103,7 +103,7 @@ class FirmSession final {
         bool was_judged = false;       // it is told what became of its Logon
         std::string why;
     };
-    enum class Step { idle, moved, handed, unknown };
+    enum class Step { idle, moved, handed, unknown, held };
     enum class Came { done, waits };
 
     // firm_session.cpp. The lock is held in each of these, but where it says otherwise.
@@ -137,10 +137,12 @@ class FirmSession final {
     void tell_refused(Visitor &refused, const char *word);
     Came judge(std::uint64_t connection, std::string_view message, Received at); // takes the lock
     void deny(std::uint64_t connection, std::string_view message, Received at, const Taken &taken);
+    void log_out_if_too_much(std::string_view text);
     void leave(std::uint64_t connection);
 
     // firm_session_serve.cpp
     bool has_to_say(std::uint64_t connection); // takes the lock
+    Time count_handed(std::size_t handed);     // takes the lock
     bool flush(std::uint64_t connection);      // takes the lock
     Step step(std::uint64_t connection);       // takes the lock
     Step hand(const Wanted &wanted);
@@ -157,6 +159,7 @@ class FirmSession final {
     std::uint32_t moment_ = 0; // of its last event
     std::string_view message_; // that it is, empty where it is another
     KeptRows rows_;
+    Time hands_from_{};            // by the firm's rate of what is sent again
     std::uint32_t load_from_ = 0;  // the number that step() found unknown
     std::uint64_t forgotten_ = 0;  // how often what is kept was another from then on
     std::uint64_t own_ticket_ = 0; // of the last event but those by which the venue gives something

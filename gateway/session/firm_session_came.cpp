@@ -29,6 +29,11 @@ constexpr std::array<RefusalText, 11> refusal_texts = {{
     {"NextExpectedMsgSeqNum", refusal_words::number},
 }};
 
+// Text (58) of a Logout.
+constexpr std::string_view too_much_is_answered =
+    "more than a thousand messages of this firm, and then ten a second, had to be answered by the "
+    "session";
+
 } // namespace
 
 FirmSession::Standing FirmSession::enter(std::uint64_t connection, Line &line,
@@ -129,6 +134,7 @@ FirmSession::Came FirmSession::judge(std::uint64_t connection, std::string_view 
     if (turn.told.takes == 0) {
         message_ = message;
         carry_out(nullptr);
+        log_out_if_too_much(too_much_is_answered);
         return Came::done;
     }
     const auto number = static_cast<std::uint32_t>(turn.told.takes);
@@ -152,8 +158,15 @@ void FirmSession::deny(std::uint64_t connection, std::string_view message, Recei
     const Denial denial{taken.reason, taken.id, taken.text};
     machine_.came(begin(at), connection, message, false, &denial);
     carry_out(nullptr);
-    if (taken.logs_out) {
-        machine_.log_out(begin(), taken.text);
+    log_out_if_too_much(taken.text);
+}
+
+// Each row that the session keeps to answer a firm stands in the log: a firm that makes it keep
+// them without end is logged out.
+void FirmSession::log_out_if_too_much(std::string_view text) {
+    if (machine_.turn().told.first.is_kept && host_.keeps_too_much(names_.firm)) {
+        machine_.log_out(begin(), text);
+        note_why(std::string(text));
         carry_out(nullptr);
     }
 }

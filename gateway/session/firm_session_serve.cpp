@@ -2,6 +2,8 @@
 #include "firm_session.h"
 #include "line.h"
 
+#include <algorithm>
+#include <chrono>
 #include <utility>
 
 namespace gateway {
@@ -18,17 +20,27 @@ constexpr std::size_t enough_bytes = 65536;
 FirmSession::Work FirmSession::serve(std::uint64_t connection) {
     std::size_t handed = 0;
     Step done = Step::moved;
-    for (std::size_t steps = 0; steps < most_steps && done != Step::idle; ++steps) {
+    for (std::size_t steps = 0; steps < most_steps && done != Step::idle && done != Step::held;
+         ++steps) {
         done = step(connection);
         if (done == Step::unknown) {
             load(connection);
         }
         handed += done == Step::handed ? 1 : 0;
     }
+    const Time from = count_handed(handed);
     if (!flush(connection) || done == Step::idle) {
         return {};
     }
-    return {true, host_.was_sent_again(names_.firm, handed)};
+    return {true, from};
+}
+
+// From when on more may be handed to the firm: also where this was all, since it may ask again.
+FirmSession::Time FirmSession::count_handed(std::size_t handed) {
+    const Time from = handed > 0 ? host_.was_sent_again(names_.firm, handed) : Time();
+    const std::lock_guard lock(mutex_);
+    hands_from_ = std::max(hands_from_, from);
+    return hands_from_;
 }
 
 bool FirmSession::has_to_say(std::uint64_t connection) {
@@ -81,7 +93,7 @@ FirmSession::Step FirmSession::step(std::uint64_t connection) {
         return Step::moved;
     case Want::again:
     case Want::fresh:
-        return hand(wanted);
+        return std::chrono::steady_clock::now() < hands_from_ ? Step::held : hand(wanted);
     default:
         return Step::idle;
     }

@@ -68,6 +68,7 @@ AdminAnswer run_firms(AdminCall &call);
 AdminAnswer run_firm(AdminCall &call);
 AdminAnswer run_hand_out(AdminCall &call);
 AdminAnswer run_next_day(AdminCall &call);
+AdminAnswer run_end_day(AdminCall &call);
 AdminAnswer run_bust(AdminCall &call);
 AdminAnswer run_suspend(AdminCall &call);
 AdminAnswer run_resume(AdminCall &call);
@@ -104,7 +105,7 @@ class OpenDay {
     // Commits the act into this venue's log, at which it takes effect. Throws AdminFault.
     static void commit(Speaker &speaker, const Act &act);
     // The same with what ends that the firm has open, in the same transaction.
-    static void commit_with_end(Speaker &speaker, const std::string &firm, const Act &act);
+    static void commit_with_end(Speaker &speaker, const FirmEnd &end, const Act &act);
 
   private:
     AdminScene::HeldDay held_;

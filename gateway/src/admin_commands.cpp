@@ -92,6 +92,9 @@ const std::vector<AdminCommand> &admin_commands() {
         {"hand-out", "FIRM", "prints what the firm may know of the venue, as a desk reads it",
          run_hand_out},
         {"next-day", "", "says which day opens next and what its configuration says", run_next_day},
+        {"end-day", "[--now] [--because TEXT]",
+         "takes no new request, and ends the day once none is open; or now, without notices",
+         run_end_day},
         {"suspend", "FIRM --because TEXT",
          "logs a firm out, refuses it, and cancels its quotes or passes its requests", run_suspend},
         {"resume", "[FIRM | --bond ID] [--because TEXT]",
@@ -99,7 +102,8 @@ const std::vector<AdminCommand> &admin_commands() {
          run_resume},
         {"halt", "[--bond ID] [--because TEXT]",
          "takes no request, quote or hit, of one bond or of any", run_halt},
-        {"cancel", "FIRM [--because TEXT]", "cancels all quotes of a dealer", run_cancel},
+        {"cancel", "FIRM [--trader TRADER] [--because TEXT]",
+         "cancels all quotes of a dealer, or those that one trader sent", run_cancel},
         {"reset-session", "FIRM [--because TEXT]",
          "has a firm's numbers begin at 1 again, after its engine lost its store",
          run_reset_session},
@@ -186,8 +190,8 @@ void OpenDay::commit(Speaker &speaker, const Act &act) {
     check_committed(speaker.commit_act(act, longest_act));
 }
 
-void OpenDay::commit_with_end(Speaker &speaker, const std::string &firm, const Act &act) {
-    check_committed(speaker.commit_act_with_end(firm, act, longest_act));
+void OpenDay::commit_with_end(Speaker &speaker, const FirmEnd &end, const Act &act) {
+    check_committed(speaker.commit_act_with_end(end, act, longest_act));
 }
 
 } // namespace gateway

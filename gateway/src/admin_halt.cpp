@@ -17,6 +17,10 @@ std::string bond_of(const AdminCall &call) {
     if (call.words.size() != 2 || call.words[0] != "--bond") {
         throw WrongWords();
     }
+    if (call.words[1].empty()) {
+        // As an unset variable of a script: it is not the whole venue.
+        throw AdminFault("--bond has no ID behind it");
+    }
     return call.words[1];
 }
 

@@ -67,8 +67,13 @@ COMMANDS
     resume [--bond ID]
         Ends a halt.
 
-    cancel FIRM
-        Cancels all quotes of a dealer, which is told as of a cancel of its own.
+    cancel FIRM [--trader TRADER]
+        Cancels all quotes of a dealer, or each one that this trader sent. The dealer is told as
+        of a cancel of its own.
+
+    end-day [--now]
+        Takes no new request, and ends the day once none is open. With --now it ends at once, and
+        the answer names the requests that get no notice. The next day opens as it is configured.
 
     reset-session FIRM
         For a firm whose engine lost its store: its numbers begin at 1 again, its next Logon has

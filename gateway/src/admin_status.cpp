@@ -20,9 +20,13 @@ AdminAnswer::Row row_of(Speaker &speaker) {
             {"venue", day.config.venue},
             {"date", day.clock.date()},
             {"entries", std::uint64_t{speaker.last_place()}},
+            {"open_requests", std::uint64_t{day.open_requests.all().size()}},
+            {"operator_ends_day", day.ordered_end.is_ordered()},
             {"firms", std::uint64_t{day.config.firms.names.size()}},
             {"logged_on", std::uint64_t{logged_on_at(speaker)}},
-            {"takes_business", day.clock_is_right.load()},
+            {"takes_business", day.clock_is_right && !day.reserve.is_reached()},
+            {"log_disk_free_bytes", day.reserve.free_bytes().value_or(0)},
+            {"log_disk_reserve_reached", day.reserve.is_reached()},
             {"clock_synchronised", clock.is_synchronised},
             {"clock_error_us", static_cast<std::uint64_t>(clock.greatest_error.count())}};
 }

@@ -4,7 +4,10 @@
 
 #include "firm_row.h"
 
+#include <algorithm>
+
 #include <fmt/format.h>
+#include <fmt/ranges.h>
 
 namespace gateway {
 
@@ -31,8 +34,19 @@ void order_plain(AdminCall &call, const char *word) {
 void order_with_end(AdminCall &call, const char *word) {
     const std::string &firm = call.words[0];
     order(call, firm, [&](Speaker &speaker) {
-        OpenDay::commit_with_end(speaker, firm, call.act(fmt::format("{} {}", word, firm)));
+        OpenDay::commit_with_end(speaker, {firm}, call.act(fmt::format("{} {}", word, firm)));
     });
+}
+
+void check_dealer(const FirmRow &row, const FirmEnd &end) {
+    if (!row.is_dealer) {
+        throw AdminFault(fmt::format("{} is an investor, and has no quotes", end.firm));
+    }
+    if (!end.trader.empty() &&
+        std::find(row.traders.begin(), row.traders.end(), end.trader) == row.traders.end()) {
+        throw AdminFault(fmt::format("{} has no trader {}: its traders are {}", end.firm,
+                                     end.trader, fmt::join(row.traders, ", ")));
+    }
 }
 
 } // namespace
@@ -55,18 +69,28 @@ AdminAnswer resume_firm(AdminCall &call) {
 }
 
 AdminAnswer run_cancel(AdminCall &call) {
-    check_words(call, 1, 1);
-    const std::string &firm = call.words[0];
-    OpenDay day(call.scene);
-    for (Speaker *speaker : day.speakers_of(firm)) {
-        if (!firm_row(speaker->day().config.configuration, firm).is_dealer) {
-            throw AdminFault(fmt::format("{} is an investor, and has no quotes", firm));
-        }
-        OpenDay::commit_with_end(*speaker, firm, call.act(fmt::format("cancel {}", firm)));
+    if (call.words.size() != 1 && (call.words.size() != 3 || call.words[1] != "--trader")) {
+        throw WrongWords();
     }
-    return {
-        fmt::format("all quotes of {} are cancelled; it is told as of a cancel of its own", firm),
-        {}};
+    const FirmEnd end{call.words[0], call.words.size() == 3 ? call.words[2] : ""};
+    if (call.words.size() == 3 && end.trader.empty()) {
+        throw AdminFault("--trader has no name behind it");
+    }
+    OpenDay day(call.scene);
+    const std::vector<Speaker *> speakers = day.speakers_of(end.firm);
+    for (Speaker *speaker : speakers) {
+        check_dealer(firm_row(speaker->day().config.configuration, end.firm), end);
+    }
+    const std::string of_trader = end.trader.empty() ? "" : " --trader " + end.trader;
+    for (Speaker *speaker : speakers) {
+        OpenDay::commit_with_end(*speaker, end,
+                                 call.act(fmt::format("cancel {}{}", end.firm, of_trader)));
+    }
+    return {fmt::format("{} are cancelled; it is told as of a cancel of its own",
+                        end.trader.empty()
+                            ? fmt::format("all quotes of {}", end.firm)
+                            : fmt::format("the quotes that {} of {} sent", end.trader, end.firm)),
+            {}};
 }
 
 AdminAnswer run_reset_session(AdminCall &call) {

@@ -13,15 +13,23 @@ namespace {
 constexpr std::uint32_t other_reason = 0;
 constexpr std::uint32_t application_not_available = 4;
 
+constexpr const char *firm_is_suspended =
+    "the operator has suspended this firm: no request, quote or hit of it is taken";
 constexpr const char *venue_is_halted =
     "the venue is halted: until the operator lets it go on, no request, quote or hit is taken; "
     "cancels, declines and passes are";
 constexpr const char *bond_is_halted =
     "this bond is halted: until the operator lets it go on, no request, quote or hit of it is "
     "taken; cancels, declines and passes are";
+constexpr const char *operator_ends_day =
+    "the operator ends the day: no new request is taken, and those that are open go on to their "
+    "deadlines";
 constexpr const char *bytes_are_used_up =
     "this firm has sent all the bytes that it may send in a day: until the operator raises that, "
     "no request and no quote is taken; cancels, declines, hits and passes are";
+constexpr const char *disk_is_nearly_full =
+    "the disk of the venue's log is nearly full: until the operator makes room, no request and no "
+    "quote is taken; cancels, declines, hits and passes are";
 constexpr const char *clock_was_set =
     "the clock of the venue was set: until the operator says that it is right, no request and no "
     "quote is taken; cancels, declines, hits and passes are";
@@ -57,6 +65,9 @@ bool is_behind_end(std::string_view deadline, const TradingDay &day) {
 // A request whose notice would come when the day has ended, or that comes when it closes.
 std::optional<NotTaken> why_no_request(const VenueDay &day, const Sender &sender,
                                        const Business &business) {
+    if (day.ordered_end.is_ordered()) {
+        return not_available(operator_ends_day);
+    }
     if (!day.hours) {
         return std::nullopt;
     }
@@ -76,6 +87,11 @@ std::optional<NotTaken> why_no_request(const VenueDay &day, const Sender &sender
 
 } // namespace
 
+// A number may have leading zeros, for the venue too.
+bool is_hit(std::string_view frame) {
+    return value_in(frame, "35") == "AJ" && number_of(value_in(frame, "694")) == 1U;
+}
+
 std::optional<Business> business_in(std::string_view frame) {
     const std::string_view type = value_in(frame, "35");
     if (type == "R") {
@@ -84,7 +100,7 @@ std::optional<Business> business_in(std::string_view frame) {
     if (type == "S") {
         return Business{Business::Kind::quote, value_in(frame, "117"), frame};
     }
-    if (type == "AJ" && value_in(frame, "694") == "1") {
+    if (is_hit(frame)) {
         return Business{Business::Kind::hit, value_in(frame, "693"), frame};
     }
     return std::nullopt;
@@ -92,6 +108,9 @@ std::optional<Business> business_in(std::string_view frame) {
 
 std::optional<NotTaken> why_not_taken(const VenueDay &day, const Sender &sender,
                                       const Business &business) {
+    if (sender.is_suspended) {
+        return not_available(firm_is_suspended);
+    }
     if (day.halts.is_venue_halted()) {
         return not_available(venue_is_halted);
     }
@@ -108,6 +127,9 @@ std::optional<NotTaken> why_not_taken(const VenueDay &day, const Sender &sender,
     }
     if (sender.are_bytes_used_up) {
         return NotTaken{other_reason, bytes_are_used_up};
+    }
+    if (day.reserve.is_reached()) {
+        return not_available(disk_is_nearly_full);
     }
     return day.clock_is_right ? std::nullopt : std::optional(not_available(clock_was_set));
 }

@@ -21,12 +21,14 @@ struct Business {
     std::string_view frame; // as the venue is given it
 };
 std::optional<Business> business_in(std::string_view frame);
+bool is_hit(std::string_view frame);
 
 // Who sends it, when it was received, and how that firm stands.
 struct Sender {
     const std::string &firm;
     std::chrono::system_clock::time_point received;
     bool are_bytes_used_up = false; // of its day
+    bool is_suspended = false;
 };
 
 // Why it is not taken: BusinessRejectReason (380) and Text (58).

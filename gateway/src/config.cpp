@@ -21,11 +21,22 @@ namespace {
 // More than a day can have.
 constexpr std::size_t most_day_bytes = std::size_t{1} << 40;
 
+// Bytes of the log's disk that are held back.
+constexpr std::size_t usual_reserve = std::size_t{256} << 20;
+constexpr std::size_t most_reserve = std::size_t{1} << 40;
+
 namespace fs = std::filesystem;
 
 std::string host_name() {
     std::array<char, 256> name{};
     return ::gethostname(name.data(), name.size() - 1) == 0 ? std::string(name.data()) : "";
+}
+
+// The one in which its bytes are: a file may be a link into another.
+fs::path folder_of(const fs::path &file) {
+    std::error_code fault;
+    const fs::path real = fs::weakly_canonical(file, fault);
+    return (fault ? file : real).parent_path();
 }
 
 class ConfigReader {
@@ -158,6 +169,8 @@ class ConfigReader {
         const std::string schema = log.text("schema", "day_{date}");
         config_.name = log.text("gateway", host_name());
         config_.synchronous_commit = log.text("synchronous_commit", "on");
+        config_.disk = log.path("disk");
+        config_.reserve = log.number("reserve", usual_reserve, 0, most_reserve);
         log.end();
         if (file.empty() == config_.postgres.empty()) {
             fail(path_, "[log] names neither sqlite nor postgres, or both");
@@ -165,6 +178,10 @@ class ConfigReader {
         if (!file.empty()) {
             config_.sqlite = log.beside(filled(file));
             config_.log_files = log.beside(of_venue(file));
+            if (log.has("disk")) {
+                log.fail_at("disk", "is for a log in PostgreSQL: a file's disk is known");
+            }
+            config_.disk = folder_of(config_.sqlite);
             check_private(config_.sqlite);
         } else {
             config_.schema = filled(schema);

@@ -51,6 +51,8 @@ struct Config {
     std::string schema;
     std::string name;               // of this gateway, for those who look who speaks
     std::string synchronous_commit; // of PostgreSQL: `on` waits for a standby, if there is one
+    std::filesystem::path disk;     // a folder on the log's disk; empty where none is known
+    std::uint64_t reserve = 0;      // bytes of it that are held back
 
     std::shared_ptr<const SealKeys> keys; // of the log's seals and signatures
     std::filesystem::path checkpoints;    // the folder in which the last signature is kept

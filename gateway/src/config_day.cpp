@@ -27,11 +27,12 @@ std::optional<std::chrono::minutes> time_in(Section &day, std::string_view key) 
 
 void check_hours(const Section &day, const DayRules &rules) {
     if (rules.ends <= rules.opens) {
-        day.fail_at(day.has("ends") ? "ends" : "opens",
-                    fmt::format("= \"{}\": a day opens before it ends, and this one opens at {} and "
-                                "ends at {}",
-                                text_of_time(day.has("ends") ? rules.ends : rules.opens),
-                                text_of_time(rules.opens), text_of_time(rules.ends)));
+        day.fail_at(
+            day.has("ends") ? "ends" : "opens",
+            fmt::format("= \"{}\": a day opens before it ends, and this one opens at {} and "
+                        "ends at {}",
+                        text_of_time(day.has("ends") ? rules.ends : rules.opens),
+                        text_of_time(rules.opens), text_of_time(rules.ends)));
     }
     if (rules.closes && (*rules.closes <= rules.opens || *rules.closes > rules.ends)) {
         day.fail_at("closes",

@@ -90,13 +90,13 @@ void FirmMetrics::logged_on(bool is_on) {
     }
 }
 
-void FirmMetrics::came(std::string_view type, std::string_view response_type) {
+void FirmMetrics::came(std::string_view type, bool is_hit) {
     messages_.Increment();
     if (type == "R") {
         requests_.Increment();
     } else if (type == "S") {
         quotes_.Increment();
-    } else if (type == "AJ" && response_type == "1") {
+    } else if (is_hit) {
         hits_.Increment();
     }
 }

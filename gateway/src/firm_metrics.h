@@ -39,8 +39,8 @@ class FirmMetrics {
     FirmMetrics &operator=(const FirmMetrics &) = delete;
 
     void logged_on(bool is_on);
-    // A message of the firm's that is in the log: its 35, and its 694 if it has one.
-    void came(std::string_view type, std::string_view response_type);
+    // A message of the firm's that is in the log: its 35, and whether it hits a quote.
+    void came(std::string_view type, bool is_hit);
     // What the venue gave it: counted where it refuses.
     void was_given(const Delivery &delivery);
     // Bytes that the firm has not taken yet.

@@ -1,6 +1,7 @@
 #include "firm_sessions.h"
 
 #include "firm_row.h"
+#include "frame.h"
 #include "in_its_name.h"
 
 #include <algorithm>
@@ -141,30 +142,56 @@ std::vector<FirmSessions::Facts> FirmSessions::facts() {
     return all;
 }
 
+bool FirmSessions::are_between_messages() {
+    return std::all_of(firms_.begin(), firms_.end(), [](auto &each) {
+        return std::unique_lock(each.second.mutex, std::try_to_lock).owns_lock();
+    });
+}
+
 void FirmSessions::cancel_all_of(const std::string &name, Firm &firm) {
     const std::lock_guard lock(firm.mutex);
     if (firm.cancel_on_disconnect.empty()) {
         return;
     }
     const std::string moment = fmt::format("{}-{}", day_.clock.date(), text_of(day_.clock.now()));
-    log_.append_message(name, std::nullopt,
-                        cancel_of_all({name, firm.cancel_on_disconnect, firm.entries + 1, moment}));
-    ++firm.entries;
+    const std::string frame =
+        cancel_of_all({name, firm.cancel_on_disconnect, firm.entries + 1, moment});
+    log_.append_message(name, std::nullopt, frame);
+    count_said(name, firm, {frame});
     day_.events->info("cancel of all firm={} trader={}{}", name, firm.cancel_on_disconnect,
                       day_.of_venue());
 }
 
-// In the name of the firm's first trader. The firm's lock is held.
-std::vector<std::string> FirmSessions::ends_of(const std::string &name, const Firm &firm) {
-    const FirmRow row = firm_row(day_.config.configuration, name);
+void FirmSessions::set_suspended(const std::string &name, bool is_suspended) {
+    const auto found = firms_.find(name);
+    if (found != firms_.end()) {
+        found->second.is_suspended = is_suspended;
+    }
+}
+
+std::unique_lock<std::mutex> FirmSessions::hold(const std::string &name) {
+    return std::unique_lock(firm_of(name).mutex);
+}
+
+bool FirmSessions::is_cancel_of_all(const FirmEnd &end) const {
+    return end.trader.empty() && firm_row(day_.config.configuration, end.firm).is_dealer;
+}
+
+// In the name of the trader, or of the firm's first one. The firm's lock is held.
+std::vector<std::string> FirmSessions::ends_of(const FirmEnd &end, const Firm &firm) {
+    const FirmRow row = firm_row(day_.config.configuration, end.firm);
     const std::string moment = fmt::format("{}-{}", day_.clock.date(), text_of(day_.clock.now()));
-    Author author{name, row.traders.at(0), firm.entries + 1, moment};
+    Author author{end.firm, row.traders.at(0), firm.entries + 1, moment};
+    if (!end.trader.empty()) {
+        author.trader = end.trader;
+        return cancels_of(end, author);
+    }
     if (row.is_dealer) {
         return {cancel_of_all(author)};
     }
     std::vector<std::string> passes;
     for (const OpenRequests::Open &open : day_.open_requests.all()) {
-        if (open.firm == name) {
+        if (open.firm == end.firm) {
             passes.push_back(pass_of(author, open.request));
             ++author.number;
         }
@@ -172,12 +199,25 @@ std::vector<std::string> FirmSessions::ends_of(const std::string &name, const Fi
     return passes;
 }
 
-Log::Ticket FirmSessions::put_act_with_end(const std::string &name, const std::string &act) {
-    Firm &firm = firm_of(name);
-    const std::lock_guard lock(firm.mutex);
-    const std::vector<std::string> frames = ends_of(name, firm);
-    const Log::Ticket ticket = log_.append_act(act, name, frames);
-    firm.entries += static_cast<std::uint32_t>(frames.size());
+// Who sent a quote stands in its entry (50).
+std::vector<std::string> FirmSessions::cancels_of(const FirmEnd &end, Author author) {
+    const auto log = day_.database->reader();
+    std::vector<std::string> cancels;
+    for (const LiveQuotes::Live &live : day_.live_quotes.of(end.firm)) {
+        const std::vector<Entry> found = log->entries(live.place, 1);
+        if (!found.empty() && value_in(frame_of_line(found.front().line), "50") == end.trader) {
+            cancels.push_back(cancel_of(author, live.quote));
+            ++author.number;
+        }
+    }
+    return cancels;
+}
+
+Log::Ticket FirmSessions::put_act_with_end(const FirmEnd &end, const std::string &act) {
+    Firm &firm = firm_of(end.firm);
+    const std::vector<std::string> frames = ends_of(end, firm);
+    const Log::Ticket ticket = log_.append_act(act, end.firm, frames);
+    count_said(end.firm, firm, frames);
     return ticket;
 }
 

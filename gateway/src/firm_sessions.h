@@ -4,12 +4,13 @@
 
 #include "connection_rows.h"
 #include "database.h"
-#include "denials.h"
 #include "doorkeeper.h"
 #include "engine.h"
 #include "firm_limits.h"
+#include "in_its_name.h"
 #include "log.h"
 #include "notes.h"
+#include "own_rows.h"
 #include "venue_day.h"
 
 #include <atomic>
@@ -22,6 +23,12 @@
 #include <vector>
 
 namespace gateway {
+
+// What an act ends that a firm has open.
+struct FirmEnd {
+    std::string firm;
+    std::string trader{}; // the quotes of this one alone; empty for all that the firm has
+};
 
 // Stands between the engine's sessions and the log: who is let in, what came and what left, and
 // what follows a session's end. Sessions call it on the threads of their connections and mailboxes.
@@ -49,9 +56,19 @@ class FirmSessions final : private SessionHost {
     // nothing for a firm that the venue has not.
     void set_limit(const LimitSet &set);
 
-    // Commits an act with what it has the gateway say in the firm's name: the cancel of all quotes
-    // of a dealer, or a pass on each open request of an investor. Returns the act's ticket.
-    Log::Ticket put_act_with_end(const std::string &firm, const std::string &act);
+    // By an operator, or no more: of the thread that commits the log. Nothing that the firm begins
+    // is taken from then on, also before its session has ended.
+    void set_suspended(const std::string &firm, bool is_suspended);
+
+    // As long as it is kept, no message of the firm comes into the log. What comes is judged by
+    // what is set once it is given back.
+    std::unique_lock<std::mutex> hold(const std::string &firm);
+    // Whether one message ends all of it, whatever it is.
+    bool is_cancel_of_all(const FirmEnd &end) const;
+    // Puts an act there with what it has the gateway say in the name of a firm that is held: the
+    // cancel of all quotes of a dealer, or of those of one trader, or a pass on each open request
+    // of an investor. Returns the act's ticket.
+    Log::Ticket put_act_with_end(const FirmEnd &end, const std::string &act);
     // How often an operator has reset the firm's session this day.
     std::uint32_t epoch_of(const std::string &firm) { return firm_of(firm).epoch; }
 
@@ -67,6 +84,9 @@ class FirmSessions final : private SessionHost {
         std::map<std::string, std::uint64_t> set;    // those that an operator has set
     };
     std::vector<Facts> facts();
+    // Whether no message is being judged by what was set before: all that come into the log from
+    // now on are judged by what is set now.
+    bool are_between_messages();
     bool has_firm(const std::string &name) const { return firms_.contains(name); }
 
     // Other credentials from now on, with the limits in them. Returns the firms whose sessions are
@@ -81,6 +101,7 @@ class FirmSessions final : private SessionHost {
 
         FirmLimits limits;
         std::atomic<bool> told_of_bytes{false};
+        std::atomic<bool> is_suspended{false}; // by an operator
         FirmMetrics *metrics = nullptr;
         // The gateway before left it logged on: so it is in the log until its quotes are cancelled.
         std::atomic<bool> was_left{false};
@@ -89,7 +110,7 @@ class FirmSessions final : private SessionHost {
         SessionNumbers numbers;
         std::atomic<std::uint32_t> epoch{0};
         std::uint32_t entries_from = 0;
-        Denials denials;
+        OwnRows own_rows;
 
         std::atomic<std::uint32_t> entries{
             0}; // messages of the firm in the log, with a number each
@@ -118,7 +139,9 @@ class FirmSessions final : private SessionHost {
     SessionStart start_of(const std::string &name, const Firm &firm);
     std::optional<Taken> denied(const std::string &name, Firm &firm, std::string_view frame,
                                 const Receipt &receipt);
-    std::vector<std::string> ends_of(const std::string &name, const Firm &firm);
+    std::vector<std::string> ends_of(const FirmEnd &end, const Firm &firm);
+    std::vector<std::string> cancels_of(const FirmEnd &end, Author author);
+    void count_said(const std::string &name, Firm &firm, const std::vector<std::string> &frames);
     void tell_bytes_used_up(const std::string &name, Firm &firm);
     static SessionRow row_of(const std::string &name, Firm &firm, const SessionEvent &event);
     void cancel_all_of(const std::string &name, Firm &firm);
@@ -134,6 +157,7 @@ class FirmSessions final : private SessionHost {
     void logged_on(const std::string &firm) override;
     void logged_off(const std::string &firm) override;
     std::uint64_t put(const std::string &firm, const SessionEvent &event) override;
+    bool keeps_too_much(const std::string &firm) override;
     void wait_stored(std::uint64_t ticket) override;
     Taken take(const std::string &firm, const SessionInput &input,
                const SessionEvent &event) override;

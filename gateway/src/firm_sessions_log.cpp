@@ -54,6 +54,9 @@ std::uint64_t FirmSessions::put(const std::string &name, const SessionEvent &eve
         row.moment = text_of(Moment{static_cast<int>(kept.first)});
         row.bytes = kept.frame;
     }
+    if (event.kept && event.given == nullptr) {
+        firm.own_rows.add();
+    }
     if (const Delivery *const given = event.given) {
         change.carried = Sent{name, given->number, given->place, given->frame};
         if (change.kept) {
@@ -63,6 +66,10 @@ std::uint64_t FirmSessions::put(const std::string &name, const SessionEvent &eve
         firm.metrics->was_given(*given);
     }
     return log_.put(std::move(change));
+}
+
+bool FirmSessions::keeps_too_much(const std::string &name) {
+    return firm_of(name).own_rows.are_too_many();
 }
 
 void FirmSessions::wait_stored(std::uint64_t ticket) {
@@ -79,11 +86,7 @@ Taken FirmSessions::take(const std::string &name, const SessionInput &input,
     }
     const auto frame = for_venue(input.bytes, firm.entries + 1);
     if (!frame) {
-        return {Taken::Verdict::denied,
-                other_reason,
-                {},
-                too_long_for_the_venue,
-                firm.denials.is_too_many()};
+        return {Taken::Verdict::denied, other_reason, {}, too_long_for_the_venue};
     }
     if (auto why = denied(name, firm, *frame, input.receipt)) {
         return std::move(*why);
@@ -93,12 +96,21 @@ Taken FirmSessions::take(const std::string &name, const SessionInput &input,
     const Log::Came came{input.number, input.receipt.connection, firm.last_receipt};
     if (!log_.append_at_once(name, came, *frame, row_of(name, firm, event),
                              std::exchange(firm.turn, Log::Turn()))) {
-        return {Taken::Verdict::waits, 0, {}, {}, false};
+        return {Taken::Verdict::waits, 0, {}, {}};
     }
-    firm.metrics->came(value_in(*frame, "35"), value_in(*frame, "694"));
+    firm.metrics->came(value_in(*frame, "35"), is_hit(*frame));
     firm.limits.bytes.add(bytes_of_line(name, *frame));
     ++firm.entries;
     return {};
+}
+
+// What the gateway said in the firm's name: its entries are the firm's.
+void FirmSessions::count_said(const std::string &name, Firm &firm,
+                              const std::vector<std::string> &frames) {
+    for (const std::string &frame : frames) {
+        firm.limits.bytes.add(bytes_of_line(name, frame));
+        ++firm.entries;
+    }
 }
 
 void FirmSessions::wait_for_turn(const std::string &name, const Receipt &receipt) {
@@ -122,7 +134,8 @@ std::optional<Taken> FirmSessions::denied(const std::string &name, Firm &firm,
         return std::nullopt;
     }
     const bool are_used_up = firm.limits.bytes.are_used_up();
-    const auto why = why_not_taken(day_, {name, receipt.at, are_used_up}, *business);
+    const Sender sender{name, receipt.at, are_used_up, firm.is_suspended};
+    const auto why = why_not_taken(day_, sender, *business);
     if (!why) {
         return std::nullopt;
     }
@@ -134,7 +147,6 @@ std::optional<Taken> FirmSessions::denied(const std::string &name, Firm &firm,
     taken.reason = why->reason;
     taken.id = std::string(business->id.substr(0, longest_denied_id));
     taken.text = why->text;
-    taken.logs_out = firm.denials.is_too_many();
     return taken;
 }
 
@@ -184,7 +196,7 @@ void FirmSessions::put_reset(const std::string &name, std::uint32_t behind,
     Log::SessionChange change;
     change.reset = SessionReset{name, firm.epoch, behind};
     ++firm.epoch;
-    firm.entries_from = log_.last_place();
+    firm.entries_from = log_.fence();
     change.row = row_of(name, firm, event);
     log_.put(std::move(change));
 }

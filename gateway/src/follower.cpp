@@ -191,6 +191,7 @@ void Follower::venue_gave(std::uint32_t place, std::uint32_t number, std::string
                           std::string frame, std::optional<VenueNote> note) {
     day_.open_requests.was_given(name, frame);
     day_.shown_quotes.was_given(name, frame);
+    day_.live_quotes.was_given(place, name, frame);
     if (note && note->kind == VenueNote::Kind::trade) {
         day_.trades.add(note->name);
     }

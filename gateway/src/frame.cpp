@@ -69,6 +69,20 @@ std::string hexadecimal(std::string_view bytes) {
     return text;
 }
 
+std::string frame_of_line(std::string_view line) {
+    const std::size_t last = line.rfind(' ');
+    if (!line.starts_with("hex ") || last == std::string_view::npos) {
+        return "";
+    }
+    std::string frame;
+    for (std::size_t at = last + 1; at + 1 < line.size(); at += 2) {
+        unsigned byte = 0;
+        std::from_chars(line.data() + at, line.data() + at + 2, byte, 16);
+        frame += static_cast<char>(byte);
+    }
+    return frame;
+}
+
 std::optional<unsigned> number_of(std::string_view text) {
     unsigned number = 0;
     const auto [end, fault] = std::from_chars(text.data(), text.data() + text.size(), number);

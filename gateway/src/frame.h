@@ -38,6 +38,9 @@ std::string framed(std::string_view body);
 // Capital hexadecimal digits, two a byte.
 std::string hexadecimal(std::string_view bytes);
 
+// The frame of a line of the log, `hex FIRM MOMENT DIGITS`; empty where it is another one.
+std::string frame_of_line(std::string_view line);
+
 // A number of digits alone, below 2^31; nothing where it is none.
 std::optional<unsigned> number_of(std::string_view text);
 

@@ -4,6 +4,7 @@
 #include "certificate_end.h"
 #include "version.h"
 
+#include <algorithm>
 #include <future>
 
 namespace gateway {
@@ -17,8 +18,8 @@ Gateway::Gateway(std::filesystem::path path, std::vector<Config> configs,
       events_(std::move(events)), metrics_(metrics), status_(events_),
       engine_events_(metrics_, events_), engine_(configs_.front().engine, {}, engine_events_) {
     for (const Config &config : configs_) {
-        days_.push_back(std::make_unique<VenueDay>(config, metrics_, status_, events_,
-                                                   engine_events_, hours_));
+        days_.push_back(
+            std::make_unique<VenueDay>(config, metrics_, status_, events_, engine_events_, hours_));
     }
     engine_events_.tell_strangers_to([this](const ConnectionFacts &facts, const std::string &why) {
         for (const auto &speaker : speakers_) {
@@ -83,7 +84,7 @@ void Gateway::listen() {
     for (const auto &speaker : speakers_) {
         speaker->start();
     }
-    if (status_.stopping().stop_requested()) {
+    if (status_.stopping().stop_requested() || ends_day()) {
         return;
     }
     engine_.listen();
@@ -157,22 +158,27 @@ void Gateway::ask_to_stop(const std::string &why) {
     status_.ask_to_stop(why);
 }
 
-bool Gateway::has_day_ended() {
-    return hours_ && std::chrono::system_clock::now() >= hours_->ends;
-}
-
-// What is due by now is told before the sessions are logged out.
-void Gateway::end_day() {
-    for (const auto &speaker : speakers_) {
-        speaker->tell_what_is_due();
+// Asks for the end where the day has come to it, or an operator has ended it: once what is due by
+// now was told, and before the sessions are logged out. Whether it has.
+bool Gateway::ends_day() {
+    const bool has_come = hours_ && std::chrono::system_clock::now() >= hours_->ends;
+    const bool is_ordered =
+        !speakers_.empty() && std::ranges::all_of(speakers_, [](const auto &speaker) {
+            return speaker->has_operator_ended();
+        });
+    if (!has_come && !is_ordered) {
+        return false;
     }
-    status_.ask_to_stop("the day has ended");
+    for (const auto &speaker : speakers_) {
+        speaker->end_requests();
+    }
+    status_.ask_to_stop(has_come ? "the day has ended" : "the operator has ended the day");
+    return true;
 }
 
 std::optional<std::string> Gateway::run() {
     while (!status_.wait(1s)) {
-        if (has_day_ended()) {
-            end_day();
+        if (ends_day()) {
             break;
         }
         if (is_to_renew_.exchange(false)) {

@@ -80,8 +80,7 @@ class Gateway final {
     int exit_status() { return status_.exit_status(); }
 
   private:
-    bool has_day_ended();
-    void end_day();
+    bool ends_day();
     void follow();
     std::unique_ptr<Speaker> follow_one(std::size_t at);
     void listen();

@@ -20,6 +20,10 @@ std::string cancel_of_all(const Author &author) {
     return frame_of("Z", author, fmt::format("298=4{}", soh));
 }
 
+std::string cancel_of(const Author &author, std::string_view quote) {
+    return frame_of("Z", author, fmt::format("298=5{0}117={1}{0}", soh, quote));
+}
+
 std::string pass_of(const Author &author, std::string_view request) {
     return frame_of(
         "AJ", author,

@@ -19,6 +19,9 @@ struct Author {
 // The cancel of all quotes (35=Z, 298=4) of a dealer.
 std::string cancel_of_all(const Author &author);
 
+// The cancel of one (35=Z, 298=5), by its name (117).
+std::string cancel_of(const Author &author, std::string_view quote);
+
 // The pass (35=AJ, 694=6) on a request (131) of an investor. Its 693 begins with `gateway-`.
 std::string pass_of(const Author &author, std::string_view request);
 

@@ -168,6 +168,12 @@ std::uint32_t Log::last_place() {
     return next_place_ - 1;
 }
 
+std::uint32_t Log::fence() {
+    const std::lock_guard lock(mutex_);
+    arrivals_.fence();
+    return next_place_ - 1;
+}
+
 std::size_t Log::waiting() {
     const std::lock_guard lock(mutex_);
     return waiters_.size();

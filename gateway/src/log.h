@@ -164,6 +164,8 @@ class Log {
     void flush();
 
     std::uint32_t last_place();
+    // The same; what comes from now on stands behind it, whenever it was received.
+    std::uint32_t fence();
     // How many messages wait now, for the end of a hold or for room.
     std::size_t waiting();
     // How long ago something was committed last, or the log was opened. The Notary has something

@@ -35,7 +35,13 @@ Log::Ticket Log::append_message(const std::string &firm, const std::optional<Cam
     leave(own);
     throw_if_failed();
     shares_.put(firm);
-    return append_here(std::move(arrival), committer);
+    const Ticket ticket = append_here(std::move(arrival), committer);
+    if (!came) {
+        // It has the number behind those of the firm that are here: what the firm sent before it
+        // and is put here later has a higher one.
+        arrivals_.fence();
+    }
+    return ticket;
 }
 
 std::optional<Log::Ticket> Log::append_at_once(const std::string &firm, const Came &came,
@@ -179,6 +185,9 @@ Log::Ticket Log::append_act(std::string_view text, const std::string &firm,
             shares_.put(firm);
         }
         ticket = append_here(std::move(arrival), Committer::thread);
+    }
+    if (!frames.empty()) {
+        arrivals_.fence();
     }
     return ticket;
 }

@@ -107,6 +107,11 @@ struct Metrics::Parts {
                                        "entries of the log that the venue has not answered");
     Family<Gauge> &waiting = gauges(*registry, "mireseason_log_backlog_messages",
                                     "messages of firms that wait for room in the log");
+    Family<Gauge> &disk_free =
+        gauges(*registry, "mireseason_log_disk_free_bytes", "what is free on the disk of the log");
+    Family<Gauge> &disk_reserve =
+        gauges(*registry, "mireseason_log_disk_reserve_reached",
+               "1 where less is free there than is held back: no request and no quote is taken");
     Family<Gauge> &build =
         gauges(*registry, "mireseason_build_info", "1; the version and commit of the gateway");
     Family<Gauge> &program =
@@ -145,6 +150,11 @@ std::vector<const FirmMetrics *> Metrics::firms() const {
 void Metrics::backlog(const std::string &venue, std::size_t unanswered, std::size_t waiting) {
     parts_->unanswered.Add(of_venue(venue)).Set(static_cast<double>(unanswered));
     parts_->waiting.Add(of_venue(venue)).Set(static_cast<double>(waiting));
+}
+
+void Metrics::log_disk(const std::string &venue, std::uint64_t free, bool is_reserve_reached) {
+    parts_->disk_free.Add(of_venue(venue)).Set(static_cast<double>(free));
+    parts_->disk_reserve.Add(of_venue(venue)).Set(is_reserve_reached ? 1 : 0);
 }
 
 std::vector<Queue> Metrics::queues() const {

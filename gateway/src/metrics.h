@@ -7,6 +7,7 @@
 
 #include <chrono>
 #include <cstddef>
+#include <cstdint>
 #include <memory>
 #include <string>
 #include <vector>
@@ -58,6 +59,9 @@ class Metrics {
     // Entries of the log that the venue has not answered, and messages that wait for the log.
     void backlog(const std::string &venue, std::size_t unanswered, std::size_t waiting);
     std::vector<Queue> queues() const;
+    // Bytes that are free on the disk of a venue's log, and whether they are fewer than are held
+    // back.
+    void log_disk(const std::string &venue, std::uint64_t free, bool is_reserve_reached);
     // What the venue's program says that it is.
     void venue_is(const std::string &venue, const std::string &version);
     // Whether firms may log on now, and whether every part that does the work shows that it does.

@@ -142,6 +142,17 @@ std::optional<HaltSet> halt_in(const Note &note) {
                       : std::nullopt;
 }
 
+DayEnd day_end_in(const Note &note) {
+    // WHO end-day, or WHO end-day --now
+    if (note.kind != note_kinds::act || note.words.size() < 2 || note.words[1] != "end-day") {
+        return DayEnd::as_configured;
+    }
+    if (note.words.size() == 2) {
+        return DayEnd::once_nothing_is_open;
+    }
+    return note.words.size() == 3 && note.words[2] == "--now" ? DayEnd::now : DayEnd::as_configured;
+}
+
 bool accepts_clock(const Note &note) {
     // WHO clock accept
     return note.kind == note_kinds::act && note.words.size() == 3 && note.words[1] == "clock" &&

@@ -3,6 +3,7 @@
 #define GATEWAY_NOTES_H
 
 #include "clock_watch.h"
+#include "day_end.h"
 #include "moment.h"
 #include "records.h"
 
@@ -80,6 +81,8 @@ struct HaltSet {
     bool is_halted = false;
 };
 std::optional<HaltSet> halt_in(const Note &note);
+// The end of the day that it orders; as_configured where it orders none.
+DayEnd day_end_in(const Note &note);
 std::optional<std::chrono::microseconds> step_in(const Note &note);
 
 } // namespace gateway

@@ -49,6 +49,11 @@ void OpenRequests::was_given(const std::string &firm, std::string_view frame) {
     }
 }
 
+bool OpenRequests::are_none() const {
+    const std::lock_guard lock(mutex_);
+    return open_.empty();
+}
+
 std::vector<OpenRequests::Open> OpenRequests::all() const {
     const std::lock_guard lock(mutex_);
     std::vector<Open> all;

@@ -26,6 +26,7 @@ class OpenRequests {
     void was_given(const std::string &firm, std::string_view frame);
     // By investor, and by name; of any thread.
     std::vector<Open> all() const;
+    bool are_none() const;
 
   private:
     mutable std::mutex mutex_;

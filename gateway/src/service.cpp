@@ -6,6 +6,7 @@
 #include "venue_file.h"
 #include "version.h"
 
+#include <algorithm>
 #include <thread>
 #include <utility>
 
@@ -131,8 +132,9 @@ int Service::run() {
 
 int Service::run_days() {
     const std::jthread watching([this](const std::stop_token &stop) { watch_files(stop); });
+    SystemSeconds ended{}; // the day before, which an operator may have ended early
     while (!stopping_.stop_requested()) {
-        const TradingDay day = day_after(now());
+        const TradingDay day = day_after(std::max(now(), ended));
         show(day);
         copy_days(day.date);
         if (!wait_for(day)) {
@@ -142,6 +144,7 @@ int Service::run_days() {
         if (const int status = run_day(as_begun(next_.in_force(day.date)), day); status != 0) {
             return status;
         }
+        ended = day.ends;
     }
     events_->info("stop cause=\"{}\"", why_);
     return 0;
@@ -275,7 +278,8 @@ bool Service::wait_for_acceptance(std::vector<Config> &configs,
     is_now(Phase::closed);
     std::unique_lock lock(mutex_);
     waiting_configs_ = &configs;
-    while (!not_accepted_.empty() && !stopping_.stop_requested() && !(hours && now() >= hours->ends)) {
+    while (!not_accepted_.empty() && !stopping_.stop_requested() &&
+           !(hours && now() >= hours->ends)) {
         changed_.wait_for(lock, 1s);
     }
     waiting_configs_ = nullptr;

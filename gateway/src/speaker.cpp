@@ -18,6 +18,12 @@ constexpr auto longest_end = 10s;
 constexpr auto longest_due = 5s;
 constexpr auto look_at_due = 10ms;
 
+// How long the venue has to answer what came before an act.
+constexpr auto longest_answer = 3s;
+
+// Requests without a notice that have a line of their own.
+constexpr std::size_t most_left_told = 100;
+
 // No moment is given that is before one of the log.
 void set_clock_behind(DayClock &clock, const Entry &last, const ConnectionState &connections) {
     if (const auto latest = moment_of(last.moment)) {
@@ -83,9 +89,14 @@ void Speaker::start() {
     log_.flush();
     carry_out_orders();
     sessions_.end_lost(lost_);
+    day_.look_at_disk();
     clock_log_.look(day_.kernel_clock(), day_.take_steps());
     log_.flush();
     sweeper_.start();
+    if (day_.ordered_end.is_ordered()) {
+        // Whether the day has ended is known then, before firms may log on.
+        follower_->answers().wait(log_.last_place(), longest_end, day_.status.stopping());
+    }
 }
 
 // What an operator has set, and what the clock has done, as the log has it: the same at a start.
@@ -101,8 +112,9 @@ void Speaker::take_note(const std::string &line) {
         day_.halts.set(*halt);
     }
     if (const auto ordered = firm_order_in(*note); ordered && sessions_.has_firm(ordered->firm)) {
-        orders_.note(*ordered);
+        take_order(*ordered);
     }
+    day_.ordered_end.order(day_end_in(*note));
     if (accepts_clock(*note)) {
         day_.clock_is_right = true;
     }
@@ -111,17 +123,33 @@ void Speaker::take_note(const std::string &line) {
     }
 }
 
+void Speaker::take_order(const FirmOrdered &ordered) {
+    if (ordered.order == FirmOrder::suspend || ordered.order == FirmOrder::resume) {
+        sessions_.set_suspended(ordered.firm, ordered.order == FirmOrder::suspend);
+    }
+    orders_.note(ordered);
+}
+
 bool Speaker::commit_act(const Act &act, std::chrono::milliseconds longest) {
     const std::string text = text_of(act);
     day_.events->warn("operator{} act=\"{}\"", day_.of_venue(), text);
     return log_.wait_for(log_.append_note(note_kinds::act, text), longest);
 }
 
-bool Speaker::commit_act_with_end(const std::string &firm, const Act &act,
+bool Speaker::commit_act_with_end(const FirmEnd &end, const Act &act,
                                   std::chrono::milliseconds longest) {
     const std::string text = text_of(act);
+    const auto held = sessions_.hold(end.firm);
+    // What is open by its name is known once all is answered that came before. A suspension does
+    // not fail for a venue that is silent: it passes what is known.
+    const bool is_known =
+        sessions_.is_cancel_of_all(end) ||
+        follower_->answers().wait(log_.last_place(), longest_answer, day_.status.stopping());
+    if (!is_known && !end.trader.empty()) {
+        throw std::runtime_error("the venue has not answered yet what came before: try again");
+    }
     day_.events->warn("operator{} act=\"{}\"", day_.of_venue(), text);
-    return log_.wait_for(sessions_.put_act_with_end(firm, text), longest);
+    return log_.wait_for(sessions_.put_act_with_end(end, text), longest);
 }
 
 void Speaker::carry_out_orders() {
@@ -146,7 +174,7 @@ void Speaker::carry_out(const FirmOrdered &ordered) {
 }
 
 // The sweeper has it told; a request of that deadline may be hit meanwhile, and so end otherwise.
-void Speaker::tell_what_is_due() {
+void Speaker::wait_for_due() {
     const auto latest = std::chrono::steady_clock::now() + longest_due;
     const std::stop_token stop = day_.status.failed();
     for (auto next = follower_->answers().deadline();
@@ -156,6 +184,35 @@ void Speaker::tell_what_is_due() {
         follower_->answers().wait_for_other(next->moment, look_at_due, stop);
     }
     deliveries_.wait_until_handed_over();
+}
+
+void Speaker::end_requests() {
+    wait_for_due();
+    std::size_t left = 0;
+    for (const OpenRequests::Open &open : day_.open_requests.all()) {
+        if (++left <= most_left_told) {
+            day_.events->warn("left without a notice firm={}{} request=\"{}\"", open.firm,
+                              day_.of_venue(), open.request);
+        }
+    }
+    if (left > most_left_told) {
+        day_.events->warn("left without a notice{} more={}", day_.of_venue(),
+                          left - most_left_told);
+    }
+}
+
+// Nothing is open once the venue has answered all that was taken before the order.
+bool Speaker::has_operator_ended() {
+    const DayEnd end = day_.ordered_end.end();
+    if (end != DayEnd::once_nothing_is_open) {
+        return end == DayEnd::now;
+    }
+    if (!last_of_requests_ && sessions_.are_between_messages()) {
+        last_of_requests_ = log_.last_place();
+    }
+    return last_of_requests_ &&
+           follower_->answers().last_place().value_or(0) >= *last_of_requests_ &&
+           day_.open_requests.are_none();
 }
 
 void Speaker::finish() {
@@ -184,6 +241,7 @@ void Speaker::look_at_clock() {
 
 void Speaker::look() {
     look_at_clock();
+    day_.look_at_disk();
     try {
         carry_out_orders();
         // Of what is committed: a log that does not answer is no silence of the venue.

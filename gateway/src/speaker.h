@@ -18,6 +18,7 @@
 #include <cstdint>
 #include <map>
 #include <memory>
+#include <optional>
 #include <string>
 #include <vector>
 
@@ -42,8 +43,12 @@ class Speaker final {
     // logs on; ends what the last gateway left behind; and lets the clock be told to the venue.
     // Does nothing where the gateway is to stop.
     void start();
-    // Returns when all notices are handed over that are due by now, or after some seconds.
-    void tell_what_is_due();
+    // Whether an operator has ended the day here, and nothing is waited for any more; one thread at
+    // a time.
+    bool has_operator_ended();
+    // At the day's end: returns when all notices are handed over that are due by now, or after some
+    // seconds, and tells which requests have none.
+    void end_requests();
     // Lets the venue answer what came, and hands that over.
     void finish();
     // Ends the venue's process, and commits.
@@ -65,9 +70,10 @@ class Speaker final {
     // written no more.
     bool commit_act(const Act &act, std::chrono::milliseconds longest);
     // The same of one that ends what a firm has open: its quotes are cancelled, or its requests
-    // passed, in the same transaction.
-    bool commit_act_with_end(const std::string &firm, const Act &act,
-                             std::chrono::milliseconds longest);
+    // passed, in the same transaction. All that the firm sent before is ended, and nothing comes
+    // between. One of a trader throws where the venue has not answered within a few seconds what
+    // came before.
+    bool commit_act_with_end(const FirmEnd &end, const Act &act, std::chrono::milliseconds longest);
     // Does what committed acts ordered of firms' sessions.
     void carry_out_orders();
     // The last entry that is committed.
@@ -75,11 +81,13 @@ class Speaker final {
 
   private:
     void count();
+    void wait_for_due();
 
     Speaker(VenueDay &day, std::unique_ptr<Follower> follower, const Follower::End &end,
             Log::Start start, Engine &engine);
 
     void take_note(const std::string &line);
+    void take_order(const FirmOrdered &ordered);
     void carry_out(const FirmOrdered &ordered);
     void look_at_clock();
 
@@ -95,6 +103,7 @@ class Speaker final {
     ClockLog clock_log_;
     Stall stall_;
     Sweeper sweeper_;
+    std::optional<std::uint32_t> last_of_requests_; // no request is taken behind this place
 };
 
 } // namespace gateway

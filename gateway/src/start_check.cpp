@@ -2,6 +2,7 @@
 
 #include "check_settings.h"
 #include "descriptor.h"
+#include "disk_reserve.h"
 #include "venue_trial.h"
 
 #include <cerrno>
@@ -35,6 +36,17 @@ void check_port(const std::string &address, std::uint16_t port, std::string_view
     }
 }
 
+// A disk that is smaller than what is held back of it would take no request for good.
+void check_reserve(const Config &config) {
+    const auto room = config.disk.empty() ? std::nullopt : room_of(config.disk);
+    if (room && room->bytes <= config.reserve) {
+        throw std::runtime_error(fmt::format(
+            "[log] reserve = {}: the disk of {} has {} bytes in all, and more than the reserve "
+            "is needed",
+            config.reserve, config.disk.string(), room->bytes));
+    }
+}
+
 } // namespace
 
 void check_day(const Config &config, std::string_view day) {
@@ -43,6 +55,7 @@ void check_day(const Config &config, std::string_view day) {
             "the venue's configuration is of {}, and the day is {}", config.firms.date, day));
     }
     check_settings(config.engine);
+    check_reserve(config);
     try_configuration(config.command, config.configuration);
 }
 

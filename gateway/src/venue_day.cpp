@@ -29,9 +29,9 @@ VenueDay::VenueDay(const Config &given, Metrics &counted, Status &state,
                    std::shared_ptr<spdlog::logger> lines, OperatorEvents &listener,
                    std::optional<TradingDay> of)
     : config(given), hours(std::move(of)), metrics(counted), status(state),
-      events(std::move(lines)), told(listener),
-      clock(config.firms.date), guard(sealer_of(config), config.checkpoints, events),
-      database(open_database(config, clock)) {}
+      events(std::move(lines)), told(listener), clock(config.firms.date),
+      guard(sealer_of(config), config.checkpoints, events), database(open_database(config, clock)),
+      reserve(config.disk, config.reserve) {}
 
 VenueDay::~VenueDay() {
     if (has_term) {
@@ -57,6 +57,26 @@ void VenueDay::tell_if_clock_was_set() {
         events->error("no request and no quote is taken{} until=\"an operator accepts the clock\" "
                       "cause=\"the clock was set by {:.3f} s\"",
                       of_venue(), seconds);
+    }
+}
+
+void VenueDay::look_at_disk() {
+    const bool is_reached = reserve.is_reached();
+    const auto free = reserve.free_bytes();
+    if (free) {
+        metrics.log_disk(config.venue, *free, is_reached);
+    }
+    if (is_reached == std::exchange(told_of_disk_, is_reached)) {
+        return;
+    }
+    if (is_reached) {
+        events->error(
+            "no request and no quote is taken{} until=\"there is room on the log's disk\" "
+            "free={} reserve={}",
+            of_venue(), free.value_or(0), reserve.reserve());
+    } else {
+        events->warn("there is room on the log's disk again{} free={} reserve={}", of_venue(),
+                     free.value_or(0), reserve.reserve());
     }
 }
 

@@ -5,7 +5,10 @@
 #include "clock_watch.h"
 #include "config.h"
 #include "database.h"
+#include "day_end.h"
+#include "disk_reserve.h"
 #include "halts.h"
+#include "live_quotes.h"
 #include "log_guard.h"
 #include "metrics.h"
 #include "moment.h"
@@ -46,6 +49,9 @@ struct VenueDay {
     // What the kernel said of the clock at that look, and by how much the clock was set since this
     // was asked last; by the same thread.
     const KernelClock &kernel_clock() const { return kernel_clock_; }
+    // Tells where the reserve on the log's disk is reached, and where it is no more; to be called
+    // each second by the one thread of a gateway that speaks.
+    void look_at_disk();
     std::vector<std::chrono::microseconds> take_steps();
     // For events: which venue it is, where there are several.
     std::string of_venue() const;
@@ -59,7 +65,9 @@ struct VenueDay {
     OpenRequests open_requests;
     Trades trades;
     ShownQuotes shown_quotes;
+    LiveQuotes live_quotes;
     Halts halts;
+    OrderedEnd ordered_end;
     DayClock clock;
     LogGuard guard;
     const std::unique_ptr<Database> database;
@@ -68,11 +76,13 @@ struct VenueDay {
     // False once the clock was set by more than two seconds: no request and no quote is taken until
     // an operator says that it is right, also where the gateway is started again.
     std::atomic<bool> clock_is_right{true};
+    const DiskReserve reserve;
 
   private:
     void tell_if_clock_was_set();
 
     ClockWatch clock_watch_;
+    bool told_of_disk_ = false;
     KernelClock kernel_clock_ = read_kernel_clock();
     std::vector<std::chrono::microseconds> steps_;
 };

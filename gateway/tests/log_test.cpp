@@ -5,6 +5,7 @@
 #include <doctest/doctest.h>
 
 #include "check.h"
+#include "frame.h"
 #include "log_days.h"
 #include "sqlite_statement.h"
 
@@ -190,6 +191,10 @@ void a_message_alone(Database &database) {
     const std::uint32_t last = day.last;
     log.append_message("F0", came(messages + 2), "x", Log::Committer::caller);
     log.commit();
+    if (log.commits_since()) {
+        // The log's own thread was at it already: on a machine with much else to do.
+        log.flush();
+    }
     same(last + 1, day.committed.last_place(), "the place that was committed");
     same<std::size_t>(1, database.reader()->entries(last + 1, 9).size(), "entries in the log");
     log.append_message("F0", came(messages + 3), "x", Log::Committer::caller);
@@ -224,6 +229,34 @@ void no_memory(Database &database) {
     const auto entries = database.reader()->entries(day.last + 1, 9);
     same<std::size_t>(1, entries.size(), "entries after those that were not taken");
     check_link(entries[0], day.last + 1, day.start.last.hash);
+}
+
+// What the gateway says in a firm's name has the number behind the firm's last message: one that
+// was read before it, and comes to the log behind it, stays behind it.
+TEST_CASE("what is said in a firm's name stays in front of what comes to the log behind it") {
+    const auto database = open_sqlite(fresh("behind.db"));
+    begin_day(*database);
+    DayThatGoesOn day(*database);
+    const auto read = std::chrono::system_clock::now();
+    const auto say = [&](std::uint32_t number, std::string_view frame) {
+        const SessionRow row{"F", 0, 0, true, {}};
+        check(day.log.append_at_once("F", {number, 1, read}, frame, row, Log::Turn()).has_value(),
+              "the log has no room");
+    };
+    say(1, "1");
+    day.log.append_act("root(0) cancel F", "F", {"2"});
+    say(2, "3");
+    day.log.append_message("F", std::nullopt, "4");
+    say(3, "5");
+    CHECK(day.log.fence() == 6); // with the act
+    say(4, "6");
+    day.log.commit();
+    day.log.flush();
+    std::string frames;
+    for (const Entry &entry : database->reader()->entries(1, 10)) {
+        frames += entry.firm ? frame_of_line(entry.line) : "";
+    }
+    same<std::string>("123456", frames, "the frames in their order");
 }
 
 TEST_CASE("a commit that fails") {

@@ -1,7 +1,9 @@
 """What an operator orders of a firm and of the venue: a suspension, a cancel, a halt, and the ways back of a firm that lost its
 store. Each is an act, and is so again after a gateway that was killed."""
 
-from tests.admin.desk import acts, admin, audit, did
+import threading
+
+from tests.admin.desk import acts, admin, audit, did, firm_row
 from tests.gateway.firm import Received
 from tests.gateway.market import BOND, moment_in
 from tests.gateway.stage import DEALER, INVESTOR, Stage
@@ -93,6 +95,88 @@ def test_a_dealer_that_is_suspended(stage_of_log: Stage) -> None:
     check(audit(stage, "check").status == 0, audit(stage, "check").text)
 
 
+class Stream:
+    """A dealer that quotes on its first request without a pause, each quote in the place of the one before."""
+
+    def __init__(self, wire: Wire) -> None:
+        self.wire, self.over = wire, threading.Event()
+        self._thread = threading.Thread(target=self._run)
+
+    def __enter__(self) -> "Stream":
+        self._thread.start()
+        return self
+
+    def __exit__(self, *_: object) -> None:
+        self.over.set()
+        self._thread.join()
+
+    def _run(self) -> None:
+        for piece in range(1000):
+            quotes = [
+                self.wire.message(b"S", self.wire.name, quote_fields(b"s%d-%d" % (piece, at)))
+                for at in range(10)
+            ]
+            if self.over.is_set() or not self.wire.raw(b"".join(quotes)):
+                return
+
+
+def frames_behind_last_act(stage: Stage) -> list[bytes]:
+    """The frames of the dealer's entries behind the last act, each with its number (34)."""
+    entries = stage.door.ledger().entries
+    last = max(entry.place for entry in entries if entry.line.startswith(b"# act "))
+    return [
+        bytes.fromhex(entry.line.split()[-1].decode())
+        for entry in entries
+        if entry.place > last and entry.firm == "DLR1"
+    ]
+
+
+def numbers_of(stage: Stage) -> list[int]:
+    """The venue's numbers (34) of the dealer's entries, in the order of the log."""
+    frames = [
+        bytes.fromhex(entry.line.split()[-1].decode())
+        for entry in stage.door.ledger().entries
+        if entry.firm == "DLR1"
+    ]
+    return [int(frame.split(b"\x0134=")[1].split(b"\x01")[0]) for frame in frames]
+
+
+def streamed(stage: Stage) -> None:
+    """The dealer's stream is under way."""
+    before = stage.entries_of(stage.dealer)
+    until("it quotes", LONG, lambda: stage.entries_of(stage.dealer) > before + 20)
+
+
+def test_a_dealer_that_is_suspended_while_it_quotes(stage: Stage) -> None:
+    """Behind the act stands the cancel of all its quotes, and nothing more of the firm: so it has no quote that lives."""
+    opened(stage)
+    with logged_on(stage, DEALER) as wire:
+        stage.ask_of([stage.dealer, stage.other])
+        assert wire.read_kind(b"R") is not None
+        with Stream(wire):
+            streamed(stage)
+            did(stage, "suspend", "DLR1", "--because", WHY)
+    until("it is logged out", LONG, lambda: stage.counters()["mireseason_sessions"] == 2)
+    (end,) = frames_behind_last_act(stage)
+    check(b"\x01298=4\x01" in end, end)
+    until("the record is whole", LONG, lambda: audit(stage, "check").status == 0)
+
+
+def test_quotes_that_are_cancelled_while_the_dealer_quotes(stage: Stage) -> None:
+    """Its messages stand in the log in the order of their numbers, the operator's cancels among them: so the venue takes them all."""
+    opened(stage)
+    with logged_on(stage, DEALER) as wire:
+        stage.ask_of([stage.dealer, stage.other])
+        assert wire.read_kind(b"R") is not None
+        with Stream(wire):
+            for _ in range(5):
+                streamed(stage)
+                did(stage, "cancel", "DLR1")
+    numbers = numbers_of(stage)
+    check(numbers == list(range(1, len(numbers) + 1)), "the numbers are %r" % numbers[-50:])
+    until("the record is whole", LONG, lambda: audit(stage, "check").status == 0)
+
+
 def test_an_investor_that_is_suspended(stage: Stage) -> None:
     """Its open request is passed with the act, and the dealers are told so."""
     stage.door.operators = ""
@@ -120,7 +204,11 @@ def test_quotes_that_are_cancelled(stage: Stage) -> None:
         stage.ask_of([stage.dealer, stage.other])
         assert wire.read_kind(b"R") is not None
         quoted(wire, b"q1")
+        before = firm_row(stage, "DLR1")
         did(stage, "cancel", "DLR1")
+        after = firm_row(stage, "DLR1")
+        check(after["messages"] == before["messages"] + 1, "the cancel is no message of the firm's")
+        check(after["day_bytes"] > before["day_bytes"], "the cancel's bytes are not the firm's")
         answer = wire.got_until(
             lambda message: message.value(117) == b"q1" and message.value(297) != b"0"
         )
@@ -128,8 +216,64 @@ def test_quotes_that_are_cancelled(stage: Stage) -> None:
         quoted(wire, b"q2")
 
 
-def hit_not_taken(wire: Wire, quote: bytes, text: bytes) -> None:
-    fields: Fields = [(50, b"V1"), (693, b"h1"), (694, b"1"), (117, quote)]
+TWO_TRADERS = 'traders = ["T1", "T3"]'
+
+
+def quoted_by(wire: Wire, trader: bytes, name: bytes, request: bytes) -> None:
+    """A quote of this trader that is accepted."""
+    fields = [(50, trader), *quote_fields(name, request)[1:]]
+    assert wire.raw(wire.message(b"S", wire.name, fields))
+    answer = wire.got_until(lambda message: message.value(117) == name)
+    check(answer.value(297) == b"0", "a quote is answered %r" % answer.raw)
+
+
+def test_quotes_of_one_trader(stage_of_log: Stage) -> None:
+    """`cancel FIRM --trader` takes back each live quote that this trader sent, in the trader's name, and no other's; a gateway that
+    was killed knows who sent which."""
+    stage = stage_of_log
+    stage.door.operators = ""
+    stage.door.write()
+    venue = stage.folder / "venue.toml"
+    venue.write_text(venue.read_text().replace('traders = ["T1"]', TWO_TRADERS))
+    stage.door.start()
+    stage.door.wait_open()
+    stage.log_on(stage.other, stage.investor)
+    with logged_on(stage, DEALER) as wire:
+        for name, request, trader in (
+            (b"q1", b"R1", b"T1"),
+            (b"q2", b"R2", b"T3"),
+            (b"q3", b"R3", b"T1"),
+            (b"q4", b"R3", b"T3"),
+            (b"q5", b"R4", b"T1"),
+        ):
+            if request != b"R3" or name == b"q3":
+                stage.ask_of([stage.dealer, stage.other])
+                assert wire.read_kind(b"R") is not None
+            quoted_by(wire, trader, name, request)
+        number = wire.number
+    started_again(stage)
+    with logged_on(stage, DEALER, number=number) as wire:
+        said = admin(stage, "cancel", "DLR1", "--trader", "T9")
+        check(said.status == 1 and "has no trader T9: its traders are T1, T3" in said.err, said)
+        said = admin(stage, "cancel", "DLR1", "--trader", "")
+        check(said.status == 1 and "--trader has no name behind it" in said.err, said)
+        did(stage, "cancel", "DLR1", "--trader", "T1")
+        check(acts(stage)[-1].endswith(b" cancel DLR1 --trader T1"), acts(stage))
+        ends = ends_of(stage, 2)
+        wanted = [b"\x0150=T1\x01298=5\x01117=%s\x01" % name for name in (b"q1", b"q5")]
+        check(all(want in end for want, end in zip(wanted, ends, strict=True)), ends)
+        for name in (b"q1", b"q5"):
+            wire.got_until(
+                lambda message: message.value(117) == name and message.value(297) == DROPPED
+            )
+        did(stage, "cancel", "DLR1", "--trader", "T1")
+        check(frames_behind_last_act(stage) == [], "what is gone is cancelled again")
+        quoted_by(wire, b"T1", b"q6", b"R1")
+    check(audit(stage, "check").status == 0, audit(stage, "check").text)
+
+
+def hit_not_taken(wire: Wire, quote: bytes, text: bytes, kind: bytes = b"1") -> None:
+    fields: Fields = [(50, b"V1"), (693, b"h1"), (694, kind), (117, quote)]
     number = wire.number
     assert wire.raw(wire.message(b"AJ", wire.name, fields))
     reject = wire.got(b"j")
@@ -150,6 +294,7 @@ def halted(dealer: Wire, investor: Wire, shown: Received, text: bytes) -> None:
     not_taken(dealer, b"S", quote_fields(b"q9"), NOT_AVAILABLE, text)
     not_taken(investor, b"R", request_fields(b"A9", moment_in(600)), NOT_AVAILABLE, text)
     hit_not_taken(investor, shown.given(117), text)
+    hit_not_taken(investor, shown.given(117), text, kind=b"001")  # a number, for the venue too
     assert dealer.raw(cancel(dealer, dealer.number, b"x9"))
     answer = dealer.got_until(lambda message: message.value(117) == b"x9")
     check(answer.value(297) == b"9", "a cancel is answered %r" % answer.raw)
@@ -176,6 +321,9 @@ def test_a_halt(stage: Stage) -> None:
         )
         said = admin(stage, "halt", "--bond", "BONDX0000009")
         check(said.status == 1 and "has no bond BONDX0000009" in said.err, said.text)
+        for word in ("halt", "resume"):
+            said = admin(stage, word, "--bond", "")
+            check(said.status == 1 and "--bond has no ID behind it" in said.err, said)
         did(stage, "halt", "--bond", BOND.decode())
         halted(dealer, investor, shown, BOND_HALTED)
         numbers = dealer.number, investor.number

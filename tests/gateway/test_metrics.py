@@ -24,6 +24,8 @@ IN_OTHER_FILES = {  # tests/limits: test_clock.py, test_renewal.py; tests/operat
     "mireseason_log_backlog_messages",
     "mireseason_build_info",
     "mireseason_days_without_copy",
+    "mireseason_log_disk_free_bytes",
+    "mireseason_log_disk_reserve_reached",
     "mireseason_venue_info",
     "mireseason_clock_steps_total",
     "mireseason_clock_synchronised",

@@ -1,18 +1,23 @@
-"""What was tried against a gateway by somebody who knows its code: a firm with a password, somebody
+"""What was tried against a gateway by somebody who knows its code: a firm with a password, an operator at a bad moment, somebody
 who can write to the log while no gateway runs, and a browser's page of another origin."""
 
 import re
 import socket
+import struct
+import threading
 from collections.abc import Callable
 from dataclasses import dataclass
+from pathlib import Path
 
-from tests.admin.desk import did
-from tests.admin.test_orders import quoted, request_fields
+import pytest
+
+from tests.admin.desk import answer_to, did, socket_of
+from tests.admin.test_orders import quote_fields, quoted, request_fields
 from tests.gateway.firm import Received
 from tests.gateway.market import moment_in
 from tests.gateway.stage import DEALER, INVESTOR, Stage, check
 from tests.gateway.test_seals import Intruder
-from tests.gateway.wait import LONG, until
+from tests.gateway.wait import LONG, until, within
 from tests.gateway.wire import Fields, Wire, framed
 from tests.limits.flood import cancel, logged_on
 
@@ -33,6 +38,27 @@ def hit(wire: Wire, name: bytes, quote: bytes, kind: bytes = b"1") -> Received:
     return wire.got_until(lambda message: name in (message.value(379), message.value(693)))
 
 
+@pytest.mark.parametrize("words", [("halt",), ("halt", "--bond", "BONDA0000001")], ids=" ".join)
+def test_a_hit_in_other_spellings(stage: Stage, words: tuple[str, ...]) -> None:
+    """694 is a number: with zeros in front it is a hit all the same, and a halt stops it."""
+    stage.door.operators = ""
+    stage.open()
+    with logged_on(stage, DEALER) as dealer, logged_on(stage, INVESTOR) as investor:
+        asked(dealer, investor)
+        quoted(dealer, b"q1")
+        quote = investor.got(b"S").given(117)
+        did(stage, *words)
+        for kind in (b"1", b"01", b"000000001"):
+            answer = hit(investor, b"h" + kind, quote, kind)
+            check(answer.kind == b"j", "694=%r is answered %r" % (kind, answer.raw))
+        did(stage, "resume", *words[1:])
+        answer = hit(investor, b"h", quote, b"01")
+        check(answer.value(297) == b"0", "without a halt it is answered %r" % answer.raw)
+
+
+# ---------------------------------------------------------------- an operator at a bad moment
+
+
 def numbers_of(stage: Stage, firm: str) -> list[int]:
     """The numbers (34) of a firm's messages, as the venue was given them; those that the gateway said in its name too."""
     entries = [entry for entry in stage.door.ledger().entries if entry.firm == firm]
@@ -40,7 +66,83 @@ def numbers_of(stage: Stage, firm: str) -> list[int]:
     return [int(each[1]) for each in found if each]
 
 
-# ---------------------------------------------------------------- numbers
+def calls(path: Path, line: bytes) -> None:
+    for _ in range(15):
+        answer_to(path, line)
+
+
+def test_an_act_within_a_stream(stage: Stage) -> None:
+    """An operator cancels a dealer's quotes again and again while the dealer sends: what the gateway says in its name has its place
+    among the dealer's own messages, and the venue goes on to take these."""
+    stage.door.operators = ""
+    stage.open()
+    with logged_on(stage, DEALER) as wire:
+        words = socket_of(stage), b"1 text cancel DLR1\n"
+        threads = [threading.Thread(target=calls, args=words) for _ in range(3)]
+        for thread in threads:
+            thread.start()
+        many = range(wire.number, wire.number + 400)
+        assert wire.raw(b"".join(cancel(wire, number, b"x%d" % number) for number in many))
+        wire.number += len(many)
+        last = b"%d" % many[-1]
+        wire.got_until(
+            lambda message: message.value(117) == b"x" + last or message.value(45) == last
+        )
+        for thread in threads:
+            thread.join()
+        assert wire.raw(cancel(wire, wire.number, b"y"))
+        answer = wire.got_until(
+            lambda message: message.value(117) == b"y" or message.value(371) == b"34"
+        )
+        check(answer.value(297) == b"9", "a cancel of no quote is answered %r" % answer.raw)
+    found = numbers_of(stage, "DLR1")
+    check(found == list(range(1, len(found) + 1)), "the venue was given %r" % found)
+
+
+def send_quotes(wire: Wire, over: threading.Event) -> None:
+    at = 0
+    while not over.is_set():
+        piece = b"".join(
+            wire.message(b"S", wire.name, quote_fields(b"f%d" % (at + each))) for each in range(10)
+        )
+        at += 10
+        if not wire.raw(piece):
+            return
+
+
+def read_on(wire: Wire, over: threading.Event) -> None:
+    while not wire.is_over and not over.is_set():
+        wire.read(0.2)
+
+
+def test_nothing_stands_after_a_suspension(stage: Stage) -> None:
+    """A dealer that quotes without end is suspended: no quote of it is behind the cancel that the gateway says in its name."""
+    stage.door.operators = ""
+    stage.open()
+    with logged_on(stage, INVESTOR) as investor, logged_on(stage, DEALER) as wire:
+        asked(wire, investor)
+        over = threading.Event()
+        wire.answers = False
+        threads = [
+            threading.Thread(target=send_quotes, args=(wire, over)),
+            threading.Thread(target=read_on, args=(wire, over)),
+        ]
+        for thread in threads:
+            thread.start()
+        until("it quotes", LONG, lambda: len(stage.door.ledger().messages_of("DLR1")) > 20)
+        did(stage, "suspend", "DLR1", "--because", "their risk desk called")
+        over.set()
+        for thread in threads:
+            thread.join()
+
+    def last_is_a_cancel() -> bool:
+        last = [entry for entry in stage.door.ledger().entries if entry.firm == "DLR1"][-1]
+        return last.number is None and b"\x0135=Z\x01" in last.message
+
+    check(within(LONG, last_is_a_cancel), "a message of the dealer is behind the last cancel")
+
+
+# ---------------------------------------------------------------- numbers, connections
 
 
 def test_numbers_at_their_end(stage: Stage) -> None:
@@ -61,6 +163,29 @@ def test_numbers_at_their_end(stage: Stage) -> None:
         assert wire.logon(b"DLR1", DEALER.password.encode())
         check(wire.closed_within(LONG) and not wire.waiting, "it is told %r" % wire.waiting)
     check(numbers_of(stage, "DLR1") == [1, 2, 3], "other messages of it are in the log")
+
+
+def cut_off(wire: Wire) -> None:
+    """Ends a connection by a reset."""
+    wire.socket.setsockopt(socket.SOL_SOCKET, socket.SO_LINGER, struct.pack("ii", 1, 0))
+    wire.socket.close()
+
+
+def test_a_reset_connection_takes_no_work(stage: Stage) -> None:
+    """A Logon that waits for the firm's old connection, which lives, and is reset meanwhile: the gateway waits, and does not work."""
+    most = 0.15  # seconds of a processor, of the two seconds for which a Logon waits at most
+    stage.open()
+    with logged_on(stage, DEALER, heartbeat=b"300") as wire:
+        second = Wire(stage.door.port)
+        second.number = wire.number
+        assert second.logon(b"DLR1", DEALER.password.encode())
+        assert wire.read_kind(b"1") is not None  # it is asked, and answers: the new one waits
+        worked = stage.worked()
+        cut_off(second)
+        until("it is refused", LONG, lambda: b"second connection" in stage.door.told.read_bytes())
+        took = stage.worked() - worked
+        wire.ask()
+    check(took < most or not stage.tools.measures, "it worked for %.2f s" % took)
 
 
 # ---------------------------------------------------------------- the log, while no gateway runs

@@ -8,6 +8,7 @@ import pytest
 
 from tests.admin.test_orders import quoted, request_fields
 from tests.gateway.door import today
+from tests.gateway.firm import Received
 from tests.gateway.market import moment_in
 from tests.gateway.stage import DEALER, INVESTOR, Stage
 from tests.gateway.wait import LONG, until
@@ -18,7 +19,7 @@ from tests.operating.test_configuration import VENUE, told
 
 OTHER, NOT_AVAILABLE = b"0", b"4"  # BusinessRejectReason (380)
 MINUTE = 60
-OPEN, FINISHED = b"0", b"7"  # QuoteStatus (297) of a request
+OPEN, EXPIRED = b"0", b"7"  # QuoteStatus (297) of a request
 
 
 def written(stage: Stage, hours: str) -> None:
@@ -87,41 +88,31 @@ def test_a_deadline_behind_the_end(stage: Stage) -> None:
 
 
 def test_at_the_end_each_notice_is_there(stage: Stage, clock: Clock) -> None:
-    """A request may last until the very end: the firms hear that it expired before they are logged out. And a clock that comes to
-    `closes` closes."""
-    minute = datetime.now(timezone.utc).replace(second=0, microsecond=0)
-    closes, ends = minute + timedelta(minutes=8), minute + timedelta(minutes=10)
-    written(
-        stage, 'closes = "%s"\nends = "%s"\n' % (closes.strftime("%H:%M"), ends.strftime("%H:%M"))
-    )
-    for firm in stage.firms:
-        firm.environment = clock.environment
+    """A request may last until the very end: both firms hear that it expired, and then they are logged out."""
+    now = datetime.now(timezone.utc)
+    ends = now.replace(second=0, microsecond=0) + timedelta(minutes=5)
+    written(stage, 'ends = "%s"\n' % ends.strftime("%H:%M"))
     stage.door.start()
     stage.door.wait_open()
-    stage.log_on(*stage.firms)
-    asked_until(stage, ends)
-    clock.set(set_to(closes, 1))
-    stage.ask_of([stage.dealer])
-    reject = stage.answer(
-        stage.investor, "that it is not taken", lambda message: message.kind == b"j"
-    )
-    assert b"has closed for new requests" in reject.given(58)
-    clock.set(set_to(ends, -1))
-    stage.answer(stage.investor, "that it expired", lambda message: message.value(297) == FINISHED)
-    until("the day ends", LONG, lambda: 'stop cause="the day has ended"' in words(stage))
+    # With the longest heartbeat there is, since the clock jumps by some minutes.
+    with (
+        logged_on(stage, DEALER, heartbeat=b"300") as dealer,
+        logged_on(stage, INVESTOR, heartbeat=b"300") as investor,
+    ):
+        asked(investor, b"A1", ends.strftime("%Y%m%d-%H:%M:%S").encode())
+        assert dealer.read_kind(b"R") is not None
+        clock.set(round((ends - datetime.now(timezone.utc)).total_seconds()) - 1)
+        assert [message.kind for message in rest_of(dealer)] == [b"AJ", b"5"]
+        last = rest_of(investor)
+        assert [message.kind for message in last] == [b"AI", b"5"]
+        assert last[0].value(297) == EXPIRED
     until("the next day is waited for", LONG, lambda: "closed until=" in words(stage))
+    assert "left without a notice" not in words(stage)
 
 
-def asked_until(stage: Stage, moment: datetime) -> None:
-    """A request with this deadline, to the millisecond, once its dealer is shown it."""
-    fields = request_fields(b"A1", moment.strftime("%Y%m%d-%H:%M:%S.000").encode())
-    stage.say(stage.investor, "R", fields[1:])
-    stage.answer(stage.dealer, "a request", lambda message: message.kind == b"R")
-
-
-def set_to(moment: datetime, seconds: float) -> int:
-    """By how much a clock is to be set to so many seconds after a moment."""
-    return round((moment - datetime.now(timezone.utc)).total_seconds() + seconds)
+def rest_of(wire: Wire) -> list[Received]:
+    """All messages until the connection ends."""
+    return list(iter(wire.read, None))
 
 
 def words(stage: Stage) -> str:

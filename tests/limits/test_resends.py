@@ -35,6 +35,23 @@ def has_again(wire: Wire, count: int) -> bool:
     )
 
 
+def test_small_resends_count_too(stage: Stage) -> None:
+    """A firm that asks for the same few numbers again and again is sent them at the rate, and has its other answers meanwhile."""
+    stage.door.limits |= {"resends_per_second": 500, "resends_burst": 500}
+    stage.open()
+    asked, few = 8, 200
+    with logged_on(stage, DEALER) as wire:
+        given(wire, few)
+        began = time.monotonic()
+        for _ in range(asked):
+            ask_again(wire)
+            assert has_again(wire, few)
+        took = time.monotonic() - began
+        wire.ask()
+    least = (asked * few - 500 - few) / 500  # the last piece is sent before it is counted
+    assert took >= least, "%d messages are sent again within %.2f s" % (asked * few, took)
+
+
 def test_resends_have_a_rate_of_their_firm(stage: Stage) -> None:
     """A firm that asks for its long day is sent it at the rate; another one asks after it, and has its short day before that."""
     stage.door.limits |= {"resends_per_second": 500, "resends_burst": 500}
