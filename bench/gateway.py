@@ -4,15 +4,19 @@
 usage: gateway.py GATEWAY LOAD [--one-by-one N] [--burst N] [--rounds N] -- VENUE WORDS ..
 
 The echo puts each message into a file, with an fdatasync, and answers it; the gateway commits it to SQLite and has
-the venue answer it. Both take turns; of each figure the best round is printed, and the ratio of the two.
+the venue answer it. Both take turns; of each figure the best round is printed, and the ratio of the two. Behind them
+stands what a quote's way is made up of, by the gateway's own histograms in one more round: medians, in microseconds,
+each read off between two bounds. The venue's part ends with its mark, behind the answer: on a machine with much else to
+do it is too long, and the rest too small.
 """
 
 import argparse
 import contextlib
 import subprocess
 import tempfile
+import urllib.request
 from collections.abc import Iterator, Sequence
-from dataclasses import dataclass
+from dataclasses import dataclass, replace
 from pathlib import Path
 
 from tests.gateway.door import Door, Programs, free_port, programs_of
@@ -69,6 +73,9 @@ class Bench:
                 return self.measured(folder, port, "R1")
 
     def gateway(self) -> Figures:
+        return self.through_gateway().figures
+
+    def through_gateway(self) -> "Way":
         with tempfile.TemporaryDirectory() as name:
             folder = Path(name)
             door = Door(self.programs, folder, [DEALER], [INVESTOR])
@@ -85,9 +92,75 @@ class Bench:
                     moment_in(3600).decode(),
                 ]
                 with started([self.load, *words], "asked"):
-                    return self.measured(folder, door.port)
+                    before = counters(door)
+                    figures = self.measured(folder, door.port)
+                    return Way(figures, Medians.between(before, counters(door)))
             finally:
                 door.close()
+
+    def way(self) -> "Way":
+        """Of quotes one by one: in a burst they wait for one another."""
+        return replace(self, burst=1).through_gateway()
+
+
+@dataclass(frozen=True)
+class Medians:
+    """Of each histogram of the gateway the median of what it was given, in microseconds."""
+
+    seal: float
+    commit: float
+    logged: float  # from the receipt of a message to its commit
+    answered: float  # and to the venue's answer
+    handed_over: float  # from the venue to the firm's socket
+
+    @staticmethod
+    def between(before: dict[str, float], after: dict[str, float]) -> "Medians":
+        given = {name: value - before.get(name, 0.0) for name, value in after.items()}
+        names = ("seal", "commit", "logged", "answered", "handed_over")
+        return Medians(*(median_of("mireseason_%s_seconds" % name, given) for name in names))
+
+
+def median_of(name: str, given: dict[str, float]) -> float:
+    """Between the two bounds of a histogram that it lies between, as if all there were spread evenly."""
+    half, low, below = given[name + "_count"] / 2, 0.0, 0.0
+    begin, end = name + '_bucket{le="', '"}'
+    counts = [(key[len(begin) : -len(end)], given[key]) for key in given if key.startswith(begin)]
+    for bound, count in sorted((float(bound), count) for bound, count in counts):
+        if count >= half > 0 and bound < float("inf"):
+            return (low + (bound - low) * (half - below) / (count - below)) * 1e6
+        low, below = min(bound, 1.0), count
+    return low * 1e6
+
+
+@dataclass(frozen=True)
+class Way:
+    """A quote's way to its answer, and what it is made up of."""
+
+    figures: Figures
+    medians: Medians
+
+    def parts(self) -> list[tuple[str, float]]:
+        one = self.medians
+        return [
+            ("read, session and a place in the log", one.logged - one.commit - one.seal),
+            ("sealing", one.seal),
+            ("commit, with its sync", one.commit),
+            # The answer is handed over before the mark behind it is read.
+            ("venue", one.answered - one.logged - one.handed_over),
+            ("session and write of the answer", one.handed_over),
+            (
+                "TCP and the stock engine: the rest",
+                self.figures.median - one.answered,
+            ),
+        ]
+
+
+def counters(door: Door) -> dict[str, float]:
+    """What the gateway counts, by name."""
+    with urllib.request.urlopen("http://127.0.0.1:%d/metrics" % door.metrics, timeout=60) as page:
+        lines = page.read().decode().splitlines()
+    pairs = (line.rsplit(" ", 1) for line in lines if line and line[0] != "#")
+    return {name: float(value) for name, value in pairs}
 
 
 def echo_settings(folder: Path, port: int) -> str:
@@ -156,6 +229,10 @@ def main() -> None:
         "gateway / echo: median %.2f, 99th percentile %.2f"
         % (gateway.median / echo.median, gateway.slowest / echo.slowest)
     )
+    way = bench.way()
+    print("what a quote's way is made up of, whose median is %.0f us here:" % way.figures.median)
+    for part, microseconds in way.parts():
+        print("%8.1f us  %s" % (microseconds, part))
 
 
 if __name__ == "__main__":

@@ -1,6 +1,7 @@
 #!/bin/sh
 # The time from a quote to its 297=0 through TCP, log and venue, beside a bare QuickFIX echo with an
-# fdatasync a message, and messages a second in a burst, both in one run. Needs what gateway/packages.sh
+# fdatasync a message, and messages a second in a burst, both in one run; and what the quote's way is
+# made up of, the sealing of its batch on a line of its own. Needs what gateway/packages.sh
 # names.
 #
 #     bench/gateway.sh [GATEWAY [VENUE WORDS ..]]

@@ -307,11 +307,13 @@ void Log::commit_some(std::unique_lock<std::mutex> &lock, bool all) {
 }
 
 void Log::write_rows(Filling &filling) {
+    const auto before = std::chrono::steady_clock::now();
     chain_.link(filling.rows);
     if (filling.rows.empty()) {
         return;
     }
     const auto begin = std::chrono::steady_clock::now();
+    metrics_.sealed(begin - before);
     writer_->commit(filling.rows);
     metrics_.committed(filling.rows.entries.size(), filling.rows.sent.size(),
                        std::chrono::steady_clock::now() - begin);

@@ -11,6 +11,19 @@
 
 namespace gateway {
 
+namespace {
+
+// For the metrics alone. The machine's clock may have been set since: what can't be is left out.
+std::chrono::steady_clock::duration since_receipt(const std::optional<Log::Came> &came) {
+    constexpr std::chrono::seconds longest(10);
+    const auto since = came ? std::chrono::system_clock::now() - came->at
+                            : std::chrono::system_clock::duration::zero();
+    return since > longest || since.count() < 0 ? std::chrono::steady_clock::duration::zero()
+                                                : std::chrono::steady_clock::duration(since);
+}
+
+} // namespace
+
 Arrival Log::arrival_of(const std::string &firm, const std::optional<Came> &came,
                         std::string_view frame) {
     Arrival arrival;
@@ -22,7 +35,7 @@ Arrival Log::arrival_of(const std::string &firm, const std::optional<Came> &came
     }
     arrival.verb = fmt::format("hex {} ", firm);
     arrival.rest = fmt::format(" {}", hexadecimal(frame));
-    arrival.received = std::chrono::steady_clock::now();
+    arrival.received = std::chrono::steady_clock::now() - since_receipt(came);
     return arrival;
 }
 

@@ -30,8 +30,9 @@ Gauge &gauge(Registry &registry, const char *name, const char *help) {
 }
 
 Histogram &seconds(Registry &registry, const char *name, const char *help) {
-    static constexpr double bounds[] = {0.0001, 0.0002, 0.0005, 0.001, 0.002, 0.005, 0.01,
-                                        0.02,   0.05,   0.1,    0.2,   0.5,   1.0};
+    static constexpr double bounds[] = {
+        0.000005, 0.00001, 0.00002, 0.00005, 0.0001, 0.00015, 0.0002, 0.0003, 0.0005, 0.0007,
+        0.001,    0.002,   0.005,   0.01,    0.02,   0.05,    0.1,    0.2,    0.5,    1.0};
     return prometheus::BuildHistogram().Name(name).Help(help).Register(registry).Add(
         {}, Histogram::BucketBoundaries(std::begin(bounds), std::end(bounds)));
 }
@@ -122,6 +123,8 @@ struct Metrics::Parts {
     Histogram &handed_over = seconds(*registry, "mireseason_handed_over_seconds",
                                      "a message's time from the venue to the firm's socket");
     Histogram &commit = seconds(*registry, "mireseason_commit_seconds", "a transaction of the log");
+    Histogram &seal = seconds(*registry, "mireseason_seal_seconds",
+                              "the sealing of a transaction of the log, before its commit");
     Histogram &logged =
         seconds(*registry, "mireseason_logged_seconds", "a message's receipt to its commit");
     Histogram &answered =
@@ -212,6 +215,10 @@ void Metrics::committed(std::size_t entries, std::size_t messages, Duration took
     parts_->entries.Increment(static_cast<double>(entries));
     parts_->sent.Increment(static_cast<double>(messages));
     parts_->commit.Observe(in_seconds(took));
+}
+
+void Metrics::sealed(Duration took) {
+    parts_->seal.Observe(in_seconds(took));
 }
 
 void Metrics::logged(Duration since_receipt) {

@@ -6,7 +6,7 @@ from tests.gateway.wire import Wire
 
 COUNTERS = ("commits", "entries", "sent", "delivered", "connections", "logons", "venue_starts")
 GAUGES = ("connections", "sessions", "speaks", "next_configuration_faulty")
-HISTOGRAMS = ("commit", "logged", "answered", "handed_over")
+HISTOGRAMS = ("seal", "commit", "logged", "answered", "handed_over")
 BY_REASON = ("refused", "dropped")
 IN_OTHER_FILES = {  # tests/limits: test_clock.py, test_renewal.py; tests/operating: test_service.py, test_monitoring.py
     *(
