@@ -3,18 +3,21 @@
 # asks now and then, and a desk in the browser for INV1 and for DLR3. It runs until Ctrl-C, prints the
 # addresses and the logins, and tells how each auction ends.
 #
-#     examples/venue.sh           some four minutes from a fresh clone on four processors, then seconds
+#     examples/venue.sh           two to three minutes from a fresh clone on four processors, then seconds
 #     examples/venue.sh down      ends it, where it still runs, and has the audit check the day
 #
-# The program is the proved one, crates/rfq_venue/out/rfq_venue, where it stands; else the second
-# implementation of the venue, in Python, and the pages say so. All that it writes is in FOLDER
-# (examples/venue/out). GATEWAY and DESK name folders of programs that are built already.
+# The program is the proved one, crates/rfq_venue/out/rfq_venue, where it stands, and so are the sessions,
+# crates/fix_sessions_c/out (examples/prove_venue.py makes both); else second implementations, and the
+# pages say so. All that it writes is in FOLDER (examples/venue/out). GATEWAY and DESK name folders of
+# programs that are built already (gateway/out and desk/out); where one is missing, all are built in
+# examples/venue/out/built, to be had soon, not to be fast.
 set -eu
 root=$(cd "$(dirname "$0")/.." && pwd)
 here=$root/examples/venue
 day=${FOLDER:-$here/out}
 gateway=${GATEWAY:-$root/gateway/out}/mireseason-gateway
 desks=${DESK:-$root/desk/out}
+built=$here/out/built
 program=$root/crates/rfq_venue/out/rfq_venue
 [ -x "$program" ] || program="python3 $root/tests/model/program.py"
 start=$(date +%s)
@@ -55,27 +58,23 @@ down() {
     exec "$root/audit/mireseason-audit" check --venue "$program" --gateway-key "$day/keys/gateway.pub" "$log"
 }
 
-# build FOLDER TARGET ..: in the background, in a session of its own, so that its compilers end with it.
+# build: all three programs, in a session of its own, so that its compilers end with it. It says every ten
+# seconds how far it is.
 build() {
-    folder=$1
-    shift
-    setsid nice sh -c 'cmake -S "$0" -B "$0/out" && cmake --build "$0/out" -j "$(nproc)" --target "$@"' \
-        "$root/$folder" "$@" >"$day/$folder.build" 2>&1 &
-    building="$building -$!"
-}
-
-# built FOLDER: waits for it, and says every ten seconds how far it is.
-built() {
-    pid=$2
-    while kill -0 "$pid" 2>/dev/null; do
+    # Which sessions the gateway is linked with is chosen anew: the proved ones, where their library stands.
+    # shellcheck disable=SC2016 # of the inner shell
+    setsid nice sh -c 'cmake -U "SESSION*" -S "$0" -B "$1" &&
+        exec cmake --build "$1" -j "$(nproc)" --target venue-to-try' "$here" "$built" >"$day/build" 2>&1 &
+    building=-$!
+    while kill -0 "${building#-}" 2>/dev/null; do
         sleep 1
-        [ $((($(date +%s) - start) % 10)) != 0 ] ||
-            say "$1: $(grep -o '^\[ *[0-9]*%\]' "$day/$1.build" | tail -n 1)"
+        [ $((($(date +%s) - start) % 10)) != 0 ] || say "$(grep -o '^\[ *[0-9]*%\]' "$day/build" | tail -n 1)"
     done
-    wait "$pid" || {
-        tail -n 30 "$day/$1.build" >&2
-        fail "$1 can't be built: see above"
+    wait "${building#-}" || {
+        tail -n 30 "$day/build" >&2
+        fail "the programs can't be built: see above"
     }
+    building=
 }
 
 # ready: waits until the gateway takes connections.
@@ -108,22 +107,14 @@ trap stop EXIT
 trap 'exit 0' HUP INT TERM
 
 if ! [ -x "$gateway" ] || ! [ -x "$desks/mireseason-desk" ] || ! [ -x "$desks/sample-firm" ]; then
+    gateway=$built/gateway/mireseason-gateway
+    desks=$built/desk
     say "Packages of Debian: minutes, where many are missing"
     # shellcheck disable=SC2046 # a word for each package
     "$root/tests/packages.sh" $("$root/gateway/packages.sh") $("$root/desk/packages.sh")
+    say "The programs are built: two to three minutes on four processors, where nothing is built yet"
+    build
 fi
-if [ -z "${GATEWAY:-}" ] && ! [ -x "$gateway" ]; then
-    say "The gateway and the desk are built, side by side: a minute or two"
-    build gateway mireseason-gateway
-    of_gateway=$!
-fi
-if [ -z "${DESK:-}" ]; then
-    build desk mireseason-desk sample-firm
-    of_desk=$!
-fi
-[ -z "${of_desk:-}" ] || built desk "$of_desk"
-[ -z "${of_gateway:-}" ] || built gateway "$of_gateway"
-building=
 
 # shellcheck disable=SC2086 # the words of a command
 python3 "$here/prepare.py" "$day" "$gateway" $program
@@ -134,6 +125,7 @@ cd "$day"
 server=$!
 pids=$server
 ready "$server"
+before=$(python3 "$here/tell.py" "$(log)") # what an earlier start has told
 for firm in DLR1 DLR2 INV2; do
     run "$firm" "$desks/sample-firm" "$firm.toml"
 done
@@ -151,7 +143,7 @@ done
 say "The venue runs until Ctrl-C: $program"
 cat addresses
 echo "Ask two or three dealers on INV1's page, and quote on DLR3's. How each auction ends:"
-python3 "$here/tell.py" "$(log)" &
+python3 "$here/tell.py" "$(log)" "$before" &
 pids="$! $pids"
 status=0
 wait "$server" || status=$?

@@ -109,7 +109,7 @@ class WireSocket final : public Socket, public std::enable_shared_from_this<Wire
     }
 
     const Limits limits_;
-    boost::beast::websocket::stream<Stream> ws_;
+    boost::beast::websocket::stream<Stream, false> ws_; // nothing is deflated
     Slots::Slot slot_;
     std::shared_ptr<SocketUser> user_;
     boost::beast::flat_buffer buffer_;

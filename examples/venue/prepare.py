@@ -161,6 +161,18 @@ def write_desk(
     return f"  {firm}, {'a dealer  ' if role == 'dealer' else 'an investor'}  http://127.0.0.1:{port}/   login {login}   password {password}"
 
 
+def banner_of(gateway: str, command: list[str]) -> str:
+    """What every page says: that it is no market, and what a second implementation stands for."""
+    told = subprocess.run([gateway, "--version"], capture_output=True, text=True, check=True).stdout
+    parts = []
+    if any("tests/model" in word for word in command):
+        parts.append("its program (the second implementation, in Python)")
+    if "sessions not proved" in told:
+        parts.append("its sessions (the second implementation, in C++)")
+    rest = " Tested, but not proved: %s." % " and ".join(parts) if parts else ""
+    return "A venue to try: no trade here is real." + rest
+
+
 def write_sample(folder: Path, venue: Row, firm: str, fix_port: int) -> None:
     row = {
         "firm": firm,
@@ -193,12 +205,7 @@ def main() -> None:
     write_credentials(folder, gateway, firms)
     for firm in SAMPLES:
         write_sample(folder, venue, firm, fix_port)
-    is_second = any("tests/model" in word for word in command)
-    banner = (
-        "The venue behind this page is its second implementation, in Python: it is tested, and nothing of it is proved."
-        if is_second
-        else ""
-    )
+    banner = banner_of(gateway, command)
     lines = [write_desk(folder, venue, firm, fix_port, gateway, banner) for firm, *_ in DESKS]
     write(folder / "addresses", "\n".join(lines) + "\n")
 

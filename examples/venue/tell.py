@@ -1,8 +1,8 @@
-"""Tells in a sentence how each auction of a running venue ends: tell.py LOG
+"""Tells in a sentence how each auction of a running venue ends: tell.py LOG ENTRY
 
 It reads the gateway's log, a file of SQLite, as an operator may: what the venue sent whom, and on which
-entry. Of the entries that end a request it tells one sentence each, but of none that was there before it
-began: an earlier start of the venue has told these.
+entry. Of the entries behind ENTRY that end a request it tells one sentence each; of those before it an
+earlier start of the venue has told. Without ENTRY it prints the last one that led to anything, and ends.
 """
 
 import sqlite3
@@ -10,7 +10,6 @@ import sys
 import time
 from collections import defaultdict
 from dataclasses import dataclass, field
-from pathlib import Path
 
 LOOK = 0.5  # seconds between two looks
 
@@ -67,12 +66,17 @@ class Teller:
         return f"{investor} {words[0]} {what} {words[1]} {dealer} at {words[2]}{cover}"
 
 
-def follow(log: Path) -> None:
-    teller, told, is_first = Teller(), -1, True
-    database = sqlite3.connect(f"file:{log}?mode=ro", uri=True, timeout=30)
+def last_of(database: sqlite3.Connection) -> int:
+    """The last entry that led to anything, or 0."""
+    found = database.execute("SELECT coalesce(max(place), 0) FROM sent").fetchone()
+    return int(found[0])
+
+
+def follow(database: sqlite3.Connection, since: int) -> None:
+    teller, told = Teller(), -1
     while True:
         # What an entry leads to is committed with a later one: the last is left for the next look.
-        last = database.execute("SELECT coalesce(max(place), 0) FROM sent").fetchone()[0]
+        last = last_of(database)
         rows = database.execute(
             "SELECT place, firm, bytes FROM sent WHERE place > ? AND place <= ? ORDER BY place, rowid",
             (told, last),
@@ -88,13 +92,21 @@ def follow(log: Path) -> None:
             continue  # more came for these entries meanwhile
         for place in sorted(by_place):
             sentences = teller.sentences(by_place[place])
-            for sentence in [] if is_first else sentences:
+            for sentence in sentences if place > since else []:
                 print(f"  {time.strftime('%H:%M:%S', time.gmtime())} UTC  {sentence}", flush=True)
-        told, is_first = last, False
+        told = last
+
+
+def main() -> None:
+    database = sqlite3.connect(f"file:{sys.argv[1]}?mode=ro", uri=True, timeout=30)
+    if len(sys.argv) == 2:
+        print(last_of(database))
+    else:
+        follow(database, int(sys.argv[2]))
 
 
 if __name__ == "__main__":
     try:
-        follow(Path(sys.argv[1]))
+        main()
     except KeyboardInterrupt:
         pass

@@ -70,7 +70,7 @@ std::string table_of(const std::vector<AdminAnswer::Row> &rows) {
 }
 
 // A text of JSON. Whatever its bytes are, it is one.
-std::string quoted(std::string_view text) {
+std::string text_in_json(std::string_view text) {
     std::string json = "\"";
     for (const char c : text) {
         const auto byte = static_cast<unsigned char>(c);
@@ -87,7 +87,7 @@ std::string quoted(std::string_view text) {
 
 std::string json_of(const AdminAnswer::Value &value) {
     if (const auto *text = std::get_if<std::string>(&value)) {
-        return quoted(*text);
+        return text_in_json(*text);
     }
     if (const auto *number = std::get_if<std::uint64_t>(&value)) {
         return fmt::format("{}", *number);
@@ -98,7 +98,8 @@ std::string json_of(const AdminAnswer::Value &value) {
 std::string json_of(const AdminAnswer::Row &row) {
     std::string json;
     for (const auto &[name, value] : row) {
-        json += fmt::format("{}{}: {}", json.empty() ? "" : ", ", quoted(name), json_of(value));
+        json +=
+            fmt::format("{}{}: {}", json.empty() ? "" : ", ", text_in_json(name), json_of(value));
     }
     return "{" + json + "}";
 }
@@ -118,11 +119,11 @@ std::string json_of(const AdminAnswer &answer) {
     for (const AdminAnswer::Row &row : answer.rows) {
         rows += (rows.empty() ? "" : ", ") + json_of(row);
     }
-    return fmt::format("{{\"said\": {}, \"rows\": [{}]}}\n", quoted(answer.said), rows);
+    return fmt::format("{{\"said\": {}, \"rows\": [{}]}}\n", text_in_json(answer.said), rows);
 }
 
 std::string json_of_error(std::string_view what) {
-    return fmt::format("{{\"error\": {}}}\n", quoted(what));
+    return fmt::format("{{\"error\": {}}}\n", text_in_json(what));
 }
 
 } // namespace gateway
