@@ -2,6 +2,9 @@
 
 export const amount = quantity => quantity.toLocaleString('en-US');
 
+// With a sign, of what was bought less what was sold.
+export const signed = quantity => (quantity > 0 ? '+' : quantity < 0 ? '\u2212' : '') + amount(Math.abs(quantity));
+
 // 2,000,000; 2m; 1.5m; 2mm; 500k; 1b. Null where it is none: a comma stands before three digits, or 0,5m would be 5m.
 export function parseAmount(entry) {
   const parts = /^((?:\d{1,3}(?:,\d{3})+|\d*)\.?\d*)\s*(k|mm|m|b)?$/i.exec(entry.trim());

@@ -3,7 +3,8 @@ import {h, arrange, set, show} from './dom.js';
 import {aligned, decimal, mode, text} from './price.js';
 import {amount, clock} from './amounts.js';
 import {csv, save} from './csv.js';
-import {hasTraded, isOpen, ranked} from './model.js';
+import {hasTraded, isOpen, isOver, ranked} from './model.js';
+import {Positions} from './positions.js';
 
 const page = 100; // rows shown at first, and with each press more
 
@@ -14,11 +15,13 @@ const ends = {
 const when = request => (request.ended ? 0 : 1e15) + (request.ended || request.made);
 
 export class Blotter {
-  constructor(model, repeat) {
+  constructor(model, tell, repeat) {
     this.model = model;
+    this.tell = tell;     // says a line for a while
     this.repeat = repeat; // of an investor: fills the ticket
     this.rows = new Map();
     this.shown = page;
+    this.positions = new Positions(model);
     this.list = h('tbody');
     this.sums = h('span', {className: 'quiet sums', role: 'status'});
     this.filter = h('input', {type: 'search', id: 'filter', placeholder: 'filter', 'aria-label': 'Filter by bond, firm, side or result', oninput: () => this.draw()});
@@ -30,6 +33,7 @@ export class Blotter {
     this.node = h('div', {},
       h('div', {className: 'bar'}, h('h2', {}, 'Today'), this.filter, this.ends,
         h('button', {type: 'button', className: 'small export', onclick: () => this.export()}, 'Export CSV'), this.sums),
+      this.positions.node,
       h('table', {className: 'blotter'},
         h('thead', {}, h('tr', {}, head('Asked, UTC'), head('Ended'), head('Side'), head('Quantity', 'number'), head('Bond'), head(isDealer ? 'My price' : 'Price', 'number'),
           head(isDealer ? 'Investor' : 'Dealer'), head('Result'), head('Trader'), head('Note'))), this.list), this.more);
@@ -53,6 +57,7 @@ export class Blotter {
     if (request.told?.refusal && !hasTraded(request)) return request.told.text;
     if (this.model.isDealer()) {
       return request.declined ? 'declined' : request.quotes.at(-1)?.state === 'withdrawn' ? 'withdrawn'
+        : request.quotes.some(quote => quote.state === 'ended' && isOver(quote, request.ended)) ? 'stale at the end'
         : request.quotes.length > 1 ? `${request.quotes.length} quotes` : request.quotes.length || isOpen(request) ? '' : 'no quote';
     }
     if (hasTraded(request)) return request.cover ? `cover ${write(request.cover.price)}, ${request.cover.dealer}` : 'no cover';
@@ -76,15 +81,19 @@ export class Blotter {
   }
   draw() {
     const chosen = this.chosen();
+    this.positions.draw();
     arrange(this.list, chosen.slice(0, this.shown).map(request => this.row(request)));
     show(this.more, chosen.length > this.shown);
     set(this.more, `Show ${Math.min(page, chosen.length - this.shown)} more of ${chosen.length}`);
     set(this.sums, this.sum(chosen));
   }
+  // Whether the filter or the choice of results hides some.
+  isPart() { return Boolean(this.filter.value.trim() || this.ends.value); }
   sum(chosen) {
     const done = chosen.filter(hasTraded), isDealer = this.model.isDealer();
     const of = side => done.filter(one => one.side === side).reduce((sum, one) => sum + one.quantity, 0);
-    return `${chosen.length} ${chosen.length === 1 ? 'request' : 'requests'}, ${done.length} done: bought ${amount(of(isDealer ? 'sell' : 'buy'))}, sold ${amount(of(isDealer ? 'buy' : 'sell'))}`;
+    const all = this.model.requests.size, part = this.isPart() ? `${chosen.length} of ${all}` : chosen.length;
+    return `${part} ${all === 1 ? 'request' : 'requests'}, ${done.length} done: bought ${amount(of(isDealer ? 'sell' : 'buy'))}, sold ${amount(of(isDealer ? 'buy' : 'sell'))}`;
   }
   row(request) {
     const before = this.rows.get(request.id);
@@ -114,7 +123,8 @@ export class Blotter {
     const rows = this.chosen().map(one => [one.id, moment(one.made), moment(one.ended), this.side(one), one.quantity, one.bond,
       this.model.bond(one.bond).name, hasTraded(one) ? number(this.price(one)) : '', this.whom(one), ends[one.state], this.trader(one), one.trade,
       number(isDealer ? this.price(one) : one.cover?.price), this.note(one, decimal)]);
-    const isPart = this.filter.value.trim() || this.ends.value;
-    save(`${firm}-${date}${isPart ? '-filtered' : ''}.csv`, csv([head, ...rows]));
+    const file = `${firm}-${date}${this.isPart() ? '-filtered' : ''}.csv`;
+    save(file, csv([head, ...rows]));
+    this.tell(`${file}: ${rows.length} ${rows.length === 1 ? 'request' : 'requests'}`);
   }
 }

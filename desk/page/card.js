@@ -2,6 +2,7 @@
 import {h, set, show} from './dom.js';
 import {amount, span} from './amounts.js';
 import {isOpen} from './model.js';
+import {todayWords} from './today.js';
 
 const said = 8000; // how long the desk's own words stand
 
@@ -13,6 +14,7 @@ export class Card {
     this.what = h('span', {className: 'what'});
     this.isin = h('span', {className: 'quiet isin'});
     this.left = h('span', {className: 'number left'});
+    this.today = h('p', {className: 'quiet number today', title: 'This firm\u2019s own trades, and the last price on this desk. The venue tells nobody the trades of others.'});
     this.text = h('p', {className: 'told', role: 'status'});
     this.close = h('button', {type: 'button', className: 'small', onclick: () => desk.close(request.id)}, 'Close');
     this.head = h('div', {className: 'head'}, this.side, this.what, this.isin, this.left);
@@ -53,6 +55,8 @@ export class Card {
   }
   tick(moment) {
     const left = this.request.deadline - moment;
+    show(this.today, this.is());
+    if (this.is()) set(this.today, todayWords(this.desk.model, this.request));
     set(this.left, !this.is() ? '' : left > 0 ? span(left) : 'time over');
     this.left.classList.toggle('soon', this.is() && left < 15_000);
     return left;

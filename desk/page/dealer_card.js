@@ -3,13 +3,14 @@ import {h, set, show} from './dom.js';
 import {decimal, other, parse, text, thirtySeconds} from './price.js';
 import {amount, clock, span} from './amounts.js';
 import {Card} from './card.js';
-import {liveQuote} from './model.js';
+import {isOver, liveQuote} from './model.js';
 import {twoPresses} from './presses.js';
 
 const far = 256;          // a price a point away from the last one asks again
 const veryFar = 3 * 256;  // and without a last one, three points from par and from all that was seen
 const par = 100 * 256;
 const confirmAfter = 600; // milliseconds: a press before that was no answer to the question
+const points = difference => `${text(Math.abs(difference))} ${Math.abs(difference) === 256 ? 'point' : 'points'}`;
 const validities = [['0', 'to deadline'], ['10', '10 s'], ['30', '30 s'], ['60', '1 min'], ['300', '5 min']];
 
 export class DealerCard extends Card {
@@ -31,8 +32,8 @@ export class DealerCard extends Card {
     this.whom = h('b');
     this.form = h('div', {className: 'form'}, this.entry, this.seconds, this.button);
     this.foot = h('div', {className: 'foot'}, this.echo, this.withdraw, this.decline);
-    this.node.append(this.head, h('p', {className: 'about'}, this.whom, ' ', this.isin, ' ', this.live), this.form,
-      this.foot, h('div', {className: 'foot said'}, this.text, this.close)); // words below: no button moves by them
+    this.node.append(this.head, h('p', {className: 'about'}, this.whom, ' ', this.isin, ' ', this.live), this.today,
+      this.form, this.foot, h('div', {className: 'foot said'}, this.text, this.close)); // words below: no button moves by them
   }
   // Whether a person should look at it.
   wants() { return this.is() && !this.request.declined && !liveQuote(this.request) && !this.request.pending.length; }
@@ -87,9 +88,9 @@ export class DealerCard extends Card {
   // to: it may have been typed for another request.
   question(price) {
     const last = this.last();
-    if (last !== undefined) return Math.abs(price - last) >= far ? `${Math.abs(price - last) / 256} points from your last, ${text(last)}` : '';
+    if (last !== undefined) return Math.abs(price - last) >= far ? `${points(price - last)} from your last, ${text(last)}` : '';
     const seen = [par, ...this.desk.model.pricesOf(this.request.bond)];
-    if (seen.every(one => Math.abs(price - one) > veryFar)) return `Your first price on this bond is ${Math.abs(price - par) / 256} points from 100`;
+    if (seen.every(one => Math.abs(price - one) > veryFar)) return `Your first price on this bond is ${points(price - par)} from 100`;
     const {side, quantity} = this.request;
     return `Your first price: ${side === 'buy' ? 'OFFER' : 'BID'} ${amount(quantity)} ${this.bond.name} at ${text(price)}`;
   }
@@ -149,9 +150,14 @@ export class DealerCard extends Card {
       return `DONE: ${buys ? 'sold' : 'bought'} ${amount(request.quantity)} at ${text(request.result)} ` +
         `${buys ? 'to' : 'from'} ${request.investor}, ${clock(request.ended)} UTC.${more}`;
     }
-    const own = request.result !== null ? ` Your ${buys ? 'offer' : 'bid'} was ${text(request.result)}.`
+    const own = request.result !== null ? ` Your ${buys ? 'offer' : 'bid'} was ${text(request.result)}${this.staleWords()}.`
       : request.declined ? ' You declined.' : request.quotes.length ? ' No quote of yours was live.' : ' You did not quote.';
     return `${request.told?.text ?? ''}, ${clock(request.ended)} UTC.${own}${more}`;
+  }
+  // Of a quote whose validity was over when the request ended.
+  staleWords() {
+    const last = this.request.quotes.find(quote => quote.state === 'ended');
+    return last && isOver(last, this.request.ended) ? `, stale since ${clock(last.valid)} UTC` : '';
   }
   tick(moment) {
     const left = super.tick(moment), live = liveQuote(this.request), isOff = this.isOff();
@@ -159,15 +165,14 @@ export class DealerCard extends Card {
     this.button.disabled = isOff || isWaiting || left <= 0;
     this.decline.disabled = isOff || isWaiting;
     this.withdraw.disabled = this.request.pending.some(one => one.act === 'withdrawal');
-    const isOver = Boolean(live && live.valid !== null && live.valid <= moment);
-    set(this.live, this.is() ? this.liveWords(live, isOver, moment) : '');
-    this.live.classList.toggle('on', Boolean(this.is() && live && !isOver));
+    set(this.live, this.is() ? this.liveWords(live, moment) : '');
+    this.live.classList.toggle('on', Boolean(this.is() && live && !isOver(live, moment)));
   }
-  liveWords(live, isOver, moment) {
+  liveWords(live, moment) {
     if (!live) return this.request.declined ? '' : 'No live quote';
-    const valid = live.valid === null ? ', to the deadline'
-      : isOver ? ', validity over: it can\u2019t be hit, and still counts as exposure' : `, valid ${span(live.valid - moment)}`;
-    const isUnsure = this.isOff() && !isOver ? ': it may still stand, and be hit' : '';
-    return `Live ${text(live.price)} (${other(live.price)})${valid}${isUnsure}`;
+    const price = `${text(live.price)} (${other(live.price)})`;
+    if (isOver(live, moment)) return `Stale ${price}: since ${clock(live.valid)} UTC nobody can hit it. It counts as exposure until you replace or withdraw it`;
+    const valid = live.valid === null ? 'to the deadline' : `valid ${span(live.valid - moment)}`;
+    return `Live ${price}, ${valid}${this.isOff() ? ': it may still stand, and be hit' : ''}`;
   }
 }

@@ -29,7 +29,7 @@ export class InvestorCard extends Card {
     const head = (name, kind = 'number') => h('th', {scope: 'col', className: kind}, name);
     this.table = h('table', {className: 'quotes'}, h('thead', {}, h('tr', {}, head('Dealer', 'who'), this.price,
       head('32nds off'), head('Valid'), h('th', {scope: 'col'}, h('span', {className: 'unseen'}, 'Hit')))), this.list);
-    this.node.append(this.head, this.table,
+    this.node.append(this.head, this.today, this.table,
       h('div', {className: 'foot'}, this.state, this.text, this.close, this.pass));
     this.node.addEventListener('keydown', event => this.key(event));
   }

@@ -80,7 +80,7 @@ class Page {
     this.cards.anew();
   }
   makeBlotter() {
-    const blotter = new Blotter(this.model, this.ticket ? request => this.ticket.fill(request) : null);
+    const blotter = new Blotter(this.model, what => this.top.say(what), this.ticket ? request => this.ticket.fill(request) : null);
     of('blotter').append(blotter.node);
     return blotter;
   }

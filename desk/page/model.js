@@ -5,10 +5,12 @@ export class Model {
     this.hello = null;
     this.session = null;
     this.requests = new Map();
+    this.bonds = null; // what today.js makes of the requests, until they change
     this.isLinked = false; // to the desk's process
   }
   // Takes a message of the desk; gives the requests that changed, or null where all are new.
   take(message) {
+    if (message.t !== 'session') this.bonds = null;
     switch (message.t) {
     case 'hello':
       this.hello = message;

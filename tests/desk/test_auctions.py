@@ -180,8 +180,14 @@ def test_the_dealers_entry(house: House) -> None:
     )
     dealer.quote("97.5")
     dealer.card_says("Live 97.5 (97-16), valid 0:")
-    dealer.card_says("validity over: it can\u2019t be hit, and still counts as exposure")
+    dealer.card_says(
+        "Stale 97.5 (97-16): since", "UTC nobody can hit it. It counts as exposure until you"
+    )
     assert dealer.text("#top").count("Exposure 2,000,000 of") == 1
+    asked = list(investor.requests)[0]
+    assert investor.act(do="pass", request=asked) == ""
+    dealer.card_says("The investor passed", "Your offer was 97.5, stale since")
+    dealer.until_says("#blotter", "stale at the end")
 
 
 def confirmed(page: Browser, words: str) -> bool:
@@ -230,47 +236,6 @@ def test_presses_that_were_meant_for_what_stood_there_before(house: House) -> No
     dealer.card_says("Decline?")
     view.until("nothing is pending", lambda: not view.requests[second]["pending"])
     assert view.requests[second]["state"] == "open" and "Declined" not in dealer.card().text
-
-
-PLACE = """const card = [...document.querySelectorAll('article.card')].find(one => one.textContent.includes('Cedar'));
-const {left, top} = card.querySelector('button.send').getBoundingClientRect(); return [left, top + scrollY];"""
-
-
-def test_a_card_keeps_its_place(house: House) -> None:
-    """Where the card before it ends, and is closed, nothing of it moves."""
-    view, dealer = house.view(house.investor), house.browser(house.dealer)
-    first = view.ask_for(["DLR1"])
-    view.ask_for(["DLR1"], bond="BONDC0000003")
-    dealer.card_says("Cedar")
-    before = dealer.script(PLACE)
-    assert view.act(do="pass", request=first) == ""
-    dealer.card_says("The investor passed", number=0)
-    assert dealer.script(PLACE) == before
-    dealer.press_in_card("button.small", 0)
-    dealer.until("it is closed", lambda: len(dealer.all("article.card")) == 1)
-    assert dealer.script(PLACE) == before
-
-
-def test_rows_keep_their_order_under_the_keys(house: House) -> None:
-    """While the focus is in a card, a better quote is marked where it stands; afterwards it stands first."""
-    investor = house.browser(house.investor)
-    dealer, other = house.view(house.dealer), house.view(house.other)
-    investor.ask("alder", "buy", "1m")
-    dealer.quote(dealer.wait_shown(1), 99 * POINT)
-    investor.until("the focus is on it", lambda: focus_on_best(investor))
-    other.quote(other.wait_shown(1), 98 * POINT)
-    investor.until("the better is marked", lambda: "DLR2" in investor.text("tr.best"))
-    assert investor.text(".quotes tbody th").split() == ["DLR1", "DLR2"]
-    investor.press(Keys.F2)
-    investor.until(
-        "the better stands first",
-        lambda: investor.text(".quotes tbody th").split() == ["DLR2", "DLR1"],
-    )
-
-
-def focus_on_best(page: Browser) -> bool:
-    page.press(Keys.F3)
-    return page.focused().startswith("buy from DLR1")
 
 
 def test_who_leaves_live_quotes_is_asked(house: House) -> None:
@@ -380,8 +345,9 @@ def test_blotter_filter_and_export(house: House) -> None:
         view.until("done", lambda: view.requests[request]["state"] == "done")
     investor.until_says("#blotter", "3 requests, 3 done: bought 6,000,000, sold 0")
     investor.one("#filter").send_keys("alder")
-    investor.until_says("#blotter", "2 requests, 2 done: bought 4,000,000, sold 0")
+    investor.until_says("#blotter", "2 of 3 requests, 2 done: bought 4,000,000, sold 0")
     investor.click("button.export")
+    investor.until_says("#top", "-filtered.csv: 2 requests")
     folder = investor.profile / "downloads"
     investor.until("the file is there", lambda: any(folder.glob("INV1-*.csv")))
     lines = next(folder.glob("INV1-*-filtered.csv")).read_text().splitlines()
@@ -389,7 +355,7 @@ def test_blotter_filter_and_export(house: House) -> None:
     assert sorted(line.split(",")[4] for line in lines[1:]) == ["1000000", "3000000"]
     assert all(",100,DLR1,DONE,T8," in line for line in lines[1:])
     investor.one("#ends").send_keys("open")
-    investor.until_says("#blotter", "0 requests, 0 done")
+    investor.until_says("#blotter", "0 of 3 requests, 0 done")
     made = investor.script(
         """const {csv} = await import('/csv.js'); return csv([['=1+1', 'a,"b', -5]])"""
     )

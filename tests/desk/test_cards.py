@@ -1,0 +1,127 @@
+"""What stands on a card, and stays where it is: last prices, the position, arrows, Withdraw."""
+
+from selenium.webdriver.common.keys import Keys
+
+from tests.desk.browser import Browser
+from tests.desk.conftest import House
+
+POINT = 256
+ARROWS = "\u25b2\u25bc"
+PRICE = ".quotes td.price"
+
+PLACE = """const card = [...document.querySelectorAll('article.card')].find(one => one.textContent.includes('Cedar'));
+const {left, top} = card.querySelector('button.send').getBoundingClientRect(); return [left, top + scrollY];"""
+
+
+def test_a_card_keeps_its_place(house: House) -> None:
+    """Where the card before it ends, and is closed, nothing of it moves."""
+    view, dealer = house.view(house.investor), house.browser(house.dealer)
+    first = view.ask_for(["DLR1"])
+    view.ask_for(["DLR1"], bond="BONDC0000003")
+    dealer.card_says("Cedar")
+    before = dealer.script(PLACE)
+    assert view.act(do="pass", request=first) == ""
+    dealer.card_says("The investor passed", number=0)
+    assert dealer.script(PLACE) == before
+    dealer.press_in_card("button.small", 0)
+    dealer.until("it is closed", lambda: len(dealer.all("article.card")) == 1)
+    assert dealer.script(PLACE) == before
+
+
+def test_rows_keep_their_order_under_the_keys(house: House) -> None:
+    """While the focus is in a card, a better quote is marked where it stands; afterwards it stands first."""
+    investor = house.browser(house.investor)
+    dealer, other = house.view(house.dealer), house.view(house.other)
+    investor.ask("alder", "buy", "1m")
+    dealer.quote(dealer.wait_shown(1), 99 * POINT)
+    investor.until("the focus is on it", lambda: focus_on_best(investor))
+    other.quote(other.wait_shown(1), 98 * POINT)
+    investor.until("the better is marked", lambda: "DLR2" in investor.text("tr.best"))
+    assert investor.text(".quotes tbody th").split() == ["DLR1", "DLR2"]
+    investor.press(Keys.F2)
+    investor.until(
+        "the better stands first",
+        lambda: investor.text(".quotes tbody th").split() == ["DLR2", "DLR1"],
+    )
+
+
+def focus_on_best(page: Browser) -> bool:
+    page.press(Keys.F3)
+    return page.focused().startswith("buy from DLR1")
+
+
+def test_what_is_known_of_a_bond(house: House) -> None:
+    """A card has the last price of its bond on this desk, called what it is, and each page the position by bond."""
+    investor, dealer = house.browser(house.investor), house.browser(house.dealer)
+    asks, quotes = house.view(house.investor), house.view(house.dealer)
+    for count, (side, price, quantity) in enumerate(
+        (("buy", 101, 2_000_000), ("sell", 99, 500_000))
+    ):
+        asked = asks.ask_for(["DLR1"], side, quantity)
+        shown = quotes.wait_shown(count + 1)
+        if not count:
+            for page in (investor, dealer):
+                page.card_says("Here today: no other price of this bond")
+        quotes.quote(shown, price * POINT)
+        asks.until("the quote is there", lambda: asks.requests[asked]["quotes"])
+        assert asks.hit(asked, "DLR1") == ""
+        asks.until("it is done", lambda: asks.requests[asked]["state"] == "done")
+    positions = (
+        (investor, "Alder 4.125 03/29 2,000,000 500,000 +1,500,000 99"),
+        (dealer, "Alder 4.125 03/29 500,000 2,000,000 \u22121,500,000 99"),
+    )
+    for page, row in positions:
+        page.until_says(".positions", "Position of today, in 1 bond", row)
+    last = asks.ask_for(["DLR1"])
+    dealer.card_says("Here today: bought at 99 (", " UTC). Net \u22121,500,000")
+    investor.card_says("Here today: sold at 99 (", " UTC). Net +1,500,000")
+    quotes.quote(quotes.wait_shown(3), 102 * POINT)
+    assert asks.act(do="pass", request=last) == ""
+    asks.ask_for(["DLR1"])
+    dealer.card_says("Here today: bought at 99 (", ", offered 102 (")
+    assert dealer.complaints() == [] and investor.complaints() == []
+
+
+def test_an_arrow_marks_a_quote_that_changed(house: House) -> None:
+    """Up or down, for some seconds; the quote itself stands beside it."""
+    investor, dealer = house.browser(house.investor), house.view(house.dealer)
+    investor.ask("alder", "buy", "1m", dealers=("DLR1",))
+    request, price = dealer.wait_shown(1), 99 * POINT
+    dealer.quote(request, price)
+    investor.card_says("99")
+    assert not set(ARROWS) & set(investor.text(PRICE))
+
+    def marked(arrow: str, step: int) -> bool:
+        nonlocal price
+        price += step
+        dealer.quote(request, price)
+        investor.card_says(decimal(price))
+        return investor.text(PRICE).split() == [arrow, decimal(price)]  # or it went by then
+
+    for arrow, step in zip(ARROWS, (POINT // 2, -POINT)):
+        investor.until("%s marks it" % arrow, lambda: marked(arrow, step))
+    investor.until("the arrow goes", lambda: investor.text(PRICE).split() == [decimal(price)])
+
+
+def decimal(price: int) -> str:
+    return "%g" % (price / POINT)
+
+
+# Moves the card, and presses a button of it at once.
+MOVED = """const card = document.querySelector('article.card');
+card.style.marginTop = `${card.offsetTop + 40}px`;
+card.querySelector(arguments[0]).dispatchEvent(new MouseEvent('click', {bubbles: true, cancelable: true, detail: 1}));"""
+
+
+def test_a_withdrawal_is_never_refused(house: House) -> None:
+    """What has only just moved takes no press, but for Withdraw."""
+    view, dealer = house.view(house.investor), house.browser(house.dealer)
+    view.ask_for(["DLR1"])
+    dealer.card_says("INV1 buys")
+    dealer.quote("99.5")
+    dealer.card_says("Live 99.5")
+    dealer.one("input.entry").send_keys("99.25")
+    dealer.script(MOVED, "button.send")
+    dealer.card_says("The page moved under your press: look again.", "Live 99.5")
+    dealer.script(MOVED, "button.withdraw")
+    dealer.card_says("No live quote")
