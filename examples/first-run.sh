@@ -1,15 +1,15 @@
 #!/bin/sh
 # The first run: one auction over TCP. On a machine that has `rt` this installs what is missing from
-# Debian, proves and builds the venue (and tells how far it is; a build that stands is taken), builds
-# the gateway, starts it with a log in SQLite, lets two dealers and an investor trade by stock
-# QuickFIX initiators, prints what each was sent, and ends all that it started.
+# Debian, proves and builds the venue and the library of its sessions (and tells how far it is; what
+# stands is taken), builds the gateway, starts it with a log in SQLite, lets two dealers and an investor
+# trade by stock QuickFIX initiators, prints what each was sent, and ends all that it started.
 #
-#     examples/first-run.sh               37 minutes on four processors the first time, then seconds;
-#                                         more than an hour on two
-#     examples/first-run.sh --unproved    what can be seen in two minutes without a proof: the same
-#                                         program by `rt try`, on an auction as a text, and then the
-#                                         auction over TCP with the second implementation of the
-#                                         venue, in Python, in its place
+#     examples/first-run.sh               some 45 minutes on four processors the first time, then
+#                                         seconds; more than an hour on two
+#     examples/first-run.sh --unproved    what can be seen in minutes without a proof: the same program
+#                                         by `rt try`, on an auction as a text, and then the auction
+#                                         over TCP with second implementations in its place: of the
+#                                         venue, in Python, and of its sessions, in C++
 set -eu
 root=$(cd "$(dirname "$0")/.." && pwd)
 case "${1:-}" in
@@ -41,14 +41,26 @@ say "Packages of Debian: minutes, where many are missing"
 # shellcheck disable=SC2046 # a word for each package
 "$root/tests/packages.sh" $("$root/gateway/packages.sh")
 
+# build NICENESS: the gateway, in a session of its own, so that its compilers end with it; where Linux
+# shares processors out by session, it is the session that has to be nice. Which sessions it is linked
+# with is chosen anew: the proved ones, where their library stands.
+build() {
+    # shellcheck disable=SC2016 # of the inner shell
+    setsid nice -n "$1" sh -c '{ echo "$2" >/proc/self/autogroup; } 2>/dev/null
+        cmake -U "SESSION*" -S "$1" -B "$1/out" && exec cmake --build "$1/out" -j "$(nproc)" --target mireseason-gateway' \
+        build "$root/gateway" "$1" >"$work/built" 2>&1 &
+    building=$!
+}
+# built: waits for it.
+built() {
+    status=0
+    wait "$building" || status=$?
+    building=
+    [ "$status" = 0 ] || { tail -n 40 "$work/built" >&2; exit "$status"; }
+}
+
 say "The gateway is built meanwhile"
-# A session of its own, so that its compilers end with it; where Linux shares processors out by session,
-# it is the session that has to be nice.
-# shellcheck disable=SC2016 # of the inner shell
-setsid nice -n 19 sh -c '{ echo 19 >/proc/self/autogroup; } 2>/dev/null
-    cmake -S "$1" -B "$1/out" && exec cmake --build "$1/out" -j "$(nproc)"' \
-    build "$root/gateway" >"$work/built" 2>&1 &
-building=$!
+build 19
 
 if [ -n "$unproved" ]; then
     say "The venue, unproved: what each firm is sent in examples/auction.venue"
@@ -65,10 +77,12 @@ else
 fi
 
 say "The gateway: where it is not built yet, some minutes"
-status=0
-wait "$building" || status=$?
-building=
-[ "$status" = 0 ] || { tail -n 40 "$work/built" >&2; exit "$status"; }
+built
+if [ -z "$unproved" ]; then # its sessions were not proved yet when it was begun
+    build 0
+    built
+fi
+"$root/gateway/out/mireseason-gateway" --version
 
 say "An auction over TCP: a minute, since its initiators are compiled"
 VENUE=$venue "$root/examples/gateway/run.sh"

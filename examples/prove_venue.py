@@ -1,13 +1,14 @@
 #!/usr/bin/env python3
-"""Proves and builds the venue's program, crates/rfq_venue/out/rfq_venue, and tells how far it is.
+"""Proves and builds the venue's program, crates/rfq_venue/out/rfq_venue, and the library of its sessions,
+crates/fix_sessions_c/out/libfix_sessions_c.a, with which the gateway is linked; and tells how far it is.
 
-usage: prove_venue.py [--jobs N] [--program CRATE]
+usage: prove_venue.py [--jobs N]
 
-The crates below the program lie in a copy of the repository without tests and without wrong bodies.
-An `rt ci` over the whole copy proves them side by side, where memory allows, and proves, builds and
-runs the program. Where the kit's `rt ci` takes names and keeps what it proves, each crate is proved
-before that by an `rt ci CRATE` of its own, as soon as those below it are, and what an earlier run or
-a gate has proved is taken. So is a program that is newer than all its sources.
+The crates below the two lie in a copy of the repository without tests and without wrong bodies. An
+`rt ci` over the whole copy proves them side by side, where memory allows, and proves, builds and runs
+the program; an `rt lib` makes the library. Where the kit's `rt ci` takes names and keeps what it
+proves, each crate is proved before that by an `rt ci CRATE` of its own, as soon as those below it are,
+and what an earlier run or a gate has proved is taken. So is what is newer than all its sources.
 """
 
 import argparse
@@ -25,7 +26,9 @@ from typing import IO
 
 ROOT = Path(__file__).resolve().parent.parent
 MEMORY_OF_A_CRATE = 3 << 30  # bytes
-MINUTES_OF_ONE = 148  # for all, as if on one processor
+MADE = {"rfq_venue": "rfq_venue", "fix_sessions_c": "libfix_sessions_c.a"}  # by crate, in its out/
+LIBRARY = "fix_sessions_c"
+MINUTES_OF_ONE = 175  # for all, as if on one processor
 MORE = 1  # crates at work beyond the processors, for the time in which one can't fill its own
 BEHIND, NICEST = 3, 12  # how nice a proof is for each one for which more waits, at most
 LOOK, TELL = 0.5, 30.0  # seconds
@@ -65,11 +68,16 @@ def ways_up(crates: dict[str, list[str]], names: list[str]) -> dict[str, int]:
     return ways
 
 
-def is_newer(program: Path, names: list[str]) -> bool:
-    """Whether the program is newer than all that it is made from."""
-    if not program.is_file():
+def made_of(name: str, top: Path = ROOT) -> Path:
+    """The program or the library that a crate is built into."""
+    return top / "crates" / name / "out" / MADE[name]
+
+
+def is_newer(file: Path, names: list[str]) -> bool:
+    """Whether a program or a library is newer than all that it is made from."""
+    if not file.is_file():
         return False
-    made = program.stat().st_mtime
+    made = file.stat().st_mtime
     sources = [ROOT / "crates.txt"]
     for name in names:
         for part in ("src", "specs", "proofs"):
@@ -204,7 +212,7 @@ class Prover:
 
 
 def prove_all(place: Path) -> None:
-    """Proves what is not proved yet, in rt's own order, and builds and runs the program."""
+    """Proves what is not proved yet, in rt's own order, and builds and runs what is a program."""
     proof = begin(place, "the program", [])
     told = 0
     try:
@@ -220,34 +228,66 @@ def prove_all(place: Path) -> None:
         proof.end()
 
 
+def make_library(place: Path) -> None:
+    """Builds the library from the crates that are proved there."""
+    told = subprocess.run(
+        ["rt", "lib"],
+        cwd=place / "crates" / LIBRARY,
+        stdin=subprocess.DEVNULL,
+        capture_output=True,
+        text=True,
+        check=False,
+    )
+    if told.returncode != 0:
+        last = (told.stdout + told.stderr).splitlines()[-20:]
+        sys.exit("%s gives no library:\n%s" % (LIBRARY, "\n".join(last)))
+
+
+def keep(place: Path, name: str) -> None:
+    """Takes what was made over into this repository."""
+    to = made_of(name)
+    to.parent.mkdir(exist_ok=True)
+    shutil.copy2(made_of(name, place), to)
+    to.touch()
+    print("%s is proved and built" % to)
+
+
+def prove(crates: dict[str, list[str]], tops: list[str], jobs: int) -> None:
+    """Proves these crates with all below them, and makes of each what it is built into."""
+    every = [name for top in tops for name in [*below(crates, top), top]]
+    # A program's own proof is part of the last run, which builds it.
+    names = [name for name in dict.fromkeys(every) if name not in tops or name == LIBRARY]
+    print("Proving %d crates:" % len(names), flush=True)
+    print(
+        "about %d minutes the first time, where nothing else runs." % (MINUTES_OF_ONE // jobs),
+        flush=True,
+    )
+    # Outside the repository: rt ci runs at the top of one.
+    with tempfile.TemporaryDirectory(prefix="mireseason-") as folder:
+        place = Path(folder)
+        copy_crates(list(dict.fromkeys(every)), place)
+        if takes_names():
+            Prover(crates, names, jobs, place).run()
+            print("What is a program is proved, built and run:", flush=True)
+        prove_all(place)
+        if LIBRARY in tops:
+            make_library(place)
+        for top in tops:
+            keep(place, top)
+
+
 def main() -> None:
     parser = argparse.ArgumentParser()
     parser.add_argument("--jobs", type=int, default=jobs_here())
-    parser.add_argument("--program", default="rfq_venue")
     given = parser.parse_args()
     signal.signal(signal.SIGTERM, lambda *_: sys.exit(143))
     crates = crates_of((ROOT / "crates.txt").read_text())
-    names = below(crates, given.program)
-    made = ROOT / "crates" / given.program / "out"
-    program = made / given.program
-    if is_newer(program, [*names, given.program]):
-        print("%s stands, and is newer than its sources" % program)
-        return
-    print("Proving %d crates:" % len(names), flush=True)
-    minutes = MINUTES_OF_ONE // given.jobs
-    print("about %d minutes the first time, where nothing else runs." % minutes, flush=True)
-    # Outside the repository: rt ci runs at the top of one.
-    with tempfile.TemporaryDirectory(prefix="mireseason-") as name:
-        place = Path(name)
-        copy_crates([*names, given.program], place)
-        if takes_names():
-            Prover(crates, names, given.jobs, place).run()
-            print("The program is proved, built and run:", flush=True)
-        prove_all(place)
-        made.mkdir(exist_ok=True)
-        shutil.copy2(place / "crates" / given.program / "out" / given.program, program)
-        program.touch()
-    print("%s is proved and built" % program)
+    stands = {top: is_newer(made_of(top), [*below(crates, top), top]) for top in MADE}
+    for top in [top for top in MADE if stands[top]]:
+        print("%s stands, and is newer than its sources" % made_of(top))
+    wanting = [top for top in MADE if not stands[top]]
+    if wanting:
+        prove(crates, wanting, given.jobs)
 
 
 if __name__ == "__main__":

@@ -1,0 +1,109 @@
+"""A small repository with the real scripts of examples/, and stand-ins for all that they call."""
+
+import os
+import shutil
+import subprocess
+from collections.abc import Mapping
+from dataclasses import dataclass
+from pathlib import Path
+
+ROOT = Path(__file__).resolve().parent.parent.parent
+PROGRAM = Path("crates/rfq_venue/out/rfq_venue")
+LIBRARY = Path("crates/fix_sessions_c/out/libfix_sessions_c.a")
+
+# As in the real crates.txt: fields below all, a library of C calls over the sessions, and a crate of neither.
+CRATES = """\
+fields: itoa
+sessions: fields
+fix_sessions_c staticlib: fields sessions # for the gateway
+market may_wait=9: fields
+rfq_venue may_wait=1: market
+laws: market sessions
+"""
+
+# What rt prints and makes, where a crate named in FAILS is not proved.
+RT = """#!/bin/sh
+echo "rt $* in ${PWD##*/}" >>"$CALLS"
+case "$1 ${2:-}" in
+'help ') echo '  rt ci NAME..   the same for these crates' ;;
+'lib ')
+    [ -z "${NO_LIBRARY:-}" ] || { echo 'rt: no memory for a library'; exit 1; }
+    mkdir -p out && echo library >"out/lib${PWD##*/}.a" ;;
+'ci ')
+    for crate in crates/*/; do echo "rt: $(basename "$crate") proved"; done
+    [ ! -d crates/rfq_venue ] || { mkdir -p crates/rfq_venue/out && echo venue >crates/rfq_venue/out/rfq_venue; } ;;
+'ci '*)
+    [ "$2" != "${FAILS:-}" ] || { echo "src/lib.rt:1: error: not proved"; exit 1; }
+    echo "rt: $2 proved, and that is kept" ;;
+esac
+"""
+
+# The gateway says which sessions it was linked with.
+CMAKE = """#!/bin/sh
+stands=
+[ ! -e "$TOP/crates/fix_sessions_c/out/libfix_sessions_c.a" ] || stands=' with the library'
+echo "cmake $*$stands" >>"$CALLS"
+[ "$1" != --build ] || {
+    printf '#!/bin/sh\\necho gateway%s\\n' "$stands" >"$2/mireseason-gateway" && chmod +x "$2/mireseason-gateway"
+}
+[ "$1" = --build ] || mkdir -p "$TOP/gateway/out"
+"""
+
+AUCTION = """#!/bin/sh
+echo "an auction of $VENUE" >>"$CALLS"
+"""
+
+
+def write(path: Path, text: str, mode: int = 0o755) -> None:
+    path.parent.mkdir(parents=True, exist_ok=True)
+    path.write_text(text)
+    path.chmod(mode)
+
+
+@dataclass
+class House:
+    top: Path
+
+    def __post_init__(self) -> None:
+        write(self.top / "crates.txt", CRATES)
+        write(self.top / "HANDLES", "Handles allowed: none.\n")
+        for name in (line.split()[0].rstrip(":") for line in CRATES.splitlines()):
+            write(self.top / "crates" / name / "src" / "lib.rt", "//! %s\n" % name)
+            write(self.top / "crates" / name / "must-fail" / "a.edit", "file: src/lib.rt\n")
+        for name in ("prove_venue.py", "first-run.sh"):
+            (self.top / "examples").mkdir(exist_ok=True)
+            shutil.copy2(ROOT / "examples" / name, self.top / "examples")
+        write(self.top / "examples" / "gateway" / "run.sh", AUCTION)
+        for name in ("tests/packages.sh", "gateway/packages.sh"):
+            write(self.top / name, "#!/bin/sh\n")
+        for name, text in (("rt", RT), ("cmake", CMAKE)):
+            write(self.top / "bin" / name, text)
+
+    @property
+    def calls(self) -> list[str]:
+        """What was called so far, in order."""
+        file = self.top / "calls"
+        return file.read_text().splitlines() if file.exists() else []
+
+    def run(
+        self, *words: str, more: Mapping[str, str] | None = None
+    ) -> "subprocess.CompletedProcess[str]":
+        """A command of this repository, which finds the stand-ins first."""
+        environment = {
+            **os.environ,
+            "PATH": "%s:/usr/bin:/bin" % (self.top / "bin"),
+            "CALLS": str(self.top / "calls"),
+            "TOP": str(self.top),
+            **(more or {}),
+        }
+        return subprocess.run(
+            words,
+            cwd=self.top,
+            env=environment,
+            stdin=subprocess.DEVNULL,
+            stdout=subprocess.PIPE,
+            stderr=subprocess.STDOUT,
+            text=True,
+            timeout=300,
+            check=False,
+        )
