@@ -1,6 +1,9 @@
 # Writes OUT, the source that says which version and commit a build is of. It is written anew only
 # where that changed, so that a build without a change compiles nothing.
-#   cmake -DTOP=.. -DOUT=.. -DSESSION=.. -P version.cmake
+#   cmake -DTOP=.. -DOUT=.. -DSESSION=.. [-DNAME=..] -P version.cmake
+if(NOT NAME)
+    set(NAME mireseason-gateway)
+endif()
 file(STRINGS ${TOP}/VERSION version LIMIT_COUNT 1)
 if(EXISTS ${TOP}/COMMIT)
     # A tree without its history.
@@ -24,7 +27,7 @@ set(text "#include \"version.h\"
 namespace gateway {
 
 std::string version_text() {
-    return \"mireseason-gateway ${version} (${commit})${sessions}\";
+    return \"${NAME} ${version} (${commit})${sessions}\";
 }
 
 bool are_sessions_proved() {

@@ -9,6 +9,7 @@
 #include "web/server.h"
 
 #include "../../gateway/src/password.h"
+#include "../../gateway/src/version.h"
 
 #include <charconv>
 #include <csignal>
@@ -31,7 +32,8 @@ constexpr const char *usage =
     "       mireseason-desk --check CONFIG          reads CONFIG and what it names, and ends\n"
     "       mireseason-desk --next-number N CONFIG  goes on with session number N: after the loss\n"
     "                                               of the journal\n"
-    "       mireseason-desk --hash                  reads a password, and prints its hash\n";
+    "       mireseason-desk --hash                  reads a password, and prints its hash\n"
+    "       mireseason-desk --version               prints its version and commit\n";
 
 struct Arguments {
     std::string config;
@@ -108,6 +110,10 @@ void run(const desk::Config &config, int next_number) {
 int main(int count, char **words) {
     if (count == 2 && std::strcmp(words[1], "--hash") == 0) {
         return print_hash();
+    }
+    if (count == 2 && std::strcmp(words[1], "--version") == 0) {
+        std::cout << gateway::version_text() << '\n';
+        return 0;
     }
     Arguments arguments;
     if (!read(count, words, arguments)) {

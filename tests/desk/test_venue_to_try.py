@@ -38,6 +38,17 @@ def trade(investor: View, dealer: View) -> None:
     assert investor.hit(asked, "DLR3") == ""
 
 
+def is_banner_true(banner: str, gateway: Path) -> bool:
+    """Whether it calls unproved exactly what a second implementation stands for."""
+    told = subprocess.run([gateway, "--version"], capture_output=True, text=True, check=True).stdout
+    is_program = (ROOT / "crates" / "rfq_venue" / "out" / "rfq_venue").exists()
+    return (
+        banner.startswith("A venue to try: no trade here is real.")
+        and ("not proved: its program" in banner) == (not is_program)
+        and ("its sessions" in banner) == ("sessions not proved" in told)
+    )
+
+
 def test_a_venue_to_try(desk_program: Path, gateway_program: Path, place: Path) -> None:
     """Its two desks trade, it tells how that auction ended, and the audit finds the day in order."""
     told = place / "told"
@@ -60,6 +71,8 @@ def test_a_venue_to_try(desk_program: Path, gateway_program: Path, place: Path) 
             page(told.read_text(), firm, role, desk_program, place)
             for firm, role in (("INV1", INVESTOR), ("DLR3", DEALER))
         )
+        for each in (investor, dealer):
+            assert is_banner_true(each.hello["banner"], gateway_program), each.hello["banner"]
         trade(investor, dealer)
         sentence = "INV1 bought 2,000,000 of %s from DLR3 at 100; there was no cover" % BOND
         until("its end is told", LONG, lambda: sentence in told.read_text())
