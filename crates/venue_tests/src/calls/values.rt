@@ -1,7 +1,7 @@
 //! Values and frames that the calls share.
 use bond_prices::{Grid, Ticks};
 use fix_fields::{Date, Moment};
-use market_terms::{Ask, Offer, Quantity, Side};
+use market_terms::{Ask, Id, IdBuf, Offer, Quantity, ResponseRef, Side};
 use std::process::Abort;
 use venue_rows::{BondId, Name};
 
@@ -50,5 +50,14 @@ pub(crate) fn offer(rt: &impl Abort, word: u32) -> Offer {
         word,
         price: Ticks::new(25_473).expect(rt, "a price"),
         valid_until: None,
+    }
+}
+
+/// A hit of Q1, or a pass where there is none.
+pub(crate) fn response(rt: &impl Abort, k: Option<u64>) -> ResponseRef {
+    let id = Id::new(b"h1").expect(rt, "an identifier");
+    ResponseRef {
+        id: IdBuf::of(&id),
+        k,
     }
 }
