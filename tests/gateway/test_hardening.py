@@ -98,6 +98,8 @@ def test_settings_of_the_unit() -> None:
     assert "ProtectClock" not in found
     calls = [value for key, value in pairs if key == "SystemCallFilter"]
     assert "adjtimex" in calls[0].split() and not calls[0].startswith("~")
+    # The operator's socket is given to its group: chown stands among the privileged calls, which are taken away before.
+    assert "@privileged" in calls[1] and {"chown", "fchownat"} <= set(calls[-1].split())
 
 
 # ------------------------------------------------------------ the venue's process
