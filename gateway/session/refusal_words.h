@@ -32,7 +32,8 @@ constexpr const char *heartbeat = "heartbeat";       // 108
 constexpr const char *sending_time = "sending time"; // 52
 constexpr const char *number = "number";             // 34, 789
 constexpr const char *reset = "reset";               // 141
-constexpr const char *begin = "begin";               // numbers begin at 1 after an operator's reset
+// After an operator's reset.
+constexpr const char *begin = "numbers begin at 1: log on with 141=Y";
 constexpr const char *over = "session over";         // it has no number left
 constexpr const char *closed = "closed";             // the venue
 constexpr const char *suspended = "suspended";       // by an operator

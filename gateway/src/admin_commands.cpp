@@ -117,7 +117,7 @@ const std::vector<AdminCommand> &admin_commands() {
         {"clock accept", "[--because TEXT]",
          "takes requests and quotes again after the clock was set", run_clock_accept},
         {"reload", "[--because TEXT]", "reads credentials and certificates again", run_reload},
-        {"log accept-loss", "[--because TEXT]",
+        {"log accept-loss", "--because TEXT",
          "takes a log whose end was lost as it is, and opens the day", run_log_accept_loss},
         {"help", "", "lists the commands", run_help},
     };

@@ -46,6 +46,7 @@ void add(Speaker &speaker, const std::string &name, AdminAnswer &answer) {
         }
         answer.rows.push_back(row_of(venue, "logged_on", firm.since));
         answer.rows.push_back(row_of(venue, "address", firm.address));
+        answer.rows.push_back(row_of(venue, "suspended", firm.is_suspended));
         answer.rows.push_back(row_of(venue, "messages", std::uint64_t{firm.entries}));
         add_counts(venue, day.metrics.firm(venue, name).counts(), answer);
         add_limits(venue, firm, answer);

@@ -7,9 +7,9 @@ namespace gateway {
 
 namespace {
 
-std::string words_of(const std::map<std::string, std::uint64_t> &set) {
-    std::string words;
-    for (const auto &[key, value] : set) {
+std::string words_of(const FirmSessions::Facts &firm) {
+    std::string words = firm.is_suspended ? "suspended" : "";
+    for (const auto &[key, value] : firm.set) {
         words += fmt::format("{}{}={}", words.empty() ? "" : " ", key, value);
     }
     return words;
@@ -30,7 +30,7 @@ AdminAnswer run_firms(AdminCall &call) {
                                    {"messages", std::uint64_t{firm.entries}},
                                    {"day_bytes", firm.bytes},
                                    {"day_bytes_limit", firm.bytes_limit},
-                                   {"set", words_of(firm.set)}});
+                                   {"set", words_of(firm)}});
         }
     }
     return answer;

@@ -101,7 +101,7 @@ COMMANDS
     reload
         Reads credentials and certificates again. Only sessions whose own are gone end.
 
-    log accept-loss
+    log accept-loss --because TEXT
         Where the gateway has found that the end of its log is lost, and waits: takes the log as it
         is, and opens the day. What was lost stays lost. Putting the log back is better.
 

@@ -161,7 +161,9 @@ void AdminSocket::open() {
         fail_by_system(path_);
     }
     if (group_ && ::chown(path_.c_str(), static_cast<uid_t>(-1), *group_) != 0) {
-        fail(path_, "this process may not give it to the group: it has to be a member itself");
+        fail(path_,
+             "this process may not give it to the group: it has to be a member itself, and its "
+             "unit has to allow chown (SystemCallFilter=@chown)");
     }
     if (::chmod(path_.c_str(), mode) != 0 || ::listen(listening_.number(), most_visits) != 0) {
         fail_by_system(path_);

@@ -120,13 +120,45 @@ std::size_t DayCopies::make(std::string_view before, const std::stop_token &stop
     const std::vector<std::string> days = ended_days(before);
     std::size_t missing = 0;
     for (const std::string &date : days) {
-        missing += fs::exists(copy_of(date)) || try_copy(date, stop) ? 0 : 1;
+        missing += is_copied(date, stop) || try_copy(date, stop) ? 0 : 1;
     }
     const std::size_t old = days.size() - std::min(days.size(), config_.keep.value_or(days.size()));
     for (std::size_t at = 0; at < old && !stop.stop_requested(); ++at) {
         try_remove(days[at], stop);
     }
     return missing;
+}
+
+// A day that was opened again after it was copied has a log that was written later.
+bool DayCopies::is_copied(const std::string &date, const std::stop_token &stop) const {
+    const fs::path sums = copy_of(date) / sums_name;
+    std::error_code fault;
+    if (!fs::exists(copy_of(date), fault)) {
+        return false;
+    }
+    const auto copied = fs::last_write_time(sums, fault);
+    const auto written = fault ? fs::file_time_type() : fs::last_write_time(log_of(date), fault);
+    try {
+        return fault || written <= copied ||
+               has_sum(read_public(sums), sha256_of_file(log_of(date), stop),
+                       log_of(date).filename());
+    } catch (const std::exception &) {
+        return true; // what is wrong with it is told where its log is to be removed
+    }
+}
+
+// The name is free for a new copy, and what had it is there still: it may be sealed.
+void DayCopies::put_aside(const std::string &date) {
+    const fs::path copy = copy_of(date);
+    if (!fs::exists(copy)) {
+        return;
+    }
+    fs::path aside;
+    for (int number = 1; aside.empty() || fs::exists(aside); ++number) {
+        aside = fmt::format("{}.{}", copy.string(), number);
+    }
+    fs::rename(copy, aside);
+    events_->warn("day went on after it was copied date={} before={}", date, aside.string());
 }
 
 bool DayCopies::try_copy(const std::string &date, const std::stop_token &stop) {
@@ -165,6 +197,7 @@ void DayCopies::copy(const std::string &date, const std::stop_token &stop) {
     }
     write_new(part / sums_name, lines_of(sums), 0440);
     synchronise_folder(part);
+    put_aside(date);
     fs::rename(part, copy_of(date));
     synchronise_folder(config_.copies);
 }

@@ -26,7 +26,8 @@ class DayCopies {
     DayCopies(const Config &config, std::shared_ptr<spdlog::logger> events)
         : config_(config), events_(std::move(events)) {}
 
-    // Copies the days before this one (eight digits) that have no copy; then removes the logs that
+    // Copies the days before this one (eight digits) that have no copy, or whose log went on since:
+    // the copy before is kept beside, as NAME.1, NAME.2 and so on. Then removes the logs that
     // are no longer kept, each once it was found to be what its copy is. Tells what it did, and
     // what can't be done. Returns how many days have no copy then.
     std::size_t make(std::string_view before, const std::stop_token &stop);
@@ -36,6 +37,8 @@ class DayCopies {
     std::filesystem::path log_of(std::string_view date) const;
     std::filesystem::path copy_of(std::string_view date) const;
     std::filesystem::path checkpoint_of(std::string_view date) const;
+    bool is_copied(const std::string &date, const std::stop_token &stop) const;
+    void put_aside(const std::string &date);
     bool try_copy(const std::string &date, const std::stop_token &stop);
     void copy(const std::string &date, const std::stop_token &stop);
     void try_remove(const std::string &date, const std::stop_token &stop);

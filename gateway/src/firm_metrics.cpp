@@ -51,6 +51,7 @@ bool has_field(std::string_view body, std::string_view field) {
 struct FirmFamilies::Parts {
     Family<Gauge> &logged_on;
     Family<Gauge> &waiting_bytes;
+    Family<Gauge> &suspended;
     Family<Counter> &messages;
     Family<Counter> &requests;
     Family<Counter> &quotes;
@@ -63,6 +64,7 @@ FirmFamilies::FirmFamilies(Registry &registry)
           gauges(registry, "mireseason_firm_logged_on", "1 while the firm is logged on"),
           gauges(registry, "mireseason_firm_waiting_bytes",
                  "bytes that the firm has not taken yet"),
+          gauges(registry, "mireseason_firm_suspended", "1 while an operator has suspended it"),
           counters(registry, "mireseason_firm_messages_total", "messages of the firm in the log"),
           counters(registry, "mireseason_firm_requests_total", "of these its requests (35=R)"),
           counters(registry, "mireseason_firm_quotes_total", "of these its quotes (35=S)"),
@@ -77,6 +79,7 @@ FirmMetrics::FirmMetrics(FirmFamilies &families, std::string venue, std::string 
     : venue_(std::move(venue)), firm_(std::move(firm)),
       logged_on_(families.parts_->logged_on.Add(labels_of(venue_, firm_))),
       waiting_bytes_(families.parts_->waiting_bytes.Add(labels_of(venue_, firm_))),
+      suspended_(families.parts_->suspended.Add(labels_of(venue_, firm_))),
       messages_(families.parts_->messages.Add(labels_of(venue_, firm_))),
       requests_(families.parts_->requests.Add(labels_of(venue_, firm_))),
       quotes_(families.parts_->quotes.Add(labels_of(venue_, firm_))),
@@ -111,10 +114,15 @@ void FirmMetrics::waits(std::size_t bytes) {
     waiting_bytes_.Set(static_cast<double>(bytes));
 }
 
+void FirmMetrics::suspended(bool is_suspended) {
+    suspended_.Set(is_suspended ? 1 : 0);
+}
+
 FirmMetrics::Counts FirmMetrics::counts() const {
     return {venue_,
             firm_,
             logged_on_.Value() > 0,
+            suspended_.Value() > 0,
             messages_.Value(),
             requests_.Value(),
             quotes_.Value(),

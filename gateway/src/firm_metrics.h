@@ -45,12 +45,15 @@ class FirmMetrics {
     void was_given(const Delivery &delivery);
     // Bytes that the firm has not taken yet.
     void waits(std::size_t bytes);
+    // By an operator.
+    void suspended(bool is_suspended);
 
     // For a page.
     struct Counts {
         std::string venue;
         std::string firm;
         bool is_on = false;
+        bool is_suspended = false;
         double messages = 0;
         double requests = 0;
         double quotes = 0;
@@ -65,6 +68,7 @@ class FirmMetrics {
     const std::string firm_;
     prometheus::Gauge &logged_on_;
     prometheus::Gauge &waiting_bytes_;
+    prometheus::Gauge &suspended_;
     prometheus::Counter &messages_;
     prometheus::Counter &requests_;
     prometheus::Counter &quotes_;

@@ -134,6 +134,7 @@ std::vector<FirmSessions::Facts> FirmSessions::facts() {
         facts.set = firm.limits.all_set();
         facts.limits = firm.limits.all();
         facts.entries = firm.entries;
+        facts.is_suspended = firm.is_suspended;
         const std::lock_guard lock(firm.seen_mutex);
         facts.since = firm.since;
         facts.address = firm.address;
@@ -303,6 +304,7 @@ void FirmSessions::logged_off(const std::string &firm) {
 
 void FirmSessions::count_waiting(const Engine &engine) {
     for (auto &[name, firm] : firms_) {
+        firm.metrics->suspended(firm.is_suspended);
         firm.metrics->waits(engine.waiting_bytes(session_name(day_.config.venue, name)));
     }
 }

@@ -82,6 +82,7 @@ class FirmSessions final : private SessionHost {
         std::uint64_t bytes_limit = 0;
         std::map<std::string, std::uint64_t> limits; // all, by their names
         std::map<std::string, std::uint64_t> set;    // those that an operator has set
+        bool is_suspended = false;
     };
     std::vector<Facts> facts();
     // Whether no message is being judged by what was set before: all that come into the log from

@@ -145,6 +145,19 @@ void Gateway::count_certificates(const EngineSettings &settings) {
     }
 }
 
+std::vector<std::string> Gateway::halts() const {
+    std::vector<std::string> lines;
+    for (const auto &day : days_) {
+        const std::string venue = day->config.venue.empty() ? "" : " of " + day->config.venue;
+        if (const std::string words = day->halts.words(); words == "yes") {
+            lines.push_back(fmt::format("an operator has halted the venue{}", venue));
+        } else if (words != "no") {
+            lines.push_back(fmt::format("an operator has halted bonds{}: {}", venue, words));
+        }
+    }
+    return lines;
+}
+
 std::vector<OpenRequests::Open> Gateway::open_requests() const {
     std::vector<OpenRequests::Open> all;
     for (const auto &day : days_) {

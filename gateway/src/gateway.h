@@ -74,6 +74,8 @@ class Gateway final {
     // What it does now, and the part that has been silent longest; of any thread.
     Phase phase() const { return status_.phase(); }
     std::optional<Pulse::Silent> silent() { return status_.pulse().longest(); }
+    // What is halted, a line each; of any thread.
+    std::vector<std::string> halts() const;
     // Requests that are open now, of all venues; of any thread.
     std::vector<OpenRequests::Open> open_requests() const;
     // Of the process, after run().

@@ -32,6 +32,18 @@ class Halts {
         const std::lock_guard lock(mutex_);
         return is_whole_ || bonds_.contains(bond);
     }
+    // For an operator: `no`, `yes`, or which bonds.
+    std::string words() const {
+        const std::lock_guard lock(mutex_);
+        if (is_whole_ || bonds_.empty()) {
+            return is_whole_ ? "yes" : "no";
+        }
+        std::string text;
+        for (const std::string &bond : bonds_) {
+            text += (text.empty() ? "" : " ") + bond;
+        }
+        return text;
+    }
     std::set<std::string> bonds() const {
         const std::lock_guard lock(mutex_);
         return bonds_;

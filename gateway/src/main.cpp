@@ -123,8 +123,12 @@ int check(const std::string &path, const std::string &day) {
         return 2;
     }
     gateway::ConfigFiles files;
+    const auto running = gateway::running_gateway(path);
+    if (running) {
+        std::cout << "a gateway runs with it, process " << *running << ", and has its ports\n";
+    }
     for (const gateway::Config &config : gateway::read_configs(files, path, day)) {
-        gateway::check_start(config, day);
+        gateway::check_start(config, day, running.has_value());
         std::cout << path << " is a configuration of " << config.firms.names.size() << " firms for "
                   << day << '\n';
     }

@@ -113,6 +113,10 @@ struct Metrics::Parts {
     Family<Gauge> &disk_reserve =
         gauges(*registry, "mireseason_log_disk_reserve_reached",
                "1 where less is free there than is held back: no request and no quote is taken");
+    Family<Gauge> &halted =
+        gauges(*registry, "mireseason_halted", "1 while an operator has halted the venue");
+    Family<Gauge> &halted_bonds =
+        gauges(*registry, "mireseason_halted_bonds", "bonds that an operator has halted");
     Family<Gauge> &build =
         gauges(*registry, "mireseason_build_info", "1; the version and commit of the gateway");
     Family<Gauge> &program =
@@ -158,6 +162,11 @@ void Metrics::backlog(const std::string &venue, std::size_t unanswered, std::siz
 void Metrics::log_disk(const std::string &venue, std::uint64_t free, bool is_reserve_reached) {
     parts_->disk_free.Add(of_venue(venue)).Set(static_cast<double>(free));
     parts_->disk_reserve.Add(of_venue(venue)).Set(is_reserve_reached ? 1 : 0);
+}
+
+void Metrics::halted(const std::string &venue, bool is_whole, std::size_t bonds) {
+    parts_->halted.Add(of_venue(venue)).Set(is_whole ? 1 : 0);
+    parts_->halted_bonds.Add(of_venue(venue)).Set(static_cast<double>(bonds));
 }
 
 std::vector<Queue> Metrics::queues() const {

@@ -64,6 +64,8 @@ class Metrics {
     // Bytes that are free on the disk of a venue's log, and whether they are fewer than are held
     // back.
     void log_disk(const std::string &venue, std::uint64_t free, bool is_reserve_reached);
+    // What an operator has halted: the whole venue, and how many bonds.
+    void halted(const std::string &venue, bool is_whole, std::size_t bonds);
     // What the venue's program says that it is.
     void venue_is(const std::string &venue, const std::string &version);
     // Whether firms may log on now, and whether every part that does the work shows that it does.

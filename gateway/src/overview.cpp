@@ -64,9 +64,13 @@ std::string cell(std::string_view text) {
     return fmt::format("<td>{}</td>", escaped(text));
 }
 
+const char *session_words(const FirmMetrics::Counts &firm) {
+    return firm.is_suspended ? "suspended" : firm.is_on ? "on" : "off";
+}
+
 std::string firm_html(const FirmMetrics::Counts &firm) {
     const std::string name = firm.venue.empty() ? firm.firm : firm.firm + " of " + firm.venue;
-    return "<tr><th scope=\"row\">" + escaped(name) + "</th>" + cell(firm.is_on ? "on" : "off") +
+    return "<tr><th scope=\"row\">" + escaped(name) + "</th>" + cell(session_words(firm)) +
            cell(firm.messages) + cell(firm.requests) + cell(firm.quotes) + cell(firm.hits) +
            cell(firm.refusals) + cell(firm.waiting_bytes) + "</tr>\n";
 }
@@ -138,6 +142,9 @@ std::string html_of(const Overview &seen) {
     std::string html(head);
     html += "<main>\n<h1>Mireseason gateway</h1>\n";
     html += condition_html(seen.condition);
+    for (const std::string &line : seen.halts) {
+        html += fmt::format("<p class=\"condition fault\">{}</p>\n", escaped(line));
+    }
     html += firms_html(seen.firms);
     html += requests_html(seen.requests);
     html += queues_html(seen.queues);

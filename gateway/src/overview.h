@@ -15,6 +15,7 @@ namespace gateway {
 // What the page shows.
 struct Overview {
     Condition condition;
+    std::vector<std::string> halts; // lines
     std::string version;
     std::vector<FirmMetrics::Counts> firms;
     std::vector<OpenRequests::Open> requests;

@@ -89,6 +89,7 @@ Overview Service::overview() {
     const std::lock_guard lock(mutex_);
     if (gateway_ != nullptr) {
         seen.requests = gateway_->open_requests();
+        seen.halts = gateway_->halts();
     }
     return seen;
 }

@@ -3,9 +3,11 @@
 #include "check_settings.h"
 #include "descriptor.h"
 #include "disk_reserve.h"
+#include "frame.h"
 #include "venue_trial.h"
 
 #include <cerrno>
+#include <fstream>
 #include <stdexcept>
 #include <system_error>
 
@@ -13,10 +15,13 @@
 #include <fmt/format.h>
 #include <netinet/in.h>
 #include <sys/socket.h>
+#include <unistd.h>
 
 namespace gateway {
 
 namespace {
+
+namespace fs = std::filesystem;
 
 // Port 0 is any that is free.
 void check_port(const std::string &address, std::uint16_t port, std::string_view key) {
@@ -34,6 +39,23 @@ void check_port(const std::string &address, std::uint16_t port, std::string_view
         const std::string cause = std::system_category().message(errno);
         throw std::runtime_error(fmt::format("{} {}:{}: {}", key, address, port, cause));
     }
+}
+
+// The configuration that a process serves, if it is a gateway; empty where it is none, or can't be
+// looked at.
+fs::path served_by(const fs::path &process) {
+    std::ifstream file(process / "cmdline", std::ios::binary);
+    std::vector<std::string> words;
+    for (std::string word; std::getline(file, word, '\0');) {
+        words.push_back(word);
+    }
+    if (words.size() != 2 || words[1].starts_with('-') ||
+        fs::path(words[0]).filename() != "mireseason-gateway") {
+        return {};
+    }
+    std::error_code fault;
+    const fs::path path = fs::canonical(process / "cwd", fault) / words[1];
+    return fs::canonical(fault ? fs::path(words[1]) : path, fault);
 }
 
 // A disk that is smaller than what is held back of it would take no request for good.
@@ -59,8 +81,26 @@ void check_day(const Config &config, std::string_view day) {
     try_configuration(config.command, config.configuration);
 }
 
-void check_start(const Config &config, std::string_view day) {
+std::optional<int> running_gateway(const fs::path &file) {
+    std::error_code fault;
+    const fs::path own = fs::canonical(file, fault);
+    if (fault) {
+        return std::nullopt;
+    }
+    for (const fs::directory_entry &each : fs::directory_iterator("/proc", fault)) {
+        const auto number = number_of(each.path().filename().string());
+        if (number && static_cast<int>(*number) != ::getpid() && served_by(each.path()) == own) {
+            return static_cast<int>(*number);
+        }
+    }
+    return std::nullopt;
+}
+
+void check_start(const Config &config, std::string_view day, bool runs) {
     check_day(config, day);
+    if (runs) {
+        return;
+    }
     check_port(config.engine.address, config.engine.port, "[fix] port");
     check_port("127.0.0.1", config.metrics_port, "[metrics] port");
 }

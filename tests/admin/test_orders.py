@@ -3,7 +3,7 @@ store. Each is an act, and is so again after a gateway that was killed."""
 
 import threading
 
-from tests.admin.desk import acts, admin, audit, did, firm_row
+from tests.admin.desk import acts, admin, audit, did, firm_row, rows
 from tests.gateway.firm import Received
 from tests.gateway.market import BOND, moment_in
 from tests.gateway.stage import DEALER, INVESTOR, Stage
@@ -11,6 +11,7 @@ from tests.gateway.stage import check as check_text
 from tests.gateway.wait import LONG, until
 from tests.gateway.wire import Fields, Wire
 from tests.limits.flood import cancel, logged_on, not_taken
+from tests.operating.test_service import asked
 
 WHY = "their risk desk called"
 NOT_AVAILABLE = b"4"  # BusinessRejectReason (380)
@@ -90,7 +91,12 @@ def test_a_dealer_that_is_suspended(stage_of_log: Stage) -> None:
     is_refused(stage, number)
     started_again(stage)
     is_refused(stage, number)
+    check(firm_row(stage, "DLR1")["set"] == "suspended", firm_row(stage, "DLR1"))
+    metric = 'mireseason_firm_suspended{firm="DLR1"}'
+    until("it is counted", LONG, lambda: stage.counters()[metric] == 1)
+    check("<td>suspended</td>" in asked(stage.door, "/")[1], "the page does not say it")
     did(stage, "resume", "DLR1")
+    check(firm_row(stage, "DLR1")["set"] == "", firm_row(stage, "DLR1"))
     logged_on(stage, DEALER, number=number).socket.close()
     check(audit(stage, "check").status == 0, audit(stage, "check").text)
 
@@ -301,6 +307,22 @@ def halted(dealer: Wire, investor: Wire, shown: Received, text: bytes) -> None:
     dealer.number += 1
 
 
+def halt_is_seen(stage: Stage, words: str, takes_business: bool) -> None:
+    """By the operator, and among the metrics."""
+    row = rows(stage, "status")[0]
+    check((row["halted"], row["takes_business"]) == (words, takes_business), row)
+    bonds = 0 if words in ("yes", "no") else len(words.split())
+    until(
+        "it is counted",
+        LONG,
+        lambda: (
+            stage.counters()["mireseason_halted"],
+            stage.counters()["mireseason_halted_bonds"],
+        )
+        == (words == "yes", bonds),
+    )
+
+
 def test_a_halt(stage: Stage) -> None:
     """Of the venue and of one bond: requests, quotes and hits are not taken, cancels are, until it goes on; also by the next
     gateway."""
@@ -314,7 +336,11 @@ def test_a_halt(stage: Stage) -> None:
         shown = investor.got(b"S")
         did(stage, "halt", "--because", "rumours")
         halted(dealer, investor, shown, HALTED)
+        halt_is_seen(stage, "yes", takes_business=False)
+        page = asked(stage.door, "/")[1]
+        check("an operator has halted the venue" in page, page)
         did(stage, "resume")
+        halt_is_seen(stage, "no", takes_business=True)
         quoted(dealer, b"q2")
         shown = investor.got_until(
             lambda message: message.kind == b"S" and message.value(117) != shown.value(117)
@@ -326,6 +352,7 @@ def test_a_halt(stage: Stage) -> None:
             check(said.status == 1 and "--bond has no ID behind it" in said.err, said)
         did(stage, "halt", "--bond", BOND.decode())
         halted(dealer, investor, shown, BOND_HALTED)
+        halt_is_seen(stage, BOND.decode(), takes_business=True)
         numbers = dealer.number, investor.number
     started_again(stage)
     with logged_on(stage, DEALER, number=numbers[0]) as dealer:

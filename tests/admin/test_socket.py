@@ -61,7 +61,8 @@ def test_what_an_operator_sees(desk: Stage) -> None:
         (("limit", "DLR1", "day_bytes=-1"), 1, "is a number from 65536 to"),
         (("limit", "DLR1", "day_bytes=99999999999999999999"), 1, "is a number from 65536 to"),
         (("clock", "accept"), 1, "the clock is not in doubt"),
-        (("log", "accept-loss"), 1, "no log waits to be accepted"),
+        (("log", "accept-loss"), 1, "say why: --because"),
+        (("log", "accept-loss", "--because", "why"), 1, "no log waits to be accepted"),
         (("status", "--because"), 2, "usage: mireseason-admin"),
         ((), 2, "usage: mireseason-admin"),
     ):

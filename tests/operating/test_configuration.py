@@ -138,6 +138,17 @@ def test_yesterdays_date_is_found(stage: Stage) -> None:
     assert is_untouched(stage)
 
 
+def test_a_gateway_that_runs_has_its_own_ports(stage: Stage) -> None:
+    """So --check finds no fault while the venue is at work, and says that it is."""
+    write(stage, VENUE)
+    stage.door.start()
+    stage.door.wait_open()
+    found = told(stage)
+    assert found.returncode == 0, found.stderr
+    running = "a gateway runs with it, process %d, and has its ports" % stage.door.running.pid
+    assert running in found.stdout, found.stdout
+
+
 def test_a_port_that_another_program_has_is_found(stage: Stage) -> None:
     """Before the day begins, and with the port's number."""
     write(stage, VENUE)

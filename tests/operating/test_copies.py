@@ -132,3 +132,31 @@ def test_days_are_copied(week: Week) -> None:
     assert week.log_of(week.day(2)).exists()
     until("the third is copied", LONG, copy_of(week, 3).exists)
     assert not list(copies.glob("*.part"))
+
+
+def test_a_day_that_goes_on_after_its_copy(week: Week) -> None:
+    """Its end is moved and the gateway started again: it is copied anew, and what was copied before stays beside."""
+    stage = week.stage
+    (stage.folder / "copies").mkdir()
+    week.set_clock(week.day(1), time(8, 0), -30)
+    stage.door.start()
+    week.wait_told("closed until=")
+    open_and_end(week, 1)
+    there = copy_of(week, 1)
+    until("it is copied", LONG, there.exists)
+    before = (there / week.log_of(week.day(1)).name).read_bytes()
+
+    stage.door.kill()
+    file = stage.folder / "gateway.toml"
+    file.write_text(file.read_text().replace('ends = "17:30"', 'ends = "18:00"'))
+    week.set_clock(week.day(1), time(17, 40))
+    stage.door.start()
+    stage.door.wait_open()
+    week.set_clock(week.day(1), time(18, 0), -1)
+    week.wait_told("day went on after it was copied date=")
+    aside = there.parent / (there.name + ".1")
+    until("it is copied again", LONG, lambda: aside.exists() and there.exists())
+    name = week.log_of(week.day(1)).name
+    assert (aside / name).read_bytes() == before
+    assert (there / name).read_bytes() == week.log_of(week.day(1)).read_bytes() != before
+    until("it is counted", LONG, lambda: stage.counters()["mireseason_days_without_copy"] == 0)
