@@ -315,9 +315,9 @@ def halt_is_seen(stage: Stage, words: str, takes_business: bool) -> None:
     until(
         "it is counted",
         LONG,
-        lambda: (
-            stage.counters()["mireseason_halted"],
-            stage.counters()["mireseason_halted_bonds"],
+        lambda: (  # which are there from the first look on
+            stage.counters().get("mireseason_halted"),
+            stage.counters().get("mireseason_halted_bonds"),
         )
         == (words == "yes", bonds),
     )
