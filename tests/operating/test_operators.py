@@ -3,6 +3,7 @@ audit says of the second.
 """
 
 import json
+import re
 from collections.abc import Callable
 from dataclasses import dataclass
 
@@ -155,7 +156,7 @@ def open_day(stage: Stage) -> None:
 
 def check_all_tried(usages: list[str]) -> None:
     """Each command that the gateway has is one of these."""
-    names = [usage.split(" [")[0].split(" FIRM")[0].split(" TRADE")[0] for usage in usages]
+    names = [re.split(r" (?:\[|--because|FIRM|TRADE)", usage)[0] for usage in usages]
     tried = [command.words + " " for command in COMMANDS]
     untried = [name for name in names if not any(one.startswith(name + " ") for one in tried)]
     assert not untried, "no case calls %s" % untried
