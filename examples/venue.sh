@@ -3,7 +3,7 @@
 # asks now and then, and a desk in the browser for INV1 and for DLR3. It runs until Ctrl-C, prints the
 # addresses and the logins, and tells how each auction ends.
 #
-#     examples/venue.sh           two to three minutes from a fresh clone on four processors, then seconds
+#     examples/venue.sh           two minutes from a fresh clone on four quiet processors, then seconds
 #     examples/venue.sh down      ends it, where it still runs, and has the audit check the day
 #
 # The program is the proved one, crates/rfq_venue/out/rfq_venue, where it stands, and so are the sessions,
@@ -112,7 +112,7 @@ if ! [ -x "$gateway" ] || ! [ -x "$desks/mireseason-desk" ] || ! [ -x "$desks/sa
     say "Packages of Debian: minutes, where many are missing"
     # shellcheck disable=SC2046 # a word for each package
     "$root/tests/packages.sh" $("$root/gateway/packages.sh") $("$root/desk/packages.sh")
-    say "The programs are built: two to three minutes on four processors, where nothing is built yet"
+    say "The programs are built: two minutes on four quiet processors, where nothing is built yet"
     build
 fi
 
