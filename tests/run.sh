@@ -9,7 +9,8 @@
 #                                  nothing is proved
 #
 # Each folder is a part: it tells that it begins, and what it installs from Debian, and prints a line with its seed and
-# its time, and one for each reason for which a test was skipped. A skipped test is neither passed nor failed. A part
+# its time, and one for each reason for which a test was skipped. A skipped test is neither passed nor failed, and neither
+# is an unsteady one, which failed and then passed alone: it is named, and somebody has to mend it. A part
 # that fails prints its last lines, and the others go on. Its limit of time is many times what it takes, also on two
 # processors that have other work: one that is not done by then hangs, has failed, and ends with all that it started.
 # What a machine can't do (a package that can't be had) is told as not run. The day of a gateway ends at midnight in
@@ -129,7 +130,8 @@ tell() {
     [ "$status" = 0 ] && [ "$good" != 0 ] || [ "$bad" != 0 ] || ! is_fault "$status" "$report" || bad=1
     [ "$bad" = 0 ] || tail -n 60 "$told"
     echo "$name: $good passed, $bad failed, seed $seed, $took s"
-    sed -n "s/^skipped /$name: skipped /p; s/^failed /$name: failed /p" "$counted"
+    sed -n "s/^skipped /$name: skipped /p; s/^failed /$name: failed /p; s/^unsteady /$name: unsteady /p" "$counted"
+    ! grep -q '^unsteady ' "$counted" || tail -n 60 "$told"
     count "$good" "$bad"
 }
 
@@ -200,12 +202,13 @@ session_library() {
     count 0 1
 }
 
-# folder NAME SECONDS PACKAGES WORDS ..: pytest on a folder of tests. Status 5 is that of one that has no test.
+# folder NAME SECONDS PACKAGES WORDS ..: pytest on a folder of tests. A few that fail are tried once more, alone: one that
+# passes then is told as unsteady.
 folder() {
     name=$1 limit=$2 packages=$3
     shift 3
     form "$name" "$limit" "$testers $packages" \
-        python3 -m pytest "tests/$name" --venue "$program" --seed "$seed" --junitxml "$work/$name.xml" \
+        python3 -m tests.harness.twice "tests/$name" --venue "$program" --seed "$seed" --junitxml "$work/$name.xml" \
         -o junit_family=xunit1 -q --durations 5 --gateway "$gateway" "$@"
 }
 

@@ -2,7 +2,8 @@
 
 usage: reports.py FILE ..    reports in the form of JUnit
 
-Prints `PASSED FAILED`, a line `skipped TIMES: WHY` for each reason, and a line `failed NAME` for each test that failed.
+Prints `PASSED FAILED`, a line `skipped TIMES: WHY` for each reason, a line `failed NAME` for each test that failed, and a
+line `unsteady NAME` for each that failed among others and passed alone (`twice.py`): it is neither passed nor failed.
 """
 
 import sys
@@ -12,6 +13,7 @@ from dataclasses import dataclass, field
 from pathlib import Path
 
 FAULTS = ("failure", "error")
+UNSTEADY = "unsteady"  # what stands in a fault's place
 
 
 @dataclass
@@ -20,13 +22,16 @@ class Count:
 
     passed: int = 0
     failed: list[str] = field(default_factory=list)
+    unsteady: list[str] = field(default_factory=list)
     skipped: Counter[str] = field(default_factory=Counter)
 
     def add(self, case: xml.Element) -> None:
         name = "%s::%s" % (case.get("classname", ""), case.get("name", ""))
         skipped = case.find("skipped")
-        if any(case.find(fault) is not None for fault in FAULTS) or case.get("status") == "fail":
+        if is_failed(case):
             self.failed.append(name)
+        elif case.find(UNSTEADY) is not None:
+            self.unsteady.append(name)
         elif skipped is not None or case.get("status") in ("notrun", "disabled"):
             self.skipped[reason(skipped)] += 1
         else:
@@ -35,7 +40,13 @@ class Count:
     def lines(self) -> list[str]:
         found = ["%d %d" % (self.passed, len(self.failed))]
         found += ["skipped %d: %s" % (times, why) for why, times in sorted(self.skipped.items())]
-        return found + ["failed %s" % name for name in self.failed]
+        found += ["failed %s" % name for name in self.failed]
+        return found + ["unsteady %s" % name for name in self.unsteady]
+
+
+def is_failed(case: xml.Element) -> bool:
+    """Whether a test failed, by pytest's elements or by ctest's status."""
+    return any(case.find(fault) is not None for fault in FAULTS) or case.get("status") == "fail"
 
 
 def reason(skipped: xml.Element | None) -> str:
