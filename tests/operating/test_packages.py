@@ -136,6 +136,12 @@ def test_the_program_is_the_proved_one(
     assert named[1] == printed(program, "--version")
 
 
+def test_the_programs_version() -> None:
+    """The proved program has the version in its text: it may not stay behind."""
+    text = (ROOT / "crates" / "command_arguments" / "src" / "help.rt").read_text()
+    assert re.findall(r'const VERSION: &str = "(.*)";', text) == [VERSION]
+
+
 def test_versions(packages: Packages, place: Path) -> None:
     """One version and one commit for all."""
     gateway = packages.unpacked("mireseason-gateway", place / "gateway")

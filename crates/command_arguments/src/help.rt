@@ -1,6 +1,7 @@
 //! The short texts of the help: of the program, its commands, and their flags and arguments.
 
-pub(crate) const VERSION: &str = "0.1.0";
+/// The version of all programs of the repository, which the file `VERSION` at its top has too.
+pub(crate) const VERSION: &str = "1.2.0";
 
 pub(crate) const ABOUT: &str = "A blind multi-dealer RFQ venue for bonds";
 
