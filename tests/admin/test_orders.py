@@ -1,9 +1,8 @@
 """What an operator orders of a firm and of the venue: a suspension, a cancel, a halt, and the ways back of a firm that lost its
 store. Each is an act, and is so again after a gateway that was killed."""
 
-import threading
-
 from tests.admin.desk import acts, admin, audit, did, firm_row, rows
+from tests.admin.stream import Stream, quote_fields
 from tests.gateway.firm import Received
 from tests.gateway.market import BOND, moment_in
 from tests.gateway.stage import DEALER, INVESTOR, Stage
@@ -33,10 +32,6 @@ def started_again(stage: Stage) -> None:
     stage.door.kill()
     stage.door.start()
     stage.door.wait_open()
-
-
-def quote_fields(name: bytes, request: bytes = b"R1") -> Fields:
-    return [(50, b"T1"), (117, name), (131, request), (48, BOND), (22, b"4"), (133, b"99.5")]
 
 
 def quoted(wire: Wire, name: bytes, request: bytes = b"R1") -> None:
@@ -101,31 +96,6 @@ def test_a_dealer_that_is_suspended(stage_of_log: Stage) -> None:
     check(audit(stage, "check").status == 0, audit(stage, "check").text)
 
 
-class Stream:
-    """A dealer that quotes on its first request without a pause, each quote in the place of the one before."""
-
-    def __init__(self, wire: Wire) -> None:
-        self.wire, self.over = wire, threading.Event()
-        self._thread = threading.Thread(target=self._run)
-
-    def __enter__(self) -> "Stream":
-        self._thread.start()
-        return self
-
-    def __exit__(self, *_: object) -> None:
-        self.over.set()
-        self._thread.join()
-
-    def _run(self) -> None:
-        for piece in range(1000):
-            quotes = [
-                self.wire.message(b"S", self.wire.name, quote_fields(b"s%d-%d" % (piece, at)))
-                for at in range(10)
-            ]
-            if self.over.is_set() or not self.wire.raw(b"".join(quotes)):
-                return
-
-
 def frames_behind_last_act(stage: Stage) -> list[bytes]:
     """The frames of the dealer's entries behind the last act, each with its number (34)."""
     entries = stage.door.ledger().entries
@@ -147,20 +117,14 @@ def numbers_of(stage: Stage) -> list[int]:
     return [int(frame.split(b"\x0134=")[1].split(b"\x01")[0]) for frame in frames]
 
 
-def streamed(stage: Stage) -> None:
-    """The dealer's stream is under way."""
-    before = stage.entries_of(stage.dealer)
-    until("it quotes", LONG, lambda: stage.entries_of(stage.dealer) > before + 20)
-
-
 def test_a_dealer_that_is_suspended_while_it_quotes(stage: Stage) -> None:
     """Behind the act stands the cancel of all its quotes, and nothing more of the firm: so it has no quote that lives."""
     opened(stage)
     with logged_on(stage, DEALER) as wire:
         stage.ask_of([stage.dealer, stage.other])
         assert wire.read_kind(b"R") is not None
-        with Stream(wire):
-            streamed(stage)
+        with Stream(wire) as stream:
+            stream.wait_for_more()
             did(stage, "suspend", "DLR1", "--because", WHY)
     until("it is logged out", LONG, lambda: stage.counters()["mireseason_sessions"] == 2)
     (end,) = frames_behind_last_act(stage)
@@ -174,9 +138,9 @@ def test_quotes_that_are_cancelled_while_the_dealer_quotes(stage: Stage) -> None
     with logged_on(stage, DEALER) as wire:
         stage.ask_of([stage.dealer, stage.other])
         assert wire.read_kind(b"R") is not None
-        with Stream(wire):
+        with Stream(wire) as stream:
             for _ in range(5):
-                streamed(stage)
+                stream.wait_for_more()
                 did(stage, "cancel", "DLR1")
     numbers = numbers_of(stage)
     check(numbers == list(range(1, len(numbers) + 1)), "the numbers are %r" % numbers[-50:])

@@ -4,15 +4,16 @@ who can write to the log while no gateway runs, and a browser's page of another 
 import re
 import socket
 import struct
-import threading
 from collections.abc import Callable
+from concurrent.futures import ThreadPoolExecutor
 from dataclasses import dataclass
 from pathlib import Path
 
 import pytest
 
 from tests.admin.desk import answer_to, did, socket_of
-from tests.admin.test_orders import quote_fields, quoted, request_fields
+from tests.admin.stream import Stream
+from tests.admin.test_orders import quoted, request_fields
 from tests.gateway.firm import Received
 from tests.gateway.market import moment_in
 from tests.gateway.stage import DEALER, INVESTOR, Stage, check
@@ -66,9 +67,9 @@ def numbers_of(stage: Stage, firm: str) -> list[int]:
     return [int(each[1]) for each in found if each]
 
 
-def calls(path: Path, line: bytes) -> None:
-    for _ in range(15):
-        answer_to(path, line)
+def calls(path: Path, line: bytes) -> list[bytes]:
+    """What an operator is answered who says this again and again."""
+    return [answer_to(path, line) for _ in range(15)]
 
 
 def test_an_act_within_a_stream(stage: Stage) -> None:
@@ -78,18 +79,17 @@ def test_an_act_within_a_stream(stage: Stage) -> None:
     stage.open()
     with logged_on(stage, DEALER) as wire:
         words = socket_of(stage), b"1 text cancel DLR1\n"
-        threads = [threading.Thread(target=calls, args=words) for _ in range(3)]
-        for thread in threads:
-            thread.start()
-        many = range(wire.number, wire.number + 400)
-        assert wire.raw(b"".join(cancel(wire, number, b"x%d" % number) for number in many))
-        wire.number += len(many)
-        last = b"%d" % many[-1]
-        wire.got_until(
-            lambda message: message.value(117) == b"x" + last or message.value(45) == last
-        )
-        for thread in threads:
-            thread.join()
+        with ThreadPoolExecutor(3) as operators:
+            called = [operators.submit(calls, *words) for _ in range(3)]
+            many = range(wire.number, wire.number + 400)
+            assert wire.raw(b"".join(cancel(wire, number, b"x%d" % number) for number in many))
+            wire.number += len(many)
+            last = b"%d" % many[-1]
+            wire.got_until(
+                lambda message: message.value(117) == b"x" + last or message.value(45) == last
+            )
+            done = [answer for each in called for answer in each.result()]
+        check(any(answer.startswith(b"ok\n") for answer in done), "no act is done: %r" % done[:3])
         assert wire.raw(cancel(wire, wire.number, b"y"))
         answer = wire.got_until(
             lambda message: message.value(117) == b"y" or message.value(371) == b"34"
@@ -99,41 +99,15 @@ def test_an_act_within_a_stream(stage: Stage) -> None:
     check(found == list(range(1, len(found) + 1)), "the venue was given %r" % found)
 
 
-def send_quotes(wire: Wire, over: threading.Event) -> None:
-    at = 0
-    while not over.is_set():
-        piece = b"".join(
-            wire.message(b"S", wire.name, quote_fields(b"f%d" % (at + each))) for each in range(10)
-        )
-        at += 10
-        if not wire.raw(piece):
-            return
-
-
-def read_on(wire: Wire, over: threading.Event) -> None:
-    while not wire.is_over and not over.is_set():
-        wire.read(0.2)
-
-
 def test_nothing_stands_after_a_suspension(stage: Stage) -> None:
     """A dealer that quotes without end is suspended: no quote of it is behind the cancel that the gateway says in its name."""
     stage.door.operators = ""
     stage.open()
     with logged_on(stage, INVESTOR) as investor, logged_on(stage, DEALER) as wire:
         asked(wire, investor)
-        over = threading.Event()
-        wire.answers = False
-        threads = [
-            threading.Thread(target=send_quotes, args=(wire, over)),
-            threading.Thread(target=read_on, args=(wire, over)),
-        ]
-        for thread in threads:
-            thread.start()
-        until("it quotes", LONG, lambda: len(stage.door.ledger().messages_of("DLR1")) > 20)
-        did(stage, "suspend", "DLR1", "--because", "their risk desk called")
-        over.set()
-        for thread in threads:
-            thread.join()
+        with Stream(wire) as stream:
+            stream.wait_for_more()
+            did(stage, "suspend", "DLR1", "--because", "their risk desk called")
 
     def last_is_a_cancel() -> bool:
         last = [entry for entry in stage.door.ledger().entries if entry.firm == "DLR1"][-1]

@@ -8,7 +8,8 @@ from pathlib import Path
 import pytest
 
 from tests.admin.desk import audit, is_root, rows
-from tests.admin.test_orders import quote_fields, quoted, request_fields, started_again
+from tests.admin.stream import quote_fields
+from tests.admin.test_orders import quoted, request_fields, started_again
 from tests.gateway.market import moment_in
 from tests.gateway.stage import DEALER, INVESTOR, Stage
 from tests.gateway.wait import LONG, until
