@@ -148,7 +148,8 @@ void World::log_out_firm() {
 }
 
 void World::logged_on() {
-    if (current_ >= reset_route_) {
+    // An answer from before an operator's reset may still have been on its way.
+    if (accepted_.count(current_) > 0) {
         has_logged_on_ = true;
         firm_.set_resets(false);
     }

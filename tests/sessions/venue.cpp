@@ -105,14 +105,23 @@ void Venue::message(int connection, const std::string &bytes) {
     admit();
 }
 
+bool Venue::has_the_session(int connection) const {
+    const SessionState &state = machine_.state();
+    return state.phase == 1 && state.line.connection == static_cast<std::uint64_t>(connection);
+}
+
 void Venue::came(int connection, const std::string &bytes, bool is_known) {
     const SessionState before = machine_.state();
+    const bool had_the_session = has_the_session(connection);
     const auto named = static_cast<std::uint64_t>(connection);
     Turn turn = machine_.came(named, bytes, is_known, nullptr);
     if (turn.told.takes != 0 && !carrier_.takes(bytes)) {
         const Denial denial{NOT_AVAILABLE, value_of(bytes, 117), "not now"};
         machine_.adopt(before);
         turn = machine_.came(named, bytes, is_known, &denial);
+    }
+    if (!had_the_session && has_the_session(connection)) {
+        carrier_.accepted(connection);
     }
     if (turn.told.takes != 0) {
         carrier_.taken(bytes);

@@ -17,6 +17,8 @@ class Carrier {
     virtual ~Carrier() = default;
     virtual void send(int connection, const std::string &bytes) = 0;
     virtual void close(int connection) = 0;
+    // The firm's Logon on a connection was accepted.
+    virtual void accepted(int connection) = 0;
     // A message of the firm is the venue's.
     virtual void taken(const std::string &frame) = 0;
     // Whether the gateway takes a message that the venue would be given.
@@ -73,6 +75,7 @@ class Venue {
     void drain(int connection);
     void message(int connection, const std::string &bytes);
     void came(int connection, const std::string &bytes, bool is_known);
+    bool has_the_session(int connection) const;
     void act(const Turn &turn, bool is_own);
     void keep(const Turn &turn, bool is_own);
     void drop_rejects();

@@ -31,6 +31,7 @@ void World::give() {
 
 void World::reset() {
     say("--- an operator's reset");
+    accepted_.clear(); // before it: a Logon that waits may be accepted with the reset
     venue_.reset();
     const std::set<std::string> taken(taken_.begin(), taken_.end());
     for (const auto *sent : {&good_, &bad_}) {
@@ -41,7 +42,6 @@ void World::reset() {
         }
     }
     reset_at_logon();
-    reset_route_ = next_route_;
 }
 
 bool World::takes(const std::string &frame) {

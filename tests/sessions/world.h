@@ -92,6 +92,7 @@ class World final : Carrier, FirmCarrier {
 
     void send(int connection, const std::string &bytes) override;
     void close(int connection) override;
+    void accepted(int connection) override { accepted_.insert(connection); }
     bool takes(const std::string &frame) override;
     void taken(const std::string &frame) override;
     void rejected(const std::string &frame, bool is_counted) override;
@@ -130,7 +131,7 @@ class World final : Carrier, FirmCarrier {
     Millis next_second_ = 0;
     bool resets_ = false;
     bool has_logged_on_ = false;
-    int reset_route_ = 0;
+    std::set<int> accepted_; // lines whose Logon the venue accepted since an operator's reset
     bool is_settling_down_ = false;
     long messages_ = 0;
 
