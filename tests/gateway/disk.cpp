@@ -7,6 +7,8 @@
 //                         began and ended. N counts the syncs from 1, and goes on where a process
 //                         before this one has ended
 //     DISK_SLOW=MS        each sync of such a file takes so much longer
+//     DISK_SLOW_IN=FILE   likewise by as many milliseconds as the file says when the sync begins,
+//                         and by none where there is no such file
 //     DISK_FULL=N         from the end of the Nth sync on, each write to such a file fails: ENOSPC
 #include <dlfcn.h>
 #include <fcntl.h>
@@ -52,6 +54,13 @@ long number_in(const char *name) {
     return text ? std::atol(text) : 0;
 }
 
+long slow_now() {
+    long more = 0;
+    if (const char *file = std::getenv("DISK_SLOW_IN"))
+        std::ifstream(file) >> more;
+    return number_in("DISK_SLOW") + more;
+}
+
 long long nanoseconds() {
     timespec now{};
     clock_gettime(CLOCK_MONOTONIC, &now);
@@ -88,7 +97,7 @@ int synced(int file, const char *call) {
         return real(file);
     const std::lock_guard<std::mutex> lock(one_sync);
     const long long began = nanoseconds();
-    const long slow = number_in("DISK_SLOW");
+    const long slow = slow_now();
     const timespec pause{slow / 1000, slow % 1000 * 1'000'000};
     nanosleep(&pause, nullptr);
     const int result = real(file);

@@ -16,6 +16,8 @@ from tests.gateway.wire import Wire
 from tests.harness.budget import Budget, seconds_until
 
 SLOW_SYNC = 2000  # milliseconds
+STALL = 15_000  # milliseconds
+STALLS = b"log does not answer"
 ACCEPTED = 8.0  # seconds in which a request has come to the dealers, on a busy machine too
 NAME, PASSWORD = DEALER.name.encode(), DEALER.password.encode()
 
@@ -366,21 +368,27 @@ def test_a_silent_venue_is_told(stage: Stage) -> None:
 
 
 def test_a_slow_log_is_told(stage: Stage) -> None:
-    stage.door.write()
-    stage.door.environment = {"LD_PRELOAD": str(stage.tools.shim), "DISK_SLOW": "7000"}
+    """Once, however long the commit takes, and once more when it is done."""
+    slow, number = stage.folder / "slow", 1
+    stage.door.environment = {"LD_PRELOAD": str(stage.tools.shim), "DISK_SLOW_IN": str(slow)}
+    stage.open()
 
     def measure() -> float:
-        begin = len(stage.door.told.read_bytes()) if stage.door.told.exists() else 0
-        stage.door.start()
-        stage.door.wait_open()
+        nonlocal number
+        begin = len(stage.door.told.read_bytes())
+        slow.write_text(str(STALL))
+        began = time.monotonic()
         with Wire(stage.door.port) as wire:
-            began = time.monotonic()
+            wire.number = number
             wire.logon(NAME, PASSWORD)
-            is_told = within(
-                STALLED.limit, lambda: told_since(stage, begin, b"log does not answer")
-            )
+            is_told = within(STALLED.limit, lambda: told_since(stage, begin, STALLS))
             took = time.monotonic() - began if is_told else math.inf
-        stage.door.kill()
+            slow.unlink()  # no sync but the one that is waited for takes so long
+            check(wire.read_kind(b"A") is not None, "the Logon is not answered")
+            number = wire.number
+        until("it answers again", LONG, lambda: told_since(stage, begin, b"log answers again"))
+        count = stage.door.told.read_bytes()[begin:].count(STALLS)
+        check(count <= 1, "it is told %d times" % count)
         return took
 
     STALLED.hold(measure)
