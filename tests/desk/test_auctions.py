@@ -136,7 +136,7 @@ def test_each_way_that_a_request_ends(house: House) -> None:
     investor.press_in_card("button.small")
     investor.until_says("#cards", "No open request")
 
-    investor.ask("cedar", "buy", "500k", deadline="25")
+    investor.ask("cedar", "buy", "500k", deadline="45")  # time enough on a busy machine
     dealer.card_says("Cedar", "steps of 1/32")
     dealer.quote("100")
     dealer.card_says("Live 100")
@@ -175,7 +175,7 @@ def test_the_dealers_entry(house: House) -> None:
     dealer.card_says("2.5 points from your last, 99.5: Enter again if it is meant.", "Live 99.5")
     dealer.until("the second Enter confirms", lambda: confirmed(dealer, "Live 97 (97-00)"))
     dealer.script(
-        "const list = arguments[0]; list.value = '10'; list.dispatchEvent(new Event('change'))",
+        "const list = arguments[0]; list.value = '30'; list.dispatchEvent(new Event('change'))",
         dealer.in_card("select.seconds"),
     )
     dealer.quote("97.5")

@@ -18,6 +18,7 @@ from tests.gateway.wait import LONG, STEP, TooLong
 Json = dict[str, Any]
 
 CLOSE, PING = 8, 9
+NO_FRAME = -1  # in the place of a code: what came is no frame, or no message
 
 
 @dataclass
@@ -112,6 +113,7 @@ class View:
     said: dict[int, str] = field(default_factory=dict)
     is_whole: bool = False  # it has all requests of the day
     closed: int | None = None
+    broken: str = ""  # why, where it is closed for NO_FRAME
     sending: threading.Lock = field(default_factory=threading.Lock)
     _count: int = 0
     _parts: bytes = b""
@@ -134,8 +136,12 @@ class View:
         threading.Thread(target=self.read, daemon=True).start()
 
     def read(self) -> None:
-        while self.closed is None:
-            self.hear()
+        """Where the desk says what no page understands, whoever waits is told so."""
+        try:
+            while self.closed is None:
+                self.hear()
+        except Exception as fault:
+            self.broken, self.closed = repr(fault), NO_FRAME
 
     def send(self, message: Json) -> None:
         data, mask = json.dumps(message).encode(), os.urandom(4)
@@ -208,10 +214,11 @@ class View:
         while not holds():
             if time.monotonic() > end or self.closed:
                 raise TooLong(
-                    "%s (closed: %s): not within %g s\n%s\n%s"
+                    "%s (closed: %s %s): not within %g s\n%s\n%s"
                     % (
                         what,
                         self.closed,
+                        self.broken,
                         seconds,
                         json.dumps(list(self.requests.values())[-2:]),
                         self.session,

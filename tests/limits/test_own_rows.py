@@ -6,7 +6,7 @@ from tests.gateway.wait import LONG
 from tests.limits.flood import logged_on
 
 MOST = 1000
-SENT = 1400
+SENT = 3000  # on a slow machine, too, more than ten a second beyond those
 TOLD = b"had to be answered by the session"
 
 

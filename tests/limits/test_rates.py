@@ -57,11 +57,13 @@ def test_held_back_is_no_silence(stage: Stage) -> None:
     with logged_on(stage, DEALER, heartbeat=b"1") as wire:
         number = wire.number
         count = 2000  # the burst, and three seconds of what is owed
-        assert wire.raw(b"".join(cancel(wire, number + at) for at in range(count)))
+        pieces = [cancel(wire, number + at, b"x%d" % at) for at in range(count)]
+        assert wire.raw(b"".join(pieces))
         wire.number += count
-        until("all of them are in the log", LONG, lambda: stage.entries_of(stage.dealer) == count)
-        assert wire.raw(wire.message(b"1", wire.name, [(112, b"still there")]))
-        assert wire.read_until(lambda message: message.value(112) == b"still there") is not None
+        # Reading answers what it is asked meanwhile.
+        wire.got_until(lambda message: message.value(117) == b"x%d" % (count - 1))
+        assert stage.entries_of(stage.dealer) == count
+        wire.ask()
 
 
 def test_the_sessions_own_messages_count(stage: Stage) -> None:
