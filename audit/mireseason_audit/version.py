@@ -1,4 +1,4 @@
-"""Which version and commit of the audit this is."""
+"""Which version and commit of the audit this is, and of the keeper beside it."""
 
 import argparse
 import subprocess
@@ -8,9 +8,9 @@ from typing import Any
 ROOT = Path(__file__).resolve().parent.parent.parent
 
 
-def version_text() -> str:
+def version_text(program: str = "mireseason-audit") -> str:
     """`mireseason-audit 1.1.0 (COMMIT)`: a `+` behind the commit where files differ from it, `unknown` where none is known."""
-    return "mireseason-audit %s (%s)" % (first_line(ROOT / "VERSION"), commit_of(ROOT))
+    return "%s %s (%s)" % (program, first_line(ROOT / "VERSION"), commit_of(ROOT))
 
 
 def first_line(file: Path) -> str:

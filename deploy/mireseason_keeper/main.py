@@ -8,12 +8,13 @@ from collections.abc import Iterator
 from contextlib import contextmanager
 from pathlib import Path
 
+from mireseason_audit.version import version_text
+
 from .database import Database
 from .faults import Fault
 from .keeper import Counts, Keeper, say
 from .metrics import write_metrics
 from .settings import Settings, read_settings
-from .version import version_text
 
 USUAL = Path("/etc/mireseason-keeper/keeper.toml")
 EPILOG = "Status 0: all that was due is done; 1: something is at fault, as it says; 2: wrong words or configuration."
@@ -76,7 +77,7 @@ def parser_of() -> argparse.ArgumentParser:
 def main() -> int:
     words = parser_of().parse_args()
     if words.version:
-        print(version_text())
+        print(version_text("mireseason-keeper"))
         return 0
     try:
         settings = read_settings(words.configuration)
