@@ -16,9 +16,10 @@ from pathlib import Path
 from .database import Log
 from .day_file import digest_of_file, first_line, on_disk, write_day
 from .faults import Fault, one_line
+from .given_copies import SUMS, GivenCopy, check_day, check_tables
 from .settings import Settings
 
-SUMS, REPORT = "SHA256SUMS", "check.txt"
+REPORT = "check.txt"
 LONGEST_CHECK = 6 * 3600  # seconds
 PIECE = 1 << 20
 
@@ -39,12 +40,19 @@ class Copies:
         """Writes a day's rows to the place of a copy which is not there yet. The place of all copies is never made: what is
         mounted there may be gone.
         """
-        part = part_of(folder)
-        shutil.rmtree(part, ignore_errors=True)
-        part.mkdir(mode=0o750)
+        part = new_part(folder)
         file = file_of(part, schema)
         if write_day(log, file) != digest_of_file(file):
             raise Fault("%s is not what %s is: look at the disk" % (file, schema))
+
+    @staticmethod
+    def take(given: GivenCopy, venue: str, day: str, folder: Path) -> None:
+        """The same of a copy that a gateway made of its log in SQLite."""
+        part = new_part(folder)
+        given.take(part)
+        check_tables(part / given.log)
+        head, configuration = parts_of(first_line(part / given.log))
+        check_day(head, configuration, venue, day)
 
     def finish(self, schema: str, folder: Path) -> DayCopy:
         """Has a copy that was begun checked and sealed, and gives it its name."""
@@ -56,6 +64,9 @@ class Copies:
         status, verdict = self.check(part, file, program)
         if status == 0:
             self.seal(file)
+        # Whoever reads a log that a gateway wrote leaves these beside it, with nothing in them.
+        for end in ("-wal", "-shm"):
+            file.with_name(file.name + end).unlink(missing_ok=True)
         self.close(part, folder)
         return DayCopy(program is not None, verdict)
 
@@ -149,6 +160,14 @@ class Copies:
             raise Fault("mireseason-audit: %s" % one_line(fault)) from None
 
 
+def new_part(folder: Path) -> Path:
+    """An empty place for a copy until it is whole."""
+    part = part_of(folder)
+    shutil.rmtree(part, ignore_errors=True)
+    part.mkdir(mode=0o750)
+    return part
+
+
 def part_of(folder: Path) -> Path:
     """Where a copy stands until it is whole."""
     return folder.with_name(folder.name + ".part")
@@ -178,11 +197,16 @@ def sum_of(path: Path) -> str:
     return found.hexdigest()
 
 
+def sums_of(folder: Path) -> dict[str, str]:
+    """The SHA-256 of each file of a copy, as it was when the copy was closed."""
+    lines = (folder / SUMS).read_text().splitlines()
+    return {name: digest for digest, _, name in (line.partition("  ") for line in lines)}
+
+
 def check_sums(folder: Path) -> None:
     """Fault where a file of a copy is missing, new, or not what it was."""
     try:
-        lines = (folder / SUMS).read_text().splitlines()
-        sums = {name: digest for digest, _, name in (line.partition("  ") for line in lines)}
+        sums = sums_of(folder)
         there = {path.name for path in folder.iterdir()} - {SUMS}
         wrong = sorted(there ^ sums.keys()) or [
             name for name in sorted(sums) if sum_of(folder / name) != sums[name]

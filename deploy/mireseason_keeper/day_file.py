@@ -15,6 +15,11 @@ from .faults import Fault
 Row = tuple[Any, ...]
 
 
+def reader_of(path: Path) -> sqlite3.Connection:
+    """A reader of a copy, which nobody writes: SQLite puts no file of its own beside it."""
+    return sqlite3.connect(path.resolve().as_uri() + "?mode=ro&immutable=1", uri=True)
+
+
 def digest_of_log(log: Log) -> str:
     """Of all rows in the database, as `digest_of_file` has it of a copy."""
     found = hashlib.sha256()
@@ -27,7 +32,7 @@ def digest_of_file(path: Path) -> str:
     """Of all rows of a copy, read from the file."""
     found = hashlib.sha256()
     try:
-        with closing(sqlite3.connect(path.resolve().as_uri() + "?mode=ro", uri=True)) as file:
+        with closing(reader_of(path)) as file:
             for name, order in tables_of(file):
                 add_rows(found, name, file.execute("SELECT * FROM %s ORDER BY %s" % (name, order)))
     except sqlite3.Error as fault:
@@ -37,9 +42,13 @@ def digest_of_file(path: Path) -> str:
 
 def first_line(path: Path) -> bytes | None:
     """Entry 0 of a copy; None where it has none."""
-    with closing(sqlite3.connect(path.resolve().as_uri() + "?mode=ro", uri=True)) as file:
-        rows = file.execute("SELECT line FROM entry WHERE place = 0").fetchall()
-    return bytes(rows[0][0]) if rows else None
+    try:
+        with closing(reader_of(path)) as file:
+            query = "SELECT CAST(line AS BLOB) FROM entry WHERE place = 0"
+            rows = file.execute(query).fetchall()
+    except sqlite3.Error as fault:
+        raise Fault("%s: %s" % (path.name, fault)) from None
+    return bytes(rows[0][0] or b"") if rows else None
 
 
 def write_day(log: Log, path: Path) -> str:

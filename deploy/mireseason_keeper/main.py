@@ -12,8 +12,10 @@ from mireseason_audit.version import version_text
 
 from .database import Database
 from .faults import Fault
+from .given_copies import names_in
 from .keeper import Counts, Keeper, say
 from .metrics import write_metrics
+from .sealing import SealingKeeper
 from .settings import Settings, read_settings
 
 USUAL = Path("/etc/mireseason-keeper/keeper.toml")
@@ -34,7 +36,8 @@ def alone(configuration: Path) -> Iterator[bool]:
 
 
 def run(configuration: Path, settings: Settings) -> int:
-    keeper = Keeper(settings)
+    keeper: Keeper | SealingKeeper
+    keeper = Keeper(settings) if settings.given is None else SealingKeeper(settings)
     try:
         with alone(configuration) as is_alone:
             if not is_alone:
@@ -50,22 +53,25 @@ def run(configuration: Path, settings: Settings) -> int:
 
 
 def faults_of(settings: Settings) -> list[str]:
-    """What a run would find: a file that is missing, or a database that does not answer."""
+    """What a run would find: a file that is missing, a folder that can't be read, or a database that does not answer."""
     files = (settings.program, settings.key, *settings.gateways)
     found = ["%s: there is no such file" % path for path in files if not path.is_file()]
-    if not settings.folder.is_dir():
-        found.append("%s: there is no such folder" % settings.folder)
+    folders = [settings.folder] if settings.sealed is None else [settings.folder, settings.sealed]
+    found += ["%s: there is no such folder" % path for path in folders if not path.is_dir()]
     try:
-        Database(settings.postgres).logs()
+        if settings.given is None:
+            Database(settings.postgres).logs()
+        else:
+            names_in(settings.given)
     except Fault as fault:
-        found.append("the database: %s" % fault)
+        found.append("the logs: %s" % fault)
     return found
 
 
 def parser_of() -> argparse.ArgumentParser:
     parser = argparse.ArgumentParser(
         prog="mireseason-keeper",
-        description="Keeps the days of venues in PostgreSQL: their tables, copies and seals.",
+        description="Keeps the days of venues: their copies and seals, and in PostgreSQL their tables.",
         epilog=EPILOG,
     )
     parser.add_argument("configuration", metavar="CONFIG", type=Path, nargs="?", default=USUAL)

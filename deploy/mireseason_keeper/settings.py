@@ -14,10 +14,10 @@ from .trading_days import A_DAY, WEEKDAYS, TradingDays
 
 ALONE = ""  # the name of a venue that is the only one
 KEYS = {
-    "log": {"postgres", "schema"},
+    "log": {"postgres", "schema", "copies", "file"},
     "venue": {"names", "program"},
     "day": {"zone", "opens", "ends", "weekdays", "holidays"},
-    "copies": {"folder", "keep"},
+    "copies": {"folder", "keep", "sealed"},
     "seal": {"key", "gateways"},
     "audit": {"command"},
     "metrics": {"file"},
@@ -31,13 +31,15 @@ Value = TypeVar("Value")
 class Settings:
     """All that keeper.toml says."""
 
-    postgres: str  # a connection string of libpq
+    postgres: str  # a connection string of libpq; empty where the logs are files of SQLite
+    given: Path | None  # where the gateways put the copies of those; None where they are in PostgreSQL
     schema: str  # the name of a day's log, with {date}, and with {venue} where there are several
     venues: tuple[str, ...]
     program: Path  # the venue's, by which a copy is checked
     days: TradingDays
     folder: Path  # of the copies
     keep: int | None  # how many days' logs stay in the database though they are copied; None: all
+    sealed: Path | None  # where a gateway reads which days are sealed
     key: Path  # a private Ed25519 key, which no gateway's host has
     gateways: tuple[Path, ...]  # the gateways' public keys
     audit: tuple[str, ...]  # the words of mireseason-audit
@@ -75,20 +77,19 @@ def read_settings(path: Path) -> Settings:
         raise Fault("%s: %s" % (path, fault)) from None
     check_keys(path, table)
     part = Parts(path, table)
+    check_logs(path, table)
+    is_given = "copies" in table["log"]
     venues = tuple(part.texts("venue", "names", [ALONE]))
-    schema = part.text("log", "schema", "day_{date}")
-    if "{date}" not in schema or ("{venue}" in schema) != (venues != (ALONE,)):
-        raise Fault("%s: [log] schema has {date}, and {venue} where [venue] has names" % path)
-    if not all(VENUE.fullmatch(name) for name in venues if name != ALONE):
-        raise Fault("%s: [venue] names: a name is of small letters, digits and _" % path)
     return Settings(
-        postgres=part.text("log", "postgres"),
-        schema=schema,
+        postgres="" if is_given else part.text("log", "postgres"),
+        given=part.file("log", "copies") if is_given else None,
+        schema=name_of_logs(part, venues),
         venues=venues,
         program=part.file("venue", "program", "/usr/bin/rfq_venue"),
         days=days_of(part),
         folder=part.file("copies", "folder"),
         keep=part.number("copies", "keep"),
+        sealed=part.file("copies", "sealed") if "sealed" in table["copies"] else None,
         key=part.file("seal", "key"),
         gateways=tuple(path.parent / name for name in part.texts("seal", "gateways")),
         audit=tuple(part.texts("audit", "command", ["/usr/bin/mireseason-audit"])),
@@ -102,6 +103,34 @@ def check_keys(path: Path, table: Mapping[str, Any]) -> None:
             raise Fault("%s: there is no part [%s]" % (path, name))
         for key in part.keys() - KEYS[name]:
             raise Fault("%s: [%s] has no key %s" % (path, name, key))
+
+
+def check_logs(path: Path, table: Mapping[str, Any]) -> None:
+    """Logs are in PostgreSQL, or files of SQLite, whose copies the gateway makes and whose old ones it removes."""
+    log, copies = table.get("log", {}), table.get("copies", {})
+    if ("postgres" in log) == ("copies" in log):
+        raise Fault("%s: [log] has postgres, or copies" % path)
+    other = {"schema"} if "copies" in log else {"file"}
+    for key in other & log.keys():
+        raise Fault("%s: [log] %s is of the other kind of logs" % (path, key))
+    for key in ({"keep"} if "copies" in log else {"sealed"}) & copies.keys():
+        raise Fault("%s: [copies] %s is of the other kind of logs" % (path, key))
+
+
+def name_of_logs(part: "Parts", venues: tuple[str, ...]) -> str:
+    """A schema; of files of SQLite their name without its `.db`."""
+    key, usual = (
+        ("file", "day-{date}.db") if "copies" in part.table["log"] else ("schema", "day_{date}")
+    )
+    name = part.text("log", key, usual)
+    if key == "file" and (not name.endswith(".db") or "/" in name):
+        raise Fault("%s: [log] file is a name that ends in .db" % part.path)
+    if "{date}" not in name or ("{venue}" in name) != (venues != (ALONE,)):
+        words = "%s: [log] %s has {date}, and {venue} where [venue] has names"
+        raise Fault(words % (part.path, key))
+    if not all(VENUE.fullmatch(venue) for venue in venues if venue != ALONE):
+        raise Fault("%s: [venue] names: a name is of small letters, digits and _" % part.path)
+    return name.removesuffix(".db") if key == "file" else name
 
 
 @dataclass(frozen=True)

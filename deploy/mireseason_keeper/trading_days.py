@@ -35,6 +35,12 @@ class TradingDays:
         found = [day for day in self._days(first, LONGEST_WAIT) if day.ends > now]
         return found[:count]
 
+    def last_day(self, now: datetime) -> TradingDay | None:
+        """The last one that has ended by then; None where that is more than a month ago."""
+        first = now.astimezone(self.zone).date() - timedelta(days=31)
+        found = [day for day in self._days(first, 33) if day.ends <= now]
+        return found[-1] if found else None
+
     def end_of(self, named: str) -> datetime:
         """When the day of a log ends. Of a date on which none trades (any more) it is midnight in UTC."""
         day = datetime.strptime(named, "%Y%m%d").replace(tzinfo=timezone.utc)

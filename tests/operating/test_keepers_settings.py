@@ -7,6 +7,7 @@ import pytest
 from mireseason_keeper.faults import Fault
 from mireseason_keeper.settings import read_settings
 
+POSTGRES = 'postgres = "host=db1"'
 RIGHT = """[log]
 postgres = "host=db1"
 [copies]
@@ -61,6 +62,47 @@ FAULTS = {
     "no file of holidays": ("[copies]", '[day]\nholidays = "none"\n[copies]', "No such file"),
     "no holiday": ("[copies]", '[day]\nholidays = "faulty"\n[copies]', "line 2: a holiday is"),
     "no TOML": ("[copies]", "[copies", "keeper.toml"),
+    "no logs": ('postgres = "host=db1"', "", "[log] has postgres, or copies"),
+    "logs of both kinds": (
+        "[copies]",
+        'copies = "given"\n[copies]',
+        "[log] has postgres, or copies",
+    ),
+    "a schema of files": (
+        POSTGRES,
+        'copies = "given"\nschema = "{date}"',
+        "[log] schema is of the other",
+    ),
+    "a file of a database": (
+        "[copies]",
+        'file = "{date}.db"\n[copies]',
+        "[log] file is of the other",
+    ),
+    "files that are kept here": (
+        POSTGRES + "\n[copies]",
+        'copies = "given"\n[copies]\nkeep = 30',
+        "[copies] keep is of the other",
+    ),
+    "a database that is told": (
+        "[seal]",
+        'sealed = "sealed"\n[seal]',
+        "[copies] sealed is of the other",
+    ),
+    "a log elsewhere": (
+        POSTGRES,
+        'copies = "given"\nfile = "../{date}.db"',
+        "is a name that ends in .db",
+    ),
+    "a log of another kind": (
+        POSTGRES,
+        'copies = "given"\nfile = "{date}.log"',
+        "is a name that ends in",
+    ),
+    "files without a date": (
+        POSTGRES,
+        'copies = "given"\nfile = "day.db"',
+        "[log] file has {date}",
+    ),
 }
 
 
@@ -101,6 +143,30 @@ def test_logs_of_venues(file: Path) -> None:
     assert settings.copy_of("north", "20261127").name == "20261127-north"
     for schema in ("south_20261127", "north_20261131", "north_2026112", "xnorth_20261127"):
         assert settings.day_of("north", schema) is None, schema
+
+
+def test_logs_in_files(file: Path) -> None:
+    """Those of SQLite, whose copies a gateway makes."""
+    file.write_text(RIGHT.replace(POSTGRES, 'copies = "given"'))
+    settings = read_settings(file)
+    assert settings.given == file.parent / "given" and settings.sealed is None
+    assert settings.log_of("", "20261127") == "day-20261127"
+
+
+LAST = {
+    "its end": ("2026-11-25T22:30", "20261125"),
+    "a second before": ("2026-11-25T22:29:59", "20261124"),
+    "behind a holiday": ("2026-11-26T23:00", "20261125"),
+}
+
+
+@pytest.mark.parametrize("name", LAST)
+def test_the_last_day_that_has_ended(file: Path, name: str) -> None:
+    now, expected = LAST[name]
+    file.write_text(RIGHT + "[day]\n" + NEW_YORK + 'holidays = "holidays"\n')
+    days = read_settings(file).days
+    last = days.last_day(datetime.fromisoformat(now).replace(tzinfo=timezone.utc))
+    assert last is not None and last.date == expected
 
 
 @pytest.mark.parametrize("name", FAULTS)

@@ -1,0 +1,126 @@
+"""Copies that a gateway made of its days in SQLite, as the keeper takes them.
+
+Who has the gateway's host may have put anything there: a name that leads elsewhere, a file without an end, another day's log, a
+program. So each file is opened as a plain file of that folder, and no more of it is read than there is room for. Nothing of it
+is run, and the log is looked into by what the keeper has itself.
+"""
+
+import hashlib
+import os
+import re
+import sqlite3
+import stat
+import time
+import tomllib
+from collections.abc import Iterator
+from contextlib import closing, contextmanager
+from dataclasses import dataclass
+from pathlib import Path
+from typing import BinaryIO
+
+from .day_file import on_disk, reader_of
+from .faults import Fault, one_line
+
+SUMS = "SHA256SUMS"
+LINE = re.compile(r"([0-9a-f]{64})  ([A-Za-z0-9][A-Za-z0-9._-]{0,99})")
+LONGEST_SUMS = 1 << 16  # bytes
+RESERVE = 256 << 20  # bytes that stay free on the disk of the keeper's own copies
+PIECE = 1 << 20
+ENTRY_SECONDS = 60.0  # for the first entry of a log, which takes none of them
+STEPS = 100_000  # of SQLite, after each of which the time is looked at
+# Views, triggers, virtual tables, and columns that are computed.
+MORE_THAN_TABLES = """SELECT
+    (SELECT count(*) FROM sqlite_schema WHERE type NOT IN ('table', 'index') OR sql LIKE 'CREATE VIRTUAL%') +
+    (SELECT count(*) FROM sqlite_schema t, pragma_table_xinfo(t.name) c WHERE t.type = 'table' AND c.hidden > 0)"""
+
+
+@dataclass(frozen=True)
+class GivenCopy:
+    """A copy of one day."""
+
+    folder: Path
+    log: str  # the name of the log's file
+
+    def digest(self) -> str:
+        """The SHA-256 of the log, as the gateway's list has it."""
+        found = self.sums().get(self.log)
+        if found is None:
+            raise Fault("%s: %s has no line for %s" % (self.folder, SUMS, self.log))
+        return found
+
+    def take(self, place: Path) -> None:
+        """Puts the log and its last checkpoint into a folder, where they are on disk then and what the gateway's list says."""
+        self.take_file(self.log, self.digest(), place / self.log)
+        for name, digest in self.sums().items():
+            if name.endswith(".checkpoint"):
+                self.take_file(name, digest, place / name)
+
+    def take_file(self, name: str, digest: str, copy: Path) -> None:
+        with self.opened(name) as file, copy.open("xb") as to:
+            size = os.fstat(file.fileno()).st_size
+            disk = os.statvfs(copy.parent)
+            if size > disk.f_bavail * disk.f_frsize - RESERVE:
+                raise Fault("%s: there is no room for %d bytes" % (copy.parent, size))
+            found = hashlib.sha256()
+            while piece := file.read(min(PIECE, size)):
+                size -= len(piece)
+                to.write(piece)
+                found.update(piece)
+        on_disk(copy)
+        if found.hexdigest() != digest:
+            raise Fault("%s is not what %s says" % (self.folder / name, SUMS))
+
+    def sums(self) -> dict[str, str]:
+        """What the gateway's list says, by the names of files."""
+        with self.opened(SUMS) as file:
+            lines = file.read(LONGEST_SUMS).decode("ascii", "replace").splitlines()
+        return {found[2]: found[1] for found in map(LINE.fullmatch, lines) if found}
+
+    @contextmanager
+    def opened(self, name: str) -> Iterator[BinaryIO]:
+        """A plain file of the folder; Fault where it is a link, a pipe or anything else."""
+        try:
+            flags = os.O_RDONLY | os.O_NOFOLLOW | os.O_CLOEXEC
+            folder = os.open(self.folder, flags | os.O_DIRECTORY)
+            try:
+                number = os.open(name, flags | os.O_NONBLOCK, dir_fd=folder)
+            finally:
+                os.close(folder)
+            with open(number, "rb") as file:
+                if not stat.S_ISREG(os.fstat(number).st_mode):
+                    raise Fault("%s is no plain file" % (self.folder / name))
+                yield file
+        except OSError as fault:
+            raise Fault("%s: %s" % (self.folder / name, one_line(fault))) from None
+
+
+def names_in(folder: Path) -> list[str]:
+    """The names there, in their order."""
+    try:
+        return sorted(os.listdir(folder))
+    except OSError as fault:
+        raise Fault(one_line(fault)) from None
+
+
+def check_tables(log: Path) -> None:
+    """Fault where a log has anything but tables: who reads it runs nothing that its writer thought of."""
+    end = time.monotonic() + ENTRY_SECONDS
+    try:
+        with closing(reader_of(log)) as file:
+            file.set_progress_handler(lambda: time.monotonic() > end, STEPS)
+            file.execute("PRAGMA trusted_schema = OFF")
+            ((more,),) = file.execute(MORE_THAN_TABLES).fetchall()
+    except sqlite3.Error as fault:
+        raise Fault("%s: %s" % (log.name, fault)) from None
+    if more:
+        raise Fault("%s has more than tables" % log.name)
+
+
+def check_day(head: dict[str, str], configuration: bytes, venue: str, day: str) -> None:
+    """Fault where entry 0 is not of this day of this venue."""
+    try:
+        date = tomllib.loads(configuration.decode()).get("date")
+    except (UnicodeDecodeError, tomllib.TOMLDecodeError):
+        date = None
+    if date != day or head.get("venue", "-") != (venue or "-"):
+        raise Fault("its entry 0 is of another day or venue")

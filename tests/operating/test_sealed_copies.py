@@ -1,0 +1,329 @@
+"""Copies that a gateway made of days in SQLite are sealed by a keeper, which trusts nothing that it is given."""
+
+import hashlib
+import os
+import shlex
+import shutil
+import sqlite3
+import subprocess
+from collections.abc import Callable
+from contextlib import closing
+from dataclasses import dataclass
+from datetime import datetime, timezone
+from pathlib import Path
+
+import pytest
+from mireseason_keeper import given_copies
+from mireseason_keeper.keeper import Counts
+from mireseason_keeper.sealing import SealingKeeper
+from mireseason_keeper.settings import read_settings
+
+from tests.audit.draw_day import DATE
+from tests.audit.ledger import public_key
+from tests.gateway.wait import LONG
+from tests.harness.options import ROOT
+
+AUDIT = ROOT / "audit" / "mireseason-audit"
+BEFORE = "20261124"  # the day before the drawn one
+AFTER = datetime(2026, 11, 26, 0, 30, tzinfo=timezone.utc)  # it has ended, half an hour ago
+QUIET = '#!/bin/sh\nexec %s "$@"\n'
+TELLING = '#!/bin/sh\n: >"$0.has-run"\nexec %s "$@"\n'
+
+
+@pytest.fixture(scope="module")
+def drawn(venue: tuple[str, ...], tmp_path_factory: pytest.TempPathFactory) -> Path:
+    """The log of a day, as a gateway leaves it."""
+    log = tmp_path_factory.mktemp("drawn") / (DATE + ".db")
+    words = ["/usr/bin/python3", "-m", "tests.audit.draw_day", str(log)]
+    words += ["--requests", "2", "--dealers", "2", "--investors", "1", "--", *venue]
+    subprocess.run(words, cwd=ROOT, check=True, timeout=LONG)
+    return log
+
+
+def write_program(file: Path, text: str, venue: tuple[str, ...]) -> None:
+    """A script that runs the venue."""
+    file.write_text(text % shlex.join(venue))
+    file.chmod(0o755)
+
+
+def write_keeper(folder: Path, given: str, keys: str, more: str = "") -> None:
+    """A keeper's configuration, its key, and its own place of copies."""
+    for name in ("copies", "sealed"):
+        (folder / name).mkdir()
+    (folder / "keeper.toml").write_text(
+        '[log]\ncopies = "%s"\nfile = "{date}.db"\n[venue]\nprogram = "program"\n%s'
+        '[copies]\nfolder = "copies"\nsealed = "sealed"\n'
+        '[seal]\nkey = "seal.pem"\ngateways = ["%s/gateway.pub"]\n'
+        '[audit]\ncommand = ["%s"]\n' % (given, more, keys, AUDIT)
+    )
+    for words in (
+        "genpkey -algorithm ed25519 -out seal.pem",
+        "pkey -in seal.pem -pubout -out seal.pub",
+    ):
+        subprocess.run(["openssl", *words.split()], cwd=folder, check=True, capture_output=True)
+
+
+def sum_of(file: Path) -> str:
+    return hashlib.sha256(file.read_bytes()).hexdigest()
+
+
+@dataclass
+class Place:
+    """A gateway's copy of the drawn day, and a keeper of it with a folder and a key of its own."""
+
+    folder: Path
+    told: Callable[[], str]
+
+    @property
+    def given(self) -> Path:
+        return self.folder / "given" / DATE
+
+    @property
+    def log(self) -> Path:
+        return self.given / (DATE + ".db")
+
+    @property
+    def copy(self) -> Path:
+        return self.folder / "copies" / DATE
+
+    @property
+    def seal(self) -> Path:
+        return self.copy / (DATE + ".db.seal")
+
+    @property
+    def receipt(self) -> Path:
+        return self.folder / "sealed" / DATE
+
+    def write_sums(self) -> None:
+        """The list that the gateway puts beside what it copied."""
+        files = sorted(path for path in self.given.iterdir() if path.name != "SHA256SUMS")
+        lines = ["%s  %s\n" % (sum_of(path), path.name) for path in files]
+        (self.given / "SHA256SUMS").write_text("".join(lines))
+
+    def run(self, now: datetime = AFTER) -> Counts:
+        """One look, at a moment."""
+        return SealingKeeper(read_settings(self.folder / "keeper.toml"), lambda: now).run()
+
+    def is_refused(self, cause: str) -> None:
+        """One look takes nothing, and says why."""
+        counts = self.run()
+        told = self.told()
+        assert "day is not sealed log=%s" % DATE in told and cause in told, told
+        assert (counts.at_fault, counts.without_copy) == (1, 1)
+        assert not self.copy.exists() and not self.receipt.exists()
+
+
+@pytest.fixture
+def kept(
+    place: Path, drawn: Path, venue: tuple[str, ...], capsys: pytest.CaptureFixture[str]
+) -> Place:
+    made = Place(place, lambda: capsys.readouterr().err)
+    (place / "given").mkdir()
+    made.given.mkdir()
+    shutil.copyfile(drawn, made.log)
+    write_program(made.given / "rfq_venue", TELLING, venue)
+    (made.given / (DATE + ".checkpoint")).write_text("the last one\n")
+    made.write_sums()
+    write_program(place / "program", QUIET, venue)
+    (place / "gateway.pub").write_bytes(public_key())
+    write_keeper(place, "given", ".")
+    return made
+
+
+def test_a_copy_is_sealed(kept: Place) -> None:
+    """Once, with what it takes to check the day; and the gateway may read that it is."""
+    assert kept.run() == Counts()
+    assert "day copied log=%s.db" % DATE in kept.told()
+    subprocess.run(
+        ["sha256sum", "--check", "--strict", "SHA256SUMS"],
+        cwd=kept.copy,
+        check=True,
+        capture_output=True,
+    )
+    there = {path.name for path in kept.copy.iterdir()}
+    log = DATE + ".db"
+    # Not the program that was given: that of entry 0 is not the keeper's own.
+    assert there == {
+        log,
+        log + ".seal",
+        DATE + ".checkpoint",
+        "venue.toml",
+        "check.txt",
+        "SHA256SUMS",
+    }
+    assert (kept.copy / log).read_bytes() == kept.log.read_bytes()
+    assert not (kept.given / "rfq_venue.has-run").exists(), "a program that was given was run"
+    words: list[str | Path] = [AUDIT, "check", kept.copy / log, "--venue", kept.folder / "program"]
+    words += ["--key", kept.folder / "seal.pub", "--gateway-key", kept.folder / "gateway.pub"]
+    found = subprocess.run(words, capture_output=True, text=True, timeout=LONG, check=False)
+    assert found.returncode == 0 and "as it was sealed" in found.stdout, found.stdout
+    assert kept.receipt.read_text() == (kept.copy / "SHA256SUMS").read_text()
+    assert kept.receipt.stat().st_mode & 0o777 == 0o644
+    assert kept.run() == Counts() and kept.told() == ""
+
+
+def test_a_day_that_goes_on_is_left_alone(kept: Place) -> None:
+    """A copy that comes before its day has ended is not the day's."""
+    assert kept.run(datetime(2026, 11, 25, 23, 59, tzinfo=timezone.utc)) == Counts()
+    assert not kept.copy.exists()
+
+
+def as_link(kept: Place) -> None:
+    os.replace(kept.log, kept.folder / "elsewhere")
+    kept.log.symlink_to(kept.folder / "elsewhere")
+
+
+def as_pipe(kept: Place) -> None:
+    kept.log.unlink()
+    os.mkfifo(kept.log)
+
+
+def as_folder_that_is_a_link(kept: Place) -> None:
+    os.replace(kept.given, kept.folder / "elsewhere")
+    kept.given.symlink_to(kept.folder / "elsewhere")
+
+
+def as_another(kept: Place) -> None:
+    data = kept.log.read_bytes()
+    kept.log.write_bytes(data[:-1] + bytes([data[-1] ^ 1]))
+
+
+def as_longer(kept: Place) -> None:
+    kept.log.write_bytes(kept.log.read_bytes() + b"\0")
+
+
+def without_list(kept: Place) -> None:
+    (kept.given / "SHA256SUMS").unlink()
+
+
+def without_line(kept: Place) -> None:
+    (kept.given / "SHA256SUMS").write_text("%s  ../%s.db\n" % (sum_of(kept.log), DATE))
+
+
+def told_to_sqlite(kept: Place, *statements: str) -> None:
+    """Changes the log, and has the list say so."""
+    with closing(sqlite3.connect(kept.log, isolation_level=None)) as file:
+        for statement in statements:
+            file.execute(statement)
+    kept.write_sums()
+
+
+def with_view(kept: Place) -> None:
+    endless = (
+        "WITH RECURSIVE n(x) AS (SELECT 1 UNION ALL SELECT x FROM n) SELECT x AS number FROM n"
+    )
+    told_to_sqlite(kept, "DROP TABLE form", "CREATE VIEW form AS " + endless)
+
+
+def with_trigger(kept: Place) -> None:
+    told_to_sqlite(kept, "CREATE TRIGGER t AFTER INSERT ON entry BEGIN DELETE FROM form; END")
+
+
+def with_computed_column(kept: Place) -> None:
+    told_to_sqlite(kept, "ALTER TABLE form ADD COLUMN more AS (zeroblob(1000000000))")
+
+
+def without_entries(kept: Place) -> None:
+    told_to_sqlite(kept, "DELETE FROM entry")
+
+
+def as_no_database(kept: Place) -> None:
+    kept.log.write_bytes(b"SQLite format 3\0" + bytes(range(256)) * 16)
+    kept.write_sums()
+
+
+def of_another_venue(kept: Place) -> None:
+    other = "CAST(replace(CAST(line AS TEXT), 'venue -', 'venue north') AS BLOB)"
+    told_to_sqlite(kept, "UPDATE entry SET line = %s WHERE place = 0" % other)
+
+
+Change = Callable[[Place], None]
+# What a gateway's host may give in the place of a copy, and what is said of it.
+REFUSED: list[tuple[Change, str]] = [
+    (as_link, "symbolic links"),
+    (as_pipe, "is no plain file"),
+    (as_folder_that_is_a_link, "given/%s/SHA256SUMS: " % DATE),
+    (as_another, "is not what SHA256SUMS says"),
+    (as_longer, "is not what SHA256SUMS says"),
+    (without_list, "No such file"),
+    (without_line, "has no line for"),
+    (with_view, "has more than tables"),
+    (with_trigger, "has more than tables"),
+    (with_computed_column, "has more than tables"),
+    (without_entries, "it has no entry 0"),
+    (as_no_database, DATE + ".db"),
+    (of_another_venue, "of another day or venue"),
+]
+
+
+@pytest.mark.parametrize("change, cause", REFUSED, ids=[change.__name__ for change, _ in REFUSED])
+def test_what_is_not_taken(kept: Place, change: Change, cause: str) -> None:
+    change(kept)
+    kept.is_refused(cause)
+
+
+def test_a_log_of_another_day(kept: Place) -> None:
+    """A name makes no day of it."""
+    os.replace(kept.log, kept.given / (BEFORE + ".db"))
+    kept.write_sums()
+    kept.given.rename(kept.given.with_name(BEFORE))
+    assert kept.run().at_fault == 1
+    assert "of another day or venue" in kept.told()
+    assert not list((kept.folder / "copies").glob("[0-9]" * 8))
+
+
+def test_no_room(kept: Place, monkeypatch: pytest.MonkeyPatch) -> None:
+    """What does not fit is not begun, and the disk is not filled."""
+    monkeypatch.setattr(given_copies, "RESERVE", 1 << 62)
+    kept.is_refused("there is no room for")
+
+
+def test_a_log_that_was_changed(kept: Place) -> None:
+    """It is kept as it came, with what the audit says of it, and without a seal: each look tells of it."""
+    told_to_sqlite(kept, "UPDATE entry SET received = '08:00:00.000001' WHERE place = 2")
+    for _ in range(2):
+        assert kept.run() == Counts(without_seal=1, at_fault=1)
+        assert "copy has no seal log=" in kept.told()
+    assert "NOT AS THEY SHOULD BE" in (kept.copy / "check.txt").read_text()
+    assert not kept.seal.exists() and not kept.receipt.exists()
+
+
+def test_another_day_than_the_sealed_one(kept: Place) -> None:
+    """Whoever makes the day anew on the gateway's host is told of, and what was sealed stays."""
+    kept.run()
+    before = kept.receipt.read_text(), kept.seal.read_bytes()
+    told_to_sqlite(kept, "UPDATE entry SET received = '08:00:00.000001' WHERE place = 2")
+    kept.told()
+    assert kept.run() == Counts(at_fault=1)
+    assert "copy is another than the sealed one log=%s" % DATE in kept.told()
+    assert (kept.receipt.read_text(), kept.seal.read_bytes()) == before
+
+
+def test_a_copy_that_rots(kept: Place) -> None:
+    """The gateway is told of no copy that is not what it was: all of it is read anew before."""
+    kept.run()
+    kept.receipt.unlink()
+    log = kept.copy / (DATE + ".db")
+    log.chmod(0o640)
+    log.write_bytes(log.read_bytes()[:-1] + b"?")
+    assert kept.run() == Counts(at_fault=1)
+    assert "its copy is another: %s.db" % DATE in kept.told()
+    assert not kept.receipt.exists()
+
+
+def test_a_day_that_does_not_come(kept: Place) -> None:
+    """Where copies came so far and that of the last day does not, somebody is told an hour later."""
+    kept.run()
+    kept.told()
+    assert kept.run(datetime(2026, 11, 27, 0, 59, tzinfo=timezone.utc)) == Counts()
+    late = kept.run(datetime(2026, 11, 27, 1, 1, tzinfo=timezone.utc))
+    assert late == Counts(without_copy=1, at_fault=1)
+    assert "no copy has come log=20261126" in kept.told()
+
+
+def test_nothing_is_mounted(kept: Place) -> None:
+    """The whole command: status 1, and a line that names the place."""
+    (kept.folder / "given").rename(kept.folder / "away")
+    words = [ROOT / "deploy" / "mireseason-keeper", kept.folder / "keeper.toml"]
+    done = subprocess.run(words, capture_output=True, text=True, timeout=LONG, check=False)
+    assert done.returncode == 1 and "given" in done.stderr, done.stderr
