@@ -1,0 +1,7 @@
+mod Choices
+mod Pieces
+mod Bodies
+mod Fronts
+mod Lengths
+mod Taken
+mod Crossing
