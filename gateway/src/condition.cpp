@@ -33,7 +33,8 @@ std::optional<std::string> Condition::fault() const {
 }
 
 std::string Condition::words() const {
-    const std::string now = fmt::format("{}: {}", words_of(phase), day);
+    const std::string now =
+        day.empty() ? words_of(phase) : fmt::format("{}: {}", words_of(phase), day);
     const auto what = fault();
     return what ? fmt::format("{} ({})", *what, now) : now;
 }

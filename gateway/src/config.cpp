@@ -89,9 +89,26 @@ class ConfigReader {
         return config_;
     }
 
+    fs::path credentials_file() const {
+        return section("fix").beside(section("fix").text("credentials"));
+    }
+
+    // Whether the venue's configuration is this file: then where its log is.
+    std::optional<Config> read_log_of(const std::string &venue_name, const fs::path &file) {
+        config_ = Config{};
+        config_.venue = venue_name;
+        config_.firms.date = day_;
+        Section venue = venue_section();
+        if (venue.beside(venue.text_of_need("configuration")) != file) {
+            return std::nullopt;
+        }
+        read_log();
+        return config_;
+    }
+
     // A firm that may log on and that none of the venues has is a fault.
     void check_firms(const std::vector<Config> &configs) const {
-        const fs::path file = section("fix").beside(section("fix").text("credentials"));
+        const fs::path file = credentials_file();
         for (const auto &[key, node] : parse(file, files_.text(file))) {
             const std::string firm(key.str());
             const auto has = [&](const Config &each) { return each.credentials.contains(firm); };
@@ -388,6 +405,21 @@ std::vector<Config> read_configs(ConfigFiles &files, const fs::path &path, std::
     }
     reader.check_firms(configs);
     return configs;
+}
+
+fs::path credentials_file(ConfigFiles &files, const fs::path &path) {
+    return ConfigReader(files, path, "").credentials_file();
+}
+
+Config read_log_place(ConfigFiles &files, const fs::path &path, const fs::path &venue_file,
+                      std::string_view day) {
+    ConfigReader reader(files, path, day);
+    for (const std::string &venue : reader.venues()) {
+        if (auto found = reader.read_log_of(venue, venue_file)) {
+            return std::move(*found);
+        }
+    }
+    fail(path, fmt::format("no venue has the configuration {}", venue_file.string()));
 }
 
 Config read_access(const fs::path &path, const Config &in_force) {

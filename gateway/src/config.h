@@ -89,6 +89,14 @@ struct Config {
 std::vector<Config> read_configs(ConfigFiles &files, const std::filesystem::path &path,
                                  std::string_view day);
 
+// The file of the credentials. Throws as read_configs().
+std::filesystem::path credentials_file(ConfigFiles &files, const std::filesystem::path &path);
+
+// Of the venue whose configuration is this file its name, and where its log of this day is; nothing
+// else is read. Throws as read_configs(), and where no venue has the file.
+Config read_log_place(ConfigFiles &files, const std::filesystem::path &path,
+                      const std::filesystem::path &venue_file, std::string_view day);
+
 // Reads the credentials and the part [tls] again, for a configuration that is in force: all the
 // rest is as it was. Throws as read_configs().
 Config read_access(const std::filesystem::path &path, const Config &in_force);

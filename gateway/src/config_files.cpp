@@ -34,6 +34,17 @@ const std::string &ConfigFiles::text(const std::filesystem::path &file) {
     return *found->second;
 }
 
+bool ConfigFiles::differ_only_in(const std::filesystem::path &file,
+                                 const ConfigFiles &before) const {
+    ConfigFiles same = before;
+    const auto found = texts_.find(file);
+    if (found == texts_.end() || *this == before) {
+        return false;
+    }
+    same.texts_[file] = found->second;
+    return *this == same;
+}
+
 bool ConfigFiles::differ_now() const {
     return std::ranges::any_of(texts_,
                                [](const auto &each) { return read(each.first) != each.second; });

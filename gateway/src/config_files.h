@@ -6,6 +6,7 @@
 #include <map>
 #include <optional>
 #include <string>
+#include <utility>
 
 namespace gateway {
 
@@ -16,9 +17,17 @@ class ConfigFiles {
     // Throws std::runtime_error that names a file that can't be read.
     const std::string &text(const std::filesystem::path &file);
 
+    // Has a file taken for one with this text.
+    void set(const std::filesystem::path &file, std::string text) {
+        texts_[file] = std::move(text);
+    }
+
     // Whether a file of those that were asked for has another text now, or can't be read any more,
     // or can now and could not.
     bool differ_now() const;
+
+    // Whether this file is the only one that was another then.
+    bool differ_only_in(const std::filesystem::path &file, const ConfigFiles &before) const;
 
     bool operator==(const ConfigFiles &) const = default;
 

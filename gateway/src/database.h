@@ -37,7 +37,7 @@ struct FirmState {
     SessionRow session;
     std::uint32_t entries = 0;     // messages of the firm that are in the log
     std::uint32_t last_number = 0; // the greatest number of the session's epoch among them
-    std::uint32_t kibibytes = 0;   // of their lines
+    std::uint64_t bytes = 0;       // of their lines
     std::uint32_t sent = 0;        // messages of the venue
     std::uint32_t kept = 0; // the last number of the session's epoch that something is kept under
     std::uint32_t carried = 0; // the last message of the venue that its session keeps
@@ -198,7 +198,7 @@ inline std::string select_notes(std::string_view bytes) {
 // Of the table `entry`: what each firm has there. Numbers count from its session's last reset on.
 constexpr std::string_view entries_of_firms =
     "SELECT entry.firm, count(*), coalesce(max(CASE WHEN entry.place > "
-    "coalesce(session.entries_from, 0) THEN entry.number END), 0), sum(length(entry.line)) / 1024 "
+    "coalesce(session.entries_from, 0) THEN entry.number END), 0), sum(length(entry.line)) "
     "FROM entry LEFT JOIN session ON session.firm = entry.firm WHERE entry.firm IS NOT NULL "
     "GROUP BY entry.firm";
 

@@ -15,6 +15,12 @@ bool have_ended(const Credentials &own, const std::string &date) {
 
 } // namespace
 
+bool may_come_from(const Credentials &own, const std::string &address) {
+    return own.addresses.empty() ||
+           std::ranges::any_of(own.addresses,
+                               [&](const AddressRange &range) { return range.has(address); });
+}
+
 Doorkeeper::Doorkeeper(const Config &config)
     : firms_(config.firms), client_certificates_(config.engine.client_certificates),
       book_(std::make_shared<Book>(book_of(config.credentials))) {}
@@ -75,12 +81,6 @@ bool Doorkeeper::has_password(const Credentials *own, const std::string &passwor
         is_right = is_own ? has : is_right;
     }
     return is_right;
-}
-
-bool Doorkeeper::may_come_from(const Credentials &own, const std::string &address) {
-    return own.addresses.empty() ||
-           std::ranges::any_of(own.addresses,
-                               [&](const AddressRange &range) { return range.has(address); });
 }
 
 Refusal Doorkeeper::judge(const LogonFacts &facts) {

@@ -15,6 +15,9 @@
 
 namespace gateway {
 
+// Whether a firm of these credentials may come from this address, which has no port.
+bool may_come_from(const Credentials &own, const std::string &address);
+
 // Any thread may ask. The credentials may be changed meanwhile.
 class Doorkeeper {
   public:
@@ -46,7 +49,6 @@ class Doorkeeper {
     std::shared_ptr<const Book> book() const;
     Refusal judge(const LogonFacts &facts, const Book &book) const;
     static bool has_password(const Credentials *own, const std::string &password, const Book &book);
-    static bool may_come_from(const Credentials &own, const std::string &address);
 
     const VenueFirms firms_;
     const bool client_certificates_;

@@ -42,11 +42,10 @@ void FirmSessions::open_firms(const States &states) {
         const auto credentials = day_.config.credentials.find(name);
         const Credentials own =
             credentials == day_.config.credentials.end() ? Credentials{} : credentials->second;
-        Firm &firm =
-            firms_
-                .try_emplace(name, day_.config.rates, std::uint64_t{1024} * found.kibibytes,
-                             own.day_bytes > 0 ? own.day_bytes : day_.config.day_bytes)
-                .first->second;
+        Firm &firm = firms_
+                         .try_emplace(name, day_.config.rates, found.bytes,
+                                      own.day_bytes > 0 ? own.day_bytes : day_.config.day_bytes)
+                         .first->second;
         firm.metrics = &day_.metrics.firm(day_.config.venue, name);
         firm.cancel_on_disconnect = own.cancel_on_disconnect;
         firm.entries = found.entries;
@@ -100,7 +99,7 @@ void FirmSessions::end_lost(const std::vector<ConnectionEvent> &connections) {
 
 std::vector<std::string>
 FirmSessions::renew(const std::map<std::string, Credentials> &credentials) {
-    const std::vector<std::string> gone = doorkeeper_.renew(credentials);
+    std::vector<std::string> gone = doorkeeper_.renew(credentials);
     for (auto &[name, firm] : firms_) {
         const auto own = credentials.find(name);
         if (own == credentials.end()) {
@@ -110,10 +109,20 @@ FirmSessions::renew(const std::map<std::string, Credentials> &credentials) {
         const std::uint64_t most = own->second.day_bytes;
         firm.limits.configure_bytes(most > 0 ? most : day_.config.day_bytes);
         firm.told_of_bytes = false;
+        if (is_elsewhere(firm, own->second) && std::ranges::count(gone, name) == 0) {
+            gone.push_back(name);
+        }
         const std::lock_guard lock(firm.mutex);
         firm.cancel_on_disconnect = own->second.cancel_on_disconnect;
     }
     return gone;
+}
+
+// Whether it is logged on from where it may not come from any more.
+bool FirmSessions::is_elsewhere(Firm &firm, const Credentials &own) {
+    const std::lock_guard lock(firm.seen_mutex);
+    const std::string host = firm.address.substr(0, firm.address.rfind(':'));
+    return !host.empty() && !may_come_from(own, host);
 }
 
 void FirmSessions::set_limit(const LimitSet &set) {

@@ -134,6 +134,8 @@ class FirmSessions final : private SessionHost {
         std::chrono::system_clock::time_point last_receipt; // on that one
     };
 
+    static bool is_elsewhere(Firm &firm, const Credentials &own);
+
     void tell_of_guesses(const LogonFacts &facts);
     void open_firms(const States &states);
     Firm &firm_of(const std::string &name);

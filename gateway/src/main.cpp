@@ -1,6 +1,7 @@
 // mireseason-gateway CONFIG
 #include "accept_loss.h"
 #include "admin_peer.h"
+#include "begun_files.h"
 #include "check_settings.h"
 #include "confinement.h"
 #include "make_keys.h"
@@ -137,7 +138,8 @@ int check(const std::string &path, const std::string &day) {
 
 int serve(const std::string &path) {
     gateway::ConfigFiles files;
-    std::vector<gateway::Config> configs = gateway::read_configs(files, path, gateway::today());
+    std::vector<gateway::Config> configs =
+        gateway::read_configs_of_start(files, path, gateway::today());
     // Here, and not when the sessions begin: one that follows would find out only once it is to
     // take over.
     gateway::check_settings(configs.front().engine);

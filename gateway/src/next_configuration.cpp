@@ -47,7 +47,8 @@ void NextConfiguration::try_files(const TradingDay &day) {
             check_day(config, day.date);
         }
         if (!(tried_ == in_force_)) {
-            events_->info("configuration changed: it is right, and applies from {} on", day.date);
+            ++changes_;
+            tell_change(day);
         } else if (!faults_.empty()) {
             events_->info("configuration is again the one in force");
         }
@@ -63,9 +64,25 @@ void NextConfiguration::try_files(const TradingDay &day) {
     metrics_.next_configuration_is_right(faults_.empty());
 }
 
+// Only credentials may come to hold within a day.
+void NextConfiguration::tell_change(const TradingDay &day) {
+    if (tried_.differ_only_in(credentials_file(tried_, path_), in_force_)) {
+        events_->info("credentials changed: they are right, and hold from {} on, or at once by "
+                      "mireseason-admin reload",
+                      day.date);
+    } else {
+        events_->info("configuration changed: it is right, and applies from {} on", day.date);
+    }
+}
+
 std::vector<Config> NextConfiguration::in_force(std::string_view day) {
     const std::lock_guard lock(mutex_);
     return read_configs(in_force_, path_, day);
+}
+
+std::uint64_t NextConfiguration::changes() {
+    const std::lock_guard lock(mutex_);
+    return changes_;
 }
 
 std::vector<std::string> NextConfiguration::faults() {

@@ -7,6 +7,7 @@
 #include "metrics.h"
 #include "trading_days.h"
 
+#include <cstdint>
 #include <filesystem>
 #include <memory>
 #include <mutex>
@@ -33,18 +34,22 @@ class NextConfiguration {
 
     // What is in force, for this day (eight digits).
     std::vector<Config> in_force(std::string_view day);
+    // How often what is in force has become another.
+    std::uint64_t changes();
     // What is at fault in the files as they were tried last: a line for each, none where they are
     // right and in force.
     std::vector<std::string> faults();
 
   private:
     void try_files(const TradingDay &day);
+    void tell_change(const TradingDay &day);
 
     const std::filesystem::path path_;
     Metrics &metrics_;
     std::shared_ptr<spdlog::logger> events_;
     std::mutex mutex_;
     ConfigFiles in_force_;
+    std::uint64_t changes_ = 0; // of it
     ConfigFiles tried_;
     std::vector<std::string> faults_; // as they were tried last
 };

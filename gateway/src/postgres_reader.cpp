@@ -193,7 +193,7 @@ class PostgresReader final : public LogReader {
                 FirmState &state = all[row[0].as<std::string>()];
                 state.entries = number_of(row[1]);
                 state.last_number = number_of(row[2]);
-                state.kibibytes = number_of(row[3]);
+                state.bytes = row[3].as<std::uint64_t>();
             }
             for (const pqxx::row &row :
                  work.exec("SELECT firm, max(number) FROM sent GROUP BY firm")) {

@@ -176,7 +176,7 @@ class SqliteReader final : public LogReader {
             FirmState &state = all[came_.bytes(0)];
             state.entries = came_.number(1);
             state.last_number = came_.number(2);
-            state.kibibytes = came_.number(3);
+            state.bytes = came_.long_number(3);
         }
         while (gave_.step()) {
             all[gave_.bytes(0)].sent = gave_.number(1);

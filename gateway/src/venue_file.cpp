@@ -274,7 +274,7 @@ toml::table parse(const std::filesystem::path &file, const std::string &text) {
 
 VenueFileFaults::VenueFileFaults(const std::filesystem::path &file,
                                  std::vector<VenueFileFault> faults)
-    : std::runtime_error(lines_of(file, faults)), faults_(std::move(faults)) {}
+    : std::runtime_error(lines_of(file, faults)), file_(file), faults_(std::move(faults)) {}
 
 VenueFile read_venue_file(const std::filesystem::path &file, std::string text,
                           std::string_view day) {

@@ -26,8 +26,10 @@ class VenueFileFaults : public std::runtime_error {
   public:
     VenueFileFaults(const std::filesystem::path &file, std::vector<VenueFileFault> faults);
     const std::vector<VenueFileFault> &faults() const { return faults_; }
+    const std::filesystem::path &file() const { return file_; }
 
   private:
+    std::filesystem::path file_;
     std::vector<VenueFileFault> faults_;
 };
 

@@ -57,6 +57,11 @@ def test_one_firm(stage: Stage) -> None:
     refused(stage, "the venue has no firm DLR9", "firm", "DLR9")
     refused(stage, "usage: firm FIRM", "firm")
     check(acts(stage) == [], "a look stands in the log")
+    stage.door.kill()
+    stage.door.start()
+    stage.door.wait_open()
+    again = firm_values(stage, "DLR1")["day_bytes"]
+    check(again == (used, most), "after a start %r bytes are used, before %r" % (again, used))
 
 
 def test_what_a_firm_is_handed(stage: Stage) -> None:

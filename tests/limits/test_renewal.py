@@ -88,6 +88,24 @@ def test_credentials_end_on_a_date(stage: Stage) -> None:
     stage.ping(stage.other)
 
 
+def test_addresses_are_taken_back(stage: Stage) -> None:
+    """A firm that is in from an address that is not its own any more is logged out, and one whose address is still its own stays."""
+    stage.open(stage.other)
+    with logged_on(stage, DEALER) as wire:
+        on = stage.other.times_on
+        edit(stage, "[DLR2]", '[DLR2]\naddresses = ["127.0.0.0/8"]')
+        edit(stage, "[DLR1]", '[DLR1]\naddresses = ["127.0.0.0/8", "192.0.2.7"]')
+        renew(stage)
+        wire.ask()
+        edit(stage, '"127.0.0.0/8", ', "")
+        renew(stage)
+        logout = wire.got(b"5")
+        assert logout.value(58) == GONE, "it is told %r" % logout.raw
+        assert wire.closed_within(LONG)
+    stage.ping(stage.other)
+    assert stage.other.times_on == on, "another firm's session was ended"
+
+
 def test_addresses_that_are_no_firms(stage: Stage) -> None:
     """Whoever comes from an address of no firm is refused before a password is judged, however many they are; a firm that comes from
     another firm's address is refused too."""

@@ -190,6 +190,32 @@ def test_a_change_for_tomorrow(stage_of_log: Stage) -> None:
     assert b"BONDB0000002" not in stage.door.ledger().entries[0].line
 
 
+def test_a_fault_for_tomorrow(stage_of_log: Stage) -> None:
+    """It keeps nobody from today: a gateway that is killed comes back, tells the fault, and takes the file once it is right."""
+    stage = stage_of_log
+    file = stage.folder / "venue.toml"
+    file.write_text(VENUE)
+    stage.open(*stage.firms)
+    stage.auction()
+    stage.door.kill()
+    file.write_text(VENUE.replace("exposure", "exposre"))
+    stage.door.start()
+    stage.door.wait_open()
+    until("all are back", LONG, lambda: all(firm.logged_on() for firm in stage.firms))
+    stage.auction()
+
+    def told(text: str) -> bool:
+        return text in stage.door.told.read_text(errors="replace")
+
+    until("the fault is told", LONG, lambda: told("line 12: dealer DLR1: exposre is no key"))
+    faulty = "mireseason_next_configuration_faulty"
+    until("it is counted", LONG, lambda: stage.counters()[faulty] == 1)
+    file.write_text(VENUE.replace("60000000", "70000000"))
+    until("it is right", LONG, lambda: told("configuration changed: it is right"))
+    until("it is counted", LONG, lambda: stage.counters()[faulty] == 0)
+    assert b"60000000" in stage.door.ledger().entries[0].line
+
+
 def test_ready(stage: Stage) -> None:
     stage.open()
     assert asked(stage.door, "/health")[0] == 200
