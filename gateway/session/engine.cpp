@@ -3,8 +3,10 @@
 #include "check_settings.h"
 #include "connection.h"
 #include "firm_session.h"
+#include "listening_port.h"
 #include "refusal_words.h"
 #include "sessions.h"
+#include "socket_address.h"
 #include "strangers.h"
 
 #include <algorithm>
@@ -42,9 +44,6 @@ std::runtime_error fault_of(const std::string &what) {
     return std::runtime_error(what + ": " + std::strerror(errno));
 }
 
-// So many connections may wait to be taken.
-constexpr int backlog = 1024;
-
 // Without the port.
 std::string host_of(const sockaddr_in &address) {
     char text[INET_ADDRSTRLEN] = "";
@@ -65,20 +64,6 @@ void watch_peer(const Descriptor &socket) {
     set_option(socket, IPPROTO_TCP, TCP_KEEPCNT, probes);
     // The same for bytes that are not acknowledged.
     set_option(socket, IPPROTO_TCP, TCP_USER_TIMEOUT, gone_milliseconds);
-}
-
-std::string where(const EngineSettings &settings) {
-    return settings.address + ":" + std::to_string(settings.port);
-}
-
-sockaddr_in address_of(const EngineSettings &settings) {
-    sockaddr_in address{};
-    address.sin_family = AF_INET;
-    address.sin_port = htons(settings.port);
-    if (::inet_pton(AF_INET, settings.address.c_str(), &address.sin_addr) != 1) {
-        throw std::runtime_error(where(settings) + ": no address of IPv4");
-    }
-    return address;
 }
 
 // Null for plain TCP.
@@ -107,19 +92,6 @@ void allow_descriptors(std::size_t strangers, std::size_t sessions) {
     }
 }
 
-Descriptor listen_at(const EngineSettings &settings) {
-    const sockaddr_in at = address_of(settings);
-    Descriptor socket(::socket(AF_INET, SOCK_STREAM | SOCK_CLOEXEC | SOCK_NONBLOCK, 0));
-    const int yes = 1;
-    if (socket.number() < 0 ||
-        ::setsockopt(socket.number(), SOL_SOCKET, SO_REUSEADDR, &yes, sizeof yes) != 0 ||
-        ::bind(socket.number(), reinterpret_cast<const sockaddr *>(&at), sizeof at) != 0 ||
-        ::listen(socket.number(), backlog) != 0) {
-        throw fault_of(where(settings));
-    }
-    return socket;
-}
-
 } // namespace
 
 void check_settings(const EngineSettings &settings) {
@@ -140,10 +112,20 @@ class Engine::Parts {
     }
     ~Parts() { stop(""); }
 
-    void listen() {
+    void listen(ListeningPort port) {
         allow_descriptors(settings_.strangers, sessions_.count());
-        socket_ = listen_at(settings_);
+        port_ = port.is_at(settings_) ? std::move(port) : ListeningPort();
+        // Another one that was given is closed before.
+        port = ListeningPort();
+        if (!port_.is_open()) {
+            port_ = ListeningPort(settings_);
+        }
         thread_ = std::thread([this] { run(); });
+    }
+
+    ListeningPort give_port() {
+        end_taking();
+        return std::move(port_);
     }
 
     void add(const std::vector<SessionStart> &starts) { sessions_.add(starts); }
@@ -163,12 +145,8 @@ class Engine::Parts {
     }
 
     void stop(const std::string &reason) {
-        stopping_ = true;
-        ring();
-        if (thread_.joinable()) {
-            thread_.join();
-        }
-        socket_.close();
+        end_taking();
+        port_ = ListeningPort();
         if (!reason.empty()) {
             say_farewell(reason);
         }
@@ -176,6 +154,14 @@ class Engine::Parts {
     }
 
   private:
+    void end_taking() {
+        stopping_ = true;
+        ring();
+        if (thread_.joinable()) {
+            thread_.join();
+        }
+    }
+
     void ring() {
         const std::uint64_t one = 1;
         const ssize_t written = ::write(bell_.number(), &one, sizeof one);
@@ -217,7 +203,7 @@ class Engine::Parts {
 
     void run() {
         while (!stopping_) {
-            pollfd set[2] = {{socket_.number(), POLLIN, 0}, {bell_.number(), POLLIN, 0}};
+            pollfd set[2] = {{port_.number(), POLLIN, 0}, {bell_.number(), POLLIN, 0}};
             ::poll(set, 2, 1000);
             connections_.remove_if(
                 [](const std::unique_ptr<Connection> &each) { return each->has_ended(); });
@@ -233,7 +219,7 @@ class Engine::Parts {
     void accept() {
         sockaddr_in address{};
         socklen_t size = sizeof address;
-        Descriptor socket(::accept4(socket_.number(), reinterpret_cast<sockaddr *>(&address), &size,
+        Descriptor socket(::accept4(port_.number(), reinterpret_cast<sockaddr *>(&address), &size,
                                     SOCK_CLOEXEC | SOCK_NONBLOCK));
         if (socket.number() < 0) {
             not_accepted(errno);
@@ -293,7 +279,7 @@ class Engine::Parts {
     std::shared_ptr<const TlsServer> renewed_;
     Strangers strangers_;
     Sessions sessions_;
-    Descriptor socket_;
+    ListeningPort port_;
     std::list<std::unique_ptr<Connection>> connections_; // of the accepting thread, then of stop()
     std::atomic<bool> stopping_{false};
     std::thread thread_;
@@ -314,7 +300,15 @@ std::size_t Engine::sessions() const {
 }
 
 void Engine::listen() {
-    parts_->listen();
+    parts_->listen(ListeningPort());
+}
+
+void Engine::listen(ListeningPort port) {
+    parts_->listen(std::move(port));
+}
+
+ListeningPort Engine::give_port() {
+    return parts_->give_port();
 }
 
 void Engine::deliver(const Delivery &delivery) {

@@ -106,6 +106,12 @@ struct Taken {
     std::string text;         // 58
 };
 
+// A day that has not opened, as it is told to a firm that logs on.
+struct NotOpen {
+    std::string text;                      // 58 of a Logout
+    std::optional<SessionNumbers> numbers; // where the session is; none where no Logout is safe
+};
+
 // What the sessions need of the gateway. Called on the threads of connections and of deliveries;
 // where the gateway can't do it any more, a std::runtime_error is thrown and the session is
 // disconnected.
@@ -120,6 +126,8 @@ class SessionHost {
     // refused at once. Asked before judge(), which takes a processor for long.
     using Time = std::chrono::steady_clock::time_point;
     virtual Time judges_from(const std::string & /*address*/) { return {}; }
+    // Why no Logon of the firm is accepted, whatever it says; nothing as a rule.
+    virtual std::optional<NotOpen> not_open(const std::string & /*firm*/) { return std::nullopt; }
     // A Logon of the firm was accepted on this connection: returns the connection's number in the
     // log. Called before the answer leaves.
     virtual std::uint32_t logon_accepted(const std::string &firm, const ConnectionFacts &facts) = 0;
@@ -224,6 +232,8 @@ struct EngineSettings {
     std::size_t waiting_bytes = 4194304;
 };
 
+class ListeningPort;
+
 // The name of a firm's session with a venue. A venue that is the only one has no name.
 std::string session_name(const std::string &venue, const std::string &firm);
 
@@ -243,6 +253,10 @@ class Engine {
 
     // Takes connections from now on. Throws std::runtime_error where the address can't be had.
     void listen();
+    // The same at a port that another engine has given, where that is at this engine's address.
+    void listen(ListeningPort port);
+    // Takes no more connections, and gives the port as it is. The next call is stop().
+    ListeningPort give_port();
 
     // Gives a message to its session: it is kept under the session's next number, and sent if the
     // firm is there and has all before it. One thread at a time for one firm. Throws what the host

@@ -133,6 +133,8 @@ class FirmSession final {
 
     // firm_session_came.cpp
     Standing judge_logon(std::uint64_t connection, std::string_view logon);
+    Standing refuse_before_opening(std::uint64_t connection, std::string_view logon,
+                                   const NotOpen &why);
     const char *word_of_refusal(std::uint64_t connection, std::string_view logon);
     void tell_refused(Visitor &refused, const char *word);
     Came judge(std::uint64_t connection, std::string_view message, Received at); // takes the lock

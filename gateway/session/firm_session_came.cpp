@@ -61,6 +61,9 @@ FirmSession::Standing FirmSession::look_again(std::uint64_t connection, std::str
 
 // At the moment of now: to judge a password takes its time.
 FirmSession::Standing FirmSession::judge_logon(std::uint64_t connection, std::string_view logon) {
+    if (const auto why = host_.not_open(names_.firm)) {
+        return refuse_before_opening(connection, logon, *why);
+    }
     machine_.came(begin(), connection, logon, true);
     const auto notice = static_cast<Notice>(machine_.turn().told.notice);
     carry_out(nullptr);
@@ -80,6 +83,29 @@ FirmSession::Standing FirmSession::judge_logon(std::uint64_t connection, std::st
         tell_refused(of, word);
     }
     return standing;
+}
+
+// The numbers are the host's, since another gateway may use some up. The host keeps them before
+// the Logout leaves; where it can't, none leaves.
+FirmSession::Standing FirmSession::refuse_before_opening(std::uint64_t connection,
+                                                         std::string_view logon,
+                                                         const NotOpen &why) {
+    Visitor &of = visitors_[connection];
+    tell_refused(of, refusal_words::closed);
+    if (!why.numbers) {
+        end(of, why.text);
+        return standing_here(connection);
+    }
+    machine_.begin_with(*why.numbers);
+    const Denial denial{0, {}, why.text};
+    machine_.came(begin(), connection, logon, true, &denial);
+    try {
+        carry_out(nullptr);
+    } catch (const std::exception &fault) {
+        events_.dropped("no Logout", name_ + ": " + fault.what());
+        end(of, why.text);
+    }
+    return standing_here(connection);
 }
 
 const char *FirmSession::word_of_refusal(std::uint64_t connection, std::string_view logon) {

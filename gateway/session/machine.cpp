@@ -64,9 +64,15 @@ std::string text_in(std::string_view frames) {
 Machine::Machine(SessionNames names, const std::optional<SessionNumbers> &kept)
     : names_(std::move(names)) {
     fix_sessions_new(&state_);
+    next_ = state_;
     if (kept) {
-        state_.day = day_of(*kept);
+        begin_with(*kept);
     }
+}
+
+void Machine::begin_with(const SessionNumbers &numbers) {
+    fix_sessions_new(&state_);
+    state_.day = day_of(numbers);
     next_ = state_;
 }
 

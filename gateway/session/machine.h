@@ -58,6 +58,9 @@ class Machine {
     // Of a day that begins, or of what was kept of one.
     Machine(SessionNames names, const std::optional<SessionNumbers> &kept);
 
+    // As one that begins with these.
+    void begin_with(const SessionNumbers &numbers);
+
     const SessionState &state() const { return state_; }
     // What the state will be.
     const SessionState &next() const { return next_; }

@@ -22,14 +22,15 @@ bool wait_for_log(VenueDay &day, const std::function<bool()> &may,
 
 } // namespace
 
-std::unique_ptr<Speaker> begin_day(VenueDay &day, Engine &engine,
-                                   const std::function<bool()> &may) {
+std::unique_ptr<Speaker> begin_day(VenueDay &day, Engine &engine, const std::function<bool()> &may,
+                                   const std::function<void()> &follows) {
     std::optional<std::uint32_t> term;
     if (!wait_for_log(day, may, term)) {
         return nullptr;
     }
     auto follower = std::make_unique<Follower>(day, term);
     if (!term) {
+        follows();
         term = follower->follow(may);
     }
     if (!term) {

@@ -54,6 +54,16 @@ Day read_day(const fs::path &log) {
     return day_of(first.front().line);
 }
 
+// Whether it is of a day that never opened, and of which firms were told before: there is nothing
+// to copy.
+bool has_not_begun(const fs::path &log) {
+    try {
+        return !open_sqlite(log.string())->reader()->last_entry();
+    } catch (const std::exception &) {
+        return false;
+    }
+}
+
 // Whoever closes a database as the last one puts what stands in its WAL into the file, and removes
 // the WAL: then the file is whole.
 bool is_whole(const fs::path &log) {
@@ -120,7 +130,8 @@ std::size_t DayCopies::make(std::string_view before, const std::stop_token &stop
     const std::vector<std::string> days = ended_days(before);
     std::size_t missing = 0;
     for (const std::string &date : days) {
-        missing += is_copied(date, stop) || try_copy(date, stop) ? 0 : 1;
+        const bool has_begun = fs::exists(checkpoint_of(date)) || !has_not_begun(log_of(date));
+        missing += !has_begun || is_copied(date, stop) || try_copy(date, stop) ? 0 : 1;
     }
     const std::size_t old = days.size() - std::min(days.size(), config_.keep.value_or(days.size()));
     for (std::size_t at = 0; at < old && !stop.stop_requested(); ++at) {

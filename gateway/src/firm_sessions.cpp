@@ -23,13 +23,18 @@ SessionNumbers numbers_of(const FirmState &state) {
     return numbers;
 }
 
+// Else it was refused before the day opened, and perhaps the venue has it no more.
+bool has_begun(const FirmState &state) {
+    return state.entries > 0 || state.sent > 0 || state.kept > 0 || state.session.logged_on;
+}
+
 } // namespace
 
 FirmSessions::FirmSessions(VenueDay &day, Log &log, const States &states)
     : day_(day), log_(log), doorkeeper_(day.config), rows_(day, log) {
     open_firms(states);
     for (const auto &[name, state] : states) {
-        if (!firms_.contains(name)) {
+        if (!firms_.contains(name) && has_begun(state)) {
             throw std::runtime_error(fmt::format("the log has {}, which the venue has not", name));
         }
     }

@@ -36,7 +36,8 @@ Gateway::~Gateway() {
     speakers_.clear();
 }
 
-void Gateway::start() {
+void Gateway::start(ListeningPort port) {
+    port_ = std::move(port);
     if (!are_sessions_proved()) {
         events_->warn("sessions are not proved: this gateway was built with their model");
     }
@@ -63,8 +64,9 @@ void Gateway::follow() {
 // Null where the gateway is to stop.
 std::unique_ptr<Speaker> Gateway::follow_one(std::size_t at) {
     try {
-        return begin_day(*days_[at], engine_,
-                         [this, at] { return at == 0 || days_[at - 1]->has_term; });
+        return begin_day(
+            *days_[at], engine_, [this, at] { return at == 0 || days_[at - 1]->has_term; },
+            [this] { close_port(); });
     } catch (const LogNotAccepted &fault) {
         {
             const std::lock_guard lock(mutex_);
@@ -77,6 +79,12 @@ std::unique_ptr<Speaker> Gateway::follow_one(std::size_t at) {
     return nullptr;
 }
 
+// Firms are to find the gateway that speaks.
+void Gateway::close_port() {
+    const std::lock_guard lock(mutex_);
+    port_ = ListeningPort();
+}
+
 void Gateway::listen() {
     for (const auto &speaker : speakers_) {
         engine_.add(speaker->session_starts());
@@ -87,7 +95,7 @@ void Gateway::listen() {
     if (status_.stopping().stop_requested() || ends_day()) {
         return;
     }
-    engine_.listen();
+    engine_.listen(std::move(port_));
     status_.is_now(Phase::ready);
     const EngineSettings &settings = configs_.front().engine;
     count_certificates(settings);

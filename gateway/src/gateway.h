@@ -4,6 +4,7 @@
 
 #include "config.h"
 #include "engine.h"
+#include "listening_port.h"
 #include "metrics.h"
 #include "operator_events.h"
 #include "speaker.h"
@@ -43,8 +44,9 @@ class Gateway final {
     Gateway &operator=(const Gateway &) = delete;
 
     // Feeds the log to the venue, while another gateway speaks too; takes connections when this
-    // one does and all of it is answered.
-    void start();
+    // one does and all of it is answered. A port that is given is open meanwhile, and is closed
+    // where another gateway speaks.
+    void start(ListeningPort port = {});
 
     // Has credentials and certificates read again, from this file, by run(); of any thread.
     void ask_to_renew() { is_to_renew_ = true; }
@@ -86,6 +88,7 @@ class Gateway final {
     void follow();
     std::unique_ptr<Speaker> follow_one(std::size_t at);
     void listen();
+    void close_port();
     void open(bool is_open);
     void renew();
     void tell_renewed(const std::string &fault);
@@ -103,7 +106,7 @@ class Gateway final {
     std::vector<std::unique_ptr<Speaker>> speakers_; // of the days, once it has their terms
     std::atomic<bool> is_to_renew_{false};
 
-    std::mutex mutex_; // of the next three
+    std::mutex mutex_; // of the next three, and of the last
     std::condition_variable renewed_;
     std::uint64_t renewals_ = 0;
     std::string renewal_fault_; // of the last one
@@ -111,6 +114,8 @@ class Gateway final {
 
     std::shared_mutex open_mutex_;
     std::atomic<bool> is_open_{false}; // it speaks, and has not begun to end
+
+    ListeningPort port_; // until connections are taken
 };
 
 } // namespace gateway

@@ -4,6 +4,7 @@
 
 #include "admin_command.h"
 #include "admin_socket.h"
+#include "closed_venue.h"
 #include "condition.h"
 #include "gateway.h"
 #include "metrics.h"
@@ -13,7 +14,9 @@
 #include "supervised.h"
 #include "trading_days.h"
 
+#include <atomic>
 #include <condition_variable>
+#include <cstdint>
 #include <filesystem>
 #include <memory>
 #include <mutex>
@@ -44,7 +47,7 @@ class Service final : private AdminScene {
     // Ends the day that goes on, and opens no other; of any thread.
     void ask_to_stop(const std::string &why);
 
-    // Has the day that goes on read its credentials and certificates again; of any thread.
+    // Has credentials and certificates read again; of any thread.
     void ask_to_renew();
 
     // Until it is asked to stop, or a day fails. Returns the status of the process.
@@ -83,6 +86,9 @@ class Service final : private AdminScene {
     TradingDay day_after(SystemSeconds now);
     TradingDay day_to_open();
     bool wait_for(const TradingDay &day);
+    void refuse_logons(const TradingDay &day);
+    void open_door(const TradingDay &day);
+    ListeningPort closed_door();
     void watch_files(const std::stop_token &stop);
     bool wait_a_second();
     void copy_days(const std::string &before);
@@ -108,6 +114,13 @@ class Service final : private AdminScene {
     std::jthread copying_;         // of the service's own thread
     Monitor monitor_;
     Supervised supervised_;
+
+    // Before a day opens; of the service's own thread.
+    std::unique_ptr<ClosedVenue> closed_;
+    std::uint64_t closed_of_ = 0; // NextConfiguration::changes(), as it was made
+    std::string door_fault_;      // that was told
+    ListeningPort port_;          // for the day
+    std::atomic<bool> is_to_renew_{false};
 
     // For the operator.
     std::shared_mutex day_mutex_; // over the end of a day, which waits for commands

@@ -41,7 +41,10 @@ def ended(stage: Stage) -> None:
     until("the next day is waited for", LONG, lambda: "closed until=" in told(stage))
     said = rows(stage, "status")[0]
     assert said["state"] == "waits" and "the trading day" in said["for"], said
-    assert not stage.door.is_open()
+    stage.door.wait_open()
+    with Wire(stage.door.port) as wire:
+        assert wire.logon(INVESTOR.name.encode(), INVESTOR.password.encode())
+        assert wire.closed_within(LONG) and not wire.waiting, "a firm may log on"
 
 
 def test_it_waits_for_open_requests(stage: Stage) -> None:

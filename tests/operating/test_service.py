@@ -161,7 +161,7 @@ def test_a_day_that_has_not_opened(stage: Stage, systemd: Systemd) -> None:
     assert stage.counters()["mireseason_ready"] == 0
     opens = tomorrow.replace(hour=0, minute=0, second=0, microsecond=0).timestamp()
     assert stage.counters()["mireseason_day_opens_timestamp_seconds"] == opens
-    assert not stage.door.is_open()
+    assert stage.counters()["mireseason_sessions"] == 0
     assert stage.door.stop() == 0
 
 
