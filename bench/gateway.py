@@ -6,8 +6,8 @@ usage: gateway.py GATEWAY LOAD [--one-by-one N] [--burst N] [--rounds N] -- VENU
 The echo puts each message into a file, with an fdatasync, and answers it; the gateway commits it to SQLite and has
 the venue answer it. Both take turns; of each figure the best round is printed, and the ratio of the two. Behind them
 stands what a quote's way is made up of, by the gateway's own histograms in one more round: medians, in microseconds,
-each read off between two bounds. The venue's part ends with its mark, behind the answer: on a machine with much else to
-do it is too long, and the rest too small.
+each read off between two bounds. The venue answers while the quote is committed: what it takes stands beside the parts,
+and is one of them only as far as it is longer than sealing and commit.
 """
 
 import argparse
@@ -109,14 +109,13 @@ class Medians:
 
     seal: float
     commit: float
-    logged: float  # from the receipt of a message to its commit
-    answered: float  # and to the venue's answer
-    handed_over: float  # from the venue to the firm's socket
+    logged: float  # from the receipt of a message to the end of its commit
+    answered: float  # and to the venue's answer, which may come before that
 
     @staticmethod
     def between(before: dict[str, float], after: dict[str, float]) -> "Medians":
         given = {name: value - before.get(name, 0.0) for name, value in after.items()}
-        names = ("seal", "commit", "logged", "answered", "handed_over")
+        names = ("seal", "commit", "logged", "answered")
         return Medians(*(median_of("mireseason_%s_seconds" % name, given) for name in names))
 
 
@@ -141,18 +140,24 @@ class Way:
 
     def parts(self) -> list[tuple[str, float]]:
         one = self.medians
+        late = max(0.0, one.answered - one.logged)
         return [
-            ("read, session and a place in the log", one.logged - one.commit - one.seal),
+            ("read, session, a place in the log, the venue's line", self.before()),
             ("sealing", one.seal),
             ("commit, with its sync", one.commit),
-            # The answer is handed over before the mark behind it is read.
-            ("venue", one.answered - one.logged - one.handed_over),
-            ("session and write of the answer", one.handed_over),
+            ("the venue, behind the commit", late),
             (
-                "TCP and the stock engine: the rest",
-                self.figures.median - one.answered,
+                "the answer's write, TCP and the stock engine: the rest",
+                self.figures.median - one.logged - late,
             ),
         ]
+
+    def before(self) -> float:
+        return self.medians.logged - self.medians.commit - self.medians.seal
+
+    def venue(self) -> float:
+        """From its line to its answer with what the session does with that, beside sealing and commit."""
+        return self.medians.answered - self.before()
 
 
 def counters(door: Door) -> dict[str, float]:
@@ -233,6 +238,10 @@ def main() -> None:
     print("what a quote's way is made up of, whose median is %.0f us here:" % way.figures.median)
     for part, microseconds in way.parts():
         print("%8.1f us  %s" % (microseconds, part))
+    print(
+        "beside sealing and commit: %.1f us  the venue, and the session with its answer"
+        % way.venue()
+    )
 
 
 if __name__ == "__main__":

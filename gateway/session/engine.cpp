@@ -324,6 +324,10 @@ bool Engine::deliver_at_once(const Delivery &delivery) {
     return true;
 }
 
+void Engine::send_held_back(const std::string &session) {
+    parts_->sessions().of(session).send_held_back();
+}
+
 std::size_t Engine::waiting_bytes(const std::string &session) const {
     return parts_->sessions().of(session).waiting_bytes();
 }

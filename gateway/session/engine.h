@@ -149,6 +149,14 @@ class SessionHost {
     // the firm is logged out.
     virtual bool keeps_too_much(const std::string & /*firm*/) { return false; }
     virtual void wait_stored(std::uint64_t ticket) = 0;
+    // The venue is given an entry while that is being committed. Whether all entries up to this
+    // place are on disk, so that what the venue gave the firm for them may leave: where they are
+    // not, Engine::send_held_back() is called for the firm once more of them are. And the same,
+    // which waits for it.
+    virtual bool is_entry_stored(const std::string & /*firm*/, std::uint32_t /*place*/) {
+        return true;
+    }
+    virtual void wait_entry_stored(std::uint32_t /*place*/) {}
     // The same of an event by which a message of the application, the next one of its session,
     // comes to the venue.
     virtual Taken take(const std::string &firm, const SessionInput &input,
@@ -265,6 +273,8 @@ class Engine {
     // The same, but where that had to wait for another event of the session: then false, and
     // nothing was done.
     bool deliver_at_once(const Delivery &delivery);
+    // More entries are on disk: what waited for them leaves. Waits for nothing.
+    void send_held_back(const std::string &session);
     // Bytes that the firm has not taken yet.
     std::size_t waiting_bytes(const std::string &session) const;
     // Ends the firm's connection, if there is one. Does not wait for anything.

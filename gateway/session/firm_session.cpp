@@ -197,7 +197,9 @@ void FirmSession::complete(std::uint64_t ticket, const Delivery *delivery) {
     }
 }
 
-// The messages leave at once where nothing is in front of them and they need not be committed.
+// The messages leave at once where nothing is in front of them and they wait for no commit.
+// Whatever is handed over waits for the entries that the venue has answered by now: it may be such
+// an answer.
 void FirmSession::post(const MachineTurn &turn, std::uint64_t ticket) {
     Visitor *const to = visitor(turn.told.connection);
     if (to == nullptr || to->is_over || turn.first.size() + turn.second.size() == 0) {
@@ -205,12 +207,40 @@ void FirmSession::post(const MachineTurn &turn, std::uint64_t ticket) {
     }
     // They stand one behind the other.
     const std::string_view bytes(turn.first.data(), turn.first.size() + turn.second.size());
-    if (to->unsent.empty() && ticket == 0) {
-        to->line->send(bytes);
+    to->unsent.push_back({ticket, given_for_, std::string(bytes)});
+    to->last_ticket = std::max(to->last_ticket, ticket);
+    send_what_may_leave(*to);
+    if (to->last_ticket > stored_ticket_) {
+        to->line->wake();
+    }
+}
+
+bool FirmSession::may_leave(const Unsent &unsent) const {
+    return unsent.ticket <= stored_ticket_ && host_.is_entry_stored(names_.firm, unsent.place);
+}
+
+void FirmSession::send_what_may_leave(Visitor &to) {
+    std::string bytes;
+    while (!to.unsent.empty() && may_leave(to.unsent.front())) {
+        bytes += to.unsent.front().bytes;
+        to.unsent.pop_front();
+    }
+    if (!bytes.empty()) {
+        to.line->send(bytes);
+    }
+}
+
+void FirmSession::send_held_back() {
+    if (const std::unique_lock lock(mutex_, std::try_to_lock); lock) {
+        for (auto &[connection, to] : visitors_) {
+            send_what_may_leave(to);
+        }
         return;
     }
-    to->unsent.push_back({ticket, std::string(bytes)});
-    to->line->wake();
+    const std::lock_guard lock(line_mutex_);
+    if (line_ != nullptr) {
+        line_->wake();
+    }
 }
 
 void FirmSession::tell(const MachineTurn &turn) {
@@ -257,6 +287,7 @@ bool FirmSession::deliver_at_once(const Delivery &delivery) {
 }
 
 void FirmSession::deliver_here(const Delivery &delivery) {
+    given_for_ = std::max(given_for_, delivery.place);
     machine_.given(begin(), delivery.wire);
     if (!machine_.turn().told.first.is_kept) {
         // Its firm has used the numbers up; the venue goes on, and so does whoever else is there.

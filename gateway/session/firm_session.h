@@ -20,7 +20,8 @@ class Line;
 
 // The machine decides; this moves bytes between it and connections, puts what each event does into
 // the log, and hands the machine what it keeps. Nothing that the machine did is seen before it is
-// in the log's next batch, and no message of the session's own before that batch is committed.
+// in the log's next batch, no message of the session's own before that batch is committed, and no
+// message of the venue before the entries are that it answers.
 //
 // Each connection's thread calls it for its own; deliver() and deliver_at_once() are called by one
 // thread at a time, all else by any.
@@ -75,6 +76,8 @@ class FirmSession final {
     void deliver(const Delivery &delivery);
     // False where another event is at work: then nothing was done.
     bool deliver_at_once(const Delivery &delivery);
+    // More entries are on disk. Where another event is at work the connection's thread is woken.
+    void send_held_back();
     // Ends the connection, if there is one.
     void shut();
     // Bytes that the firm has not taken yet.
@@ -87,9 +90,10 @@ class FirmSession final {
     void reset();
 
   private:
-    // What waits for its commit.
+    // What waits for its commit: that of a batch, 0 for none, and of the entries up to a place.
     struct Unsent {
         std::uint64_t ticket = 0;
+        std::uint32_t place = 0;
         std::string bytes;
     };
     // A connection that has the session, or would have it.
@@ -97,6 +101,7 @@ class FirmSession final {
         Line *line = nullptr;
         std::uint32_t number = 0; // in the log, 0 where no Logon was accepted
         std::deque<Unsent> unsent;
+        std::uint64_t last_ticket = 0; // of what was put there
         bool parts = false;
         std::uint32_t parts_since = 0; // a moment
         bool is_over = false;          // it ends once that has left
@@ -126,6 +131,8 @@ class FirmSession final {
     void complete(std::uint64_t ticket, const Delivery *delivery);
     void note_kept(const SessionEvent &event, std::uint64_t ticket);
     void post(const MachineTurn &turn, std::uint64_t ticket);
+    bool may_leave(const Unsent &unsent) const;
+    void send_what_may_leave(Visitor &to);
     void end_as_told(const MachineTurn &turn);
     void end(Visitor &ended, const std::string &why);
     void end_parted();
@@ -143,10 +150,11 @@ class FirmSession final {
     void leave(std::uint64_t connection);
 
     // firm_session_serve.cpp
-    bool has_to_say(std::uint64_t connection); // takes the lock
-    Time count_handed(std::size_t handed);     // takes the lock
-    bool flush(std::uint64_t connection);      // takes the lock
-    Step step(std::uint64_t connection);       // takes the lock
+    bool has_to_say(std::uint64_t connection);        // takes the lock
+    Time count_handed(std::size_t handed);            // takes the lock
+    bool flush(std::uint64_t connection, bool waits); // takes the lock
+    void wait_stored(std::unique_lock<std::mutex> &lock, std::uint64_t ticket, std::uint32_t place);
+    Step step(std::uint64_t connection); // takes the lock
     Step hand(const Wanted &wanted);
     void load(std::uint64_t connection); // takes the lock
 
@@ -165,7 +173,9 @@ class FirmSession final {
     std::uint32_t load_from_ = 0;  // the number that step() found unknown
     std::uint64_t forgotten_ = 0;  // how often what is kept was another from then on
     std::uint64_t own_ticket_ = 0; // of the last event but those by which the venue gives something
-    bool has_received_ = false;    // what the host was not told the end of
+    std::uint64_t stored_ticket_ = 0; // the last one that is known to be committed
+    std::uint32_t given_for_ = 0;     // the last entry for which the venue has given something
+    bool has_received_ = false;       // what the host was not told the end of
     std::map<std::uint64_t, Visitor> visitors_;
 
     // Over the line of the connection that has the session: whoever shuts it waits for no event.

@@ -29,7 +29,7 @@ FirmSession::Work FirmSession::serve(std::uint64_t connection) {
         handed += done == Step::handed ? 1 : 0;
     }
     const Time from = count_handed(handed);
-    if (!flush(connection) || done == Step::idle) {
+    if (!flush(connection, handed > 0) || done == Step::idle) {
         return {};
     }
     return {true, from};
@@ -46,35 +46,50 @@ FirmSession::Time FirmSession::count_handed(std::size_t handed) {
 bool FirmSession::has_to_say(std::uint64_t connection) {
     const std::lock_guard lock(mutex_);
     const Visitor *const to = visitor(connection);
-    return to != nullptr && (!to->unsent.empty() || to->is_over ||
-                             (machine_.is_on() &&
-                              machine_.wants().kind != static_cast<std::uint32_t>(Want::nothing)));
+    if (to == nullptr) {
+        return false;
+    }
+    const bool has_unsent =
+        !to->unsent.empty() && (to->last_ticket > stored_ticket_ || may_leave(to->unsent.front()));
+    return has_unsent || to->is_over ||
+           (machine_.is_on() && machine_.wants().kind != static_cast<std::uint32_t>(Want::nothing));
 }
 
-// What waits for its commit leaves once that is done: without the lock, since it takes its time.
-// False where the connection ends.
-bool FirmSession::flush(std::uint64_t connection) {
+// What is the session's own leaves once it is committed, which is waited for, as it is for what was
+// handed over again and at a connection's end. All else leaves with its commit: whoever has done
+// that sends it. False where the connection ends.
+bool FirmSession::flush(std::uint64_t connection, bool waits) {
     std::unique_lock lock(mutex_);
     for (;;) {
         Visitor *const to = visitor(connection);
         if (to == nullptr) {
             return false;
         }
-        if (to->unsent.empty()) {
-            if (to->is_over) {
-                to->line->finish(to->why);
-            }
-            return !to->is_over;
+        send_what_may_leave(*to);
+        if (to->unsent.empty() && to->is_over) {
+            to->line->finish(to->why);
+            return false;
         }
-        const std::uint64_t ticket = to->unsent.front().ticket;
-        if (ticket != 0) {
-            lock.unlock();
-            host_.wait_stored(ticket);
-            lock.lock();
+        const bool has_own = to->last_ticket > stored_ticket_;
+        if (to->unsent.empty() || (!has_own && !waits && !to->is_over)) {
+            return true;
         }
-        to->line->send(to->unsent.front().bytes);
-        to->unsent.pop_front();
+        wait_stored(lock, to->last_ticket, to->unsent.back().place);
+        waits = false; // what the venue gave meanwhile keeps nobody from being read
     }
+}
+
+// Without the lock, since it takes its time; it is held before and after.
+void FirmSession::wait_stored(std::unique_lock<std::mutex> &lock, std::uint64_t ticket,
+                              std::uint32_t place) {
+    const bool is_ticket_stored = ticket <= stored_ticket_;
+    lock.unlock();
+    if (!is_ticket_stored) {
+        host_.wait_stored(ticket);
+    }
+    host_.wait_entry_stored(place);
+    lock.lock();
+    stored_ticket_ = std::max(stored_ticket_, ticket);
 }
 
 FirmSession::Step FirmSession::step(std::uint64_t connection) {

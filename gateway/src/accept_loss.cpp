@@ -29,7 +29,9 @@ void commit_act(const Config &config, const std::string &text, Database &databas
     Batch batch;
     batch.entries.push_back(
         note_entry(last.place + 1, *term, note_kinds::act, text, clock.exact_now()));
-    Chain(end, sealer_of(config), seals).link(batch);
+    Chain chain(end, sealer_of(config), seals);
+    chain.link(batch);
+    chain.seal(batch);
     database.writer()->commit(batch);
 }
 

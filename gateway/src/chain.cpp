@@ -15,6 +15,9 @@ void Chain::link(Batch &rows) {
         end_.event_hash = event.hash;
         end_.event = event.place;
     }
+}
+
+void Chain::seal(Batch &rows) {
     if (sealer_ && (!rows.entries.empty() || !rows.connections.empty())) {
         rows.seal = sealer_->seal(++seals_, end_);
     }

@@ -16,8 +16,10 @@ class Chain {
     Chain(const Position &end, std::optional<Sealer> sealer, std::uint32_t last_seal)
         : end_(end), sealer_(std::move(sealer)), seals_(last_seal) {}
 
-    // Links the rows of a batch to what was written last; one seal covers all up to them.
+    // Links the rows of a batch to what was written last.
     void link(Batch &rows);
+    // Seals all up to the rows that were linked last, which are these.
+    void seal(Batch &rows);
     // Where the log ends with what was linked.
     const Position &end() const { return end_; }
 

@@ -16,6 +16,11 @@ std::size_t bytes_of(const LoggedEntry &logged) {
 } // namespace
 
 void Committed::put(const std::vector<LoggedEntry> &entries) {
+    put_ahead(entries);
+    are_stored();
+}
+
+void Committed::put_ahead(const std::vector<LoggedEntry> &entries) {
     if (entries.empty()) {
         return;
     }
@@ -26,6 +31,7 @@ void Committed::put(const std::vector<LoggedEntry> &entries) {
         for (const LoggedEntry &logged : entries) {
             keep(logged);
         }
+        drop_old();
     }
     if (reader_ != nullptr) {
         reader_->entries_came(entries);
@@ -35,7 +41,17 @@ void Committed::put(const std::vector<LoggedEntry> &entries) {
 void Committed::keep(const LoggedEntry &logged) {
     recent_.push_back(logged);
     recent_bytes_ += bytes_of(logged);
-    while (recent_.size() > kept || recent_bytes_ > kept_bytes) {
+}
+
+void Committed::are_stored() {
+    const std::lock_guard lock(mutex_);
+    stored_place_ = last_place_;
+    drop_old();
+}
+
+void Committed::drop_old() {
+    while ((recent_.size() > kept || recent_bytes_ > kept_bytes) &&
+           recent_.front().entry.place <= stored_place_) {
         recent_bytes_ -= bytes_of(recent_.front());
         recent_.pop_front();
     }

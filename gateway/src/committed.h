@@ -12,14 +12,18 @@
 
 namespace gateway {
 
-// An entry that is in the log, and when its message came.
+// An entry that is in the log, or is being put there, and when its message came.
 struct LoggedEntry {
     Entry entry;
     std::chrono::steady_clock::time_point received;
 };
 
-// Whoever commits entries, or sees that another gateway did, puts them here. The latest ones are
-// kept, and older ones are read from the database.
+// The entries that the venue is given: whoever commits them, or sees that another gateway did, puts
+// them here. The latest ones are kept, and older ones are read from the database.
+//
+// A venue may be given an entry while that is being committed: what it answers is held back until
+// the commit is done (SessionHost::is_entry_stored), and where the commit fails this gateway ends,
+// its venue with it.
 class Committed {
   public:
     // Is told of what is put, on the thread that puts it, which it keeps waiting for nothing.
@@ -32,10 +36,15 @@ class Committed {
     };
 
     // All up to this place are in the log.
-    explicit Committed(std::uint32_t last_place) : last_place_(last_place) {}
+    explicit Committed(std::uint32_t last_place)
+        : last_place_(last_place), stored_place_(last_place) {}
 
-    // In order, and without a gap; one thread at a time.
+    // In order, and without a gap; one thread at a time. They are in the log.
     void put(const std::vector<LoggedEntry> &entries);
+    // The same of entries whose commit begins, and that it is done. However many they are, they are
+    // kept until then: the database does not have them.
+    void put_ahead(const std::vector<LoggedEntry> &entries);
+    void are_stored();
     // No more come.
     void close();
 
@@ -52,12 +61,14 @@ class Committed {
   private:
     // The lock is held.
     void keep(const LoggedEntry &logged);
+    void drop_old();
 
     std::mutex telling_mutex_; // over the calls of the reader; taken before the other
     Reader *reader_ = nullptr;
 
     std::mutex mutex_;
     std::uint32_t last_place_;
+    std::uint32_t stored_place_;
     std::deque<LoggedEntry> recent_;
     std::size_t recent_bytes_ = 0; // of their lines
     bool closed_ = false;

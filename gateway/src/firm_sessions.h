@@ -49,6 +49,9 @@ class FirmSessions final : private SessionHost {
     void end_lost(const std::vector<ConnectionEvent> &connections);
 
     ConnectionRows &rows() { return rows_; }
+    // The firms of whose messages some were held back until more entries are committed: once they
+    // are. Of the thread that commits the log.
+    std::vector<std::string> take_held_back();
     // Counts what waits for each firm; to be called each second.
     void count_waiting(const Engine &engine);
 
@@ -103,6 +106,7 @@ class FirmSessions final : private SessionHost {
         FirmLimits limits;
         std::atomic<bool> told_of_bytes{false};
         std::atomic<bool> is_suspended{false}; // by an operator
+        std::atomic<bool> is_held_back{false}; // a message waits for an entry's commit
         FirmMetrics *metrics = nullptr;
         // The gateway before left it logged on: so it is in the log until its quotes are cancelled.
         std::atomic<bool> was_left{false};
@@ -162,6 +166,8 @@ class FirmSessions final : private SessionHost {
     std::uint64_t put(const std::string &firm, const SessionEvent &event) override;
     bool keeps_too_much(const std::string &firm) override;
     void wait_stored(std::uint64_t ticket) override;
+    bool is_entry_stored(const std::string &firm, std::uint32_t place) override;
+    void wait_entry_stored(std::uint32_t place) override { log_.wait_for_entry(place); }
     Taken take(const std::string &firm, const SessionInput &input,
                const SessionEvent &event) override;
     void wait_for_turn(const std::string &firm, const Receipt &receipt) override;

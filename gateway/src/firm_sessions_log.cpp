@@ -76,6 +76,25 @@ void FirmSessions::wait_stored(std::uint64_t ticket) {
     log_.wait(ticket);
 }
 
+// Whoever commits the entry meanwhile sees the mark, or it is seen here that it did.
+bool FirmSessions::is_entry_stored(const std::string &name, std::uint32_t place) {
+    if (log_.is_committed(place)) {
+        return true;
+    }
+    firm_of(name).is_held_back = true;
+    return log_.is_committed(place);
+}
+
+std::vector<std::string> FirmSessions::take_held_back() {
+    std::vector<std::string> names;
+    for (auto &[name, firm] : firms_) {
+        if (firm.is_held_back && firm.is_held_back.exchange(false)) {
+            names.push_back(name);
+        }
+    }
+    return names;
+}
+
 Taken FirmSessions::take(const std::string &name, const SessionInput &input,
                          const SessionEvent &event) {
     Firm &firm = firm_of(name);

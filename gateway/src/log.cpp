@@ -44,8 +44,9 @@ Position end_of(const Log::Start &start) {
 Log::Log(Database &database, Committed &committed, DayClock &clock, Metrics &metrics, Start start,
          std::function<void(const std::string &)> failed)
     : entries_(committed), clock_(clock), metrics_(metrics), failed_(std::move(failed)),
-      noted_(std::move(start.noted)), writer_(database.writer()), limit_(start.waiting),
-      shares_(start.shares), next_place_(start.last.place + 1), taken_place_(start.last.place),
+      noted_(std::move(start.noted)), stored_(std::move(start.stored)), writer_(database.writer()),
+      limit_(start.waiting), shares_(start.shares), next_place_(start.last.place + 1),
+      taken_place_(start.last.place),
       taken_moment_(ExactMoment::end_of(moment_of(start.last.moment).value_or(Moment{}))),
       committed_place_(start.last.place),
       last_event_(start.connections.last ? start.connections.last->place : 0),
@@ -160,6 +161,16 @@ void Log::flush() {
     lock.lock();
     // Entries may be taken without the rest of their batch.
     done_.wait(lock, [&] { return committed_place_ >= place || !failure_.empty(); });
+    throw_if_failed();
+}
+
+bool Log::is_committed(std::uint32_t place) const {
+    return committed_place_.load() >= place;
+}
+
+void Log::wait_for_entry(std::uint32_t place) {
+    std::unique_lock lock(mutex_);
+    done_.wait(lock, [&] { return is_committed(place) || !failure_.empty(); });
     throw_if_failed();
 }
 
@@ -291,14 +302,11 @@ void Log::commit_some(std::unique_lock<std::mutex> &lock, bool all) {
     room_.notify_all();
     lock.unlock();
     write_rows(filling);
-    tell_notes(filling.rows.entries);
-    // An entry is on disk before the venue sees it, and so before any answer to it can leave.
-    const auto last = hand_on(filling);
+    tell_stored(filling);
     lock.lock();
     writing_ = false;
     committed_at_ = std::chrono::steady_clock::now();
     committed_end_ = chain_.end();
-    committed_place_ = last.value_or(committed_place_);
     committed_ += filling.is_whole ? 1 : 0;
     done_.notify_all();
     if (is_pressing()) {
@@ -307,37 +315,47 @@ void Log::commit_some(std::unique_lock<std::mutex> &lock, bool all) {
 }
 
 void Log::write_rows(Filling &filling) {
-    const auto before = std::chrono::steady_clock::now();
-    chain_.link(filling.rows);
     if (filling.rows.empty()) {
         return;
     }
+    const auto before = std::chrono::steady_clock::now();
+    chain_.link(filling.rows);
+    const auto linked = std::chrono::steady_clock::now();
+    give_venue(filling);
+    const auto given = std::chrono::steady_clock::now();
+    chain_.seal(filling.rows);
     const auto begin = std::chrono::steady_clock::now();
-    metrics_.sealed(begin - before);
+    metrics_.sealed((linked - before) + (begin - given));
     writer_->commit(filling.rows);
-    metrics_.committed(filling.rows.entries.size(), filling.rows.sent.size(),
-                       std::chrono::steady_clock::now() - begin);
+    const auto end = std::chrono::steady_clock::now();
+    metrics_.committed(filling.rows.entries.size(), filling.rows.sent.size(), end - begin);
+    for (const auto &received : filling.received) {
+        metrics_.logged(end - received);
+    }
 }
 
-void Log::tell_notes(const std::vector<Entry> &entries) {
-    for (const Entry &entry : entries) {
+// Answers first: firms wait for them.
+void Log::tell_stored(const Filling &filling) {
+    if (filling.rows.entries.empty()) {
+        return;
+    }
+    entries_.are_stored();
+    committed_place_ = chain_.end().place;
+    stored_();
+    for (const Entry &entry : filling.rows.entries) {
         if (!entry.firm && entry.line.starts_with('#')) {
             noted_(entry.line);
         }
     }
 }
 
-std::optional<std::uint32_t> Log::hand_on(Filling &filling) {
-    const auto now = std::chrono::steady_clock::now();
+void Log::give_venue(const Filling &filling) {
     std::vector<LoggedEntry> entries;
+    entries.reserve(filling.rows.entries.size());
     for (std::size_t at = 0; at < filling.rows.entries.size(); ++at) {
-        entries.push_back({std::move(filling.rows.entries[at]), filling.received[at]});
+        entries.push_back({filling.rows.entries[at], filling.received[at]});
     }
-    entries_.put(entries);
-    for (const auto &received : filling.received) {
-        metrics_.logged(now - received);
-    }
-    return entries.empty() ? std::nullopt : std::optional(entries.back().entry.place);
+    entries_.put_ahead(entries);
 }
 
 void Log::fail(const std::string &cause) {

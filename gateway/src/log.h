@@ -11,6 +11,7 @@
 #include "seals.h"
 #include "shares.h"
 
+#include <atomic>
 #include <chrono>
 #include <condition_variable>
 #include <functional>
@@ -57,6 +58,8 @@ class Log {
         // Is told the line of each note that is committed, by the thread that committed it, which
         // it keeps waiting for nothing.
         std::function<void(const std::string &line)> noted = [](const std::string &) {};
+        // Is called once more entries are on disk, likewise.
+        std::function<void()> stored = [] {};
     };
 
     // What is committed is put into `committed`.
@@ -162,6 +165,10 @@ class Log {
     bool wait_for(Ticket ticket, std::chrono::milliseconds longest);
     // Returns when all that was put so far is on disk.
     void flush();
+    // Whether all entries up to this place are on disk. Waits for nothing.
+    bool is_committed(std::uint32_t place) const;
+    // Returns when they are: they have to be placed, as those are that the venue was given.
+    void wait_for_entry(std::uint32_t place);
 
     std::uint32_t last_place();
     // The same; what comes from now on stands behind it, whenever it was received.
@@ -222,10 +229,11 @@ class Log {
     // Commits what is to be committed now. The lock is held before and after; nobody else writes.
     void commit_some(std::unique_lock<std::mutex> &lock, bool all);
     void write_rows(Filling &filling);
-    // Tells of the notes among the entries.
-    void tell_notes(const std::vector<Entry> &entries);
-    // Hands the entries on to the venue, and returns the last one's place, if there is one.
-    std::optional<std::uint32_t> hand_on(Filling &filling);
+    // Tells that entries are on disk, and of the notes among them.
+    void tell_stored(const Filling &filling);
+    // While they are committed the venue answers them: what it says of an entry leaves only once
+    // that is on disk.
+    void give_venue(const Filling &filling);
     void fail(const std::string &cause);
 
     Committed &entries_;
@@ -233,6 +241,7 @@ class Log {
     Metrics &metrics_;
     std::function<void(const std::string &)> failed_;
     std::function<void(const std::string &)> noted_;
+    std::function<void()> stored_;
     std::unique_ptr<LogWriter> writer_;
     const std::size_t limit_;
 
@@ -256,7 +265,7 @@ class Log {
     std::uint32_t next_place_;  // behind the arrivals
     std::uint32_t taken_place_; // the last one that was given
     ExactMoment taken_moment_;  // and its moment, or a later one
-    std::uint32_t committed_place_;
+    std::atomic<std::uint32_t> committed_place_;
     std::uint32_t last_event_; // place of what happened to a connection
     std::uint32_t last_connection_;
     const std::uint32_t term_;

@@ -125,7 +125,7 @@ struct Metrics::Parts {
     mutable std::mutex firms_mutex;
     std::map<std::pair<std::string, std::string>, FirmMetrics> firms;
     Histogram &handed_over = seconds(*registry, "mireseason_handed_over_seconds",
-                                     "a message's time from the venue to the firm's socket");
+                                     "a message's time from the venue to its firm's session");
     Histogram &commit = seconds(*registry, "mireseason_commit_seconds", "a transaction of the log");
     Histogram &seal = seconds(*registry, "mireseason_seal_seconds",
                               "the sealing of a transaction of the log, before its commit");

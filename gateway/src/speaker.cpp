@@ -47,9 +47,11 @@ Log::Start start_of(VenueDay &day, const Follower::End &end, std::uint32_t term)
     return start;
 }
 
-// Notes come only once the log is given some: what they set is there then.
-Log::Start with_notes_told(Log::Start start, std::function<void(const std::string &)> listener) {
-    start.noted = std::move(listener);
+// Both come only once the log is given some: what they set is there then.
+Log::Start with_listeners(Log::Start start, std::function<void(const std::string &)> noted,
+                          std::function<void()> stored) {
+    start.noted = std::move(noted);
+    start.stored = std::move(stored);
     return start;
 }
 
@@ -60,7 +62,9 @@ Speaker::Speaker(VenueDay &day, std::unique_ptr<Follower> follower, const Follow
     : day_(day), engine_(engine), follower_(std::move(follower)), lost_(start.connections.open),
       sessions_(day, log_, end.states),
       log_(*day.database, follower_->committed(), day.clock, day.metrics,
-           with_notes_told(std::move(start), [this](const std::string &line) { take_note(line); }),
+           with_listeners(
+               std::move(start), [this](const std::string &line) { take_note(line); },
+               [this] { send_held_back(); }),
            [&status = day.status](const std::string &cause) { status.fail(cause); }),
       notary_(day.guard.notary(log_)), deliveries_(day, engine, log_), clock_log_(log_),
       stall_(day.events, day.of_venue()), sweeper_(follower_->answers(), log_, day.clock) {
@@ -96,6 +100,13 @@ void Speaker::start() {
     if (day_.ordered_end.is_ordered()) {
         // Whether the day has ended is known then, before firms may log on.
         follower_->answers().wait(log_.last_place(), longest_end, day_.status.stopping());
+    }
+}
+
+// The messages whose entries are on disk now.
+void Speaker::send_held_back() {
+    for (const std::string &firm : sessions_.take_held_back()) {
+        engine_.send_held_back(session_name(day_.config.venue, firm));
     }
 }
 

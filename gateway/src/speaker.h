@@ -86,6 +86,7 @@ class Speaker final {
     Speaker(VenueDay &day, std::unique_ptr<Follower> follower, const Follower::End &end,
             Log::Start start, Engine &engine);
 
+    void send_held_back();
     void take_note(const std::string &line);
     void take_order(const FirmOrdered &ordered);
     void carry_out(const FirmOrdered &ordered);

@@ -90,6 +90,12 @@ class Book final : public SessionHost {
         return last_ticket;
     }
     void wait_stored(std::uint64_t ticket) override { stored = std::max(stored, ticket); }
+    bool is_entry_stored(const std::string &, std::uint32_t place) override {
+        return place <= stored_place;
+    }
+    void wait_entry_stored(std::uint32_t place) override {
+        stored_place = std::max(stored_place, place);
+    }
     Taken take(const std::string &, const SessionInput &input, const SessionEvent &event) override {
         check(input.receipt.connection == connections_, "a message of another connection");
         if (denial.verdict != Taken::Verdict::taken) {
@@ -141,6 +147,7 @@ class Book final : public SessionHost {
     int logons = 0; // that have not ended
     std::uint64_t last_ticket = 0;
     std::uint64_t stored = 0;
+    std::uint32_t stored_place = SessionNumbers::last; // all entries up to it are on disk
 
   private:
     void note_numbers(const SessionNumbers &now) {
@@ -182,10 +189,10 @@ class Gate final : public NoEvents {
 };
 
 // What is said to a peer, with bars, until its connection ends. What is the session's own has to be
-// in the log before.
+// in the log before, and the entry that the venue answers before its answer.
 class Ear final : public Line {
   public:
-    explicit Ear(const Book &book) : book_(book) {}
+    explicit Ear(Book &book) : book_(book) {}
 
     bool send(std::string_view bytes) override {
         std::string rest = with_bars(std::string(bytes));
@@ -228,11 +235,18 @@ class Ear final : public Line {
         const auto number = static_cast<std::uint32_t>(std::stoul(value_of(message, 34)));
         const bool is_again = value_of(message, 43) == "Y";
         check(!is_own || is_again || book_.is_stored(number), "not in the log: " + message);
+        check(is_own || book_.is_entry_stored("F", place_of(message)),
+              "ahead of its entry: " + message);
         check(value_of(message, 49) == "VENUE" && value_of(message, 56) == "F", message);
         messages.push_back(message);
     }
 
-    const Book &book_;
+    // The entry for which the venue gave it, as Scene::give() has it.
+    static std::uint32_t place_of(const std::string &message) {
+        return static_cast<std::uint32_t>(std::stoul(value_of(message, 1181)));
+    }
+
+    Book &book_;
 };
 
 // The session of firm F, and its host, at nine.

@@ -1,5 +1,5 @@
 // Stands between a process and its database's files, by LD_PRELOAD: it keeps what is on the disk
-// after each sync, makes syncs slow, and makes the disk full from a given sync on.
+// after each sync, makes syncs slow, makes them fail, and makes the disk full from a given sync on.
 //
 //     DISK_COPIES=FOLDER  after each sync of a file *.db or *.db-wal: a copy of the file,
 //                         FOLDER/N.db or FOLDER/N.wal, and a line `N KIND BEGAN ENDED` in
@@ -9,6 +9,7 @@
 //     DISK_SLOW=MS        each sync of such a file takes so much longer
 //     DISK_SLOW_IN=FILE   likewise by as many milliseconds as the file says when the sync begins,
 //                         and by none where there is no such file
+//     DISK_BROKEN=FILE    a sync that begins while there is such a file fails in the end: EIO
 //     DISK_FULL=N         from the end of the Nth sync on, each write to such a file fails: ENOSPC
 #include <dlfcn.h>
 #include <fcntl.h>
@@ -89,6 +90,11 @@ void keep(int file, const std::string &kind, long number, long long began) {
         << number << ' ' << kind << ' ' << began << ' ' << nanoseconds() << '\n';
 }
 
+bool is_broken() {
+    const char *file = std::getenv("DISK_BROKEN");
+    return file && std::filesystem::exists(file);
+}
+
 int synced(int file, const char *call) {
     using Sync = int (*)(int);
     const auto real = reinterpret_cast<Sync>(dlsym(RTLD_NEXT, call));
@@ -97,9 +103,14 @@ int synced(int file, const char *call) {
         return real(file);
     const std::lock_guard<std::mutex> lock(one_sync);
     const long long began = nanoseconds();
+    const bool breaks = is_broken();
     const long slow = slow_now();
     const timespec pause{slow / 1000, slow % 1000 * 1'000'000};
     nanosleep(&pause, nullptr);
+    if (breaks) {
+        errno = EIO;
+        return -1;
+    }
     const int result = real(file);
     if (result == 0)
         keep(file, kind, ++syncs, began);

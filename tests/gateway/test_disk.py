@@ -75,6 +75,45 @@ def test_full_disk_at_commit(stage: Stage, at: int) -> None:
     check(not faults, "; ".join(faults[:3]))
 
 
+def wait_for_checkpoint(stage: Stage) -> None:
+    """For some seconds from then on nothing is committed that no firm sends."""
+
+    def count() -> object:
+        return rows(stage.door.database, "SELECT count(*) FROM checkpoint")
+
+    before = count()
+    until("a checkpoint is committed", LONG, lambda: count() != before)
+
+
+def test_answers_of_a_commit_that_fails(stage: Stage) -> None:
+    """The venue answers a quote while it is committed, and the commit fails after a second: nobody has heard of it then."""
+    broken = stage.folder / "broken"
+    stage.door.write()
+    stage.door.environment = shim(stage, DISK_SLOW_IN=str(broken), DISK_BROKEN=str(broken))
+    stage.door.start()
+    for firm in stage.firms:
+        firm.start()
+    wait_all_on(stage.door, stage.firms)
+    request, name = stage.ask(dealers=[stage.dealer]), stage.name("q")
+    wait_for_checkpoint(stage)
+    broken.write_text("1000")  # milliseconds, in which the venue has answered
+    stage.say(stage.dealer, "S", stage.quote_fields(request, name))
+    status = stage.door.wait_end()
+    check(status == 1, "the gateway ended with status %s" % status)
+    for firm in stage.firms:
+        until("%s has all that was sent" % firm.name, LONG, lambda: not firm.logged_on())
+        told = [each.raw for each in firm.looked() if each.kind == b"S" or each.value(117) == name]
+        check(not told, "%s was told of a quote that is not in the log: %r" % (firm.name, told))
+    broken.unlink()
+    stage.door.start()
+    faults = settled(stage.door, stage.firms)
+    check(not faults, "; ".join(faults[:3]))
+    check(
+        any(each.value(117) == name for each in stage.dealer.looked()),
+        "the quote is never answered",
+    )
+
+
 # ---------------------------------------------------------------- cut back
 
 
