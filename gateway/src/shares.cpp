@@ -1,6 +1,18 @@
 #include "shares.h"
 
+#include <numeric>
+
 namespace gateway {
+
+namespace {
+
+// Of all firms.
+std::size_t sum_of(const std::map<std::string, std::size_t> &counts) {
+    return std::accumulate(counts.begin(), counts.end(), std::size_t{0},
+                           [](std::size_t sum, const auto &each) { return sum + each.second; });
+}
+
+} // namespace
 
 std::size_t Shares::count_in(const std::map<std::string, std::size_t> &counts,
                              const std::string &firm) {
@@ -11,7 +23,7 @@ std::size_t Shares::count_in(const std::map<std::string, std::size_t> &counts,
 bool Shares::has_room(const std::string &firm) const {
     const std::size_t next = count_in(in_batch_, firm);
     return next < limits_.batch && next + count_in(unanswered_of_, firm) < limits_.unanswered &&
-           unanswered_.size() < limits_.all_unanswered;
+           sum_of(in_batch_) + unanswered_.size() < limits_.all_unanswered;
 }
 
 void Shares::put(const std::string &firm) {

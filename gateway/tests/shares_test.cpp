@@ -73,6 +73,18 @@ TEST_CASE("shares of firms") {
     check(shares.has_room("A"), "an answer was taken back");
 }
 
+// What is in the next batch counts for all firms together, too.
+TEST_CASE("a share of all firms") {
+    Shares shares({4, 4, 3});
+    shares.committed("A", 1);
+    shares.put("A");
+    check(shares.has_room("B"), "no third one of all");
+    shares.put("B");
+    check(!shares.has_room("C"), "a fourth one of all");
+    shares.batch_taken();
+    check(shares.has_room("C"), "no room once nothing is in the batch");
+}
+
 // A burst of two, and then one each tenth of a second.
 TEST_CASE("a rate") {
     const auto begin = Rate::Clock::now();

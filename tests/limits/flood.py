@@ -41,6 +41,18 @@ def not_taken(wire: Wire, kind: bytes, fields: Fields, reason: bytes, text: byte
     wire.ask()
 
 
+def response(wire: Wire, fields: Fields) -> bytes:
+    """A QuoteResponse of the investor, in its session's next number."""
+    return wire.message(b"AJ", wire.name, [(50, b"V1"), *fields])
+
+
+def responded(wire: Wire, fields: Fields) -> bytes | None:
+    """Sends one; the 297 of its answer."""
+    assert wire.raw(response(wire, fields))
+    name = dict(fields)[693]
+    return wire.got_until(lambda message: message.value(693) == name).value(297)
+
+
 def hang_up(stage: Stage) -> None:
     """Has the gateway read its credentials and certificates again."""
     process = stage.door.process
