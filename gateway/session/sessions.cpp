@@ -2,16 +2,33 @@
 
 #include "firm_session.h"
 
+#include <algorithm>
 #include <stdexcept>
 
+#include <sched.h>
+
 namespace gateway {
+
+namespace {
+
+// How many passwords are judged at one time. Each takes 16 MB, and a processor for tens of
+// milliseconds, and whoever connects may ask for it: half of the processors are left to the firms
+// that trade.
+std::size_t judged_at_once() {
+    constexpr int most = 4;
+    cpu_set_t own{};
+    const int processors = ::sched_getaffinity(0, sizeof own, &own) == 0 ? CPU_COUNT(&own) : 1;
+    return static_cast<std::size_t>(std::clamp(processors / 2, 1, most));
+}
+
+} // namespace
 
 std::string session_name(const std::string &venue, const std::string &firm) {
     return venue.empty() ? firm : venue + "/" + firm;
 }
 
 Sessions::Sessions(const std::vector<SessionStart> &starts, EngineEvents &events)
-    : events_(events) {
+    : events_(events), turns_(judged_at_once()) {
     add(starts);
 }
 

@@ -46,12 +46,9 @@ class Sessions {
     void log_out(const std::string &reason) const;
 
   private:
-    // Each hash takes 16 MB, and a processor for tens of milliseconds.
-    static constexpr std::size_t judged_at_once = 4;
-
     EngineEvents &events_;
     mutable std::atomic<std::uint64_t> connections_{0};
-    mutable Turns turns_{judged_at_once};
+    mutable Turns turns_;
     std::map<std::string, std::unique_ptr<FirmSession>> sessions_; // by session_name()
 };
 
