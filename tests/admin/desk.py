@@ -127,8 +127,8 @@ def is_root() -> bool:
     return os.geteuid() == 0
 
 
-def said_as(user: str, group: str, path: Path, line: bytes) -> str:
-    """What another user, who is in that group alone, is answered to a line; `no` and the reason where it can't connect."""
+def said_as(user: str, group: str, path: Path, line: bytes, others: tuple[str, ...] = ()) -> str:
+    """What another user, who is in these groups alone, is answered to a line; `no` and the reason where it can't connect."""
     script = (
         "import socket, sys\n"
         "s = socket.socket(socket.AF_UNIX)\n"
@@ -144,7 +144,7 @@ def said_as(user: str, group: str, path: Path, line: bytes) -> str:
         capture_output=True,
         user=user,
         group=group,
-        extra_groups=[],
+        extra_groups=others,
         cwd="/",
         timeout=LONG,
         check=True,

@@ -2,8 +2,13 @@
 
 import subprocess
 import time
+from collections.abc import Iterator
+from contextlib import contextmanager
+
+import pytest
 
 from tests.admin.desk import acts, admin, audit, did, firm_row, rows
+from tests.gateway.ledger import PostgresLog
 from tests.gateway.market import BOND
 from tests.gateway.stage import DEALER, Stage
 from tests.gateway.wait import LONG, until
@@ -100,6 +105,46 @@ def test_a_rate_that_is_changed(stage: Stage) -> None:
         "messages_burst": 500,
     }
     assert not any(row["set"] for row in rows(stage, "limit", "DLR2"))
+
+
+def limit_of(stage: Stage) -> int:
+    """The dealer's, of the bytes of a day."""
+    return int(firm_row(stage, "DLR1")["day_bytes_limit"])
+
+
+@contextmanager
+def entries_locked(log: PostgresLog) -> Iterator[None]:
+    """Nobody puts an entry into the log meanwhile."""
+    words = ["psql", "-X", "-q", "-A", "-t", "-d", log.connection]
+    with subprocess.Popen(
+        words, stdin=subprocess.PIPE, stdout=subprocess.PIPE, text=True
+    ) as holder:
+        assert holder.stdin is not None and holder.stdout is not None
+        holder.stdin.write(
+            "BEGIN; LOCK TABLE %s.entry IN EXCLUSIVE MODE;\n\\echo held\n" % log.schema
+        )
+        holder.stdin.flush()
+        assert holder.stdout.readline().strip() == "held"
+        try:
+            yield
+        finally:
+            holder.stdin.close()
+
+
+@pytest.mark.parametrize("log_place", ["postgres"], indirect=True)
+def test_an_act_that_is_not_committed(stage_of_log: Stage) -> None:
+    """The log takes no entry: after five seconds the operator is told that the act is not committed. Until it is, nothing is set."""
+    stage = stage_of_log
+    stage.door.operators = ""
+    stage.open()
+    assert stage.postgres is not None
+    with entries_locked(stage.postgres):
+        said = admin(stage, "limit", "DLR1", "day_bytes=700000")
+        assert said.status == 1 and "has not committed this act within 5 s" in said.err, said
+        assert limit_of(stage) == 1 << 30
+        assert acts(stage) == []
+    until("it is set", LONG, lambda: limit_of(stage) == 700_000)
+    assert len(acts(stage)) == 1
 
 
 def test_a_clock_that_is_accepted(stage: Stage, clock: Clock) -> None:

@@ -3,6 +3,7 @@
 import json
 import resource
 import socket
+import subprocess
 import time
 
 import pytest
@@ -93,6 +94,8 @@ def test_who_may(desk: Stage) -> None:
         "ok\n"
     )
     assert b" daemon(1) limit DLR1 day_bytes=700000" in acts(desk)[-1]
+    # One whose first group is another: a user's own group, as a rule.
+    assert said_as("nobody", "nogroup", path, STATUS, ("daemon",)).startswith("ok\n")
     assert said_as("nobody", "nogroup", path, STATUS) == "no Permission denied\n"
     path.chmod(0o666)
     for line in (STATUS, b"1 text limit DLR1 day_bytes=800000\n"):
@@ -175,6 +178,54 @@ def test_connections_without_end(desk: Stage) -> None:
     assert told <= 10 * (1 + (time.monotonic() - began) / 60), (
         "%d lines of the events for one who comes again and again" % told
     )
+
+
+# Holds four connections that say nothing, and makes each anew that is closed; prints each answer that is another one.
+HOLDER = """
+import select, socket, sys
+path, told, held = sys.argv[1], set(), []
+while not select.select([sys.stdin], [], [], 0.01)[0]:
+    while len(held) < 4:
+        held.append(socket.socket(socket.AF_UNIX))
+        held[-1].connect(path)
+    for each in select.select(held, [], [], 0)[0]:
+        answer = each.recv(65536).decode()
+        if not answer:
+            held.remove(each)
+        elif answer not in told:
+            told.add(answer)
+            print(answer.splitlines()[-1], flush=True)
+"""
+USERS = ("root", "daemon", "bin", "sys", "nobody")  # of each of them 4, so 20 in all
+
+
+@NEEDS_ROOT
+def test_connections_of_many_users(desk: Stage) -> None:
+    """There are 16 at a time, whoever has them: the next one is told so at once. Once they are closed all is as before."""
+    desk.open()
+    told = desk.folder / "holders"
+    holders = [
+        subprocess.Popen(
+            ["/usr/bin/python3", "-c", HOLDER, str(socket_of(desk))],
+            stdin=subprocess.PIPE,
+            stdout=told.open("ab"),
+            user=user,
+            extra_groups=["daemon"],
+            cwd="/",
+        )
+        for user in USERS
+    ]
+    try:
+        until(
+            "one connection is too many",
+            LONG,
+            lambda: "there are 16 connections already" in told.read_text(),
+        )
+    finally:
+        for holder in holders:
+            holder.communicate(timeout=LONG)
+    assert [holder.returncode for holder in holders] == [0] * len(USERS)
+    assert within(LONG, lambda: admin(desk, "status").status == 0)
 
 
 def test_a_reason_with_any_bytes(desk: Stage) -> None:

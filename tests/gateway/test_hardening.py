@@ -159,11 +159,14 @@ def test_what_a_venue_needs(gateway_program: Path, place: Path, what: str) -> No
 
 
 def test_the_venue_of_a_gateway_is_confined(stage: Stage) -> None:
-    """It can get no privilege, its calls are filtered, and the day goes as ever."""
+    """It can get no privilege, its calls are filtered, it leaves no core, and the day goes as ever."""
     stage.open(*stage.firms)
     until("there is a venue", LONG, lambda: bool(stage.door.venues()))
-    status = Path("/proc/%d/status" % stage.door.venues()[0]).read_text()
+    process = Path("/proc/%d" % stage.door.venues()[0])
+    status = (process / "status").read_text()
     for line in ("NoNewPrivs:\t1", "Seccomp:\t2"):
         check(line in status, "%s is not so: %s" % (line, status))
+    limits = (process / "limits").read_text()
+    check(re.search(r"Max core file size +0 +0 ", limits), "it may leave a core: %s" % limits)
     stage.auction()
     stage.whole()

@@ -1,10 +1,11 @@
 """How many bytes of a day's log one firm may have, and how it goes on at the limit."""
 
-from tests.gateway.market import BOND
-from tests.gateway.stage import DEALER, Stage
+from tests.admin.test_orders import quoted, request_fields
+from tests.gateway.market import BOND, moment_in
+from tests.gateway.stage import DEALER, INVESTOR, Stage
 from tests.gateway.wait import LONG, until
 from tests.gateway.wire import Fields, Wire
-from tests.limits.flood import cancel, hang_up, logged_on, not_taken
+from tests.limits.flood import cancel, hang_up, logged_on, not_taken, responded, response
 
 TOLD = b"this firm has sent all the bytes that it may send in a day"
 OTHER = b"0"  # BusinessRejectReason (380)
@@ -77,3 +78,25 @@ def test_at_the_limit_of_a_day(stage: Stage) -> None:
         assert answer is not None and answer.value(297) == b"0", (
             "a quote below the new limit is answered %r" % answer
         )
+
+
+def test_an_investor_at_its_limit(stage: Stage) -> None:
+    """It asks for no more prices; it hits what it is shown, and passes on the rest."""
+    stage.door.limits |= {"day_bytes": MOST}
+    stage.open()
+    with logged_on(stage, DEALER) as dealer, logged_on(stage, INVESTOR) as investor:
+        for name, quote in ((b"A1", b"q1"), (b"A2", b"q2")):
+            fields = request_fields(name, moment_in(600))
+            assert investor.raw(investor.message(b"R", b"INV1", fields))
+            quoted(dealer, quote, dealer.got(b"R").given(131))
+        shown = investor.got(b"S").given(117)
+        passes: list[Fields] = [
+            [(693, b"n%d" % at), (694, b"6"), (131, b"none")] for at in range(MOST // 200)
+        ]
+        assert investor.raw(b"".join(response(investor, fields) for fields in passes))
+        last = dict(passes[-1])[693]
+        investor.got_until(lambda message: message.value(693) == last)
+        fields = request_fields(b"A3", moment_in(600))
+        not_taken(investor, b"R", fields, OTHER, TOLD)
+        assert responded(investor, [(693, b"h1"), (694, b"1"), (117, shown)]) == b"0"
+        assert responded(investor, [(693, b"p1"), (694, b"6"), (131, b"A2")]) == b"11"

@@ -2,12 +2,23 @@
 
 import time
 
+from tests.admin.desk import rows
 from tests.gateway.stage import DEALER, Stage
 from tests.gateway.wait import LONG, until
 from tests.gateway.wire import now
 from tests.limits.flood import Flood, cancel, logged_on
 
 SLOW = {"messages_per_second": 500, "messages_burst": 500}
+# docs/CONNECTING.md, "The rate of a firm" and "The bytes of a day"
+NOT_CONFIGURED = {
+    "messages_per_second": 2000,
+    "messages_burst": 10_000,
+    "bytes_per_second": 1 << 20,
+    "bytes_burst": 8 << 20,
+    "resends_per_second": 5000,
+    "resends_burst": 20_000,
+    "day_bytes": 1 << 30,
+}
 TOLD = b"58=more messages or bytes than the rate of a firm allows, for five seconds\x01"
 
 
@@ -47,6 +58,13 @@ def test_a_flood_is_read_at_its_rate_and_ends(stage: Stage) -> None:
     entries = stage.entries_of(stage.dealer)
     assert entries < flood.sent, "all %d messages of a flood are in the log" % flood.sent
     stage.auction([stage.other])
+
+
+def test_what_is_not_configured(stage: Stage) -> None:
+    """No firm that trades comes near to what it may send where its operator has configured nothing."""
+    stage.door.operators = ""
+    stage.open()
+    assert {row["limit"]: row["value"] for row in rows(stage, "limit", "DLR1")} == NOT_CONFIGURED
 
 
 def test_held_back_is_no_silence(stage: Stage) -> None:

@@ -3,10 +3,12 @@
 import re
 import subprocess
 import time
+from datetime import datetime, timedelta, timezone
 from pathlib import Path
 
 import pytest
 
+from tests.gateway.door import today
 from tests.gateway.stage import DEALER, Stage
 from tests.gateway.strangers import with_tls
 from tests.gateway.test_logon import refused_for
@@ -69,9 +71,11 @@ def test_credentials_end_on_a_date(stage: Stage) -> None:
     """The last day is one on which they hold, and the day after is none."""
     stage.open(stage.other)
     with logged_on(stage, DEALER) as wire:
-        edit(stage, "[DLR1]", '[DLR1]\nends = "29991231"')
+        edit(stage, "[DLR1]", '[DLR1]\nends = "%s"' % today())
         renew(stage)
-        edit(stage, "29991231", "20200101")
+        wire.ask()
+        yesterday = datetime.now(timezone.utc) - timedelta(days=1)
+        edit(stage, today(), yesterday.strftime("%Y%m%d"))
         renew(stage)
         logout = wire.read_kind(b"5")
         assert logout is not None and logout.value(58) == GONE

@@ -13,8 +13,8 @@ from tests.admin.test_orders import quoted, request_fields, started_again
 from tests.gateway.market import moment_in
 from tests.gateway.stage import DEALER, INVESTOR, Stage
 from tests.gateway.wait import LONG, until
-from tests.gateway.wire import Fields, Wire
-from tests.limits.flood import cancel, logged_on, not_taken
+from tests.gateway.wire import Wire
+from tests.limits.flood import cancel, logged_on, not_taken, responded
 from tests.operating.test_configuration import told
 
 DISK, RESERVE = 48 << 20, 16 << 20  # bytes
@@ -90,13 +90,6 @@ def at_the_edge(stage: Stage, dealer: Wire, investor: Wire) -> None:
     assert rows(stage, "status")[0]["log_disk_reserve_reached"] is True
 
 
-def said(wire: Wire, fields: Fields) -> bytes | None:
-    """The 297 of the answer to a QuoteResponse."""
-    assert wire.raw(wire.message(b"AJ", wire.name, [(50, b"V1"), *fields]))
-    name = dict(fields)[693]
-    return wire.got_until(lambda message: message.value(693) == name).value(297)
-
-
 def test_at_the_edge_of_the_reserve(disk: Path, stage: Stage) -> None:
     """What begins something is not taken, what ends it is, and the operator sees it; with room again all goes on."""
     opened(stage)
@@ -116,8 +109,8 @@ def test_at_the_edge_of_the_reserve(disk: Path, stage: Stage) -> None:
         )
         assert stage.counters()[FREE] < RESERVE
         at_the_edge(stage, dealer, investor)
-        assert said(investor, [(693, b"h1"), (694, b"1"), (117, shown[0].given(117))]) == b"0"
-        assert said(investor, [(693, b"p1"), (694, b"6"), (131, b"A2")]) == b"11"
+        assert responded(investor, [(693, b"h1"), (694, b"1"), (117, shown[0].given(117))]) == b"0"
+        assert responded(investor, [(693, b"p1"), (694, b"6"), (131, b"A2")]) == b"11"
         make_room(disk)
         reached(stage, 0)
         assert "there is room on the log's disk again" in events(stage)
