@@ -208,6 +208,7 @@ class ConfigReader {
     void read_copies() {
         Section copies = section("copies");
         config_.copies = copies.path("folder");
+        config_.sealed = copies.path("sealed");
         if (copies.has("keep")) {
             config_.keep = copies.number("keep", 1, 1, 36500);
         }

@@ -58,6 +58,7 @@ struct Config {
     std::filesystem::path checkpoints;    // the folder in which the last signature is kept
 
     std::filesystem::path copies;    // the folder that ended days are copied to; empty for none
+    std::filesystem::path sealed;    // where a keeper tells which days are sealed; empty for none
     std::optional<std::size_t> keep; // days whose log stays though it is copied; all where unset
 
     EngineSettings engine;

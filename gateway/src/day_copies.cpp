@@ -213,6 +213,23 @@ void DayCopies::copy(const std::string &date, const std::stop_token &stop) {
     synchronise_folder(config_.copies);
 }
 
+// A keeper with a key of its own has checked and sealed the day: its list has the seal, and this
+// very log.
+void DayCopies::check_sealed(const std::string &date, const Digest &log) const {
+    if (config_.sealed.empty()) {
+        return;
+    }
+    const fs::path told = config_.sealed / copy_of(date).filename();
+    if (!fs::exists(told)) {
+        throw std::runtime_error("it is not sealed yet");
+    }
+    const std::string name = log_of(date).filename();
+    const std::string sums = read_public(told);
+    if (!has_sum(sums, log, name) || sums.find(fmt::format("  {}.seal\n", name)) == sums.npos) {
+        throw std::runtime_error(fmt::format("another log was sealed, as {} says", told.string()));
+    }
+}
+
 // The copy is read anew, so that one which was lost or changed meanwhile takes nothing with it.
 void DayCopies::try_remove(const std::string &date, const std::stop_token &stop) {
     const fs::path log = log_of(date);
@@ -223,6 +240,7 @@ void DayCopies::try_remove(const std::string &date, const std::stop_token &stop)
         if (!has_sum(sums, own, name) || sha256_of_file(copy_of(date) / name, stop) != own) {
             throw std::runtime_error("its copy is another");
         }
+        check_sealed(date, own);
         fs::remove(log);
         fs::remove(log.string() + ".lock");
         fs::remove(checkpoint_of(date));

@@ -4,6 +4,7 @@
 
 #include "config.h"
 #include "metrics.h"
+#include "records.h"
 
 #include <filesystem>
 #include <memory>
@@ -41,6 +42,7 @@ class DayCopies {
     void put_aside(const std::string &date);
     bool try_copy(const std::string &date, const std::stop_token &stop);
     void copy(const std::string &date, const std::stop_token &stop);
+    void check_sealed(const std::string &date, const Digest &log) const;
     void try_remove(const std::string &date, const std::stop_token &stop);
 
     const Config &config_;

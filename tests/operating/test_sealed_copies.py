@@ -9,7 +9,7 @@ import subprocess
 from collections.abc import Callable
 from contextlib import closing
 from dataclasses import dataclass
-from datetime import datetime, timezone
+from datetime import datetime, time, timedelta, timezone
 from pathlib import Path
 
 import pytest
@@ -20,8 +20,13 @@ from mireseason_keeper.settings import read_settings
 
 from tests.audit.draw_day import DATE
 from tests.audit.ledger import public_key
-from tests.gateway.wait import LONG
+from tests.gateway.stage import Stage
+from tests.gateway.wait import LONG, until
+from tests.harness.clock import Clock
 from tests.harness.options import ROOT
+from tests.operating.test_configuration import VENUE
+from tests.operating.test_copies import DAYS, copy_of, first_monday, open_and_end
+from tests.operating.test_week import Week
 
 AUDIT = ROOT / "audit" / "mireseason-audit"
 BEFORE = "20261124"  # the day before the drawn one
@@ -327,3 +332,53 @@ def test_nothing_is_mounted(kept: Place) -> None:
     words = [ROOT / "deploy" / "mireseason-keeper", kept.folder / "keeper.toml"]
     done = subprocess.run(words, capture_output=True, text=True, timeout=LONG, check=False)
     assert done.returncode == 1 and "given" in done.stderr, done.stderr
+
+
+# ------------------------------------------------------------ beside a gateway
+
+
+@pytest.fixture
+def week(stage: Stage, clock: Clock) -> Week:
+    """A gateway that keeps one day's log, and those that are not sealed; and a keeper beside it. Day 1 is a Monday."""
+    found = Week(stage, clock, (first_monday() - timedelta(days=3)).date())
+    (stage.folder / "venue.toml").write_text(VENUE)
+    stage.door.write()
+    file = stage.folder / "gateway.toml"
+    copies = '[copies]\nfolder = "copies"\nsealed = "keeper/sealed"\nkeep = 1\n'
+    file.write_text(file.read_text().replace("day.db", "{date}.db") + DAYS + copies)
+    (stage.folder / "copies").mkdir()
+    keeper = stage.folder / "keeper"
+    keeper.mkdir()
+    write_program(keeper / "program", QUIET, stage.door.programs.venue)
+    write_keeper(keeper, "../copies", "../keys", DAYS)
+    return found
+
+
+def test_no_log_goes_before_it_is_sealed(week: Week) -> None:
+    """Not by the word of another log's seal, and not without one."""
+    stage, keeper = week.stage, week.stage.folder / "keeper"
+    week.set_clock(week.day(1), time(8, 0), -30)
+    stage.door.start()
+    week.wait_told("closed until=")
+    open_and_end(week, 1)
+    first, second, third = (week.log_of(week.day(number)) for number in (1, 2, 3))
+    receipts = [keeper / "sealed" / log.stem for log in (first, second)]
+    forged = "".join("%s  %s\n" % ("0" * 64, first.name + end) for end in ("", ".seal"))
+    receipts[0].write_text(forged)
+    open_and_end(week, 2)
+    week.wait_told('log is not removed date=%s cause="another log was sealed' % first.stem)
+    until("both are copied", LONG, lambda: copy_of(week, 2).exists() and copy_of(week, 1).exists())
+
+    words = [str(ROOT / "deploy" / "mireseason-keeper"), str(keeper / "keeper.toml")]
+    environment = {**os.environ, **week.clock.environment}
+    done = subprocess.run(
+        words, env=environment, capture_output=True, text=True, timeout=LONG, check=False
+    )
+    assert done.returncode == 0, done.stderr
+    for log, receipt in zip((first, second), receipts):
+        assert "  %s.seal\n" % log.name in receipt.read_text()
+    receipts[1].unlink()
+    open_and_end(week, 3)
+    week.wait_told('log is not removed date=%s cause="it is not sealed yet"' % second.stem)
+    until("the sealed one is removed", LONG, lambda: not first.exists())
+    assert second.exists() and third.exists()
