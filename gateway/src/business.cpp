@@ -2,6 +2,9 @@
 
 #include "frame.h"
 
+#include <algorithm>
+#include <array>
+
 #include <fmt/chrono.h>
 #include <fmt/format.h>
 
@@ -11,8 +14,17 @@ namespace {
 
 // BusinessRejectReason (380).
 constexpr std::uint32_t other_reason = 0;
+constexpr std::uint32_t unsupported_message_type = 3;
 constexpr std::uint32_t application_not_available = 4;
 
+// What a firm may send, dealers and investors together, and a BusinessMessageReject.
+constexpr std::array<std::string_view, 6> left_to_the_venue = {"S", "Z", "AG", "R", "AJ", "j"};
+// The types of one letter of FIX 5.0 SP2 that are no session's own.
+constexpr std::string_view types_of_one_letter =
+    "6789BCDEFGHJKLMNPQRSTVWXYZabcdefghijklmnopqrstuvwxyz";
+
+constexpr const char *type_is_not_supported =
+    "the venue takes no messages of this type (MsgType, 35)";
 constexpr const char *firm_is_suspended =
     "the operator has suspended this firm: no request, quote or hit of it is taken";
 constexpr const char *venue_is_halted =
@@ -62,6 +74,26 @@ bool is_behind_end(std::string_view deadline, const TradingDay &day) {
     return seconds > ends || (seconds == ends && has_more);
 }
 
+bool is_between(char letter, char first, char last) {
+    return first <= letter && letter <= last;
+}
+
+// AA to BZ, and CA to CG.
+bool is_type_of_two_letters(std::string_view type) {
+    return is_between(type[0], 'A', 'B') ? is_between(type[1], 'A', 'Z')
+                                         : type[0] == 'C' && is_between(type[1], 'A', 'G');
+}
+
+bool is_type_of_fix(std::string_view type) {
+    if (type.starts_with('U')) {
+        return true;
+    }
+    if (type.size() == 1) {
+        return types_of_one_letter.find(type[0]) != std::string_view::npos;
+    }
+    return type.size() == 2 && is_type_of_two_letters(type);
+}
+
 // A request whose notice would come when the day has ended, or that comes when it closes.
 std::optional<NotTaken> why_no_request(const VenueDay &day, const Sender &sender,
                                        const Business &business) {
@@ -90,6 +122,15 @@ std::optional<NotTaken> why_no_request(const VenueDay &day, const Sender &sender
 // A number may have leading zeros, for the venue too.
 bool is_hit(std::string_view frame) {
     return value_in(frame, "35") == "AJ" && number_of(value_in(frame, "694")) == 1U;
+}
+
+bool is_unsupported(std::string_view type) {
+    return is_type_of_fix(type) && std::find(left_to_the_venue.begin(), left_to_the_venue.end(),
+                                             type) == left_to_the_venue.end();
+}
+
+NotTaken not_supported() {
+    return {unsupported_message_type, type_is_not_supported};
 }
 
 std::optional<Business> business_in(std::string_view frame) {

@@ -1,4 +1,5 @@
-// What the gateway does not take at times: a message that begins something.
+// What the gateway does not take: a message of a type that the venue does not have, and at times
+// one that begins something.
 #ifndef GATEWAY_BUSINESS_H
 #define GATEWAY_BUSINESS_H
 
@@ -36,6 +37,13 @@ struct NotTaken {
     std::uint32_t reason = 0;
     std::string text;
 };
+// The type (MsgType, 35) is one of FIX 5.0 SP2, or of its users (U..), that no firm may send. What
+// is no type of FIX is the venue's to reject, and so is one that firms of the other side may send.
+// So is a firm's BusinessMessageReject (35=j): answered by another, it might come again, without
+// end.
+bool is_unsupported(std::string_view type);
+NotTaken not_supported();
+
 // Nothing where it is. A hit is stopped by a halt alone: the request that it ends is open already.
 std::optional<NotTaken> why_not_taken(const VenueDay &day, const Sender &sender,
                                       const Business &business);

@@ -148,6 +148,10 @@ void FirmSessions::give_turn_back(const std::string &name) {
 // Why a message is not taken, whose frame for the venue this is; nothing where it is.
 std::optional<Taken> FirmSessions::denied(const std::string &name, Firm &firm,
                                           std::string_view frame, const Receipt &receipt) {
+    if (is_unsupported(value_in(frame, "35"))) {
+        const NotTaken why = not_supported();
+        return Taken{Taken::Verdict::denied, why.reason, {}, why.text};
+    }
     const auto business = business_in(frame);
     if (!business) {
         return std::nullopt;
