@@ -1,4 +1,4 @@
-"""Drawn days of a session and a stock QuickFIX initiator, and of drawn events: README.md says what a day is."""
+"""Drawn days of a session and a stock QuickFIX initiator, of two sessions, and of drawn events: README.md says what a day is."""
 
 import hashlib
 import shutil
@@ -22,15 +22,16 @@ KINDS: dict[str, list[str]] = {
 }
 BATCHES = {Form.SHORT: 3, Form.LONG: 200}  # of each kind
 DAYS = 25  # of a batch: 300 in the short form, 20,000 in the long one
-EVENT_DAYS = 100  # of a batch of days without an engine: as many
+EVENT_DAYS = 100  # of a batch of days without an engine, of each kind: as many
 LIMIT = 1200  # seconds a batch: many times what it takes
 COMPILE = "g++ %%s -O1 -Wall -Wextra -Werror -I %s -r -o {out} {sources}" % HEADER
 # A part of a program, as one object: what has not changed is not compiled again.
 MODEL_PART = COMPILE % "-std=c++20 -DSESSION_PREFIX=model_"
 DAYS_PART = COMPILE % "-std=c++14 -Wno-deprecated"  # QuickFIX's headers end with C++14
-EVENTS_PART = COMPILE % "-std=c++14"
+EVENTS_PART = COMPILE % "-std=c++14"  # and that of two sessions
 LINK = "g++ -std=c++14 -I %s %s -o {out} {sources} %s"
 SHARED = ("clock", "differ", "library_model", "machine", "texts")
+TALK = (*SHARED, "venue")
 SWITCH = HERE / "library_proved.cpp"  # which libraries a program has
 
 
@@ -86,6 +87,14 @@ def events() -> Path:
     return program("events", own, "")
 
 
+@pytest.fixture(scope="session")
+def talk() -> Path:
+    """The program that plays days of two sessions that talk."""
+    sources = [HERE / ("%s.cpp" % name) for name in TALK]
+    own = part("two", EVENTS_PART, [*sources, *sorted(HERE.glob("talk/*.cpp"))])
+    return program("talk", own, "")
+
+
 def play(words: list[str], count: int) -> None:
     """Plays days, each of which has to come right."""
     done = subprocess.run(words, capture_output=True, text=True, check=False, timeout=LIMIT)
@@ -98,6 +107,13 @@ def test_each_message_comes_once_and_in_order(days: Path, kind: str, batch: int,
     """Both ways, whatever broke; and then both sides are logged on, settled and quiet."""
     first = seed + batch * DAYS
     play([str(days), str(first), str(first + DAYS - 1), *KINDS[kind]], DAYS)
+
+
+def test_two_sessions_that_talk(talk: Path, batch: int, seed: int) -> None:
+    """Over a line that loses, doubles, spoils, shortens, delays and breaks: each turn keeps the laws, and once the line is
+    calm each side has counted all that the other gave, once and in order."""
+    first = seed + batch * EVENT_DAYS
+    play([str(talk), str(first), str(first + EVENT_DAYS - 1)], EVENT_DAYS)
 
 
 def test_both_libraries_say_the_same(events: Path, batch: int, seed: int) -> None:

@@ -46,7 +46,7 @@ void Venue::opened(int connection) {
 
 void Venue::gone(int connection) {
     if (connections_.erase(connection) > 0) {
-        machine_.gone(static_cast<std::uint64_t>(connection));
+        forget(connection);
         admit();
     }
 }
@@ -96,10 +96,9 @@ void Venue::message(int connection, const std::string &bytes) {
         return;
     }
     if (!line.has_spoken) {
-        const Question asked = Machine::question(bytes);
         line.has_spoken = true;
         line.logon = bytes;
-        line.is_known = asked.username == "dlr1" && asked.password == "secret";
+        line.is_known = carrier_.knows(Machine::question(bytes));
     }
     came(connection, bytes, line.is_known);
     admit();
@@ -129,7 +128,8 @@ void Venue::came(int connection, const std::string &bytes, bool is_known) {
     if (turn.told.first.is_kept && is_reject(turn.kept)) {
         carrier_.rejected(bytes, machine_.state().day.expected == before.day.expected + 1);
     }
-    act(turn, true);
+    const Came came{connection, bytes, is_known};
+    act(turn, true, &came);
 }
 
 void Venue::admit() {
@@ -141,7 +141,12 @@ void Venue::admit() {
     }
 }
 
-void Venue::act(const Turn &turn, bool is_own) {
+void Venue::forget(int connection) {
+    machine_.gone(static_cast<std::uint64_t>(connection));
+    before_ = machine_.state();
+}
+
+void Venue::act(const Turn &turn, bool is_own, const Came *came) {
     if (!turn.is_done) {
         throw std::runtime_error("a call of the session did nothing");
     }
@@ -152,6 +157,8 @@ void Venue::act(const Turn &turn, bool is_own) {
         drop_rejects();
     }
     keep(turn, is_own);
+    carrier_.saw({before_, machine_.state(), turn, came, kept_});
+    before_ = machine_.state();
     const int connection = static_cast<int>(turn.told.connection);
     if (!turn.first.empty()) {
         carrier_.send(connection, turn.first);
@@ -187,7 +194,7 @@ void Venue::drop_rejects() {
 
 void Venue::end(int connection) {
     if (connections_.erase(connection) > 0) {
-        machine_.gone(static_cast<std::uint64_t>(connection));
+        forget(connection);
         carrier_.close(connection);
     }
 }
@@ -232,6 +239,7 @@ void Venue::tick() {
 void Venue::restart() {
     connections_.clear();
     machine_.restart();
+    before_ = machine_.state();
 }
 
 void Venue::open() {
@@ -263,6 +271,15 @@ void Venue::reset() {
     kept_.swap(copies);
     act(machine_.ordered(Machine::Order::Reset, kept_.size()), true);
     admit();
+}
+
+std::uint64_t Venue::use_number() {
+    SessionState state = machine_.state();
+    const std::uint64_t number = state.day.is_one_free ? 1 : state.day.next++;
+    state.day.is_one_free = false;
+    machine_.adopt(state);
+    before_ = state;
+    return number;
 }
 
 bool Venue::is_idle() const {

@@ -11,6 +11,22 @@
 
 namespace sessions {
 
+// A message that came.
+struct Came {
+    int connection = 0;
+    std::string bytes;
+    bool is_known = false; // the credentials of its connection are right
+};
+
+// What an event did to a session.
+struct Seen {
+    const SessionState &before;
+    const SessionState &after;
+    const Turn &turn;
+    const Came *came;                          // null where nothing came
+    const std::map<std::uint64_t, Kept> &kept; // with what the turn keeps
+};
+
 // Whoever carries the venue's bytes, and sees what it does.
 class Carrier {
   public:
@@ -28,11 +44,18 @@ class Carrier {
     // What was rejected has no Reject any more that bears its number.
     virtual void rejects_dropped() = 0;
     virtual void note(const std::string &text) = 0;
+    // Whether the credentials of a Logon are right.
+    virtual bool knows(const Question &asked) const {
+        return asked.username == "dlr1" && asked.password == "secret";
+    }
+    // An event is over, and what it sends leaves behind this.
+    virtual void saw(const Seen &seen) { (void)seen; }
 };
 
 class Venue {
   public:
-    explicit Venue(Carrier &carrier) : carrier_(carrier) {}
+    explicit Venue(Carrier &carrier, const Names &names = Names())
+        : carrier_(carrier), machine_(names), before_(machine_.state()) {}
 
     // A connection begins, brings bytes, is gone.
     void opened(int connection);
@@ -54,6 +77,8 @@ class Venue {
     void log_out();
     // An operator's reset: what the firm is not known to have gets new numbers.
     void reset();
+    // A number for a Logon: what is written for a venue sends none that is no answer.
+    std::uint64_t use_number();
 
     bool is_on() const { return machine_.state().phase == 1; }
     bool is_settled() const { return is_on() && machine_.state().line.is_settled; }
@@ -76,7 +101,8 @@ class Venue {
     void message(int connection, const std::string &bytes);
     void came(int connection, const std::string &bytes, bool is_known);
     bool has_the_session(int connection) const;
-    void act(const Turn &turn, bool is_own);
+    void act(const Turn &turn, bool is_own, const Came *came = nullptr);
+    void forget(int connection);
     void keep(const Turn &turn, bool is_own);
     void drop_rejects();
     void end(int connection);
@@ -86,6 +112,7 @@ class Venue {
 
     Carrier &carrier_;
     Machine machine_;
+    SessionState before_; // the event that goes on
     std::map<int, Connection> connections_;
     std::map<std::uint64_t, Kept> kept_;
 };
