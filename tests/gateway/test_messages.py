@@ -176,11 +176,11 @@ def test_unknown_trader(stage: Stage) -> None:
 # ---------------------------------------------------------------- what no stock engine sends
 
 
-def on_a_wire(stage: Stage, number: int = 1) -> Wire:
+def on_a_wire(stage: Stage, number: int = 1, heartbeat: bytes = b"30") -> Wire:
     """A session of DLR1 that begins with this number of its own, and is ready."""
     wire = Wire(stage.door.port)
     wire.number = number
-    wire.logon(DEALER.name.encode(), DEALER.password.encode())
+    wire.logon(DEALER.name.encode(), DEALER.password.encode(), heartbeat=heartbeat)
     check(wire.read_kind(b"A") is not None, "no Logon on a wire")
     check(wire.read_kind(b"1") is not None, "no TestRequest after a Logon")
     return wire
@@ -393,23 +393,29 @@ def test_faster_than_the_log(stage: Stage) -> None:
         2**26
     )  # else it is the firm's rate that holds it, and not the log
     stage.open(stage.other, stage.investor)
-    with on_a_wire(stage) as wire:
+    # A slow venue answers for minutes, in which the firm says nothing.
+    with on_a_wire(stage, heartbeat=b"300") as wire:
         before, count = (
             stage.memory(),
             8000,
         )  # 50 MB of lines, of which a gateway keeps some four times 4 MiB, and more of a slow venue
-        data = b"".join(
-            wire.message(b"Z", b"DLR1", cancel(b"c%d" % number) + [(TEXT, b"x" * 3000)])
-            for number in range(count)
-        )
-        sender = threading.Thread(target=wire.raw, args=(data,))
+
+        def send() -> None:
+            # Each is made as it is sent: the gateway takes no 52 that is two minutes old.
+            for number in range(count):
+                wire.raw(
+                    wire.message(b"Z", b"DLR1", cancel(b"c%d" % number) + [(TEXT, b"x" * 3000)])
+                )
+
+        sender = threading.Thread(target=send)
         sender.start()
         stage.ping(stage.other)
-        check(
-            wire.read_until(lambda message: message.value(117) == b"c%d" % (count - 1), 5 * LONG)
-            is not None,
-            "the last is not answered",
+        # The second implementation answers a hundred a second, and a busy machine has fewer.
+        last = wire.read_until(
+            lambda message: message.value(117) == b"c%d" % (count - 1), 10 * LONG
         )
+        state = "has ended" if wire.is_over else "stands"
+        check(last is not None, "the last is not answered, and the connection %s" % state)
         sender.join()
         check(
             stage.memory() - before < 60 * 2**20,
