@@ -133,10 +133,8 @@ def test_an_entry_that_is_put_in(stage_of_log: Stage, with_seal: bool) -> None:
     stage = stage_of_log
     quote = asked_and_quoted(stage)
     key = str(stage.door.keys / "gateway.pub")
-    check(
-        audited(stage, "--gateway-key", key).returncode == 0,
-        "the log is not whole before: %s" % audited(stage).stdout,
-    )
+    before = audited(stage, "--gateway-key", key)
+    check(before.returncode == 0, "the log is not whole before: %s" % before.stdout)
     intruder, moment = Intruder(stage.door), now_text()
     place = intruder.put_in("INV1", moment, hit_of(stage, quote, moment))
     if with_seal:

@@ -16,6 +16,7 @@ from tests.harness.clock import Clock
 from tests.limits.flood import cancel, logged_on, not_taken, responded
 
 STEPS = "mireseason_clock_steps_total"
+NOTHING_BEGINS = 'no request and no quote is taken until="an operator accepts the clock"'
 NOT_AVAILABLE = b"4"  # BusinessRejectReason (380)
 TIME_ERROR, STA_UNSYNC = 5, 0x40  # of adjtimex(2)
 
@@ -56,6 +57,7 @@ def test_a_clock_that_is_set(stage: Stage, clock: Clock, step: int) -> None:
         )
         told = lambda: until("it is told", LONG, lambda: tells(stage, by))
         Budget("that the clock was set", most=2).hold(lambda: seconds_of(told))
+        until("what it stops is told", LONG, lambda: tells(stage, NOTHING_BEGINS))
         assert stage.counters()[STEPS] == 1
         ends_alone_are_taken(stage, dealer, investor, shown)
 

@@ -1,9 +1,11 @@
 """What strangers who guess passwords cost the gateway: half of its processors at most."""
 
 import os
+import signal
 import threading
 import time
 from concurrent.futures import ThreadPoolExecutor
+from pathlib import Path
 
 from tests.gateway.stage import DEALER, Stage, check
 from tests.gateway.wait import LONG, until
@@ -15,6 +17,7 @@ ADDRESSES = (
 AT_ONCE = max(1, min(4, len(os.sched_getaffinity(0)) // 2))  # passwords are hashed at one time
 SPARE = 0.5  # processors: all that the gateway does beside, with room
 SECONDS = 4
+LOOKS = 40  # so often it is seen who hashes
 COUNTED = 'mireseason_wrong_passwords_total{firm="DLR1"}'
 
 
@@ -26,6 +29,63 @@ def guess(stage: Stage, source: str, over: threading.Event) -> None:
             wire.closed_within(LONG)
 
 
+def code_of_hashes(pid: int) -> list[range]:
+    """Where the library that hashes passwords is in the gateway's memory."""
+    lines = Path("/proc/%d/maps" % pid).read_text().splitlines()
+    found = [line.split()[0].split("-") for line in lines if "libcrypt.so" in line]
+    return [range(int(begin, 16), int(end, 16)) for begin, end in found]
+
+
+def stands(task: Path) -> bool:
+    """A thread that was stopped, or is gone."""
+    try:
+        return (task / "stat").read_text().rsplit(")", 1)[1].split()[0] in "TtXZ"
+    except OSError:
+        return True
+
+
+def place_of(task: Path) -> int:
+    """What a stopped thread was at; 0 where that was a call of the system, or can't be read."""
+    try:
+        words = (task / "syscall").read_text().split()
+    except OSError:
+        return 0
+    return int(words[2], 16) if words[:1] == ["-1"] else 0
+
+
+def hashing(pid: int, code: list[range]) -> int:
+    """How many threads of the gateway hash a password. It stands still while they are counted: so the load does not matter."""
+    os.kill(pid, signal.SIGSTOP)
+    try:
+        tasks = list(Path("/proc/%d/task" % pid).iterdir())
+        until("it stands still", LONG, lambda: all(stands(task) for task in tasks))
+        places = [place_of(task) for task in tasks]
+        return sum(any(place in part for part in code) for place in places)
+    finally:
+        os.kill(pid, signal.SIGCONT)
+
+
+def judged(stage: Stage) -> float:
+    return stage.counters().get(COUNTED, 0)
+
+
+def more_are_judged(stage: Stage) -> None:
+    before = judged(stage)
+    until("more are judged", LONG, lambda: judged(stage) > before)
+
+
+def most_hashing(stage: Stage) -> int:
+    """The greatest number of passwords that are hashed at one time, of many looks."""
+    pid = stage.door.running.pid
+    code = code_of_hashes(pid)
+    assert code, "the gateway has no library that hashes passwords"
+    most = 0
+    for _ in range(LOOKS):
+        more_are_judged(stage)
+        most = max(most, hashing(pid, code))
+    return most
+
+
 def test_half_of_the_processors(stage: Stage) -> None:
     """Forty addresses guess a firm's password without end: they have half of the processors, and the firms that trade the rest."""
     stage.open(stage.other)
@@ -34,10 +94,11 @@ def test_half_of_the_processors(stage: Stage) -> None:
         sources = ["127.0.2.%d" % (at + 1) for at in range(ADDRESSES)]
         guessers = [pool.submit(guess, stage, source, over) for source in sources]
         try:
-            until("all have begun", LONG, lambda: stage.counters().get(COUNTED, 0) >= ADDRESSES)
+            until("all have begun", LONG, lambda: judged(stage) >= ADDRESSES)
             began, worked = time.monotonic(), stage.worked()
             until("some seconds are over", LONG, lambda: time.monotonic() - began >= SECONDS)
             used = (stage.worked() - worked) / (time.monotonic() - began)
+            most = most_hashing(stage)
             stage.ping(stage.other)
             with Wire(stage.door.port) as wire:
                 assert wire.logon(b"DLR1", DEALER.password.encode())
@@ -46,6 +107,7 @@ def test_half_of_the_processors(stage: Stage) -> None:
             over.set()
     for guesser in guessers:
         guesser.result()
+    check(most <= AT_ONCE, "%d passwords are hashed at one time, and not %d" % (most, AT_ONCE))
     check(
         used <= AT_ONCE + SPARE or not stage.tools.measures,
         "the gateway uses %.1f processors, and not %d" % (used, AT_ONCE),

@@ -2,7 +2,6 @@
 
 import re
 import subprocess
-import time
 from datetime import datetime, timedelta, timezone
 from pathlib import Path
 
@@ -14,11 +13,11 @@ from tests.gateway.strangers import with_tls
 from tests.gateway.test_logon import refused_for
 from tests.gateway.wait import LONG, until
 from tests.gateway.wire import Wire
+from tests.harness.budget import seconds_of
 from tests.limits.flood import hang_up, logged_on
 
-PAUSES = (
-    0.01 + 0.02 + 0.04 + 0.08 + 0.16 + 4 * 0.25
-)  # seconds: what the first nine wrong passwords make those after them wait
+GUESSES = 10
+LONGEST_PAUSE = 0.25  # seconds: what each wrong password after the fifth makes the next one wait
 GONE = b"the credentials of this session are not valid any more"
 
 
@@ -146,15 +145,18 @@ def test_addresses_that_are_no_firms(stage: Stage) -> None:
     stage.ping(stage.other)
 
 
-def test_wrong_passwords_are_counted_and_cost_time(stage: Stage) -> None:
-    """By firm in the metrics, by address in an event at the tenth; each makes the next one wait longer to be judged."""
-    stage.open(stage.other)
-    began = time.monotonic()
-    for _ in range(10):
+def guess(stage: Stage) -> None:
+    """Wrong passwords one after the other, GUESSES of them."""
+    for _ in range(GUESSES):
         with Wire(stage.door.port) as wire:
             wire.logon(b"DLR1", b"guess")
             assert wire.closed_within(LONG) and not wire.waiting
-    took = time.monotonic() - began
+
+
+def test_wrong_passwords_are_counted_and_cost_time(stage: Stage) -> None:
+    """By firm in the metrics, by address in an event at the tenth; each makes the next one wait longer to be judged."""
+    stage.open(stage.other)
+    guess(stage)
     until(
         "they are counted",
         LONG,
@@ -166,7 +168,8 @@ def test_wrong_passwords_are_counted_and_cost_time(stage: Stage) -> None:
         lambda: "wrong passwords address=127.0.0.1 count=10 firm=DLR1"
         in stage.door.told.read_text(),
     )
-    assert took >= PAUSES, "ten wrong passwords after each other took %.2f s" % took
+    took = seconds_of(lambda: guess(stage))
+    assert took >= (GUESSES - 1) * LONGEST_PAUSE, "%d more took %.2f s" % (GUESSES, took)
     stage.log_on(stage.dealer)
     stage.ping(stage.dealer)
 

@@ -133,7 +133,8 @@ def test_the_disk_is_full_behind_the_reserve(disk: Path, stage: Stage) -> None:
             if not dealer.raw(piece):
                 break
             dealer.number, count = dealer.number + 100, count + 100
-            dealer.read_until(lambda message: message.value(117) == b"c99")
+            if dealer.read_until(lambda message: message.value(117) == b"c99") is None:
+                break  # the gateway ends, or says nothing any more
     assert stage.door.wait_end() == 1
     # SQLite says `database or disk is full`, or `disk I/O error` where it was the index of its WAL that had no room.
     assert "the log could not be written: SQLite" in stage.door.last_words()
