@@ -144,7 +144,7 @@ def test_a_stolen_cookie_after_the_logout(house: House) -> None:
     """All its pages are closed, and neither it nor its token is of any use, also after a restart."""
     desk = house.investor
     ticket = log_in(desk)
-    view, bystander = View(desk, ticket=ticket), View(desk)
+    view, bystander = View(desk, ticket=ticket), house.view(desk)
     assert log_out(desk, ticket).status == 200
     assert view.until_closed() == 1008
     here = "127.0.0.1:%d" % desk.port.number

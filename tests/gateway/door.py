@@ -2,6 +2,7 @@
 
 import json
 import os
+import random
 import signal
 import socket
 import subprocess
@@ -12,6 +13,9 @@ from pathlib import Path
 from tests.gateway.firm import Identity
 from tests.gateway.ledger import Ledger, PostgresLog, read_ledger
 from tests.gateway.wait import LONG, until, within
+
+PORTS = range(10_000, 32_768)
+TRIES = 1000
 
 
 @dataclass(frozen=True)
@@ -28,19 +32,34 @@ def programs_of(gateway: Path, venue: list[str]) -> Programs:
     return Programs(gateway.resolve(), tuple(words))
 
 
+def drawn_port(_: int) -> int:
+    """Not by the seed: two processes would draw the same."""
+    return random.SystemRandom().randrange(PORTS.start, PORTS.stop)
+
+
 def today() -> str:
     return datetime.now(timezone.utc).strftime("%Y%m%d")
 
 
 class Port:
-    """A port of the loopback. As long as this stands nobody else is given it, but for who asks for it by its number."""
+    """A port of the loopback. As long as this stands nobody else is given it, but for who asks for it by its number.
+
+    It is none of those that the kernel gives (from 32768 on): these it gives also to a second server, while the one that is to
+    have it is started again.
+    """
 
     def __init__(self) -> None:
         self._held = socket.socket()
-        self._held.bind(("127.0.0.1", 0))
+        self.number: int = next(filter(self._is_had, map(drawn_port, range(TRIES))))
         # After bind(), so that no other socket shares it: now one with the same option, as a server's, may have it too.
         self._held.setsockopt(socket.SOL_SOCKET, socket.SO_REUSEADDR, 1)
-        self.number: int = self._held.getsockname()[1]
+
+    def _is_had(self, number: int) -> bool:
+        try:
+            self._held.bind(("127.0.0.1", number))
+        except OSError:
+            return False
+        return True
 
 
 def free_port() -> int:
