@@ -47,7 +47,7 @@ changes() {
     echo "mireseason ($version) stable; urgency=medium"
     echo
     awk -v version="$version" '$1 == "##" { here = $2 == version; next } here && /^- / { sub(/^- /, "  * "); print; next }
-        here && NF { print "    " $0 }' "$root/CHANGELOG.md" | sed 's/^ *    /    /' | fold -s -w 78 |
+        here && NF { print "    " $0 }' "$root/CHANGELOG.md" | sed 's/^ *    /    /' | fold -s -w 76 |
         sed 's/^\([^ ]\)/    \1/; s/ *$//'
     printf '\n -- Mireseason maintainers <maintainers@users.noreply.mireseason.example>  %s\n' "$(date -u -R -d "@$moment")"
 }

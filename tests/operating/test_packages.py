@@ -1,5 +1,6 @@
 """The Debian packages: what is in them."""
 
+import gzip
 import hashlib
 import os
 import re
@@ -103,6 +104,18 @@ def test_lintian_finds_no_error(packages: Packages) -> None:
     words = ["lintian", "--allow-root", "--fail-on", "error", *map(str, files)]
     done = subprocess.run(words, capture_output=True, text=True, timeout=10 * LONG, check=False)
     assert done.returncode == 0, done.stdout + done.stderr
+
+
+def test_the_changelog_fits_a_terminal(packages: Packages, place: Path) -> None:
+    """The part of CHANGELOG.md, as Debian's tools show it: 80 characters a line."""
+    for name in PACKAGES:
+        root = packages.unpacked(name, place / name)
+        text = gzip.decompress(
+            (root / "usr/share/doc" / name / "changelog.gz").read_bytes()
+        ).decode()
+        assert text.startswith("mireseason (%s) " % VERSION)
+        changes = [line for line in text.splitlines() if line.startswith("  ")]
+        assert changes and [line for line in changes if len(line) > 80] == []
 
 
 def test_the_program_is_the_proved_one(
