@@ -8,14 +8,15 @@
 #include <stdexcept>
 
 #include <fmt/format.h>
+#include <fmt/ranges.h>
 
 namespace gateway {
 
 namespace {
 
 // The log is sealed up to this entry, and `seals` is the number of that seal.
-void commit_act(const Config &config, const std::string &text, Database &database, LogReader &log,
-                const Entry &last, std::uint32_t seals) {
+void commit_acts(const Config &config, const std::vector<std::string> &texts, Database &database,
+                 LogReader &log, const Entry &last, std::uint32_t seals) {
     const auto term = database.take_over();
     if (!term) {
         throw std::runtime_error("another gateway writes the log: there it was accepted, or is to "
@@ -27,8 +28,11 @@ void commit_act(const Config &config, const std::string &text, Database &databas
     const Position end{*term, last.place, last.hash, event ? event->place : 0,
                        event ? event->hash : Digest{}};
     Batch batch;
-    batch.entries.push_back(
-        note_entry(last.place + 1, *term, note_kinds::act, text, clock.exact_now()));
+    std::uint32_t place = last.place;
+    for (const std::string &text : texts) {
+        batch.entries.push_back(
+            note_entry(++place, *term, note_kinds::act, text, clock.exact_now()));
+    }
     Chain chain(end, sealer_of(config), seals);
     chain.link(batch);
     chain.seal(batch);
@@ -37,18 +41,18 @@ void commit_act(const Config &config, const std::string &text, Database &databas
 
 } // namespace
 
-AcceptedLoss accept_loss(const Config &config, const Act &act,
+AcceptedLoss accept_loss(const Config &config, const std::vector<Act> &acts,
                          const std::shared_ptr<spdlog::logger> &events) {
-    const std::string text = text_of(act);
+    const std::vector<std::string> texts = texts_of(acts);
     const auto database = open_database(config);
     const auto reader = database->reader();
     LogGuard guard(sealer_of(config), config.checkpoints, events);
     AcceptedLoss accepted;
     accepted.has_begin = reader->last_entry().has_value();
     accepted.said = guard.accept(*reader, [&](const Entry &last) {
-        commit_act(config, text, *database, *reader, last, guard.seals());
+        commit_acts(config, texts, *database, *reader, last, guard.seals());
     });
-    events->warn("loss accepted {} act=\"{}\"", accepted.said, text);
+    events->warn("loss accepted {} act=\"{}\"", accepted.said, fmt::join(texts, "; "));
     return accepted;
 }
 

@@ -28,9 +28,9 @@ class AdminScene {
     virtual HeldDay hold_day() = 0;
     // What it waits for where no day goes on: in a few words.
     virtual std::string waits_for() = 0;
-    // Commits the act into each log that waits to be accepted, and accepts it. Returns what was
+    // Commits the acts into each log that waits to be accepted, and accepts it. Returns what was
     // given up. Throws AdminFault where none waits, and std::runtime_error.
-    virtual std::string accept_loss(const Act &act) = 0;
+    virtual std::string accept_loss(const std::vector<Act> &acts) = 0;
 
     // The trading day that opens next, and what it opens with.
     struct NextDay {

@@ -117,8 +117,9 @@ const std::vector<AdminCommand> &admin_commands() {
         {"clock accept", "[--because TEXT]",
          "takes requests and quotes again after the clock was set", run_clock_accept},
         {"reload", "[--because TEXT]", "reads credentials and certificates again", run_reload},
-        {"log accept-loss", "--because TEXT",
-         "takes a log whose end was lost as it is, and opens the day", run_log_accept_loss},
+        {"log accept-loss", "[--halt] --because TEXT",
+         "takes a log whose end was lost as it is, and opens the day, or opens it halted",
+         run_log_accept_loss},
         {"help", "", "lists the commands", run_help},
     };
     return commands;

@@ -3,12 +3,20 @@
 
 namespace gateway {
 
+// With `--halt` the venue is halted by the same transaction: what was lost may come again from an
+// engine as soon as the day opens, and no second command can be sure to be earlier.
 AdminAnswer run_log_accept_loss(AdminCall &call) {
-    check_words(call, 0, 0);
+    const bool halts = call.words == std::vector<std::string>{"--halt"};
+    check_words(call, 0, halts ? 1 : 0);
     if (call.because.empty()) {
         throw AdminFault("say why: --because \"the disk of db1 is gone\"");
     }
-    return {call.scene.accept_loss(call.act("log accept-loss")), {}};
+    std::vector<Act> acts{call.act("log accept-loss")};
+    if (halts) {
+        acts.push_back(call.act("halt"));
+    }
+    return {call.scene.accept_loss(acts) + (halts ? "; the venue is halted until `resume`" : ""),
+            {}};
 }
 
 } // namespace gateway

@@ -101,9 +101,10 @@ COMMANDS
     reload
         Reads credentials and certificates again. Only sessions whose own are gone end.
 
-    log accept-loss --because TEXT
+    log accept-loss [--halt] --because TEXT
         Where the gateway has found that the end of its log is lost, and waits: takes the log as it
-        is, and opens the day. What was lost stays lost. Putting the log back is better.
+        is, and opens the day; with --halt it opens halted, until resume. What was lost stays lost.
+        Putting the log back is better.
 
     help
         The commands of the gateway that is asked.

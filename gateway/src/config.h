@@ -72,8 +72,8 @@ struct Config {
     ShareLimits shares;
     std::uint64_t day_bytes = 1073741824;
 
-    // The text of the act by which an operator accepted that the log begins anew; empty as a rule.
-    std::string opening_act;
+    // The texts of the acts by which an operator accepted that the log begins anew; none as a rule.
+    std::vector<std::string> opening_acts;
 
     DayRules days;
 

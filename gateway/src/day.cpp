@@ -99,9 +99,10 @@ OpenedDay begin_log(const Config &config, const Day &day, Database &database, Lo
     first.hash = hash_of(first);
     Batch batch;
     batch.entries.push_back(first);
-    if (!config.opening_act.empty()) {
-        Entry act = note_entry(1, first.term, note_kinds::act, config.opening_act, now);
-        act.before = first.hash;
+    for (const std::string &text : config.opening_acts) {
+        const Entry &before = batch.entries.back();
+        Entry act = note_entry(before.place + 1, first.term, note_kinds::act, text, now);
+        act.before = before.hash;
         act.hash = hash_of(act);
         batch.entries.push_back(std::move(act));
     }

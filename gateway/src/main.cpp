@@ -167,7 +167,7 @@ void accept_loss(const std::string &path) {
     const auto events = make_events(configs.front().event_level);
     for (const gateway::Config &config : configs) {
         const gateway::Act act{gateway::who_is(::getuid()), "log accept-loss", ""};
-        std::cout << gateway::accept_loss(config, act, events).said << '\n';
+        std::cout << gateway::accept_loss(config, {act}, events).said << '\n';
     }
 }
 

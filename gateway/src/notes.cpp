@@ -59,6 +59,15 @@ std::string text_of(const Act &act) {
     return text;
 }
 
+std::vector<std::string> texts_of(const std::vector<Act> &acts) {
+    std::vector<std::string> texts;
+    texts.reserve(acts.size());
+    for (const Act &act : acts) {
+        texts.push_back(text_of(act));
+    }
+    return texts;
+}
+
 std::string text_of(const KernelClock &sample) {
     return fmt::format("{} {}", sample.is_synchronised ? "synchronised" : "unsynchronised",
                        sample.greatest_error.count());

@@ -43,6 +43,7 @@ struct Act {
 // The text of its note: WHO WORDS, and the reason as because="..", where every byte that is no
 // printable ASCII, a quotation mark and a backslash stand as \xHH. Throws ActTooLong.
 std::string text_of(const Act &act);
+std::vector<std::string> texts_of(const std::vector<Act> &acts);
 
 // The text of the notes about the clock: `synchronised ERROR` or `unsynchronised ERROR`, and
 // `set BY`, all in microseconds.

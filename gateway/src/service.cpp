@@ -341,7 +341,7 @@ std::string Service::waits_for() {
     return waits_for_;
 }
 
-std::string Service::accept_loss(const Act &act) {
+std::string Service::accept_loss(const std::vector<Act> &acts) {
     const std::lock_guard one_at_a_time(acceptance_mutex_);
     std::vector<std::size_t> venues;
     std::vector<Config> configs;
@@ -355,8 +355,8 @@ std::string Service::accept_loss(const Act &act) {
     }
     std::string said;
     for (const std::size_t at : venues) {
-        const AcceptedLoss accepted = gateway::accept_loss(configs[at], act, events_);
-        configs[at].opening_act = accepted.has_begin ? "" : text_of(act);
+        const AcceptedLoss accepted = gateway::accept_loss(configs[at], acts, events_);
+        configs[at].opening_acts = accepted.has_begin ? std::vector<std::string>() : texts_of(acts);
         said += (said.empty() ? "" : "; ") + accepted.said;
     }
     const std::lock_guard lock(mutex_);

@@ -80,7 +80,7 @@ class Service final : private AdminScene {
     // AdminScene
     HeldDay hold_day() override;
     std::string waits_for() override;
-    std::string accept_loss(const Act &act) override;
+    std::string accept_loss(const std::vector<Act> &acts) override;
     NextDay next_day() override;
 
     TradingDay day_after(SystemSeconds now);

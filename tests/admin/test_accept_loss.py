@@ -7,6 +7,7 @@ from collections.abc import Callable
 import pytest
 
 from tests.admin.desk import acts, admin, audit, did, rows, socket_of
+from tests.admin.test_orders import halt_is_seen
 from tests.gateway.stage import Stage
 from tests.gateway.test_seals import kept_aside, put_back
 from tests.gateway.wait import LONG, until
@@ -31,10 +32,8 @@ LOSSES: list[Callable[[Stage], None]] = [cut_off, gone, kept_gone]
 NAMES = ["an old backup", "no log", "no checkpoint"]
 
 
-@pytest.mark.parametrize("lose", LOSSES, ids=NAMES)
-def test_a_loss_that_is_accepted(stage: Stage, lose: Callable[[Stage], None]) -> None:
-    """Nothing but the operator's socket is open; nothing of the day can be changed; once the loss is accepted the day opens, and
-    the log says by whom and why."""
+def until_it_waits(stage: Stage, lose: Callable[[Stage], None]) -> None:
+    """A day with a trade loses the end of its log, and the gateway is started again."""
     stage.door.operators = ""
     stage.open(*stage.firms)
     stage.auction()
@@ -48,6 +47,13 @@ def test_a_loss_that_is_accepted(stage: Stage, lose: Callable[[Stage], None]) ->
     lose(stage)
     stage.door.start()
     until("it waits", LONG, lambda: "waits for the operator" in stage.door.last_words())
+
+
+@pytest.mark.parametrize("lose", LOSSES, ids=NAMES)
+def test_a_loss_that_is_accepted(stage: Stage, lose: Callable[[Stage], None]) -> None:
+    """Nothing but the operator's socket is open; nothing of the day can be changed; once the loss is accepted the day opens, and
+    the log says by whom and why."""
+    until_it_waits(stage, lose)
     (row,) = rows(stage, "status")
     assert row["state"] == "waits" and row["for"].startswith("log accept-loss: "), row
     with socket.socket() as probe:
@@ -74,6 +80,27 @@ def test_a_loss_that_is_accepted(stage: Stage, lose: Callable[[Stage], None]) ->
     stage.door.wait_open()
     found = audit(stage, "acts")
     assert found.status == 0 and "log accept-loss, because" in found.out, found.text
+
+
+@pytest.mark.parametrize("lose", LOSSES, ids=NAMES)
+def test_a_day_that_opens_halted(stage: Stage, lose: Callable[[Stage], None]) -> None:
+    """The halt stands in the log with the acceptance, so no firm is there before it; it holds until the operator ends it, also
+    over a restart."""
+    until_it_waits(stage, lose)
+    said = admin(stage, "log", "accept-loss", "--halt", "--because", "until the firms agree")
+    assert said.status == 0 and "the venue is halted until `resume`" in said.out, said.text
+    stage.door.wait_open()
+    (accepted, halted) = acts(stage)[-2:]
+    assert accepted.endswith(b' log accept-loss because="until the firms agree"'), accepted
+    assert halted.endswith(b' halt because="until the firms agree"'), halted
+    halt_is_seen(stage, "yes", takes_business=False)
+    stage.door.stop()
+    stage.door.start()
+    stage.door.wait_open()
+    halt_is_seen(stage, "yes", takes_business=False)
+    did(stage, "resume")
+    halt_is_seen(stage, "no", takes_business=True)
+    until("the record is whole", LONG, lambda: audit(stage, "check").status == 0)
 
 
 def test_a_gateway_that_waits_is_ended(stage: Stage) -> None:
