@@ -1,5 +1,11 @@
 """The fixtures themselves: each gives what tests/README.md says of it."""
 
+import os
+import subprocess
+import sys
+
+import pytest
+
 from tests.admin.desk import did
 from tests.gateway.ledger import answers
 from tests.gateway.stage import DEALER, INVESTOR, Stage, check
@@ -51,6 +57,32 @@ def test_a_clock_that_is_set(stage: Stage, clock: Clock) -> None:
         "the venue answers nothing",
     )
     stage.whole()
+
+
+WAITS = {
+    "sleeps": "time.sleep(86400)",
+    "waits for a lock": "lock.acquire(timeout=86400)",
+    "waits beside a thread that works": "threading.Thread(target=work, daemon=True).start(); time.sleep(86400)",
+}
+
+
+@pytest.mark.parametrize("wait", WAITS)
+def test_a_program_that_waits_while_time_passes(clock: Clock, wait: str) -> None:
+    """It waits for a day, and goes on within a fifth of a second once a day has passed by its clock."""
+    text = "import threading, time\nlock = threading.Lock()\nlock.acquire()\ndef work():\n  while True: pass\n"
+    program = subprocess.Popen(
+        [sys.executable, "-c", text + WAITS[wait]], env={**os.environ, **clock.environment}
+    )
+
+    def has_ended_an_hour_later() -> bool:
+        clock.has_passed(clock.passed + 60 * 60)
+        return program.poll() is not None
+
+    try:
+        until("it ends", LONG, has_ended_an_hour_later)
+    finally:
+        program.kill()
+    assert program.wait() == 0
 
 
 def test_a_page_in_a_browser(browser: Browser, stage: Stage) -> None:

@@ -16,7 +16,7 @@ from tests.harness.options import ROOT
 from tests.operating.test_configuration import VENUE
 from tests.operating.test_week import Week
 
-DAYS = '[day]\nopens = "08:00"\nends = "17:30"\nzone = "America/New_York"\n'
+DAYS = '[day]\nopens = "08:00"\nends = "08:55"\nzone = "America/New_York"\n'
 
 
 def first_monday() -> datetime:
@@ -148,11 +148,11 @@ def test_a_day_that_goes_on_after_its_copy(week: Week) -> None:
 
     stage.door.kill()
     file = stage.folder / "gateway.toml"
-    file.write_text(file.read_text().replace('ends = "17:30"', 'ends = "18:00"'))
-    week.set_clock(week.day(1), time(17, 40))
+    file.write_text(file.read_text().replace('ends = "08:55"', 'ends = "09:30"'))
+    week.set_clock(week.day(1), time(9, 5))
     stage.door.start()
     stage.door.wait_open()
-    week.set_clock(week.day(1), time(18, 0), -1)
+    week.set_clock(week.day(1), time(9, 30), -1)
     week.wait_told("day went on after it was copied date=")
     aside = there.parent / (there.name + ".1")
     until("it is copied again", LONG, lambda: aside.exists() and there.exists())

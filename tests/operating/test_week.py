@@ -1,4 +1,4 @@
-"""A week of one gateway that nobody touches, from Friday to Friday, under a clock that the test moves."""
+"""A week of one gateway that nobody touches, from Friday to Friday: the test moves all clocks together, the firms' too."""
 
 import json
 import os
@@ -23,11 +23,12 @@ from tests.harness.options import ROOT
 from tests.operating.test_configuration import VENUE
 
 ZONE = ZoneInfo("America/New_York")
-OPENS, ENDS = time(8, 0), time(17, 30)
+OPENS, NOON, ENDS = time(8, 0), time(8, 20), time(8, 55)
+LONGEST_SILENCE = 3600  # seconds: a day has fewer, and they may pass at once while the venue has something to answer
 RULES = """[day]
 zone = "America/New_York"
 opens = "08:00"
-ends = "17:30"
+ends = "08:55"
 weekdays = ["Mon", "Tue", "Wed", "Thu", "Fri"]
 holidays = "holidays"
 """
@@ -40,6 +41,10 @@ class Week:
     stage: Stage
     clock: Clock
     friday: date
+    begins: int | None = None  # so many seconds after the machine's date
+
+    def __post_init__(self) -> None:
+        self.stage.door.limits |= {"venue_seconds": LONGEST_SILENCE}
 
     def day(self, number: int) -> date:
         """From the first Friday on, the weekend left out."""
@@ -54,10 +59,16 @@ class Week:
         (self.stage.folder / "holidays").write_text("%s  # of the test\n" % self.day(3).isoformat())
 
     def set_clock(self, day: date, at: time, seconds: float = 0) -> None:
-        """To so many seconds after a time of day in the venue's zone."""
+        """To so many seconds after a time of day in the venue's zone. It is set once, before the gateway starts, and then time
+        passes: a clock that is set takes no request."""
         wanted = datetime.combine(day, at, ZONE) + timedelta(seconds=seconds)
-        self.stage.ahead = round((wanted - datetime.now(timezone.utc)).total_seconds())
-        self.clock.set(self.stage.ahead)
+        ahead = round((wanted - datetime.now(timezone.utc)).total_seconds())
+        if self.begins is None:
+            self.begins = ahead
+            self.clock.set(ahead)
+        else:
+            self.clock.has_passed(ahead - self.begins)
+        self.stage.ahead = self.begins + self.clock.passed
 
     def told(self) -> str:
         return self.stage.door.told.read_text(errors="replace")
@@ -164,6 +175,13 @@ def set_limits(stage: Stage) -> list[str]:
     return [row["limit"] for row in rows(stage, "limit", "DLR1") if row["set"]]
 
 
+def come_back(week: Week, number: int, at: time) -> None:
+    """The firms log off, and log on again once it is this time of the day."""
+    week.stage.log_off(*week.stage.firms)
+    week.set_clock(week.day(number), at)
+    week.stage.log_on(*week.stage.firms)
+
+
 def order_until_night(stage: Stage) -> list[str]:
     """A suspension, a halt, a limit and a void that nobody takes back; the acts."""
     acts = ["bust " + trade_of(stage), "suspend DLR2", "halt", "limit DLR1 day_bytes=100000000"]
@@ -201,6 +219,12 @@ def upgrade(week: Week) -> None:
         stage.door.programs = Programs(stage.door.programs.gateway, (str(newer),))
     start_again(week)
     stage.quote(stage.dealer, request)
+    quote = stage.answer(
+        stage.investor,
+        "a quote",
+        lambda message: message.kind == b"S" and message.value(131) == stage.asked,
+    )
+    assert stage.hit(quote.given(117)).value(297) == b"0"
 
 
 def start_again(week: Week) -> None:
@@ -224,6 +248,8 @@ def test_a_week_from_friday_to_friday(week: Week) -> None:
     week.wait_told("closed until=")
 
     week.open_day(0)
+    stage.auction()
+    come_back(week, 0, NOON)
     stage.auction()
     ordered = order_until_night(stage)
     week.end_day(0)
