@@ -94,10 +94,7 @@ void FirmSessions::end_lost(const std::vector<ConnectionEvent> &connections) {
     for (auto &[name, firm] : firms_) {
         if (firm.was_left) {
             cancel_all_of(name, firm);
-            firm.was_left = false;
-            SessionEvent event;
-            event.numbers = firm.numbers;
-            put(name, event);
+            put_not_left(name, firm);
         }
     }
 }

@@ -130,6 +130,9 @@ class FirmSessions final : private SessionHost {
         std::string since;
         std::string address;
 
+        // Over its numbers and their way into the log: the last row there has the last ones.
+        std::mutex row_mutex;
+
         std::mutex mutex;                 // of what follows, and over changes of entries
         std::string cancel_on_disconnect; // a trader, or empty
         Log::Turn turn;                   // at the log, of a message that waited
@@ -151,6 +154,7 @@ class FirmSessions final : private SessionHost {
     void count_said(const std::string &name, Firm &firm, const std::vector<std::string> &frames);
     void tell_bytes_used_up(const std::string &name, Firm &firm);
     static SessionRow row_of(const std::string &name, Firm &firm, const SessionEvent &event);
+    void put_not_left(const std::string &name, Firm &firm);
     void cancel_all_of(const std::string &name, Firm &firm);
 
     // SessionHost

@@ -38,8 +38,18 @@ SessionRow FirmSessions::row_of(const std::string &name, Firm &firm, const Sessi
             event.numbers};
 }
 
+// The venue may have answered the cancel of its quotes by now, on another thread.
+void FirmSessions::put_not_left(const std::string &name, Firm &firm) {
+    const std::lock_guard lock(firm.row_mutex);
+    firm.was_left = false;
+    Log::SessionChange change;
+    change.row = {name, firm.epoch, firm.entries_from, false, firm.numbers};
+    log_.put(std::move(change));
+}
+
 std::uint64_t FirmSessions::put(const std::string &name, const SessionEvent &event) {
     Firm &firm = firm_of(name);
+    const std::lock_guard lock(firm.row_mutex);
     Log::SessionChange change;
     change.row = row_of(name, firm, event);
     change.drops_rejects = event.drops_rejects;
