@@ -11,8 +11,9 @@ constexpr std::size_t MOST_LENGTH_DIGITS = 9; // that make it a message
 constexpr std::size_t MOST_LAWFUL_DIGITS = 6; // that make it a lawful one
 constexpr std::size_t TRAILER = 7;            // `10=`, three digits, SOH
 
-bool is_printable(char byte) {
-    return byte >= ' ' && byte <= '~';
+// Of a BeginString: behind the torn front of a message another one begins with a field of its own.
+bool is_of_version(char byte) {
+    return byte >= ' ' && byte <= '~' && byte != '=';
 }
 
 // Reads along a text, one part behind the other.
@@ -64,7 +65,7 @@ Beginning beginning_of(Text bytes) {
     Reading reading(bytes);
     Beginning begun;
     reading.expect("8=");
-    begun.version = reading.run(MOST_VERSION, is_printable);
+    begun.version = reading.run(MOST_VERSION, is_of_version);
     if (!reading.is_over() && !reading.is_wrong()) {
         reading.expect(end);
         reading.expect("9=");

@@ -10,7 +10,7 @@ use Rattle.fix_fields.specs.Frame.{AreBody, fields_text, fields_of, fields_len, 
 use Rattle.fix_fields.specs.TextLaws.{digits_if_all}
 use Rattle.fix_fields.proofs.Digits.{plain}
 use Rattle.fix_fields.proofs.FieldsText.{text_of_fields}
-use Rattle.fix_sessions.specs.Cuts.{body_of, is_printable, is_version, length_text, version_of}
+use Rattle.fix_sessions.specs.Cuts.{body_of, is_of_version, is_version, length_text, version_of}
 use Rattle.fix_sessions.specs.Flaws.{added_within, flaw_of, form_flaw, length_flaw}
 use Rattle.fix_sessions.specs.Heard.{foreign_of, is_fixt, number_once}
 use Rattle.fix_sessions.specs.Steps.{came}
@@ -32,14 +32,14 @@ use Rattle.crossing_laws.proofs.Taken.{came_given}
 
 -- A version that is not named as another is FIXT.1.1.
 
-printable_is_value : (c : ℕ) → is_printable c ≡ true → not (c == 1) ≡ true
-printable_is_value c is = grind (arith, nat_tests)
+version_is_value : (c : ℕ) → is_of_version c ≡ true → not (c == 1) ≡ true
+version_is_value c is = grind (arith, nat_tests)
 
 version_is_text : (version : List ℕ) → is_version version ≡ true → is_text version ≡ true
 version_is_text version h =
-    let both = and_parts (nat_le 1 (length version) && nat_le (length version) 16) (list_all is_printable version) h in
+    let both = and_parts (nat_le 1 (length version) && nat_le (length version) 16) (list_all is_of_version version) h in
     let sizes = and_parts (nat_le 1 (length version)) (nat_le (length version) 16) both.0 in
-    let value : is_value version ≡ true = weaker is_printable (λ c. not (c == 1)) printable_is_value version both.1 in
+    let value : is_value version ≡ true = weaker is_of_version (λ c. not (c == 1)) version_is_value version both.1 in
     let most : nat_le (length version) 1024 ≡ true = (let t = sizes.1 in grind (arith, nat_tests)) in
     rw (sizes.0, most, value) refl
 

@@ -10,7 +10,7 @@ use Rattle.std.specs.List.{list_all, position_or_len}
 use Rattle.std.specs.Char.{is_ascii_digit}
 use Rattle.std.specs.Str.Parse.{digits_value}
 use Rattle.fix_fields.specs.Frame.{end_text, three_digits}
-use Rattle.fix_sessions.specs.Cuts.{agrees, has_soh, near_version, version_of, behind_version, near_length, length_text, is_printable, is_version, are_digits, whole_len, end_of, sum_of, is_end, has_sum, front_by_end, front_by_len, front_by_length, front_of}
+use Rattle.fix_sessions.specs.Cuts.{agrees, has_soh, near_version, version_of, behind_version, near_length, length_text, is_of_version, is_version, are_digits, whole_len, end_of, sum_of, is_end, has_sum, front_by_end, front_by_len, front_by_length, front_of}
 use Rattle.fix_sessions.specs.Fields.{front_piece}
 use Rattle.fix_sessions.specs.Streams.{begun, AreParts}
 use Rattle.fix_sessions.specs.declared.cuts.Front.{Front}
@@ -47,8 +47,8 @@ weaker p q less (c ∷ text) all =
     let parts = and_parts (p c) (list_all p text) all in
     rw (less c parts.0) (weaker p q less text parts.1)
 
-printable_not_soh : (c : ℕ) → is_printable c ≡ true → not (c == 1) ≡ true
-printable_not_soh c is = grind (arith, nat_tests)
+version_not_soh : (c : ℕ) → is_of_version c ≡ true → not (c == 1) ≡ true
+version_not_soh c is = grind (arith, nat_tests)
 
 digit_not_soh : (c : ℕ) → is_ascii_digit c ≡ true → not (c == 1) ≡ true
 digit_not_soh c is = grind (arith, nat_tests)
@@ -104,14 +104,14 @@ module _ (v d b rest : List ℕ) (parts : AreParts v d b) where
   abbrev behind_v : List ℕ
   behind_v = codes "9=" ++ (d ++ (1 ∷ (b ++ rest)))
 
-  v_parts : (nat_le 1 (length v) && nat_le (length v) 16 ≡ true) × (list_all is_printable v ≡ true)
-  v_parts = and_parts (nat_le 1 (length v) && nat_le (length v) 16) (list_all is_printable v) parts.version_is
+  v_parts : (nat_le 1 (length v) && nat_le (length v) 16 ≡ true) × (list_all is_of_version v ≡ true)
+  v_parts = and_parts (nat_le 1 (length v) && nat_le (length v) 16) (list_all is_of_version v) parts.version_is
 
   v_short : length v ≤ 16
   v_short = let two = and_parts (nat_le 1 (length v)) (nat_le (length v) 16) v_parts.0 in grind (arith, nat_tests)
 
   v_none : list_all (λ (c : ℕ). not (c == 1)) v ≡ true
-  v_none = weaker is_printable (λ (c : ℕ). not (c == 1)) printable_not_soh v v_parts.1
+  v_none = weaker is_of_version (λ (c : ℕ). not (c == 1)) version_not_soh v v_parts.1
 
   d_none : list_all (λ (c : ℕ). not (c == 1)) d ≡ true
   d_none = weaker is_ascii_digit (λ (c : ℕ). not (c == 1)) digit_not_soh d parts.all_digits

@@ -5,7 +5,7 @@ use Rattle.std.proofs.lemmas.Bool.{false≢true, and_parts}
 use Rattle.std.proofs.lemmas.Bool.Decides.{nat_tests}
 use Rattle.std.specs.List.{list_all}
 use Rattle.std.specs.Char.{is_ascii_digit}
-use Rattle.fix_sessions.specs.Cuts.{agrees, has_soh, near_version, version_of, behind_version, near_length, length_text, is_printable, is_version, are_digits, whole_len, end_of, sum_of, is_end, has_sum, found_at, front_of, front_by_length, front_by_len, next_message, behind as passed_by}
+use Rattle.fix_sessions.specs.Cuts.{agrees, has_soh, near_version, version_of, behind_version, near_length, length_text, is_of_version, is_version, are_digits, whole_len, end_of, sum_of, is_end, has_sum, found_at, front_of, front_by_length, front_by_len, next_message, behind as passed_by}
 use Rattle.fix_sessions.specs.declared.cuts.Found.{Found}
 use Rattle.fix_sessions.specs.declared.cuts.What.{What}
 use Rattle.fix_sessions.specs.declared.cuts.What.TheVariants as what
@@ -48,7 +48,7 @@ no_soh near piece h = grind (arith, nat_tests)
 
 version_short : (text : List ℕ) → is_version text ≡ true → length text ≤ 16
 version_short text h =
-    let parts = and_parts (nat_le 1 (length text) && nat_le (length text) 16) (list_all is_printable text) h in
+    let parts = and_parts (nat_le 1 (length text) && nat_le (length text) 16) (list_all is_of_version text) h in
     let two = and_parts (nat_le 1 (length text)) (nat_le (length text) 16) parts.0 in
     grind (arith, nat_tests)
 

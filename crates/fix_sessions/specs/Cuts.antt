@@ -1,7 +1,7 @@
 -- A stream that is cut into messages, and goes on behind what is garbled. A message is `8=V`, SOH,
--- `9=L`, SOH, L bytes, `10=ccc`, SOH: V is 1 to 16 printable bytes, L 1 to 6 digits, and ccc the sum
--- of all bytes before `10=`, modulo 256, in three digits. A message with another sum is passed over
--- whole, so that no byte is summed twice.
+-- `9=L`, SOH, L bytes, `10=ccc`, SOH: V is 1 to 16 printable bytes without an equals sign, L 1 to 6
+-- digits, and ccc the sum of all bytes before `10=`, modulo 256, in three digits. A message with
+-- another sum is passed over whole, so that no byte is summed twice.
 use Rattle.std.specs.Prelude.{◌≡◌, ◌≤◌, ℕ, zero, suc, ◌+◌, ◌-◌, ◌%◌, Bool, false, ◌&&◌, ◌==◌, not, List, [], ◌∷◌, length, take, drop, codes, sum}
 use Rattle.std.specs.Prelude.{nat_le, nat_lt, if◌then◌else◌}
 use Rattle.std.specs.List.{list_all}
@@ -17,8 +17,10 @@ use Rattle.fix_sessions.specs.declared.cuts.Front.{Front}
 use Rattle.fix_sessions.specs.declared.cuts.Front.TheVariants as front
 use Rattle.fix_sessions.specs.declared.cuts.TheConstants.{MOST_MESSAGE}
 
-abbrev pub is_printable : ℕ → Bool
-is_printable byte = nat_le 32 byte && nat_le byte 126
+-- a byte of a version: printable, and no equals sign, since where one stands the front of a message
+-- is torn and another message begins within it
+abbrev pub is_of_version : ℕ → Bool
+is_of_version byte = nat_le 32 byte && nat_le byte 126 && not (byte == 61)
 
 -- whether bytes and a text are the same as far as both go
 abbrev pub agrees : List ℕ → List ℕ → Bool
@@ -49,7 +51,7 @@ abbrev pub behind_length : List ℕ → List ℕ
 behind_length bytes = drop (length (length_text bytes) + 1) (drop 2 (behind_version bytes))
 
 abbrev pub is_version : List ℕ → Bool
-is_version text = nat_le 1 (length text) && nat_le (length text) 16 && list_all is_printable text
+is_version text = nat_le 1 (length text) && nat_le (length text) 16 && list_all is_of_version text
 
 -- a BodyLength that is begun, or whole
 abbrev pub are_digits : List ℕ → Bool

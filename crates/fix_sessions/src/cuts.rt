@@ -209,28 +209,28 @@ fn agrees(bytes: &[u8], text: &[u8]) -> bool
     near(bytes, text.len()) == near(text, bytes.len())
 }
 
-/// Whether a text may be a BeginString: 1 to 16 printable bytes.
+/// Whether a text may be a BeginString: 1 to 16 printable bytes without an equals sign.
 fn is_version(text: &[u8]) -> bool
     ensures { result ≡ spec.is_version text.now }
 {
     if text.is_empty() || text.len() > 16 {
         return false;
     }
-    are_printable(text)
+    are_of_version(text)
 }
 
-/// Whether each byte is printable.
-fn are_printable(text: &[u8]) -> bool
-    ensures { result ≡ list_all spec.is_printable text.now }
+/// Whether each byte may stand in a version.
+fn are_of_version(text: &[u8]) -> bool
+    ensures { result ≡ list_all spec.is_of_version text.now }
 {
-    text.iter().all(|byte| is_printable(*byte))
+    text.iter().all(|byte| is_of_version(*byte))
 }
 
-/// Whether a byte is printable.
-fn is_printable(byte: u8) -> bool
-    ensures { result ≡ spec.is_printable byte }
+/// Whether a byte may stand in a version: printable, and no equals sign.
+fn is_of_version(byte: u8) -> bool
+    ensures { result ≡ spec.is_of_version byte }
 {
-    byte >= 32 && byte <= 126
+    byte >= 32 && byte <= 126 && byte != 61
 }
 
 /// BeginString (8) of bytes that begin a message.
