@@ -8,7 +8,7 @@ namespace session_model {
 
 namespace {
 
-constexpr std::size_t MOST_NAME = 1'024;
+constexpr std::size_t MOST_NAME = 40; // of a firm or a venue
 constexpr std::size_t MOST_TOLD_TEXT = 200;
 
 bool has_no_soh(Text text) {
