@@ -10,7 +10,8 @@ namespace session_model {
 
 namespace {
 
-constexpr std::uint32_t VERSION = 9; // DefaultApplVerID (1137): FIX 5.0 SP2
+constexpr Text NO_ENCRYPTION = "0"; // EncryptMethod (98)
+constexpr Text VERSION = "9";       // DefaultApplVerID (1137): FIX 5.0 SP2
 constexpr std::uint32_t MOST_HEARTBEAT = 300;
 
 // What the rows ask of a Logon.
@@ -43,10 +44,10 @@ bool is_of_now(const std::optional<Time> &sent, const Clock &clock) {
 std::optional<Text> wrong_terms(const Event &event, const Logon &logon) {
     const Fields &fields = event.message.fields;
     const std::uint32_t heartbeat = fields.number(tag::HeartBtInt).value_or(0);
-    if (fields.number(tag::EncryptMethod) != 0U) {
+    if (!fields.is(tag::EncryptMethod, NO_ENCRYPTION)) {
         return reasons::ENCRYPTION;
     }
-    if (fields.number(tag::DefaultApplVerID) != VERSION) {
+    if (!fields.is(tag::DefaultApplVerID, VERSION)) {
         return reasons::VERSION;
     }
     if (heartbeat == 0 || heartbeat > MOST_HEARTBEAT) {
