@@ -59,6 +59,19 @@ two_gone s connection waiting here waits =
     (freed_is s connection here ∙ none_waits s (Some waiting) waits)
     ∙ waiting_gone s.day waiting
 
+-- and where no connection has the session, who waits is all that is left
+only_waits : (s : Session) (waiting : Waiting) → s.phase ≡ phase.Away → s.waiting ≡ Some waiting
+    → s ≡ record { day = s.day; phase = phase.Away; waiting = Some waiting }
+only_waits s waiting away waits =
+    ap (λ p. record s { phase = p }) away
+    ∙ ap (λ w. record s { phase = phase.Away; waiting = w }) waits
+
+pub last_gone : (s : Session) (waiting : Waiting) → s.phase ≡ phase.Away → s.waiting ≡ Some waiting
+    → (gone s waiting.connection).session ≡ restarted s.day
+last_gone s waiting away waits =
+    ap (λ t. (gone t waiting.connection).session) (only_waits s waiting away waits)
+    ∙ waiting_gone s.day waiting
+
 pub same_from_then_on : (names : Names) (s : Session) (connection : ℕ) (events : List Event)
     → has s.phase connection ≡ true → s.waiting ≡ None
     → turns names (gone s connection).session events ≡ turns names (restarted s.day) events

@@ -3,7 +3,7 @@ use Rattle.std.proofs.Common.{◌≡◌, ℕ, ◌+◌, ◌≤◌, Bool, true, fa
 use Rattle.std.proofs.lemmas.Bool.{false≢true}
 use Rattle.fix_sessions.specs.Outcomes.{stays, disconnects, says, answers, rejects_now, rejects, parts, leaves, logs_out, reject_and_logout, rejects_and_logs_out, reject_of, denies, denies_now, denial_of, counted, counted_if, is_clear, may_log_out}
 use Rattle.session_laws.specs.Kept.{Entry, entered, Within}
-use Rattle.session_laws.specs.Sent.{is_new, is_own_word, news, front}
+use Rattle.session_laws.specs.Sent.{is_kept_word, is_own_word, news, front}
 use Rattle.session_laws.proofs.Choices.{choice}
 use Rattle.fix_sessions.specs.Steps.{resets}
 use Rattle.fix_sessions.specs.declared.state.Live.{Live}
@@ -64,8 +64,8 @@ any_does a t does = record {
   own = λ o. absurd (false≢true o);
 }
 
--- a word of the session's own is not new
-pub not_new : (w : Word) → IsOwn w → is_new w ≡ false
+-- a word of the session's own was not kept before
+pub not_new : (w : Word) → IsOwn w → is_kept_word w ≡ false
 not_new (word.Logon seconds resets expects) own = refl
 not_new word.Heartbeat own = refl
 not_new (word.Answer id) own = refl
@@ -80,8 +80,8 @@ not_new (word.Denied number kind denial) own = refl
 not_new (word.Kept body is_copy) own = absurd (false≢true own)
 not_new (word.Again body is_copy first) own = refl
 
-pub no_news : (number : ℕ) (w : Word) (low high : ℕ) → is_new w ≡ false → low ≤ high
-    → (e : Entry) → Within low high ((if is_new w then e ∷ [] else []) ++ [])
+pub no_news : (number : ℕ) (w : Word) (low high : ℕ) → is_kept_word w ≡ false → low ≤ high
+    → (e : Entry) → Within low high ((if is_kept_word w then e ∷ [] else []) ++ [])
 no_news number w low high own less e =
     subst (λ b. Within low high ((if b then e ∷ [] else []) ++ [])) (sym own) less
 
@@ -141,7 +141,7 @@ rejects_now_does a now w own =
       whose = refl;
       most = omega arith;
       kept = (omega arith, omega arith);
-      new = λ h. no_news a.day.next w a.line.fresh (a.day.next + 1) (not_new w own) (omega (arith, h)) _;
+      new = λ h. (omega (arith, h), omega arith);
       sound = λ h. omega arith;
       own = λ o. (own, tt);
     })
@@ -163,7 +163,7 @@ denies_now_does a now w own =
       whose = refl;
       most = omega arith;
       kept = (omega arith, omega arith);
-      new = λ h. no_news a.day.next w a.line.fresh (a.day.next + 1) (not_new w own) (omega (arith, h)) _;
+      new = λ h. (omega (arith, h), omega arith);
       sound = λ h. omega arith;
       own = λ o. (own, tt);
     })
@@ -218,7 +218,7 @@ both_does a now w y own =
       whose = refl;
       most = omega arith;
       kept = (omega arith, omega arith);
-      new = λ h. no_news a.day.next w a.line.fresh (a.day.next + 1 + 1) (not_new w own) (omega (arith, h)) _;
+      new = λ h. (omega (arith, h), omega arith);
       sound = λ h. omega arith;
       own = λ o. (own, refl);
     })

@@ -6,7 +6,7 @@ use Rattle.std.proofs.lemmas.Bool.Decides.{nat_tests}
 use Rattle.fix_fields.specs.Frame.{Field}
 use Rattle.fix_sessions.specs.Outcomes.{stays, is_clear}
 use Rattle.fix_sessions.specs.Sending.{is_resending, requests, fill_end, before_kept, is_answer, is_reject, fills_gap, again_of, again_to, fresh_of, hands_on, given_on}
-use Rattle.session_laws.specs.Sent.{is_new}
+use Rattle.session_laws.specs.Sent.{is_kept_word}
 use Rattle.session_laws.proofs.Choices.{choice}
 use Rattle.fix_sessions.specs.Steps.{tests_firm, requests_missing, due, made_due, still_settling, is_over, is_dead, tick_on}
 use Rattle.fix_sessions.specs.declared.state.Line.{Line}
@@ -50,7 +50,7 @@ given_on_does a now body =
 -- What is kept is handed in.
 
 -- all below a number was sent again
-again_does : (a : Live) (now to : ℕ) (w : Word) → is_new w ≡ false → to ≤ a.day.next
+again_does : (a : Live) (now to : ℕ) (w : Word) → is_kept_word w ≡ false → to ≤ a.day.next
     → AnyOf a (record (stays (record a { line = again_to a.line now to })) {
       first = Some (record { number = a.line.again; way = way.Leaves; word = w });
     })

@@ -6,17 +6,24 @@ use Rattle.fix_sessions.specs.declared.state.Session.{Session}
 use Rattle.fix_sessions.specs.declared.texts.Names.{Names}
 use Rattle.fix_sessions.specs.declared.turns.Said.{Said}
 use Rattle.fix_sessions.specs.declared.turns.Turn.{Turn}
+use Rattle.fix_sessions.specs.declared.turns.Way.{Way}
+use Rattle.fix_sessions.specs.declared.turns.Way.TheVariants as way
 use Rattle.fix_sessions.specs.declared.turns.Word.{Word}
 use Rattle.fix_sessions.specs.declared.turns.Word.TheVariants as word
 use Rattle.session_laws.specs.Days.{Event, turn}
 use Rattle.fix_sessions.specs.Written.{kept_fields}
 use Rattle.session_laws.specs.Kept.{Entry, IsFree, IsHanded, IsKept, entry_of, kept_after}
-use Rattle.session_laws.specs.Logons.{is_leaving}
 
--- what is kept and leaves without 43
-abbrev pub is_new : Word → Bool
-is_new (word.Kept body is_copy) = true
-is_new other = false
+-- a word that was kept before, or is the venue's
+abbrev pub is_kept_word : Word → Bool
+is_kept_word (word.Kept body is_copy) = true
+is_kept_word other = false
+
+-- whether what is said is kept, with this turn or before it, and leaves without 43
+abbrev pub is_new : Way → Word → Bool
+is_new way.KeptAndLeaves w = true
+is_new way.Leaves w = is_kept_word w
+is_new way.Kept w = false
 
 -- a word that is neither kept nor sent again nor a gap fill: the session's own
 abbrev pub is_own_word : Word → Bool
@@ -27,8 +34,7 @@ is_own_word other = true
 
 abbrev pub new_of : Option Said → List Entry
 new_of None = []
-new_of (Some said) =
-    if is_leaving said.way then (if is_new said.word then entry_of said ∷ [] else []) else []
+new_of (Some said) = if is_new said.way said.word then entry_of said ∷ [] else []
 
 abbrev pub news : Turn → List Entry
 news t = new_of t.first ++ new_of t.second

@@ -165,6 +165,10 @@ pub fn a_restart_changes_nothing()
         → has s.phase connection ≡ true
         → s.waiting ≡ Some waiting
         → (gone (gone s connection).session waiting.connection).session ≡ restarted s.day }
+    ensures waits { (s : Session) (waiting : Waiting)
+        → s.phase ≡ phase.Away
+        → s.waiting ≡ Some waiting
+        → (gone s waiting.connection).session ≡ restarted s.day }
     ensures from_then_on { (names : Names) (s : Session) (connection : ℕ) (events : List Event)
         → has s.phase connection ≡ true
         → s.waiting ≡ None

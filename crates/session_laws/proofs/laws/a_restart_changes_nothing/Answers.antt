@@ -1,4 +1,4 @@
-use Rattle.session_laws.proofs.Restarts.{one_gone, resend_gives, same_from_then_on, two_gone}
+use Rattle.session_laws.proofs.Restarts.{last_gone, one_gone, resend_gives, same_from_then_on, two_gone}
 use Rattle.session_laws.proofs.laws.a_restart_changes_nothing.Goals as goal
 
 pub returns-clause-one : goal.returns-clause-one
@@ -6,6 +6,9 @@ returns-clause-one c = one_gone
 
 pub returns-clause-two : goal.returns-clause-two
 returns-clause-two c = two_gone
+
+pub returns-clause-waits : goal.returns-clause-waits
+returns-clause-waits c = last_gone
 
 pub returns-clause-from_then_on : goal.returns-clause-from_then_on
 returns-clause-from_then_on c = same_from_then_on
