@@ -1,1 +1,2 @@
+mod StateLemmas
 mod ToldLemmas

@@ -1,6 +1,8 @@
 -- What C is told of a turn.
-use Rattle.std.specs.Prelude.{◌≡◌, ◌≤◌, ℕ, ◌*◌, ◌==◌, Bool, true, false, List, [], ◌++◌, length, take, Option, Some, None, unwrap_or, if◌then◌else◌}
+use Rattle.std.specs.Prelude.{◌≡◌, ◌≤◌, ◌<◌, ◌⊎◌, ℕ, ◌*◌, ◌==◌, Bool, true, false, List, [], ◌++◌, length, take, Option, Some, None, unwrap_or, if◌then◌else◌}
 use Rattle.fix_fields.specs.Frame.{frame_text, frame_of}
+use Rattle.fix_fields.specs.UtcTimestamp.{IsDate}
+use Rattle.fix_fields.specs.declared.limits.TheConstants.{A_DAY}
 use Rattle.fix_sessions.specs.Names.{AreNames}
 use Rattle.fix_sessions.specs.Texts.{text_if_short, date_number}
 use Rattle.fix_sessions.specs.Written.{said_fields, kept_fields}
@@ -37,6 +39,10 @@ use Rattle.fix_sessions_c.specs.declared.told.Told.{Told}
 -- whose session it is, by the texts that C hands in: no desk where the third is none
 abbrev pub AreNamed : List ℕ → List ℕ → List ℕ → Names → Type 0
 AreNamed firm venue desk names = AreNames firm venue (text_if_short desk) names
+
+-- a date is none, or its day has no such moment
+abbrev pub IsNoTime : List ℕ → ℕ → Type 0
+IsNoTime date moment = (¬ IsDate date) ⊎ (¬ (moment < A_DAY))
 
 -- the clock at a moment of a day
 abbrev pub IsClock : List ℕ → ℕ → Clock → Type 0

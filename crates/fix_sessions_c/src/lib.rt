@@ -7,12 +7,14 @@
 #![tactic(auto)]
 
 mod calls;
+mod laws;
 mod parts;
 mod states;
 mod streams;
 mod told;
 mod wires;
 
+pub use laws::sessions_are_read_back;
 pub use states::SessionState;
 pub use streams::{Asked, FoundNext, Wanted};
 pub use told::{Sent, Told};

@@ -1,5 +1,5 @@
 //! What asks no session, or changes none.
-ghost use Rattle.std.specs.Prelude.{◌≡◌, ◌++◌, true, false, IfOk};
+ghost use Rattle.std.specs.Prelude.{◌≡◌, ◌++◌, ◌⊎◌, true, false, IfOk};
 ghost use Rattle.fix_sessions.specs.Cuts as cuts;
 ghost use Rattle.fix_sessions.specs.Heard as heard;
 ghost use Rattle.fix_sessions.specs.Sending as sending;
@@ -180,7 +180,9 @@ fn wanted_of(want: Want) -> Wanted
 /// none.
 #[unsafe(no_mangle)]
 pub extern "C" fn fix_sessions_is_first_late(since: u64, date: &[u8], moment: u32) -> bool
-    ensures { result ≡ true → visits.is_first_late since moment ≡ true }
+    ensures late { result ≡ true → visits.is_first_late since moment ≡ true }
+    ensures not_late { result ≡ false
+        → spec.IsNoTime date.now moment ⊎ (visits.is_first_late since moment ≡ false) }
 {
     let Some(date) = Date::new(date) else {
         return false;
@@ -195,7 +197,9 @@ pub extern "C" fn fix_sessions_is_first_late(since: u64, date: &[u8], moment: u3
 /// a text is none.
 #[unsafe(no_mangle)]
 pub extern "C" fn fix_sessions_is_parting_over(since: u64, date: &[u8], moment: u32) -> bool
-    ensures { result ≡ true → visits.is_parting_over since moment ≡ true }
+    ensures over { result ≡ true → visits.is_parting_over since moment ≡ true }
+    ensures not_over { result ≡ false
+        → spec.IsNoTime date.now moment ⊎ (visits.is_parting_over since moment ≡ false) }
 {
     let Some(date) = Date::new(date) else {
         return false;
