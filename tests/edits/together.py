@@ -24,7 +24,9 @@ import tempfile
 from dataclasses import dataclass, field
 from pathlib import Path
 
-FUNCTION = re.compile(r"^( *)(?:pub(?:\([a-z]+\))? )?(?:const )?fn (\w+)", re.MULTILINE)
+FUNCTION = re.compile(
+    r"^( *)(?:pub(?:\([a-z]+\))? )?(?:const )?(?:extern \"C\" )?fn (\w+)", re.MULTILINE
+)
 OWNER = re.compile(r"^impl\b(?:<(?:[^<>]|<[^<>]*>)*>)? *(.*?) *\{$", re.MULTILINE)
 ABOVE = re.compile(r" *(///|//|#\[)")
 NO_GOAL = re.compile(
