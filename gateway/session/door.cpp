@@ -3,15 +3,11 @@
 #include "line.h"
 #include "refusal_words.h"
 #include "sessions.h"
-
-#include <thread>
+#include "turns.h"
 
 namespace gateway {
 
 namespace {
-
-// How often one that waits to be judged looks whether it has ended.
-constexpr auto between_looks = std::chrono::milliseconds(10);
 
 const char *word_of(Refusal refusal) {
     switch (refusal) {
@@ -33,6 +29,13 @@ const char *word_of(Refusal refusal) {
         return refusal_words::no_longer;
     }
     return stranger_words::unknown_name;
+}
+
+// From when on another Logon of the address is judged. One that is no firm's any more is not looked
+// at again.
+Turns::Time next_turn_of(const FirmSession &asked, const std::string &address) {
+    const auto from = asked.host().judges_from(address);
+    return from == SessionHost::Time::max() ? Turns::Time() : from;
 }
 
 } // namespace
@@ -80,14 +83,6 @@ FirmSession *Door::named_in(const LogonQuestion &logon) const {
     return logon.venue == venue_name ? sessions_.named_by(logon.firm, logon.desk) : nullptr;
 }
 
-// Until the host judges a Logon of this address. False where the connection has ended meanwhile.
-bool Door::wait_until(SessionHost::Time moment) const {
-    while (std::chrono::steady_clock::now() < moment && !line_.is_ending()) {
-        std::this_thread::sleep_for(between_looks);
-    }
-    return !line_.is_ending();
-}
-
 // Of a name that nobody has too: so that it takes as long. False where the connection has ended
 // before its turn came.
 bool Door::judge_sender(const LogonQuestion &logon, Refusal &refusal) const {
@@ -98,18 +93,21 @@ bool Door::judge_sender(const LogonQuestion &logon, Refusal &refusal) const {
     facts.password = logon.password;
     facts.over_tls = connection.over_tls;
     facts.certificate = connection.certificate;
+    facts.address = connection.address.substr(0, connection.address.rfind(':'));
     const FirmSession *const asked = session_ != nullptr ? session_ : sessions_.any();
-    const std::string host = connection.address.substr(0, connection.address.rfind(':'));
-    facts.address = host;
-    const auto from = asked == nullptr ? SessionHost::Time() : asked->host().judges_from(host);
-    if (from == SessionHost::Time::max()) {
+    if (asked == nullptr) {
+        return false;
+    }
+    if (asked->host().judges_from(facts.address) == SessionHost::Time::max()) {
         refusal = Refusal::wrong_address;
         return true;
     }
-    return asked != nullptr && wait_until(from) &&
-           sessions_.turns().take(
-               host, [this] { return line_.is_ending(); },
-               [&] { refusal = asked->host().judge(facts); });
+    return sessions_.turns().take(
+        facts.address, [this] { return line_.is_ending(); },
+        [&] {
+            refusal = asked->host().judge(facts);
+            return next_turn_of(*asked, facts.address);
+        });
 }
 
 // The connection ends before anybody is told: what that takes is nothing to go by.

@@ -43,7 +43,6 @@ class Door {
 
   private:
     FirmSession *named_in(const LogonQuestion &logon) const;
-    bool wait_until(SessionHost::Time moment) const;
     bool judge_sender(const LogonQuestion &logon, Refusal &refusal) const;
     Standing refuse(const char *word);
 

@@ -1,14 +1,13 @@
 #include "turns.h"
 
 #include <algorithm>
-#include <chrono>
 
 namespace gateway {
 
 namespace {
 
-// How often one that waits is asked whether it gives up.
-constexpr auto between_questions = std::chrono::milliseconds(20);
+// How often one that waits is asked whether it gives up, and looks whether its pause is over.
+constexpr auto between_questions = std::chrono::milliseconds(10);
 
 // So many addresses are remembered.
 constexpr std::size_t most_addresses = 4096;
@@ -16,20 +15,21 @@ constexpr std::size_t most_addresses = 4096;
 } // namespace
 
 bool Turns::take(const std::string &address, const std::function<bool()> &gives_up,
-                 const std::function<void()> &work) {
+                 const std::function<Time()> &work) {
     {
         std::unique_lock<std::mutex> lock(mutex_);
         if (!wait(lock, address, gives_up)) {
             return false;
         }
     }
+    Time from;
     try {
-        work();
+        from = work();
     } catch (...) {
-        give_back(address);
+        give_back(address, Time());
         throw;
     }
-    give_back(address);
+    give_back(address, from);
     return true;
 }
 
@@ -41,25 +41,36 @@ bool Turns::wait(std::unique_lock<std::mutex> &lock, const std::string &address,
     call_next();
     while (!own->has_turn && !gives_up()) {
         own->called.wait_for(lock, between_questions);
+        // Nobody calls it when the pause of its address is over.
+        if (!own->has_turn && free_ > 0 && may_be_served(address)) {
+            call_next();
+        }
     }
     const bool has_turn = own->has_turn;
     waiting_.erase(own);
     return has_turn;
 }
 
-void Turns::give_back(const std::string &address) {
+void Turns::give_back(const std::string &address, Time from) {
     const std::lock_guard<std::mutex> lock(mutex_);
     served_[address].now = false;
+    served_[address].from = from;
     ++free_;
     call_next();
     forget();
+}
+
+bool Turns::may_be_served(const std::string &address) const {
+    const auto found = served_.find(address);
+    return found == served_.end() ||
+           (!found->second.now && found->second.from <= std::chrono::steady_clock::now());
 }
 
 void Turns::call_next() {
     while (free_ > 0) {
         auto next = waiting_.end();
         for (auto each = waiting_.begin(); each != waiting_.end(); ++each) {
-            const bool may = !each->has_turn && !served_[each->address].now;
+            const bool may = !each->has_turn && may_be_served(each->address);
             if (may && (next == waiting_.end() ||
                         served_[each->address].last < served_[next->address].last)) {
                 next = each;
@@ -68,21 +79,19 @@ void Turns::call_next() {
         if (next == waiting_.end()) {
             return;
         }
-        served_[next->address] = {++turns_, true};
+        served_[next->address] = {++turns_, true, {}};
         --free_;
         next->has_turn = true;
         next->called.notify_one();
     }
 }
 
-// Where nobody waits, nobody is to be preferred.
+// Where nobody waits, nobody is to be preferred; but a pause goes on.
 void Turns::forget() {
     if (!waiting_.empty() && served_.size() <= most_addresses) {
         return;
     }
-    for (auto each = served_.begin(); each != served_.end();) {
-        each = each->second.now ? std::next(each) : served_.erase(each);
-    }
+    std::erase_if(served_, [this](const auto &each) { return may_be_served(each.first); });
 }
 
 std::size_t Turns::waiting() const {

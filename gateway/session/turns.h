@@ -2,6 +2,7 @@
 #ifndef GATEWAY_SESSION_TURNS_H
 #define GATEWAY_SESSION_TURNS_H
 
+#include <chrono>
 #include <condition_variable>
 #include <cstddef>
 #include <cstdint>
@@ -15,17 +16,21 @@ namespace gateway {
 
 // So many are at work at one time, and one of an address. The next is one of the address that was
 // served longest ago, or never: so a firm waits for one turn of each address that asks without end,
-// and not for all that each of them has asked for. Any thread may call it.
+// and not for all that each of them has asked for. What an address asks for has its pause before
+// each turn, however many connections it asks on. Any thread may call it.
 class Turns {
   public:
+    using Time = std::chrono::steady_clock::time_point;
+
     explicit Turns(std::size_t at_once) : free_(at_once) {}
     Turns(const Turns &) = delete;
     Turns &operator=(const Turns &) = delete;
 
-    // Waits for a turn of an address, and works. False, and nothing was done, where `gives_up` has
-    // said so meanwhile, which is asked now and then.
+    // Waits for a turn of an address, and works; the address has its next turn from the moment on
+    // that `work` returns. False, and nothing was done, where `gives_up` has said so meanwhile,
+    // which is asked now and then.
     bool take(const std::string &address, const std::function<bool()> &gives_up,
-              const std::function<void()> &work);
+              const std::function<Time()> &work);
 
     // How many wait.
     std::size_t waiting() const;
@@ -40,11 +45,13 @@ class Turns {
     struct Served {
         std::uint64_t last = 0; // its last turn, counted over all; 0 for none
         bool now = false;       // it is at work
+        Time from{};            // its next turn is no earlier
     };
 
     bool wait(std::unique_lock<std::mutex> &lock, const std::string &address,
               const std::function<bool()> &gives_up);
-    void give_back(const std::string &address);
+    void give_back(const std::string &address, Time from);
+    bool may_be_served(const std::string &address) const;
     void call_next();
     void forget();
 
