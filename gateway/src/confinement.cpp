@@ -10,8 +10,10 @@
 #include <cstdint>
 #include <cstdlib>
 #include <filesystem>
+#include <initializer_list>
 #include <iostream>
 #include <set>
+#include <span>
 #include <sstream>
 #include <system_error>
 
@@ -158,21 +160,36 @@ constexpr std::uint32_t machine = AUDIT_ARCH_AARCH64;
 #error "which calls of the system the venue may make is not known on this machine"
 #endif
 
-// Sockets; other processes, their memory and their signals; the kernel's keys, programs and
-// settings; and what makes a process see other files.
+// Sockets; other processes, their memory, their signals and their share of the machine; the
+// kernel's keys, programs and settings; and what makes a process see other files.
 constexpr auto forbidden = std::to_array<unsigned>({SYS_socket,
                                                     SYS_socketpair,
+                                                    SYS_bind,
+                                                    SYS_listen,
+                                                    SYS_accept,
+                                                    SYS_accept4,
+                                                    SYS_connect,
                                                     SYS_io_uring_setup,
                                                     SYS_io_uring_enter,
+                                                    SYS_io_uring_register,
                                                     SYS_ptrace,
                                                     SYS_process_vm_readv,
                                                     SYS_process_vm_writev,
-                                                    SYS_io_uring_register,
                                                     SYS_pidfd_open,
                                                     SYS_pidfd_getfd,
                                                     SYS_pidfd_send_signal,
                                                     SYS_tkill,
+                                                    SYS_rt_sigqueueinfo,
+                                                    SYS_rt_tgsigqueueinfo,
                                                     SYS_kcmp,
+                                                    SYS_setpriority,
+                                                    SYS_ioprio_set,
+                                                    SYS_sched_setparam,
+                                                    SYS_sched_setscheduler,
+                                                    SYS_sched_setattr,
+                                                    SYS_sched_setaffinity,
+                                                    SYS_migrate_pages,
+                                                    SYS_move_pages,
                                                     SYS_keyctl,
                                                     SYS_add_key,
                                                     SYS_request_key,
@@ -202,7 +219,25 @@ constexpr auto forbidden = std::to_array<unsigned>({SYS_socket,
                                                     SYS_acct,
                                                     SYS_msgget,
                                                     SYS_semget,
-                                                    SYS_shmget});
+                                                    SYS_shmget,
+                                                    SYS_mq_open});
+
+// What no Landlock forbids of a file that can't be opened: whose it is, who may read it, its times
+// and its marks. (To cut it an older one does not forbid either.) The last four are calls that the
+// headers of older systems lack: fchmodat2, setxattrat, removexattrat and file_setattr.
+constexpr auto forbidden_of_files = std::to_array<unsigned>(
+    {SYS_truncate, SYS_fchmod, SYS_fchmodat, SYS_fchown, SYS_fchownat, SYS_utimensat, SYS_setxattr,
+     SYS_lsetxattr, SYS_fsetxattr, SYS_removexattr, SYS_lremovexattr, SYS_fremovexattr, 452, 463,
+     466, 469});
+#if defined(__x86_64__)
+constexpr auto forbidden_of_old = std::to_array<unsigned>(
+    {SYS_chmod, SYS_chown, SYS_lchown, SYS_utime, SYS_utimes, SYS_futimesat});
+#else
+constexpr std::array<unsigned, 0> forbidden_of_old{};
+#endif
+
+// Who is sent a signal, and which, when something happens to a file.
+constexpr auto forbidden_of_fcntl = std::to_array<unsigned>({F_SETOWN, F_SETOWN_EX, F_SETSIG});
 
 using Filter = std::vector<sock_filter>;
 
@@ -219,6 +254,38 @@ void unless_equal(Filter &filter, std::uint32_t value, std::uint8_t lines) {
     filter.push_back(BPF_JUMP(BPF_JMP | BPF_JEQ | BPF_K, value, 0, lines));
 }
 
+void forbid(Filter &filter, std::span<const unsigned> calls) {
+    for (const unsigned call : calls) {
+        unless_equal(filter, call, 1);
+        answer(filter, refuse);
+    }
+}
+
+void load_argument(Filter &filter, std::size_t number) {
+    load(filter, offsetof(seccomp_data, args) + number * sizeof(std::uint64_t));
+}
+
+// A call whose first argument is a process: of itself alone.
+void allow_of(Filter &filter, std::uint32_t call, std::initializer_list<std::uint32_t> itself) {
+    unless_equal(filter, call, static_cast<std::uint8_t>(2 + 2 * itself.size()));
+    load_argument(filter, 0);
+    for (const std::uint32_t process : itself) {
+        unless_equal(filter, process, 1);
+        answer(filter, SECCOMP_RET_ALLOW);
+    }
+    answer(filter, refuse);
+}
+
+void forbid_of_fcntl(Filter &filter) {
+    unless_equal(filter, SYS_fcntl, static_cast<std::uint8_t>(2 + 2 * forbidden_of_fcntl.size()));
+    load_argument(filter, 1);
+    for (const unsigned command : forbidden_of_fcntl) {
+        unless_equal(filter, command, 1);
+        answer(filter, refuse);
+    }
+    answer(filter, SECCOMP_RET_ALLOW);
+}
+
 Filter filter_for(std::uint32_t own) {
     Filter filter;
     load(filter, offsetof(seccomp_data, arch));
@@ -228,18 +295,14 @@ Filter filter_for(std::uint32_t own) {
     // Numbers of the second set of calls that a processor of x86-64 has.
     filter.push_back(BPF_JUMP(BPF_JMP | BPF_JGE | BPF_K, 0x40000000, 0, 1));
     answer(filter, refuse);
-    for (const unsigned call : forbidden) {
-        unless_equal(filter, call, 1);
-        answer(filter, refuse);
-    }
-    // Signals to itself alone.
+    forbid(filter, forbidden);
+    forbid(filter, forbidden_of_files);
+    forbid(filter, forbidden_of_old);
     for (const unsigned call : {SYS_kill, SYS_tgkill}) {
-        unless_equal(filter, call, 4);
-        load(filter, offsetof(seccomp_data, args));
-        filter.push_back(BPF_JUMP(BPF_JMP | BPF_JEQ | BPF_K, own, 1, 0));
-        answer(filter, refuse);
-        answer(filter, SECCOMP_RET_ALLOW);
+        allow_of(filter, call, {own});
     }
+    allow_of(filter, SYS_prlimit64, {0, own});
+    forbid_of_fcntl(filter);
     answer(filter, SECCOMP_RET_ALLOW);
     return filter;
 }

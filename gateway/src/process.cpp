@@ -57,6 +57,10 @@ class SpawnPlan {
     void use(const Descriptor &descriptor, int as) {
         posix_spawn_file_actions_adddup2(&actions_, descriptor.number(), as);
     }
+    // Libraries open some that a process would inherit, such as the sockets of Boost.Asio.
+    void close_all_others() {
+        posix_spawn_file_actions_addclosefrom_np(&actions_, STDERR_FILENO + 1);
+    }
     const posix_spawn_file_actions_t *actions() const { return &actions_; }
     const posix_spawnattr_t *attributes() const { return &attributes_; }
 
@@ -92,6 +96,7 @@ Process::Process(const std::vector<std::string> &command) {
     plan.use(in.read, STDIN_FILENO);
     plan.use(out.write, STDOUT_FILENO);
     plan.use(err.write, STDERR_FILENO);
+    plan.close_all_others();
     std::vector<std::string> words = command;
     std::vector<char *> arguments;
     arguments.reserve(words.size() + 1);

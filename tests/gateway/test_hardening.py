@@ -2,6 +2,7 @@
 
 import os
 import re
+import socket
 import subprocess
 from pathlib import Path
 
@@ -104,6 +105,14 @@ def test_settings_of_the_unit() -> None:
 
 # ------------------------------------------------------------ the venue's process
 
+CALL = """
+import ctypes, os
+libc = ctypes.CDLL(None, use_errno=True)
+def call(function, *words):
+    if function(*words) < 0:
+        raise OSError(ctypes.get_errno(), os.strerror(ctypes.get_errno()))
+"""
+
 # Each tries something, and prints `done` where that went well.
 TRIES = {
     "reads a key": "open({key!r}).read()",
@@ -115,17 +124,33 @@ TRIES = {
     "signals its gateway": "import os, signal; os.kill(os.getppid(), 0)",
     "reads its gateway's memory": "import os; open('/proc/%d/mem' % os.getppid(), 'rb').read(0)",
     "lists a folder": "import os; os.listdir({folder!r})",
+    "cuts the log": "import os; os.truncate({log!r}, 0)",
+    "lets others read a key": "import os; os.chmod({key!r}, 0o666)",
+    "gives a key away": "import os; os.chown({key!r}, os.getuid(), os.getgid())",
+    "changes a file's times": "import os; os.utime({key!r}, (1, 1))",
+    "marks a file": "import os; os.setxattr({key!r}, 'user.mark', b'x')",
+    # Each leaves its parent as it is, should it go well.
+    "queues a signal": CALL + "call(libc.sigqueue, os.getppid(), 0, 0)",
+    "has its gateway told by a pipe": "import fcntl, os; fcntl.fcntl(os.pipe()[0], fcntl.F_SETOWN, os.getppid())",
+    "limits its gateway": "import os, resource; resource.prlimit(os.getppid(), resource.RLIMIT_NOFILE)",
+    "slows its gateway": "import os; os.setpriority(os.PRIO_PROCESS, os.getppid(), os.getpriority(os.PRIO_PROCESS, os.getppid()))",
+    "moves its gateway": "import os; os.sched_setaffinity(os.getppid(), os.sched_getaffinity(os.getppid()))",
+    "listens on a socket that it has": "import socket; socket.socket(fileno=0).listen()",
+    "takes a connection of it": "import socket; own = socket.socket(fileno=0); own.setblocking(False); own.accept()",
 }
 # And what it has to be able to do.
 NEEDS = {
     "reads its libraries": "import json, decimal",
     "reads its own file": "open({own!r}).read()",
     "raises a signal": "import os; os.kill(os.getpid(), 0)",
+    "has its own limits": "import resource; resource.setrlimit(resource.RLIMIT_CORE, (0, 0))",
+    "has threads": "import threading; one = threading.Thread(target=len, args=('',)); one.start(); one.join()",
+    "asks about its own files": "import fcntl; fcntl.fcntl(0, fcntl.F_GETFL)",
 }
 
 
 def outcome(gateway_program: Path, place: Path, text: str) -> str:
-    """What a confined program prints that does this, on a folder with keys and a log."""
+    """What a confined program prints that does this, on a folder with keys and a log; its input is a socket that listens."""
     own = place / "program"
     own.mkdir(exist_ok=True)
     script = own / "tried.py"
@@ -139,9 +164,15 @@ def outcome(gateway_program: Path, place: Path, text: str) -> str:
     }
     script.write_text(text.format(**values) + "\nprint('done')\n")
     words = [gateway_program, "--confined", "/usr/bin/python3", "-B", script]
-    run = subprocess.run(
-        [str(word) for word in words], capture_output=True, text=True, check=False, timeout=LONG
-    )
+    with socket.create_server(("127.0.0.1", 0)) as listening:
+        run = subprocess.run(
+            [str(word) for word in words],
+            stdin=listening.fileno(),
+            capture_output=True,
+            text=True,
+            check=False,
+            timeout=LONG,
+        )
     return run.stdout.strip() or run.stderr.strip().splitlines()[-1]
 
 
@@ -170,3 +201,29 @@ def test_the_venue_of_a_gateway_is_confined(stage: Stage) -> None:
     check(re.search(r"Max core file size +0 +0 ", limits), "it may leave a core: %s" % limits)
     stage.auction()
     stage.whole()
+
+
+def sockets_of(pid: int) -> list[str]:
+    """What of a process's descriptors are sockets; none of one that has ended."""
+    try:
+        names = [os.readlink(each) for each in Path("/proc/%d/fd" % pid).iterdir()]
+    except FileNotFoundError:
+        return []
+    return [name for name in names if name.startswith("socket:")]
+
+
+def test_a_venue_inherits_no_socket(stage: Stage) -> None:
+    """Neither the gateway's listening ones nor a connection that is open when it is started again."""
+    stage.open(stage.dealer)
+    with socket.create_connection(("127.0.0.1", stage.door.metrics), timeout=LONG):
+        stage.counters()  # so the connection before has been taken
+        before = stage.door.venues()
+        stage.door.kill_venue()
+        until(
+            "another venue is there",
+            LONG,
+            lambda: any(pid not in before for pid in stage.door.venues()),
+        )
+        stage.ping(stage.dealer)
+        found = {pid: sockets_of(pid) for pid in stage.door.venues()}
+    check(not any(found.values()), "a venue has sockets: %r" % found)
