@@ -32,14 +32,35 @@ bool Attempts::may_try(const std::string &who, Moment at) {
     return static_cast<int>(found->second.size()) < most_;
 }
 
-void Attempts::failed(const std::string &who, Moment at) {
-    if (failures_.size() >= most_remembered) {
-        std::erase_if(failures_, [&](auto &one) {
-            return one.second.empty() || one.second.back() + window <= at;
-        });
+void Attempts::begins(const std::string &who, Moment at) {
+    if (failures_.size() >= most_remembered && !failures_.contains(who)) {
+        make_room(at);
     }
-    if (failures_.size() < most_remembered || failures_.contains(who)) {
-        failures_[who].push_back(at);
+    failures_[who].push_back(at);
+}
+
+void Attempts::succeeded(const std::string &who, Moment at) {
+    const auto found = failures_.find(who);
+    if (found == failures_.end()) {
+        return;
+    }
+    const auto one = std::find(found->second.begin(), found->second.end(), at);
+    if (one != found->second.end()) {
+        found->second.erase(one);
+    }
+}
+
+// Whoever has failed least is forgotten: others may come in whatever names to have somebody's
+// failures forgotten.
+void Attempts::make_room(Moment at) {
+    std::erase_if(failures_, [&](const auto &one) {
+        return one.second.empty() || one.second.back() + window <= at;
+    });
+    if (failures_.size() >= most_remembered) {
+        failures_.erase(std::min_element(failures_.begin(), failures_.end(),
+                                         [](const auto &one, const auto &other) {
+                                             return one.second.size() < other.second.size();
+                                         }));
     }
 }
 
@@ -60,25 +81,28 @@ const Trader *Logins::trader(const std::string &login) const {
 
 void Logins::log_in(const std::string &address, const std::string &login,
                     const std::string &password, std::function<void(Outcome)> tell) {
-    if (!of_address_.may_try(address, now()) || !of_login_.may_try(login, now())) {
+    const Moment begun = now();
+    if (!of_address_.may_try(address, begun) || !of_login_.may_try(login, begun)) {
         return tell(Refusal::too_often);
     }
     if (judged_ >= most_judged) {
         return tell(Refusal::busy);
     }
     ++judged_;
+    of_address_.begins(address, begun);
+    of_login_.begins(login, begun);
     const Trader *own = trader(login);
     // For a login that nobody has, the same work is done with somebody's hash.
     const std::string hash = own != nullptr ? own->password : traders_.front().password;
-    boost::asio::post(thread_, [this, own, hash, address, login, password, tell] {
+    boost::asio::post(thread_, [this, own, hash, address, login, begun, password, tell] {
         const bool is_right = gateway::has_hash(password, hash) && own != nullptr;
-        boost::asio::post(io_, [this, own, is_right, address, login, tell] {
+        boost::asio::post(io_, [this, own, is_right, address, login, begun, tell] {
             --judged_;
             if (!is_right) {
-                of_address_.failed(address, now());
-                of_login_.failed(login, now());
                 return tell(Refusal::wrong);
             }
+            of_address_.succeeded(address, begun);
+            of_login_.succeeded(login, begun);
             tell(begin(*own));
         });
     });

@@ -20,14 +20,19 @@
 
 namespace desk {
 
-// How often something may fail in a minute, for each of those who try.
+// How often something may fail in a minute, for each of those who try. A try counts as a failure
+// until it has succeeded, so that no more pass that come at once.
 class Attempts {
   public:
     explicit Attempts(int most) : most_(most) {}
     bool may_try(const std::string &who, Moment at);
-    void failed(const std::string &who, Moment at);
+    void begins(const std::string &who, Moment at);
+    // The try that began then.
+    void succeeded(const std::string &who, Moment at);
 
   private:
+    void make_room(Moment at);
+
     const int most_;
     std::map<std::string, std::deque<Moment>> failures_;
 };

@@ -76,11 +76,40 @@ TEST_CASE("who fails too often waits a minute, and nobody else") {
     const Moment at = *moment_of("20260314-09:00:00.000");
     for (int count = 0; count < 3; ++count) {
         CHECK(attempts.may_try("one", at));
-        attempts.failed("one", at);
+        attempts.begins("one", at);
     }
     CHECK_FALSE(attempts.may_try("one", at + std::chrono::seconds(59)));
     CHECK(attempts.may_try("other", at));
     CHECK(attempts.may_try("one", at + std::chrono::seconds(60)));
+}
+
+TEST_CASE("a try counts until it has succeeded") {
+    Attempts attempts(1);
+    const Moment at = *moment_of("20260314-09:00:00.000");
+    attempts.begins("one", at);
+    CHECK_FALSE(attempts.may_try("one", at));
+    attempts.succeeded("one", at);
+    CHECK(attempts.may_try("one", at));
+    attempts.succeeded("one", at);
+    attempts.succeeded("nobody", at);
+    CHECK(attempts.may_try("nobody", at));
+}
+
+TEST_CASE("whoever fails often is remembered, however many others fail") {
+    Attempts attempts(3);
+    const Moment at = *moment_of("20260314-09:00:00.000");
+    for (int count = 0; count < 3; ++count) {
+        attempts.begins("one", at);
+    }
+    for (int other = 0; other < 5000; ++other) {
+        attempts.begins("other " + std::to_string(other), at);
+    }
+    CHECK_FALSE(attempts.may_try("one", at));
+    for (int count = 0; count < 3; ++count) {
+        CHECK(attempts.may_try("one behind them", at));
+        attempts.begins("one behind them", at);
+    }
+    CHECK_FALSE(attempts.may_try("one behind them", at));
 }
 
 TEST_CASE("a page has a burst of commands, and then twenty a second") {

@@ -9,6 +9,7 @@ import subprocess
 import threading
 import time
 from collections.abc import Iterator
+from concurrent.futures import ThreadPoolExecutor
 from contextlib import contextmanager
 
 import pytest
@@ -230,6 +231,20 @@ def test_passwords_are_not_guessed(house: House) -> None:
             answer.status == 429 or time.monotonic() - began > 60
         ), "the right one is judged after ten wrong ones"
     assert view.act(do="pass", request="none") == "The request has ended."
+
+
+def test_passwords_are_not_guessed_at_once(house: House) -> None:
+    """Thirty wrong ones of a login that come together: ten are judged, and the others are told to wait. Another login is judged."""
+    began = time.monotonic()
+    with ThreadPoolExecutor(15) as guessers:
+        answers = list(guessers.map(lambda _: guessed(house.investor, "tess", "guess"), range(30)))
+    judged = [answer for answer in answers if answer.status == 403]
+    most = 10 * (
+        1 + int((time.monotonic() - began) // 60)
+    )  # on a slow machine a minute may be over
+    assert len(judged) <= most, "%d wrong passwords are judged" % len(judged)
+    assert {answer.status for answer in answers} <= {403, 429, 503}
+    assert guessed(house.investor, "lou", PASSWORD).status == 200
 
 
 def test_too_much(house: House) -> None:
