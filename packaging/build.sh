@@ -101,12 +101,12 @@ cp -R "$root/fix" "$files/fix"
 cp -R "$root/deploy/prometheus" "$files/prometheus"
 cp "$root/gateway/README.md" "$files/docs/gateway.md"
 cp "$root/desk/README.md" "$files/docs/desk.md"
-for page in OPERATING FORMATS CONNECTING SESSIONS SUPERVISING TRADING; do
+for page in OPERATING FORMATS CONNECTING MARKET SESSIONS SUPERVISING TRADING; do
     cp "$root/docs/$page.md" "$files/docs"
 done
+cp "$root/SECURITY.md" "$files/docs"
 cp "$root/deploy/README.md" "$files/docs/deploy.md"
-# A page finds the others that are installed beside it.
-sed -i 's|(\.\./gateway/README\.md|(gateway.md|g; s|(\.\./docs/|(|g' "$files"/docs/*.md
+/usr/bin/python3 "$root/packaging/links.py" "$files/docs"
 cp -R "$root/audit/mireseason_audit" "$root/audit/mireseason-audit" "$files"
 cp -R "$root/deploy/mireseason_keeper" "$root/deploy/mireseason-keeper" "$files"
 find "$files" -name __pycache__ -prune -exec rm -r {} +

@@ -10,6 +10,8 @@ from dataclasses import dataclass
 from pathlib import Path
 
 import pytest
+from page_checks.links import CODE, LINK, fault_of
+from page_checks.page import Page
 
 from tests.gateway.wait import LONG
 from tests.harness.options import ROOT
@@ -58,7 +60,8 @@ def built(gateway: Path, venue: tuple[str, ...], folder: Path, version: str = VE
             shutil.copytree(
                 ROOT / part, root / part, ignore=shutil.ignore_patterns("out", "__pycache__")
             )
-        shutil.copy2(ROOT / "crates.txt", root)
+        for file in ("crates.txt", "SECURITY.md"):
+            shutil.copy2(ROOT / file, root)
         (root / "VERSION").write_text(version + "\n")
         (root / "COMMIT").write_text("0123456789ab\n")
         (root / "CHANGELOG.md").write_text(
@@ -201,6 +204,33 @@ def test_what_an_operator_edits_stays(packages: Packages, name: str) -> None:
     }
     conffiles = set(printed("dpkg-deb", "-I", packages.file(name), "conffiles").splitlines())
     assert below == conffiles != set()
+
+
+def test_links_lead_to_what_is_installed(packages: Packages, place: Path) -> None:
+    """Who has the packages alone finds what one page says that stands in another, heading and all."""
+    root = place / "root"
+    for name in (*PACKAGES, *([DESK] if desk_folder() else [])):
+        packages.unpacked(name, root)
+    files = {"/" + str(file.relative_to(root)) for file in root.rglob("*")}
+    pages = {
+        path: Page(path, (root / path[1:]).read_text().splitlines())
+        for path in files
+        if path.endswith(".md")
+    }
+    links = [
+        (page, link)
+        for page in pages.values()
+        for _, text in page.prose()
+        for link in LINK.findall(CODE.sub("", text))
+        if "://" not in link
+    ]
+    assert {page.path for page, _ in links} == set(pages)
+    faults = [
+        "%s: %s" % (page.path, fault)
+        for page, link in links
+        if (fault := fault_of(page, link, pages, files))
+    ]
+    assert not faults, "\n".join(faults)
 
 
 def test_pages_and_completions(packages: Packages, place: Path) -> None:
