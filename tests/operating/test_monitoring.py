@@ -4,6 +4,7 @@ import json
 import re
 import shutil
 import signal
+import socket
 import ssl
 import subprocess
 import time
@@ -21,13 +22,16 @@ from tests.gateway.door import free_port
 from tests.gateway.market import BOND
 from tests.gateway.stage import DEALER, INVESTOR, OTHER, Stage
 from tests.gateway.test_logon import certificate, with_tls
+from tests.gateway.test_messages import cancel, on_a_wire
 from tests.gateway.wait import LONG, until
+from tests.gateway.wire import Fields
 from tests.harness.browser import Browser
 from tests.harness.options import ROOT
 from tests.operating.test_service import asked, hanging_venue
 
 RULES = ROOT / "deploy" / "prometheus" / "mireseason.rules.yml"
 CASES = ROOT / "deploy" / "prometheus" / "mireseason.rules.test.yml"
+TAKEN, TIMES = 1000, 100  # answers that are asked for again so often: more than sockets hold
 
 
 def counts(stage: Stage, name: str, wanted: float) -> None:
@@ -73,6 +77,37 @@ def test_what_the_venue_has_not_answered(stage: Stage) -> None:
     with hanging_venue(stage):
         counts(stage, "venue_backlog_entries", 1)
     counts(stage, "venue_backlog_entries", 0)
+
+
+def wait_for(stage: Stage) -> set[str]:
+    """The firms that have not taken all of what is written to them."""
+    start, counters = "mireseason_firm_waiting_bytes{", stage.counters()
+    return {
+        name.split('"')[1]
+        for name, count in counters.items()
+        if name.startswith(start) and count > 0
+    }
+
+
+def test_bytes_that_a_firm_does_not_take(stage: Stage) -> None:
+    """They are counted at this firm and at no other, as long as its connection stands."""
+    stage.limits["send_seconds"] = 600
+    stage.open(stage.other, stage.investor)
+    with on_a_wire(stage, heartbeat=b"300") as wire:
+        last = b"c%d" % TAKEN
+        wire.raw(
+            b"".join(
+                wire.message(b"Z", b"DLR1", cancel(b"c%d" % each)) for each in range(1, TAKEN + 1)
+            )
+        )
+        assert wire.read_until(
+            lambda message: message.value(117) == last
+        ), "the last is not answered"
+        wire.socket.setsockopt(socket.SOL_SOCKET, socket.SO_RCVBUF, 2048)
+        again: Fields = [(7, b"1"), (16, b"0")]
+        wire.raw(b"".join(wire.message(b"2", b"DLR1", again) for _ in range(TIMES)))
+        until("bytes wait for it alone", LONG, lambda: wait_for(stage) == {"DLR1"})
+    counts(stage, 'firm_waiting_bytes{firm="DLR1"}', 0)
 
 
 def test_versions(stage: Stage) -> None:

@@ -19,6 +19,7 @@ from tests.gateway.stage import Stage
 from tests.gateway.wait import LONG, until
 from tests.operating.test_configuration import VENUE
 
+DAY = 86_400  # seconds from midnight to midnight in UTC
 SILENCE = 15  # seconds after which a part that does not work is told of (gateway/README.md)
 
 
@@ -161,6 +162,7 @@ def test_a_day_that_has_not_opened(stage: Stage, systemd: Systemd) -> None:
     assert stage.counters()["mireseason_ready"] == 0
     opens = tomorrow.replace(hour=0, minute=0, second=0, microsecond=0).timestamp()
     assert stage.counters()["mireseason_day_opens_timestamp_seconds"] == opens
+    assert stage.counters()["mireseason_day_ends_timestamp_seconds"] == opens + DAY
     assert stage.counters()["mireseason_sessions"] == 0
     assert stage.door.stop() == 0
 
