@@ -4,7 +4,7 @@
 #
 #     tests/run.sh                 the gate first, and then the short forms of the others, in the time that is left
 #     tests/run.sh --beside        the others alone, with the program that stands
-#     tests/run.sh --quick         ten minutes from a fresh clone, with `rt` or without: the second
+#     tests/run.sh --quick         twenty minutes from a fresh clone, with `rt` or without: the second
 #                                  implementation of the venue stands in the program's place, and
 #                                  nothing is proved
 #
@@ -281,22 +281,24 @@ beside() {
 }
 
 # The second implementation stands in the program's place, and is not held against itself. What needs no gateway is tried while it
-# is built.
+# is built. Of the other folders those are tried that take a minute.
 quick() {
     program=$second
+    short='examples|supervisor'
     told=$work/all
     # shellcheck disable=SC2086 # a word for each package
     can_have "$(what_is_left)" $usual $testers ||
         echo "can't be installed: $(paste -sd ' ' "$told.lacking")"
     browser
     echo "model, isolation, hostile, refused_memory, replicas: not run: there is no proved program"
+    echo "$(others | grep -vxE "$short" | paste -sd ' ' | sed 's/ /, /g'): not run: --quick has no time for them"
     aside part cases
     aside part pages
     build_gateway
     aside part gateway
     aside part engines
     part audit
-    for each in $(others); do part "$each"; done
+    for each in $(others | grep -xE "$short"); do part "$each"; done
     wait
     echo "quick: $(($(date +%s) - start)) s"
 }
