@@ -31,8 +31,7 @@ void Conversation::hear(const char *bytes, std::size_t count, Received at) {
 }
 
 void Conversation::look_again() {
-    waits_ = door_.look_again() == Door::Standing::waits;
-    serve();
+    logon_was_judged(door_.look_again());
     go_on();
 }
 
@@ -113,11 +112,18 @@ void Conversation::skip(std::size_t count) {
 // Its answer leaves before what follows is looked at.
 void Conversation::take(std::string_view message) {
     if (std::exchange(is_first_, false)) {
-        waits_ = door_.judge(message) == Door::Standing::waits;
-        serve();
+        logon_was_judged(door_.judge(message));
     } else if (door_.session()->take(door_.connection(), message, at_)) {
         serve();
     }
+}
+
+// What follows it counts as received from now on: its answers would bear moments before the
+// Logon's.
+void Conversation::logon_was_judged(Door::Standing standing) {
+    waits_ = standing == Door::Standing::waits;
+    serve();
+    at_ = std::chrono::system_clock::now();
 }
 
 } // namespace gateway

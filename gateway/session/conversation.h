@@ -56,6 +56,7 @@ class Conversation {
     void go_on();
     bool may_go_on() const;
     void take(std::string_view message);
+    void logon_was_judged(Door::Standing standing);
     void skip(std::size_t count);
 
     Line &line_;
@@ -68,7 +69,7 @@ class Conversation {
     bool waits_ = false;
     FirmSession::Work work_; // that serve() left
     std::size_t pieces_ = 0; // since may_hear_from()
-    Received at_{};          // when the last bytes were read
+    Received at_{};          // when the last bytes were read, or a Logon among them was answered
 };
 
 } // namespace gateway
