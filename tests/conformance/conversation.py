@@ -29,6 +29,7 @@ class Conversation:
     heard: list[bytes] = field(default_factory=list)
     _began: datetime = field(default_factory=lambda: datetime.now(timezone.utc))
     _wires: dict[int, Wire] = field(default_factory=dict)
+    _joined: bytes = b""  # what leaves with the next that is said
 
     def play(self, lines: list[Line]) -> None:
         """Says and hears what the lines say, one after the other; Departs at the first that does not come true."""
@@ -42,13 +43,19 @@ class Conversation:
 
     def _play(self, line: Line, wire: Wire) -> None:
         if line.act is Act.SAY:
-            wire.raw(message_of(filled(line.text, self.names)))
+            self._say(line, wire)
         elif line.act is Act.HEAR:
             self._hear(line, wire)
         elif line.act is Act.ENDS:
             self._end(line, wire)
         else:
             wire.socket.close()
+
+    def _say(self, line: Line, wire: Wire) -> None:
+        self._joined += message_of(filled(line.text, self.names))
+        if not line.is_joined:
+            wire.raw(self._joined)
+            self._joined = b""
 
     def _hear(self, line: Line, wire: Wire) -> None:
         message = wire.read(self.limit)

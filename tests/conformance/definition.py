@@ -12,6 +12,9 @@ from tests.model.frames import checksum
 SOH = b"\x01"
 LINE = re.compile(r"([iIeE])(?:(\d),)?(.*)")
 SHIFTED = re.compile(r"<TIME([+-]\d+)?>")
+LETTERS = re.compile(r"<FILL(\d+)>")
+JOINED = "&"  # at the end of what is said: it leaves with the next, in the same bytes
+LAST = re.compile(rb"(?<=\x01)10=[^\x01]*\x01?\Z")  # the sum of a message that gives one
 MOMENT = re.compile(rb"\d{8}-\d\d:\d\d:\d\d\.\d{3}")
 
 
@@ -33,6 +36,7 @@ class Line:
     act: Act
     connection: int
     text: str = ""  # a message, with bars
+    is_joined: bool = False  # with the next that is said, in the same bytes
 
 
 def line_of(at: str, text: str) -> Line:
@@ -40,8 +44,10 @@ def line_of(at: str, text: str) -> Line:
     found = LINE.fullmatch(text)
     assert found, "%s: no line of a definition: %r" % (at, text)
     letter, connection, rest = found[1], int(found[2] or 1), found[3]
-    if letter in "IE":
-        return Line(at, Act(letter), connection, rest)
+    if letter == "I":
+        return Line(at, Act.SAY, connection, rest.removesuffix(JOINED), rest.endswith(JOINED))
+    if letter == "E":
+        return Line(at, Act.HEAR, connection, rest)
     return Line(at, Act(letter + rest), connection)
 
 
@@ -57,10 +63,16 @@ def lines_of(path: Path) -> list[Line]:
     return lines
 
 
-def filled(text: str, names: dict[str, str]) -> str:
-    """A text with what its names and moments stand for; a moment has whole seconds, as in QuickFIX's runner."""
+def named(text: str, names: dict[str, str]) -> str:
+    """A text with what its names stand for, and as many letters as it asks for."""
     for name, value in names.items():
         text = text.replace("<%s>" % name, value)
+    return LETTERS.sub(lambda found: "x" * int(found[1]), text)
+
+
+def filled(text: str, names: dict[str, str]) -> str:
+    """A text with what its names and moments stand for; a moment has whole seconds, as in QuickFIX's runner."""
+    text = named(text, names)
     now = datetime.now(timezone.utc)
 
     def moment(found: re.Match[str]) -> str:
@@ -75,10 +87,10 @@ def message_of(text: str) -> bytes:
     if not data.startswith(b"8="):
         return data
     begin, rest = data.split(SOH, 1)
-    body, is_summed, total = rest.partition(b"\x0110=")
-    body = body + SOH if is_summed else rest
+    total = LAST.search(rest)
+    body = rest[: total.start()] if total else rest
     front = begin + SOH + (b"" if body.startswith(b"9=") else b"9=%d\x01" % len(body)) + body
-    return front + b"10=" + (total if is_summed else checksum(front) + SOH)
+    return front + (total[0] if total else b"10=" + checksum(front) + SOH)
 
 
 def fields_of(data: bytes) -> list[tuple[bytes, bytes]]:
@@ -94,8 +106,7 @@ def fits(expected: bytes, value: bytes) -> bool:
 
 def fault_in(expected: str, names: dict[str, str], got: bytes) -> str | None:
     """What is wrong with a message: its length, its sum, or the first field that is not the one that is written."""
-    for name, meaning in names.items():
-        expected = expected.replace("<%s>" % name, meaning)
+    expected = named(expected, names)
     fields = fields_of(got)
     body = SOH.join(tag + b"=" + value for tag, value in fields[2:-1]) + SOH
     if got != framed(body):

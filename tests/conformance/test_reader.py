@@ -21,8 +21,10 @@ def test_lines() -> None:
     assert (said.act, said.connection, said.text) == (Act.SAY, 2, "8=FIXT.1.1|35=0|")
     ends = line_of("a.def:2", "eDISCONNECT")
     assert (ends.act, ends.connection) == (Act.ENDS, 1)
+    joined = line_of("a.def:3", "Ix&")
+    assert (joined.text, joined.is_joined, said.is_joined) == ("x", True, False)
     with pytest.raises(AssertionError):
-        line_of("a.def:3", "8=FIXT.1.1|35=0|")
+        line_of("a.def:4", "8=FIXT.1.1|35=0|")
 
 
 def test_length_and_sum_are_added_where_they_are_left_out() -> None:
@@ -30,6 +32,13 @@ def test_length_and_sum_are_added_where_they_are_left_out() -> None:
     assert message_of("8=FIXT.1.1|35=0|") == whole
     assert message_of("8=FIXT.1.1|9=7|35=0|10=0|") == b"8=FIXT.1.1\x019=7\x0135=0\x0110=0\x01"
     assert message_of("35=0|8=FIXT.1.1|") == b"35=0\x018=FIXT.1.1\x01"
+    within = b"35=0\x0110=000\x0158=x\x01"  # a 10 that is not the last field is no sum
+    assert message_of("8=FIXT.1.1|35=0|10=000|58=x|") == framed(within)
+
+
+def test_letters() -> None:
+    assert filled("58=<FILL3>|", NAMES) == "58=xxx|"
+    assert fault_in(EXPECTED.replace("112=x", "112=<FILL1>"), NAMES, RIGHT) is None
 
 
 def test_names_and_moments() -> None:
