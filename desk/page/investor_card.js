@@ -160,8 +160,9 @@ export class InvestorCard extends Card {
     set(this.state, armed || this.own ? '' : waits || (this.is()
       ? `${best.length} of ${request.dealers.length} quoted${silent ? `, ${silent} waiting` : ''}` : ''));
     const better = armed && armed.price !== best[0].price ? `. NOT THE BEST: ${best[0].dealer} has ${text(best[0].price)}` : '';
+    const press = this.own ? `${this.own} ` : ''; // why the last one did nothing
     set(this.text, armed
-      ? `Once more: ${buys ? 'buy' : 'sell'} ${amount(request.quantity)} at ${text(armed.price)} ${buys ? 'from' : 'to'} ${armed.dealer}${better}`
+      ? `${press}Once more: ${buys ? 'buy' : 'sell'} ${amount(request.quantity)} at ${text(armed.price)} ${buys ? 'from' : 'to'} ${armed.dealer}${better}`
       : this.own || (this.is() ? (request.told?.refusal ? request.told.text : '') : this.result()));
     this.text.classList.toggle('why', !armed && Boolean(this.own || (request.told?.refusal && request.state !== 'done')));
     this.text.classList.toggle('ask', Boolean(armed));

@@ -12,6 +12,12 @@ PRICE = ".quotes td.price"
 PLACE = """const card = [...document.querySelectorAll('article.card')].find(one => one.textContent.includes('Cedar'));
 const {left, top} = card.querySelector('button.send').getBoundingClientRect(); return [left, top + scrollY];"""
 
+# Presses a button as soon as the price of the other dealer is another: in the same moment as the page.
+PRESS_AT_A_CHANGE = """const [button] = arguments;
+const watch = new MutationObserver(() => { watch.disconnect(); button.click(); });
+const other = [...document.querySelectorAll('.quotes tbody tr')].find(one => one.textContent.includes('DLR2'));
+watch.observe(other.querySelector('td.price'), {childList: true, characterData: true, subtree: true});"""
+
 
 def test_a_card_keeps_its_place(house: House) -> None:
     """Where the card before it ends, and is closed, nothing of it moves."""
@@ -48,6 +54,29 @@ def test_rows_keep_their_order_under_the_keys(house: House) -> None:
 def focus_on_best(page: Browser) -> bool:
     page.press(Keys.F3)
     return page.focused().startswith("buy from DLR1")
+
+
+def test_a_press_too_soon_behind_a_change_is_told(house: House) -> None:
+    """Where another quote changes just before the second press, nothing is hit, the page says why, and the choice stands."""
+    investor = house.browser(house.investor)
+    first, second = house.view(house.dealer), house.view(house.other)
+    investor.ask("alder", "buy", "1m")
+    first.quote(first.wait_shown(1), 99 * POINT)
+    other, price = second.wait_shown(1), 100
+    second.quote(other, price * POINT)
+    investor.card_says("99", "100", "2 of 2 quoted")
+
+    def told() -> bool:
+        """Again where the first press is forgotten by then."""
+        nonlocal price
+        price += 1
+        investor.script(PRESS_AT_A_CHANGE, investor.arm("DLR1"))
+        second.quote(other, price * POINT)
+        investor.card_says(str(price))
+        return "look again. Once more: buy 1,000,000 at 99 from DLR1" in investor.card().text
+
+    investor.until("the press is told", told)
+    assert first.requests["R1"]["state"] == "open" and not first.requests["R1"]["pending"]
 
 
 def test_what_is_known_of_a_bond(house: House) -> None:
