@@ -54,8 +54,10 @@ class Teller:
         investor, bond, side, quantity = key
         what = f"{int(quantity):,} of {bond}"
         if "1" not in notices:
-            way = "passed" if "6" in notices else "let expire its request"
-            return f"{investor} {way}: to {'buy' if side == '1' else 'sell'} {what}"
+            request = f"request to {'buy' if side == '1' else 'sell'} {what}"
+            if "6" in notices:
+                return f"{investor} passed on its {request}"
+            return f"{investor}'s {request} expired"
         dealer, notice = notices["1"][0]
         cover = (
             f"; {notices['4'][0][0]} was the cover" if "4" in notices else "; there was no cover"
