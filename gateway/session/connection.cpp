@@ -231,7 +231,7 @@ void Connection::turn() {
             read();
         }
         ticked_ = Clock::now();
-        conversation_.tick();
+        conversation_.tick(heard_until());
         conversation_.serve();
         write();
     }
@@ -276,11 +276,14 @@ void Connection::read() {
     }
     std::array<char, 65536> bytes;
     std::size_t count = 0;
-    const bool was_held = held_since_ != Clock::time_point();
+    // Where it is this thread that comes late, by small pieces it would come later and later.
+    const bool is_late = Clock::now() - reads_from_ >= tick;
+    const bool was_held = held_for_ > Clock::duration(0);
     const Channel::Progress progress =
-        channel_.read(bytes.data(), was_held ? read_while_held : bytes.size(), count);
-    if (progress == Channel::Progress::wants_read) {
-        held_since_ = {};
+        channel_.read(bytes.data(), was_held && !is_late ? read_while_held : bytes.size(), count);
+    is_all_heard_ = progress == Channel::Progress::wants_read;
+    if (is_all_heard_) {
+        held_for_ = {};
     }
     if (progress == Channel::Progress::ended) {
         shut(channel_.fault());
@@ -289,16 +292,23 @@ void Connection::read() {
     if (progress != Channel::Progress::done) {
         return;
     }
-    const auto at = std::chrono::system_clock::now();
+    heard_at_ = std::chrono::system_clock::now();
     if (channel_.holds_more()) {
         // It does not show in poll().
         ring();
     }
-    conversation_.hear(bytes.data(), count, at);
+    conversation_.hear(bytes.data(), count, heard_at_);
+    taken_at_ = Clock::now();
     reads_from_ = conversation_.may_hear_from(count);
-    if (!was_held && is_held()) {
-        held_since_ = Clock::now();
-    }
+    // What this thread takes, for the log above all, is not held by the rate.
+    held_for_ += std::max(reads_from_ - taken_at_, Clock::duration(0));
+}
+
+// Until when it is known what the firm has said. Behind bytes that were read there may be more: the
+// time that it took to log them is no silence of the firm, nor is a longer one while it is held.
+std::chrono::system_clock::time_point Connection::heard_until() const {
+    return is_all_heard_ ? std::chrono::system_clock::now()
+                         : heard_at_ + std::chrono::floor<milliseconds>(Clock::now() - taken_at_);
 }
 
 void Connection::write() {
@@ -334,8 +344,9 @@ void Connection::write() {
 void Connection::keep_time() {
     const Clock::time_point now = Clock::now();
     if (admitted_) {
-        if (held_since_ != Clock::time_point() && now - held_since_ >= longest_held) {
-            held_since_ = now;
+        const Clock::duration is_left = std::max(reads_from_ - now, Clock::duration(0));
+        if (held_for_ - is_left >= longest_held) {
+            held_for_ = is_left;
             conversation_.is_held_too_long();
         }
         if (wants_write_ && now - progress_ >= seconds(settings_.send_seconds)) {

@@ -66,6 +66,7 @@ class Connection final : public Line {
     void keep_time();
     void linger();
     void look_at_certificate();
+    std::chrono::system_clock::time_point heard_until() const;
     std::string why() const;
     bool is_own_thread() const { return std::this_thread::get_id() == owner_.load(); }
 
@@ -87,7 +88,10 @@ class Connection final : public Line {
     Clock::time_point progress_;
     Clock::time_point ticked_;
     Clock::time_point reads_from_; // before it nothing is read: the firm is above its rate
-    Clock::time_point held_since_; // its messages wait since then; none where they do not
+    Clock::duration held_for_{};   // in all, since nothing of it waited the last time
+    std::chrono::system_clock::time_point heard_at_; // when the last bytes were read
+    Clock::time_point taken_at_;                     // when all of them were taken
+    bool is_all_heard_ = true;                       // nothing more had come at the last look
 
     mutable std::mutex mutex_;
     std::shared_ptr<const TlsServer> renewed_; // that its certificate is to be shown to

@@ -62,9 +62,9 @@ void Conversation::log_out(const char *reason) {
     }
 }
 
-void Conversation::tick() {
+void Conversation::tick(Received now) {
     if (is_known()) {
-        door_.session()->tick();
+        door_.session()->tick(now);
     }
 }
 

@@ -40,8 +40,9 @@ class Conversation {
     void is_held_too_long();
     // Ends it for this reason, where a firm has logged on.
     void log_out(const char *reason);
-    // What time brings about; to be called each fifth of a second.
-    void tick();
+    // What time brings about; to be called each fifth of a second. Until `now` all that the firm
+    // has said was heard.
+    void tick(Received now = std::chrono::system_clock::now());
     // Ends a connection whose Logon was not accepted; `word` is one of stranger_words.
     void turn_away(const char *word, const std::string &text) { door_.turn_away(word, text); }
     // The connection has ended. Called once, and last.

@@ -265,9 +265,9 @@ void FirmSession::tell(const MachineTurn &turn) {
     }
 }
 
-void FirmSession::tick() {
+void FirmSession::tick(Received now) {
     const std::lock_guard lock(mutex_);
-    machine_.tick(begin());
+    machine_.tick(begin(now));
     carry_out(nullptr);
     end_parted();
 }

@@ -2,10 +2,13 @@
 
 import time
 
+import pytest
+
 from tests.admin.desk import rows
+from tests.gateway.firm import Received
 from tests.gateway.stage import DEALER, Stage
 from tests.gateway.wait import LONG, until
-from tests.gateway.wire import now
+from tests.gateway.wire import Wire, now
 from tests.limits.flood import Flood, cancel, logged_on
 
 SLOW = {"messages_per_second": 500, "messages_burst": 500}
@@ -67,20 +70,38 @@ def test_what_is_not_configured(stage: Stage) -> None:
     assert {row["limit"]: row["value"] for row in rows(stage, "limit", "DLR1")} == NOT_CONFIGURED
 
 
-def test_held_back_is_no_silence(stage: Stage) -> None:
-    """A firm above its rate, whose heartbeat is a second, is not taken for silent while it is held; and what it sent is in the log
-    once it is below its rate again."""
+def read_as_an_engine(wire: Wire, name: bytes) -> Received | None:
+    """Reads until there is an answer to what is named so, and sends a Heartbeat each second; None where the session ends."""
+    end, beat = time.monotonic() + LONG, time.monotonic()
+    while time.monotonic() < end and not wire.is_over:
+        message = wire.read(1)
+        if message is not None and message.value(117) == name:
+            return message
+        if time.monotonic() >= beat:
+            beat += 1
+            wire.raw(wire.message(b"0", wire.name, []))
+    return None
+
+
+@pytest.mark.parametrize(
+    ("sync", "count"),
+    [(0, 2000), (300, 2000), (1000, 800)],  # the burst, and up to three seconds of what is owed
+)
+def test_held_back_is_no_silence(stage: Stage, sync: int, count: int) -> None:
+    """A firm above its rate, whose heartbeat is a second, is not taken for silent while it is held, and what it sent is in the log
+    once it is below its rate again. Where each sync takes so many milliseconds longer, no firm is to blame for the log.
+    """
+    stage.door.environment = {"LD_PRELOAD": str(stage.tools.shim), "DISK_SLOW": str(sync)}
     stage.door.limits |= SLOW
     stage.open(stage.other)
     with logged_on(stage, DEALER, heartbeat=b"1") as wire:
-        number = wire.number
-        count = 2000  # the burst, and three seconds of what is owed
+        before, number = stage.entries_of(stage.dealer), wire.number
         pieces = [cancel(wire, number + at, b"x%d" % at) for at in range(count)]
         assert wire.raw(b"".join(pieces))
         wire.number += count
-        # Reading answers what it is asked meanwhile.
-        wire.got_until(lambda message: message.value(117) == b"x%d" % (count - 1))
-        assert stage.entries_of(stage.dealer) == count
+        last = read_as_an_engine(wire, b"x%d" % (count - 1))
+        assert last is not None, "its session has ended: %s" % stage.door.last_words()
+        assert stage.entries_of(stage.dealer) - before == count
         wire.ask()
 
 
