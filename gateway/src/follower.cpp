@@ -87,9 +87,9 @@ bool Follower::may_take_over() {
     return ahead_.is_full() || answers_.wait(found_, 0ms, day_.status.stopping());
 }
 
-// Once: from now on a take-over costs no replay.
+// Once: from now on a take-over costs no replay, and asks for no operator.
 void Follower::tell_if_ready() {
-    if (!ready_ && answers_.wait(found_, 0ms, day_.status.stopping())) {
+    if (!ready_ && day_.guard.has_kept() && answers_.wait(found_, 0ms, day_.status.stopping())) {
         ready_ = true;
         day_.status.is_now(Phase::stands_by);
         day_.events->info("stands by{} entries={}", day_.of_venue(), last_.place);

@@ -48,6 +48,8 @@ class LogGuard {
     void check_end(LogReader &log, const Entry &last);
     // The number of the last seal.
     std::uint32_t seals() const { return sealed_.number; }
+    // Whether a checkpoint of the log is kept: without one check_end() throws.
+    bool has_kept() const { return was_kept_; }
 
     // Who signs the log, from now on.
     std::unique_ptr<Notary> notary(Log &log) const;
