@@ -67,8 +67,9 @@ void NextConfiguration::try_files(const TradingDay &day) {
 // Only credentials may come to hold within a day.
 void NextConfiguration::tell_change(const TradingDay &day) {
     if (tried_.differ_only_in(credentials_file(tried_, path_), in_force_)) {
-        events_->info("credentials changed: they are right, and hold from {} on, or at once by "
-                      "mireseason-admin reload",
+        // Whether a reload has read them is not known here: it may have come first.
+        events_->info("credentials changed: they are right, and hold from {} on, and today once "
+                      "mireseason-admin reload has read them",
                       day.date);
     } else {
         events_->info("configuration changed: it is right, and applies from {} on", day.date);
