@@ -168,6 +168,22 @@ def test_versions(packages: Packages, place: Path) -> None:
     assert "## %s\n" % VERSION in (ROOT / "CHANGELOG.md").read_text()
 
 
+def test_a_firms_settings_are_nobody_elses(gateway_program: Path, place: Path) -> None:
+    """They have its password, whatever the shell's umask lets others read."""
+    credentials = place / "credentials.toml"
+    credentials.write_text("")
+    path = {**os.environ, "PATH": "%s:/usr/bin:/bin" % gateway_program.parent}
+    script = ROOT / "packaging" / "sbin" / "mireseason-credentials"
+    settings = place / "dlr1.cfg"
+    with settings.open("wb") as file:
+        settings.chmod(0o644)
+        subprocess.run(
+            ["sh", script, "DLR1", credentials], env=path, stdout=file, check=True, timeout=LONG
+        )
+    assert settings.stat().st_mode & 0o777 == 0o600
+    assert "Password=" in settings.read_text() and "[DLR1]" in credentials.read_text()
+
+
 UNITS = {
     "mireseason-gateway": "mireseason-gateway.service",
     "mireseason-keeper": "mireseason-keeper.timer",
