@@ -3,6 +3,7 @@
 import argparse
 import fcntl
 import os
+import shutil
 import sys
 from collections.abc import Iterator
 from contextlib import contextmanager
@@ -53,11 +54,13 @@ def run(configuration: Path, settings: Settings) -> int:
 
 
 def faults_of(settings: Settings) -> list[str]:
-    """What a run would find: a file that is missing, a folder that can't be read, or a database that does not answer."""
+    """What a run would find: a file or a program that is missing, a folder that can't be read, or a database that does not answer."""
     files = (settings.program, settings.key, *settings.gateways)
     found = ["%s: there is no such file" % path for path in files if not path.is_file()]
     folders = [settings.folder] if settings.sealed is None else [settings.folder, settings.sealed]
     found += ["%s: there is no such folder" % path for path in folders if not path.is_dir()]
+    if not shutil.which(settings.audit[0]):
+        found.append("%s: there is no such program" % settings.audit[0])
     try:
         if settings.given is None:
             Database(settings.postgres).logs()

@@ -334,6 +334,38 @@ def test_nothing_is_mounted(kept: Place) -> None:
     assert done.returncode == 1 and "given" in done.stderr, done.stderr
 
 
+def checked(kept: Place) -> "subprocess.CompletedProcess[str]":
+    program = ROOT / "deploy" / "mireseason-keeper"
+    words = [str(program), "--check", str(kept.folder / "keeper.toml")]
+    return subprocess.run(words, capture_output=True, text=True, timeout=LONG, check=False)
+
+
+MISSING = {
+    "program": "program: there is no such file",
+    "seal.pem": "seal.pem: there is no such file",
+    "gateway.pub": "gateway.pub: there is no such file",
+    "copies": "copies: there is no such folder",
+    "sealed": "sealed: there is no such folder",
+    "given": "the logs: ",
+    str(AUDIT): "away: there is no such program",
+}
+
+
+@pytest.mark.parametrize("name", MISSING, ids=lambda name: Path(name).name)
+def test_what_is_missing_is_found_before_a_run(kept: Place, name: str) -> None:
+    """By --check, which does nothing."""
+    done = checked(kept)
+    assert (done.returncode, "is a configuration of a keeper" in done.stdout) == (0, True), done
+    if name == str(AUDIT):
+        file = kept.folder / "keeper.toml"
+        file.write_text(file.read_text().replace(name, "away"))
+    else:
+        (kept.folder / name).rename(kept.folder / "elsewhere")
+    done = checked(kept)
+    assert (done.returncode, MISSING[name] in done.stderr) == (1, True), done.stderr
+    assert not kept.copy.exists()
+
+
 # ------------------------------------------------------------ beside a gateway
 
 
