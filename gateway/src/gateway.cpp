@@ -162,6 +162,16 @@ std::vector<std::string> Gateway::halts() const {
         } else if (words != "no") {
             lines.push_back(fmt::format("an operator has halted bonds{}: {}", venue, words));
         }
+        if (!day->clock_is_right) {
+            lines.push_back(fmt::format("no request and no quote is taken{}, since the clock was "
+                                        "set: mireseason-admin clock accept",
+                                        venue));
+        }
+        if (day->reserve.is_reached()) {
+            lines.push_back(fmt::format("no request and no quote is taken{}, until there is room "
+                                        "on the log's disk",
+                                        venue));
+        }
     }
     return lines;
 }

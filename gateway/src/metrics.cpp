@@ -113,6 +113,9 @@ struct Metrics::Parts {
     Family<Gauge> &disk_reserve =
         gauges(*registry, "mireseason_log_disk_reserve_reached",
                "1 where less is free there than is held back: no request and no quote is taken");
+    Family<Gauge> &clock_doubtful =
+        gauges(*registry, "mireseason_clock_doubtful",
+               "1 while no request and no quote is taken, since the clock was set");
     Family<Gauge> &halted =
         gauges(*registry, "mireseason_halted", "1 while an operator has halted the venue");
     Family<Gauge> &halted_bonds =
@@ -167,6 +170,10 @@ void Metrics::log_disk(const std::string &venue, std::uint64_t free, bool is_res
 void Metrics::halted(const std::string &venue, bool is_whole, std::size_t bonds) {
     parts_->halted.Add(of_venue(venue)).Set(is_whole ? 1 : 0);
     parts_->halted_bonds.Add(of_venue(venue)).Set(static_cast<double>(bonds));
+}
+
+void Metrics::clock_is_doubtful(const std::string &venue, bool is_doubtful) {
+    parts_->clock_doubtful.Add(of_venue(venue)).Set(is_doubtful ? 1 : 0);
 }
 
 std::vector<Queue> Metrics::queues() const {

@@ -66,6 +66,8 @@ class Metrics {
     void log_disk(const std::string &venue, std::uint64_t free, bool is_reserve_reached);
     // What an operator has halted: the whole venue, and how many bonds.
     void halted(const std::string &venue, bool is_whole, std::size_t bonds);
+    // Whether no request and no quote is taken since the clock was set.
+    void clock_is_doubtful(const std::string &venue, bool is_doubtful);
     // What the venue's program says that it is.
     void venue_is(const std::string &venue, const std::string &version);
     // Whether firms may log on now, and whether every part that does the work shows that it does.

@@ -271,6 +271,7 @@ void Speaker::count() {
     const std::uint32_t last = log_.last_place();
     const std::uint32_t answered = follower_->answers().last_place().value_or(0);
     day_.metrics.backlog(day_.config.venue, last - std::min(answered, last), log_.waiting());
+    day_.metrics.clock_is_doubtful(day_.config.venue, !day_.clock_is_right);
     day_.metrics.halted(day_.config.venue, day_.halts.is_venue_halted(), day_.halts.bonds().size());
     sessions_.count_waiting(engine_);
 }

@@ -14,8 +14,13 @@ from tests.gateway.wire import Wire
 from tests.harness.budget import Budget, seconds_of
 from tests.harness.clock import Clock
 from tests.limits.flood import cancel, logged_on, not_taken, responded
+from tests.operating.test_service import asked
 
 STEPS = "mireseason_clock_steps_total"
+DOUBTFUL = "mireseason_clock_doubtful"
+NOT_ACCEPTED = (
+    "no request and no quote is taken, since the clock was set: mireseason-admin clock accept"
+)
 NOTHING_BEGINS = 'no request and no quote is taken until="an operator accepts the clock"'
 NOT_AVAILABLE = b"4"  # BusinessRejectReason (380)
 TIME_ERROR, STA_UNSYNC = 5, 0x40  # of adjtimex(2)
@@ -59,6 +64,8 @@ def test_a_clock_that_is_set(stage: Stage, clock: Clock, step: int) -> None:
         Budget("that the clock was set", most=2).hold(lambda: seconds_of(told))
         until("what it stops is told", LONG, lambda: tells(stage, NOTHING_BEGINS))
         assert stage.counters()[STEPS] == 1
+        until("it is counted", LONG, lambda: stage.counters().get(DOUBTFUL) == 1)
+        assert NOT_ACCEPTED in asked(stage.door, "/")[1]
         ends_alone_are_taken(stage, dealer, investor, shown)
 
 
@@ -102,3 +109,4 @@ def test_a_small_step_is_told_and_no_more(stage: Stage, clock: Clock) -> None:
     until("it is told", LONG, lambda: stage.counters()[STEPS] == 1)
     until("it is told", LONG, lambda: tells(stage, r"clock was set by=(0\.[5-9]|1\.[0-4])"))
     stage.auction()
+    assert stage.counters()[DOUBTFUL] == 0

@@ -16,6 +16,7 @@ from tests.gateway.wait import LONG, until
 from tests.gateway.wire import Wire
 from tests.limits.flood import cancel, logged_on, not_taken, responded
 from tests.operating.test_configuration import told
+from tests.operating.test_service import asked as seen
 
 DISK, RESERVE = 48 << 20, 16 << 20  # bytes
 NOT_AVAILABLE = b"4"  # BusinessRejectReason (380)
@@ -107,6 +108,7 @@ def test_at_the_edge_of_the_reserve(disk: Path, stage: Stage) -> None:
             'no request and no quote is taken until="there is room on the log\'s disk"'
             in events(stage)
         )
+        assert "until there is room on the log" in seen(stage.door, "/")[1]
         assert stage.counters()[FREE] < RESERVE
         at_the_edge(stage, dealer, investor)
         assert responded(investor, [(693, b"h1"), (694, b"1"), (117, shown[0].given(117))]) == b"0"
