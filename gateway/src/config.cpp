@@ -157,7 +157,7 @@ class ConfigReader {
     }
 
     // All venues of one gateway have the same days.
-    void read_days() { config_.days = day_rules_of(section("day"), files_); }
+    void read_days() { config_.days = day_rules_of(section("day"), files_, day_); }
 
     // With the day's date and the venue's name: each venue has a log of its own.
     std::string filled(std::string text) const {
@@ -233,7 +233,7 @@ class ConfigReader {
         }
         config_.checkpoints = seal.beside(seal.text_of_need("checkpoints"));
         seal.end();
-        config_.keys = read_seal_keys(files);
+        config_.keys = files_.keys(files);
     }
 
     void read_sessions() {
@@ -247,7 +247,11 @@ class ConfigReader {
     }
 
     void read_credentials(const fs::path &file) {
-        check_private(file);
+        files_.require_private(file);
+        if (files_.text(file).empty()) {
+            // As an editor leaves it where the disk is full: nobody is to be logged out by that.
+            fail(file, "has nothing in it");
+        }
         const toml::table table = parse(file, files_.text(file));
         for (const auto &[key, node] : table) {
             const std::string firm(key.str());
@@ -322,7 +326,7 @@ class ConfigReader {
         if (tls.stands() && (engine.certificate.empty() || engine.key.empty())) {
             fail(path_, "[tls] has to have certificate and key");
         }
-        check_private(engine.key);
+        files_.require_private(engine.key);
         if (engine.client_certificates && engine.authorities.empty()) {
             fail(path_, "[tls] client_certificates needs authorities");
         }

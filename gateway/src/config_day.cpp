@@ -59,16 +59,35 @@ std::set<std::string> holidays_in(Section &day, ConfigFiles &files) {
     if (file.empty()) {
         return {};
     }
+    const std::string &text = files.text(file);
     try {
-        return holidays_of(files.text(file));
+        return holidays_of(text);
     } catch (const std::runtime_error &fault) {
         fail(file, fault.what());
     }
 }
 
+// Where no day may have such hours, it is the end that is at fault, if it stands there.
+void check_days(const Section &day, const DayRules &rules, std::string_view date) {
+    if (!is_zone(rules.zone)) {
+        day.fail_at("zone", fmt::format("= \"{}\": the tz database has no such zone",
+                                        printable(rules.zone, longest_shown)));
+    }
+    try {
+        TradingDays(rules, midnight_of(date));
+    } catch (const std::runtime_error &fault) {
+        const bool has_hours = day.has("ends") || day.has("opens");
+        day.fail_at(!has_hours        ? "zone"
+                    : day.has("ends") ? "ends"
+                                      : "opens",
+                    fmt::format("is at fault: from {} to {} in {}: {}", text_of_time(rules.opens),
+                                text_of_time(rules.ends), rules.zone, fault.what()));
+    }
+}
+
 } // namespace
 
-DayRules day_rules_of(Section day, ConfigFiles &files) {
+DayRules day_rules_of(Section day, ConfigFiles &files, std::string_view date) {
     DayRules rules;
     rules.zone = day.text("zone", "UTC");
     rules.opens = time_in(day, "opens").value_or(rules.opens);
@@ -80,6 +99,7 @@ DayRules day_rules_of(Section day, ConfigFiles &files) {
     }
     rules.holidays = holidays_in(day, files);
     day.end();
+    check_days(day, rules, date);
     return rules;
 }
 

@@ -6,11 +6,13 @@
 #include "config_section.h"
 #include "trading_days.h"
 
+#include <string_view>
+
 namespace gateway {
 
-// Reads the file of holidays too. Throws std::runtime_error that names the file, and in it the line
-// and the key.
-DayRules day_rules_of(Section day, ConfigFiles &files);
+// Reads the file of holidays too, and tries the rules for two years from a date (eight digits) on.
+// Throws std::runtime_error that names the file, and in it the line and the key.
+DayRules day_rules_of(Section day, ConfigFiles &files, std::string_view date);
 
 } // namespace gateway
 

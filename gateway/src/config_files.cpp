@@ -1,5 +1,7 @@
 #include "config_files.h"
 
+#include "private_file.h"
+
 #include <algorithm>
 #include <fstream>
 #include <optional>
@@ -15,7 +17,9 @@ namespace {
 std::optional<std::string> read(const std::filesystem::path &file) {
     std::ifstream in(file, std::ios::binary);
     std::ostringstream text;
-    if (!in || !(text << in.rdbuf())) {
+    // Nothing is put there of a file without a byte, and that is no fault of it.
+    const bool is_empty = in && in.peek() == std::ifstream::traits_type::eof() && in.eof();
+    if (!is_empty && (!in || !(text << in.rdbuf()))) {
         return std::nullopt;
     }
     return text.str();
@@ -32,6 +36,23 @@ const std::string &ConfigFiles::text(const std::filesystem::path &file) {
         throw std::runtime_error(fmt::format("{}: can't be read", file.string()));
     }
     return *found->second;
+}
+
+void ConfigFiles::require_private(const std::filesystem::path &file) {
+    if (!private_.contains(file)) {
+        check_private(file);
+        private_.insert(file);
+    }
+}
+
+std::shared_ptr<const SealKeys> ConfigFiles::keys(const SealFiles &files) {
+    std::vector<std::filesystem::path> names = {files.secret, files.own};
+    names.insert(names.end(), files.gateways.begin(), files.gateways.end());
+    std::shared_ptr<const SealKeys> &keys = keys_[names];
+    if (!keys) {
+        keys = read_seal_keys(files);
+    }
+    return keys;
 }
 
 bool ConfigFiles::differ_only_in(const std::filesystem::path &file,

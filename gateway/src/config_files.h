@@ -2,11 +2,16 @@
 #ifndef GATEWAY_CONFIG_FILES_H
 #define GATEWAY_CONFIG_FILES_H
 
+#include "seals.h"
+
 #include <filesystem>
 #include <map>
+#include <memory>
 #include <optional>
+#include <set>
 #include <string>
 #include <utility>
+#include <vector>
 
 namespace gateway {
 
@@ -16,6 +21,12 @@ class ConfigFiles {
   public:
     // Throws std::runtime_error that names a file that can't be read.
     const std::string &text(const std::filesystem::path &file);
+
+    // Throws std::runtime_error where the file is there and others may read it.
+    void require_private(const std::filesystem::path &file);
+
+    // Throws as read_seal_keys().
+    std::shared_ptr<const SealKeys> keys(const SealFiles &files);
 
     // Has a file taken for one with this text.
     void set(const std::filesystem::path &file, std::string text) {
@@ -29,10 +40,13 @@ class ConfigFiles {
     // Whether this file is the only one that was another then.
     bool differ_only_in(const std::filesystem::path &file, const ConfigFiles &before) const;
 
-    bool operator==(const ConfigFiles &) const = default;
+    // Whether the texts are the same.
+    bool operator==(const ConfigFiles &other) const { return texts_ == other.texts_; }
 
   private:
     std::map<std::filesystem::path, std::optional<std::string>> texts_;
+    std::set<std::filesystem::path> private_; // that were found so
+    std::map<std::vector<std::filesystem::path>, std::shared_ptr<const SealKeys>> keys_;
 };
 
 } // namespace gateway

@@ -8,6 +8,7 @@
 #include <set>
 #include <string>
 #include <string_view>
+#include <type_traits>
 #include <vector>
 
 #include <fmt/format.h>
@@ -37,7 +38,7 @@ class Section {
         }
         const auto value = node->value_exact<Value>();
         if (!value) {
-            fail_at(key, "is of another kind");
+            fail_at(key, fmt::format("has to be {}", kind_of<Value>()));
         }
         return *value;
     }
@@ -111,6 +112,12 @@ class Section {
     }
 
   private:
+    template <typename Value> static constexpr std::string_view kind_of() {
+        return std::is_same_v<Value, bool>          ? "true or false"
+               : std::is_same_v<Value, std::string> ? "a text, in quotes"
+                                                    : "a whole number";
+    }
+
     std::filesystem::path file_;
     std::string name_;
     const toml::table *table_;

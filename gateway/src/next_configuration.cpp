@@ -23,10 +23,10 @@ std::vector<std::string> lines_of(const std::string &text) {
 
 } // namespace
 
-NextConfiguration::NextConfiguration(std::filesystem::path path, ConfigFiles files,
+NextConfiguration::NextConfiguration(std::filesystem::path path, ConfigFiles files, DayRules days,
                                      Metrics &metrics, std::shared_ptr<spdlog::logger> events)
     : path_(std::move(path)), metrics_(metrics), events_(std::move(events)), in_force_(files),
-      tried_(std::move(files)) {}
+      days_(std::move(days)), tried_(std::move(files)) {}
 
 void NextConfiguration::look(const TradingDay &day) {
     const std::lock_guard lock(mutex_);
@@ -43,7 +43,8 @@ void NextConfiguration::try_for(const TradingDay &day) {
 void NextConfiguration::try_files(const TradingDay &day) {
     tried_ = ConfigFiles();
     try {
-        for (const Config &config : read_configs(tried_, path_, day.date)) {
+        const std::vector<Config> configs = read_configs(tried_, path_, day.date);
+        for (const Config &config : configs) {
             check_day(config, day.date);
         }
         if (!(tried_ == in_force_)) {
@@ -53,6 +54,7 @@ void NextConfiguration::try_files(const TradingDay &day) {
             events_->info("configuration is again the one in force");
         }
         in_force_ = tried_;
+        days_ = configs.front().days;
         faults_.clear();
     } catch (const std::exception &fault) {
         faults_ = lines_of(fault.what());
@@ -79,6 +81,11 @@ void NextConfiguration::tell_change(const TradingDay &day) {
 std::vector<Config> NextConfiguration::in_force(std::string_view day) {
     const std::lock_guard lock(mutex_);
     return read_configs(in_force_, path_, day);
+}
+
+DayRules NextConfiguration::days_in_force() {
+    const std::lock_guard lock(mutex_);
+    return days_;
 }
 
 std::uint64_t NextConfiguration::changes() {

@@ -23,9 +23,9 @@ namespace gateway {
 // day opens with it, and a fault of the files changes nothing. Any thread may ask.
 class NextConfiguration {
   public:
-    // `files` were found right.
-    NextConfiguration(std::filesystem::path path, ConfigFiles files, Metrics &metrics,
-                      std::shared_ptr<spdlog::logger> events);
+    // `files` were found right, and give these days.
+    NextConfiguration(std::filesystem::path path, ConfigFiles files, DayRules days,
+                      Metrics &metrics, std::shared_ptr<spdlog::logger> events);
 
     // Tries the files for this day where they are others than those that were tried last.
     void look(const TradingDay &day);
@@ -34,6 +34,7 @@ class NextConfiguration {
 
     // What is in force, for this day (eight digits).
     std::vector<Config> in_force(std::string_view day);
+    DayRules days_in_force();
     // How often what is in force has become another.
     std::uint64_t changes();
     // What is at fault in the files as they were tried last: a line for each, none where they are
@@ -49,6 +50,7 @@ class NextConfiguration {
     std::shared_ptr<spdlog::logger> events_;
     std::mutex mutex_;
     ConfigFiles in_force_;
+    DayRules days_;             // of it
     std::uint64_t changes_ = 0; // of it
     ConfigFiles tried_;
     std::vector<std::string> faults_; // as they were tried last

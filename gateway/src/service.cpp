@@ -34,12 +34,7 @@ std::string text_of(SystemSeconds moment) {
 
 // From midnight to midnight in UTC.
 TradingDay whole_day_of(const std::string &date) {
-    const auto number = [&date](std::size_t at, std::size_t size) {
-        return static_cast<unsigned>(std::stoul(date.substr(at, size)));
-    };
-    const std::chrono::sys_days day = std::chrono::year(static_cast<int>(number(0, 4))) /
-                                      std::chrono::month(number(4, 2)) /
-                                      std::chrono::day(number(6, 2));
+    const SystemSeconds day = midnight_of(date);
     return {date, day, day + std::chrono::days(1), day + std::chrono::days(1)};
 }
 
@@ -49,7 +44,8 @@ Service::Service(std::filesystem::path path, ConfigFiles files, std::vector<Conf
                  std::shared_ptr<spdlog::logger> events, std::shared_ptr<RecentEvents> recent,
                  SupervisorSocket supervisor)
     : path_(std::move(path)), first_(std::move(configs)), events_(std::move(events)),
-      recent_(std::move(recent)), next_(path_, std::move(files), metrics_, events_),
+      recent_(std::move(recent)),
+      next_(path_, std::move(files), first_.front().days, metrics_, events_),
       monitor_(first_.front().metrics_port, sources()),
       supervised_(std::move(supervisor), [this] { return condition(); }) {
     open_operator_socket();
@@ -233,8 +229,7 @@ int Service::run_gateway(const std::vector<Config> &configs,
 }
 
 TradingDay Service::day_after(SystemSeconds now) {
-    const std::vector<Config> configs = next_.in_force(first_.front().firms.date);
-    return TradingDays(configs.front().days, now).first_after(now);
+    return TradingDays(next_.days_in_force(), now).first_after(now);
 }
 
 // Whether it has come; false where the service is to stop.
@@ -387,14 +382,28 @@ AdminScene::NextDay Service::next_day() {
             next_.faults()};
 }
 
+void Service::look_at_files(std::string &tried) {
+    const TradingDay next = day_to_open();
+    next_.look(next);
+    if (now() + last_trial >= next.opens && tried != next.date) {
+        tried = next.date;
+        next_.try_for(next);
+    }
+}
+
+// Whatever is wrong with the files of another day, the one that goes on does not end by it.
 void Service::watch_files(const std::stop_token &stop) {
-    std::string tried;
+    std::string tried; // the day for which they were tried last, whether they had changed or not
+    std::string told;
     while (!stop.stop_requested() && !wait_a_second()) {
-        const TradingDay next = day_to_open();
-        next_.look(next);
-        if (now() + last_trial >= next.opens && tried != next.date) {
-            tried = next.date;
-            next_.try_for(next);
+        try {
+            look_at_files(tried);
+            told.clear();
+        } catch (const std::exception &fault) {
+            if (std::exchange(told, fault.what()) != fault.what()) {
+                events_->error("the next day's configuration is not tried cause=\"{}\"",
+                               fault.what());
+            }
         }
     }
 }

@@ -90,6 +90,7 @@ class Service final : private AdminScene {
     void open_door(const TradingDay &day);
     ListeningPort closed_door();
     void watch_files(const std::stop_token &stop);
+    void look_at_files(std::string &tried);
     bool wait_a_second();
     void copy_days(const std::string &before);
     void make_copies(const std::string &before, const std::stop_token &stop);

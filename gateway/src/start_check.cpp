@@ -1,5 +1,6 @@
 #include "start_check.h"
 
+#include "admin_peer.h"
 #include "check_settings.h"
 #include "descriptor.h"
 #include "disk_reserve.h"
@@ -69,6 +70,33 @@ void check_reserve(const Config &config) {
     }
 }
 
+// This process has to find it, and to write there where it `writes`.
+void check_folder(const fs::path &folder, std::string_view key, bool writes) {
+    std::error_code fault;
+    if (!fs::is_directory(folder, fault)) {
+        throw std::runtime_error(fmt::format("{}: there is no folder {}{}", key, folder.string(),
+                                             fault && fault != std::errc::no_such_file_or_directory
+                                                 ? fmt::format(" ({})", fault.message())
+                                                 : ""));
+    }
+    if (::access(folder.c_str(), writes ? W_OK | X_OK : R_OK | X_OK) != 0) {
+        const std::string cause = std::system_category().message(errno);
+        throw std::runtime_error(fmt::format("{} {}: {}", key, folder.string(), cause));
+    }
+}
+
+void check_folders(const Config &config) {
+    if (!config.sqlite.empty()) {
+        check_folder(config.sqlite.parent_path(), "[log] sqlite", true);
+    }
+    if (!config.copies.empty()) {
+        check_folder(config.copies, "[copies] folder", true);
+    }
+    if (!config.sealed.empty()) {
+        check_folder(config.sealed, "[copies] sealed", false);
+    }
+}
+
 } // namespace
 
 void check_day(const Config &config, std::string_view day) {
@@ -98,6 +126,10 @@ std::optional<int> running_gateway(const fs::path &file) {
 
 void check_start(const Config &config, std::string_view day, bool runs) {
     check_day(config, day);
+    check_folders(config);
+    if (!config.operator_group.empty()) {
+        group_named(config.operator_group);
+    }
     if (runs) {
         return;
     }

@@ -13,8 +13,8 @@ namespace gateway {
 // Holds a configuration against what this day (eight digits) needs: its date, the certificates, and
 // a program of the venue that takes it. Throws std::runtime_error with the first fault.
 void check_day(const Config &config, std::string_view day);
-// The same, and what a start needs beside it: ports that nobody has. A gateway of this
-// configuration that runs has them itself.
+// The same, and what a start needs beside it: the folders of logs and copies, the operators' group,
+// and ports that nobody has. A gateway of this configuration that runs has these itself.
 void check_start(const Config &config, std::string_view day, bool runs);
 // The process of a gateway that runs with this configuration's file; nothing where none is seen.
 std::optional<int> running_gateway(const std::filesystem::path &file);

@@ -136,6 +136,25 @@ TradingDay TradingDays::first_after(SystemSeconds now) const {
     throw std::runtime_error("no day of the year to come is a trading day");
 }
 
+bool is_zone(const std::string &name) {
+    DayRules rules;
+    rules.zone = name;
+    try {
+        zone_of(rules);
+        return true;
+    } catch (const std::runtime_error &) {
+        return false;
+    }
+}
+
+SystemSeconds midnight_of(std::string_view date) {
+    const auto number = [date](std::size_t at, std::size_t size) {
+        return number_in(date, at, size).value_or(0);
+    };
+    return std::chrono::sys_days(std::chrono::year(static_cast<int>(number(0, 4))) /
+                                 std::chrono::month(number(4, 2)) / std::chrono::day(number(6, 2)));
+}
+
 std::optional<std::chrono::minutes> time_of_day(std::string_view text) {
     if (text.size() != 5 || text[2] != ':') {
         return std::nullopt;

@@ -47,6 +47,10 @@ class TradingDays {
     DayRules rules_;
 };
 
+// Whether the tz database has a zone of this name.
+bool is_zone(const std::string &name);
+// The moment in UTC at which a date (eight digits) begins.
+SystemSeconds midnight_of(std::string_view date);
 // HH:MM, from 00:00 to 24:00; nothing else.
 std::optional<std::chrono::minutes> time_of_day(std::string_view text);
 std::string text_of_time(std::chrono::minutes time);

@@ -164,3 +164,12 @@ TEST_CASE("times of day, weekdays and holidays are read exactly") {
                       "line 2: a holiday is a day as YYYY-MM-DD");
     CHECK(DayRules{}.weekdays == all_days());
 }
+
+TEST_CASE("zones of the tz database, and the begin of a date") {
+    CHECK(is_zone("UTC"));
+    CHECK(is_zone("America/New_York"));
+    CHECK_FALSE(is_zone("Amerika"));
+    CHECK_FALSE(is_zone(""));
+    CHECK(midnight_of("20261128") == at("2026-11-28 00:00:00"));
+    CHECK(midnight_of("20240229") == at("2024-02-29 00:00:00"));
+}

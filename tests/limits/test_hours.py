@@ -125,6 +125,9 @@ FAULTS = {
     'opens = "08:00"\ncloses = "08:00"\n': 'closes = "08:00": it has to be after opens, 08:00, and not after ends, 24:00',
     'closes = "17:31"\nends = "17:30"\n': 'closes = "17:31": it has to be after opens, 00:00, and not after ends, 17:30',
     'ends = "08:00"\nopens = "08:00"\n': 'ends = "08:00": a day opens before it ends, and this one opens at 08:00 and ends at 08:00',
+    'zone = "Amerika"\n': 'zone = "Amerika": the tz database has no such zone',
+    'zone = "America/New_York"\nopens = "12:00"\n': "opens is at fault: from 12:00 to 24:00 in America/New_York: ",
+    'zone = "America/New_York"\n': "zone is at fault: from 00:00 to 24:00 in America/New_York: ",
 }
 
 

@@ -2,8 +2,10 @@
 
 import json
 import random
+import re
 import socket
 import subprocess
+import tomllib
 from collections.abc import Callable
 from pathlib import Path
 
@@ -12,6 +14,7 @@ import pytest
 from tests.gateway.door import today
 from tests.gateway.stage import Stage
 from tests.gateway.wait import LONG
+from tests.harness.options import ROOT
 
 VENUE = """version = 2
 [[bond]]
@@ -162,6 +165,86 @@ def test_a_port_that_another_program_has_is_found(stage: Stage) -> None:
         1,
         True,
     ), found.stderr
+
+
+PLACES = {
+    "[operator]\n": (
+        '[operator]\ngroup = "nobodys"\n',
+        "the system has no group nobodys",
+    ),
+    'sqlite = "day.db"': ('sqlite = "away/day.db"', "[log] sqlite: there is no folder "),
+    "[metrics]\n": (
+        '[copies]\nfolder = "away"\n[metrics]\n',
+        "[copies] folder: there is no folder ",
+    ),
+}
+
+
+@pytest.mark.parametrize("part", PLACES)
+def test_a_place_that_is_not_there_is_found(stage: Stage, part: str) -> None:
+    """A folder that has to be there, and a group."""
+    stage.door.operators = ""
+    write(stage, VENUE)
+    file = stage.folder / "gateway.toml"
+    text = file.read_text().replace('"day.db"', '"day-{date}.db"')
+    assert told(stage).returncode == 0
+    wrong, expected = PLACES[part]
+    was, wrong = (each.replace("day.db", "day-{date}.db") for each in (part, wrong))
+    assert was in text
+    file.write_text(text.replace(was, wrong, 1))
+    found = told(stage)
+    assert (found.returncode, expected in found.stderr) == (1, True), found.stderr
+
+
+KINDS = {
+    "listen = 127": "[fix] listen has to be a text, in quotes",
+    'port = "9878"': "[fix] port has to be a whole number",
+    "plain_tcp_beyond_loopback = 1": "[fix] plain_tcp_beyond_loopback has to be true or false",
+}
+
+
+@pytest.mark.parametrize("wrong", KINDS)
+def test_a_value_of_another_kind_is_told(stage: Stage, wrong: str) -> None:
+    """With what it has to be, and its line."""
+    write(stage, VENUE)
+    file = stage.folder / "gateway.toml"
+    lines = file.read_text().splitlines()
+    key = wrong.split(" = ")[0]
+    at = lines.index("[fix]") + 1
+    lines = lines[:at] + [each for each in lines[at:] if not each.startswith(key + " = ")]
+    lines.insert(at, wrong)
+    file.write_text("\n".join(lines) + "\n")
+    found = told(stage)
+    expected = "gateway.toml: line %d: %s\n" % (at + 1, KINDS[wrong])
+    assert (found.returncode, found.stderr.endswith(expected)) == (1, True), found.stderr
+
+
+def test_files_without_a_byte(stage: Stage) -> None:
+    """There may be no holidays. Credentials are what an editor left where the disk is full: a reload would log out everybody."""
+    write(stage, VENUE)
+    file = stage.folder / "gateway.toml"
+    file.write_text(file.read_text() + '[day]\nholidays = "holidays"\n')
+    holidays = stage.folder / "holidays"
+    found = told(stage)
+    assert (found.returncode, found.stderr) == (
+        1,
+        "mireseason-gateway: %s: can't be read\n" % holidays,
+    )
+    holidays.write_text("")
+    assert told(stage).returncode == 0
+    (stage.folder / "credentials.toml").write_text("")
+    found = told(stage)
+    assert (found.returncode, "credentials.toml: has nothing in it" in found.stderr) == (1, True)
+
+
+def test_the_pages_have_the_defaults() -> None:
+    """The example, what the package installs as comments, and what deploy says: a key each, and the same figure."""
+    example = tomllib.loads((ROOT / "examples/gateway/gateway.toml").read_text())["limits"]
+    installed = (ROOT / "packaging/config/gateway.toml").read_text()
+    taken = re.sub("(?m)^# ", "", installed[installed.index("# [limits]") :])
+    assert tomllib.loads(taken)["limits"] == example
+    rows = re.findall(r"(?m)^\| `(\w+)` \| ([\d,]+) \|", (ROOT / "deploy/README.md").read_text())
+    assert {key: int(figure.replace(",", "")) for key, figure in rows} == example
 
 
 def with_program(stage: Stage, words: list[str]) -> None:

@@ -5,7 +5,7 @@ import signal
 import socket
 import urllib.error
 import urllib.request
-from collections.abc import Iterator
+from collections.abc import Callable, Iterator
 from contextlib import contextmanager
 from dataclasses import dataclass, field
 from datetime import datetime, timedelta, timezone
@@ -216,6 +216,69 @@ def test_a_fault_for_tomorrow(stage_of_log: Stage) -> None:
     until("it is right", LONG, lambda: told("configuration changed: it is right"))
     until("it is counted", LONG, lambda: stage.counters()[faulty] == 0)
     assert b"60000000" in stage.door.ledger().entries[0].line
+
+
+def wrong_zone(folder: Path) -> Callable[[], object]:
+    file = folder / "gateway.toml"
+    text = file.read_text()
+    file.write_text(text + '[day]\nzone = "Amerika"\n')
+    return lambda: file.write_text(text)
+
+
+def credentials_that_others_read(folder: Path) -> Callable[[], object]:
+    file = folder / "credentials.toml"
+    file.chmod(0o644)
+    return lambda: file.chmod(0o640)
+
+
+def log_that_others_read(folder: Path) -> Callable[[], object]:
+    file = folder / "day.db"
+    file.chmod(0o644)
+    return lambda: file.chmod(0o640)
+
+
+def key_that_is_away(folder: Path) -> Callable[[], object]:
+    file = folder / "keys" / "seal.key"
+    away = file.rename(folder / "seal.key")
+    return lambda: away.rename(file)
+
+
+Fault = Callable[[Path], Callable[[], object]]
+FAULTS_OF_FILES: dict[str, tuple[Fault, str]] = {
+    "a zone that there is not": (
+        wrong_zone,
+        'gateway.toml: line %d: [day] zone = "Amerika": the tz database has no such zone',
+    ),
+    "credentials": (credentials_that_others_read, "credentials.toml: has the mode 0644"),
+    "log": (log_that_others_read, "day.db: has the mode 0644"),
+    "key": (key_that_is_away, "keys/seal.key: No such file or directory"),
+}
+
+
+@pytest.mark.parametrize("name", FAULTS_OF_FILES)
+def test_the_day_goes_on(stage: Stage, name: str) -> None:
+    """Whatever is wrong with the files by now: it is told once something changes, and taken once it is right."""
+    file = stage.folder / "venue.toml"
+    file.write_text(VENUE)
+    stage.open(*stage.firms)
+    stage.auction()
+
+    def told(text: str) -> bool:
+        return text in stage.door.told.read_text(errors="replace")
+
+    fault, expected = FAULTS_OF_FILES[name]
+    mend = fault(stage.folder)
+    file.write_text(VENUE.replace("60000000", "70000000"))
+    if "%d" in expected:
+        expected %= len((stage.folder / "gateway.toml").read_text().splitlines())
+    until("the fault is told", LONG, lambda: told(expected))
+    assert not told("configuration changed")
+    stage.auction()
+    mend()
+    file.write_text(VENUE.replace("60000000", "80000000"))
+    until("it is right", LONG, lambda: told("configuration changed: it is right"))
+    stage.auction()
+    assert stage.door.stop() == 0, stage.door.last_words()
 
 
 def test_ready(stage: Stage) -> None:
