@@ -37,8 +37,12 @@ def desk_program() -> Path:
 @pytest.fixture(scope="session")
 def hashed(desk_program: Path) -> str:
     """The hash of PASSWORD."""
+    return hash_of(desk_program, PASSWORD)
+
+
+def hash_of(desk_program: Path, password: str) -> str:
     run = subprocess.run(
-        [desk_program, "--hash"], input=PASSWORD + "\n", capture_output=True, text=True, check=True
+        [desk_program, "--hash"], input=password + "\n", capture_output=True, text=True, check=True
     )
     return run.stdout.strip()
 

@@ -1,5 +1,6 @@
 """The state is the server's: windows, restarts, lost connections, races. No browser is needed for most of it."""
 
+import json
 import os
 import random
 import signal
@@ -7,11 +8,14 @@ import time
 
 from selenium.webdriver.common.keys import Keys
 
-from tests.desk.conftest import House
-from tests.desk.view import Json, View, log_in
+from tests.desk.conftest import House, hash_of
+from tests.desk.desks import PASSWORD
+from tests.desk.view import Json, View, ask, log_in, own, upgrade
 from tests.gateway.wait import LONG, until
 
 POINT = 256
+ANOTHER = "another password"
+LASTS = 12 * 3600  # seconds that a login lasts
 DELIVERED_WITHIN = 5  # seconds: what was not delivered by then never is
 
 
@@ -46,11 +50,37 @@ def test_two_windows_and_a_restart_show_the_same(house: House) -> None:
 
 
 def test_a_login_outlives_a_restart(house: House) -> None:
-    """Whoever was logged in goes on; who was logged out, or has another password by now, does not."""
-    ticket = log_in(house.investor)
-    house.investor.stop()
-    house.investor.start()
-    assert View(house.investor, ticket=ticket).hello["firm"] == "INV1"
+    """Whoever was logged in goes on, and does not who has another password by now."""
+    desk = house.investor
+    ticket = log_in(desk)
+    desk.stop()
+    desk.start()
+    assert View(desk, ticket=ticket).hello["firm"] == "INV1"
+    desk.stop()
+    desk.hashed = hash_of(desk.program, ANOTHER)
+    desk.write()
+    desk.start()
+    here = "127.0.0.1:%d" % desk.port.number
+    assert upgrade(desk.port.number, here, desk.origin, ticket.cookie)[1] == 403
+    assert View(desk, ticket=log_in(desk, password=ANOTHER)).hello["firm"] == "INV1"
+
+
+def test_a_login_lasts_for_twelve_hours(house: House) -> None:
+    """The browser keeps its cookie for so long; after that it is of no use."""
+    desk = house.investor
+    login = json.dumps({"login": "tess", "password": PASSWORD}).encode()
+    cookie = ask(desk.port.number, "POST", "/login", own(desk), login).headers["Set-Cookie"]
+    assert "; Max-Age=%d;" % LASTS in cookie + ";"
+    desk.stop()
+    kept = desk.data / "sessions.json"
+    sessions = json.loads(kept.read_text())
+    for one in sessions.values():
+        assert 0 <= time.time() + LASTS - one["until"] / 1000 < LONG, one
+        one["until"] -= LASTS * 1000
+    kept.write_text(json.dumps(sessions))
+    desk.start()
+    here = "127.0.0.1:%d" % desk.port.number
+    assert sessions and upgrade(desk.port.number, here, desk.origin, cookie.split(";")[0])[1] == 403
 
 
 def test_desks_are_killed_at_random_moments(house: House, seed: int) -> None:
