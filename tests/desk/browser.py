@@ -46,6 +46,45 @@ CHANGING = (
 HEIGHT = 900
 TRIES = 3
 
+# Each look is one script: what WebDriver has for it takes a second and more on a busy machine, and the page goes on meanwhile.
+SEEN = "const seen = one => one.checkVisibility() ? one.innerText.replace(/[\\t\\u00a0 ]+/g, ' ') : '';"
+CARDS = "const cards = [...document.querySelectorAll('article.card')].sort((a, b) => a.dataset.made - b.dataset.made);"
+TEXT = SEEN + "return [...document.querySelectorAll(arguments[0])].map(seen).join('\\n');"
+CARD_TEXT = SEEN + CARDS + "return seen(cards.at(arguments[0]));"
+HIT_BUTTON = """const row = [...card.querySelectorAll('.quotes tbody tr')].find(one => one.innerText.includes(arguments[1]));
+    const button = row.querySelector('button.hit');
+    if (document.activeElement !== button) button.focus();"""
+ARMED = (
+    CARDS
+    + "const card = cards.at(arguments[0]);"
+    + HIT_BUTTON
+    + "return [button, button.innerText];"
+)
+# Nothing where the hit was sent.
+TO_HIT = (
+    CARDS
+    + """const card = cards.at(arguments[0]);
+    if (card.dataset.state === 'done' || card.innerText.includes('not answered')) return null;"""
+    + HIT_BUTTON
+    + "return button;"
+)
+# Nothing where no button is shown that can be pressed.
+TO_PRESS = (
+    CARDS
+    + """const button = [...cards.at(arguments[0]).querySelectorAll(arguments[1])].find(one => one.checkVisibility());
+    if (!button || button.disabled) return null;
+    if (document.activeElement !== button) button.focus();
+    return button;"""
+)
+# The page takes some words away after eight seconds: it keeps here what it has said.
+KEEPS = """window.hasSaid = [];
+    new MutationObserver(changes => {
+        for (const {target} of changes) {
+            const place = (target.closest ? target : target.parentElement)?.closest('.said, .told');
+            if (place?.textContent) window.hasSaid.push(place.textContent);
+        }
+    }).observe(document, {subtree: true, childList: true, characterData: true});"""
+
 
 def started(options: Options) -> webdriver.Chrome:
     """A browser; again where a busy machine lets one start too slowly for its driver."""
@@ -73,6 +112,7 @@ class Browser:
         self.profile = profile
         self.pressed = False
         self.driver = started(options)
+        self.driver.execute_cdp_cmd("Page.addScriptToEvaluateOnNewDocument", {"source": KEEPS})
 
     def quit(self) -> None:
         self.driver.quit()
@@ -86,7 +126,8 @@ class Browser:
         return self.all(where)[0]
 
     def text(self, where: str) -> str:
-        return "\n".join(one.text for one in self.all(where))
+        """What a person sees of all these elements."""
+        return str(self.script(TEXT, where))
 
     def script(self, text: str, *words: Any) -> Any:
         return self.driver.execute_script(text, *words)  # type: ignore[no-untyped-call]
@@ -105,9 +146,20 @@ class Browser:
             time.sleep(0.05)
 
     def until_says(self, where: str, *words: str) -> None:
-        self.until(
-            "%s says %r" % (where, words), lambda: all(word in self.text(where) for word in words)
-        )
+        def says() -> bool:
+            text = self.text(where)
+            return all(word in text for word in words)
+
+        self.until("%s says %r" % (where, words), says)
+
+    def until_said(self, *words: str) -> None:
+        """Each of these was said since the page was opened, also where it stands no more."""
+
+        def has_said() -> bool:
+            said = self.script("return window.hasSaid")
+            return all(any(word in one for one in said) for word in words)
+
+        self.until("it has said %r" % (words,), has_said)
 
     def until_silent(self, where: str, word: str) -> None:
         self.until("%s does not say %r" % (where, word), lambda: word not in self.text(where))
@@ -176,20 +228,20 @@ class Browser:
 
     def cards(self) -> list[WebElement]:
         """In the order in which the requests came: on the page those that have ended stand last."""
-        return list(
-            self.script(
-                "return [...document.querySelectorAll('article.card')].sort((a, b) => a.dataset.made - b.dataset.made)"
-            )
-        )
+        return list(self.script(CARDS + "return cards;"))
 
     def card(self, number: int = -1) -> WebElement:
         return self.cards()[number]
 
+    def card_text(self, number: int = -1) -> str:
+        return str(self.script(CARD_TEXT, number))
+
     def card_says(self, *words: str, number: int = -1) -> None:
-        self.until(
-            "card %d says %r" % (number, words),
-            lambda: all(word in self.card(number).text for word in words),
-        )
+        def says() -> bool:
+            text = self.card_text(number)
+            return all(word in text for word in words)
+
+        self.until("card %d says %r" % (number, words), says)
 
     def in_card(self, where: str, number: int = -1) -> WebElement:
         """The first shown element of a card, once there is one."""
@@ -236,18 +288,11 @@ class Browser:
         """The two presses of a button that asks first, by keys; again where the first is forgotten by then."""
 
         def done() -> bool:
-            buttons = [
-                one
-                for one in self.card(number).find_elements(By.CSS_SELECTOR, where)
-                if one.is_displayed()
-            ]
-            if not buttons or not buttons[0].is_enabled():
+            button = self.script(TO_PRESS, number, where)
+            if button is None:
                 return self.pressed
             self.pressed = True
-            self.script(
-                "document.activeElement !== arguments[0] && arguments[0].focus()", buttons[0]
-            )
-            buttons[0].send_keys(Keys.ENTER)
+            button.send_keys(Keys.ENTER)
             return False
 
         self.pressed = False
@@ -276,16 +321,11 @@ class Browser:
         button: list[WebElement] = []
 
         def done() -> bool:
-            row = next(
-                one
-                for one in self.card(number).find_elements(By.CSS_SELECTOR, ".quotes tbody tr")
-                if dealer in one.text
-            )
-            button[:] = row.find_elements(By.CSS_SELECTOR, "button.hit")
-            if "?" not in button[0].text:
-                self.script("arguments[0].focus()", button[0])
-                button[0].send_keys(Keys.ENTER)
-            return "?" in button[0].text
+            found, text = self.script(ARMED, number, dealer)
+            button[:] = [found]
+            if "?" not in text:
+                found.send_keys(Keys.ENTER)
+            return "?" in self.script("return arguments[0].innerText", found)
 
         self.until("the quote of %s is chosen" % dealer, done)
         return button[0]
@@ -294,18 +334,10 @@ class Browser:
         """Both presses of a hit: again where the first is forgotten by then, or a quote changed under one."""
 
         def done() -> bool:
-            card = self.card(number)
-            if card.get_attribute("data-state") == "done" or "not answered" in card.text:
-                return True
-            row = next(
-                one
-                for one in card.find_elements(By.CSS_SELECTOR, ".quotes tbody tr")
-                if dealer in one.text
-            )
-            button = row.find_element(By.CSS_SELECTOR, "button.hit")
-            self.script("arguments[0].focus()", button)
-            button.send_keys(Keys.ENTER)
-            return False
+            button = self.script(TO_HIT, number, dealer)
+            if button is not None:
+                button.send_keys(Keys.ENTER)
+            return button is None
 
         self.until("the quote of %s is hit" % dealer, done)
 

@@ -239,9 +239,8 @@ def test_passwords_are_not_guessed_at_once(house: House) -> None:
     with ThreadPoolExecutor(15) as guessers:
         answers = list(guessers.map(lambda _: guessed(house.investor, "tess", "guess"), range(30)))
     judged = [answer for answer in answers if answer.status == 403]
-    most = 10 * (
-        1 + int((time.monotonic() - began) // 60)
-    )  # on a slow machine a minute may be over
+    # On a slow machine a minute may be over.
+    most = 10 * (1 + int((time.monotonic() - began) // 60))
     assert len(judged) <= most, "%d wrong passwords are judged" % len(judged)
     assert {answer.status for answer in answers} <= {403, 429, 503}
     assert guessed(house.investor, "lou", PASSWORD).status == 200

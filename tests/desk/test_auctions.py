@@ -21,7 +21,7 @@ def test_an_auction_by_keys_is_won(house: House) -> None:
         each.card_says("OFFER", "2,000,000", "Alder 4.125 03/29", "INV1 buys", "No live quote")
     dealer.press(Keys.F2)
     dealer.press("99-16+", Keys.ENTER)
-    dealer.card_says(
+    dealer.until_said(
         "Your first price: OFFER 2,000,000 Alder 4.125 03/29 at 99.515625: Enter again"
     )
     dealer.confirm_first()
@@ -58,7 +58,7 @@ def test_an_auction_by_keys_is_won(house: House) -> None:
 def armed(investor: Browser, words: str) -> bool:
     """Presses once, and looks before the press is forgotten."""
     investor.arm("DLR1")
-    return words in investor.card().text
+    return words in investor.card_text()
 
 
 def test_a_key_that_is_held_down_and_a_double_click_hit_nothing(house: House) -> None:
@@ -105,11 +105,11 @@ def test_a_quote_that_changes_under_a_press_is_not_hit(house: House) -> None:
         dealer.quote(request, price)
         investor.card_says(str(price // POINT))
         return (
-            "The quote that you chose is gone." in investor.card().text
+            "The quote that you chose is gone." in investor.card_text()
         )  # or the press was forgotten before
 
     investor.until("the choice is over", changed)
-    assert "Once more" not in investor.card().text
+    assert "Once more" not in investor.card_text()
 
 
 def test_each_way_that_a_request_ends(house: House) -> None:
@@ -142,10 +142,11 @@ def test_each_way_that_a_request_ends(house: House) -> None:
     dealer.card_says("Live 100")
     dealer.press("9", Keys.F9)
     dealer.card_says("No live quote")
-    dealer.until_says("#top", "Exposure 0 of", "Cancel all: 1 quote withdrawn, none is live")
+    dealer.until_says("#top", "Exposure 0 of")
+    dealer.until_said("Cancel all: 1 quote withdrawn, none is live")
     assert dealer.in_card("input.entry").get_attribute("value") == "", "a typed price outlives F9"
     dealer.press(Keys.F9)
-    dealer.until_says("#top", "no live quote is left to cancel")
+    dealer.until_said("no live quote is left to cancel")
     investor.card_says("Expired")
     dealer.card_says("Expired")
     investor.until_says("#blotter", "Passed", "Expired")
@@ -172,7 +173,8 @@ def test_the_dealers_entry(house: House) -> None:
     dealer.press(Keys.ESCAPE)
     dealer.until("it is empty", lambda: dealer.in_card("input.entry").get_attribute("value") == "")
     dealer.quote("97")
-    dealer.card_says("2.5 points from your last, 99.5: Enter again if it is meant.", "Live 99.5")
+    dealer.until_said("2.5 points from your last, 99.5: Enter again if it is meant.")
+    dealer.card_says("Live 99.5")
     dealer.until("the second Enter confirms", lambda: confirmed(dealer, "Live 97 (97-00)"))
     dealer.script(
         "const list = arguments[0]; list.value = '30'; list.dispatchEvent(new Event('change'))",
@@ -192,9 +194,9 @@ def test_the_dealers_entry(house: House) -> None:
 
 def confirmed(page: Browser, words: str) -> bool:
     """Presses Enter again, until the card says so."""
-    if words not in page.card().text:
+    if words not in page.card_text():
         page.press(Keys.ENTER)
-    return words in page.card().text
+    return words in page.card_text()
 
 
 def test_presses_that_were_meant_for_what_stood_there_before(house: House) -> None:
@@ -207,15 +209,15 @@ def test_presses_that_were_meant_for_what_stood_there_before(house: House) -> No
     first, second = view.ask_for(["DLR1"]), view.ask_for(["DLR1"])
     assert view.act(do="pass", request=first) == ""
     for page in (investor, dealer):
-        page.until("the first has ended", lambda page=page: "assed" in page.card(0).text)  # type: ignore[misc]
+        page.until("the first has ended", lambda page=page: "assed" in page.card_text(0))  # type: ignore[misc]
         page.until("Close stands", lambda page=page: page.stands(page.in_card("button.small", 0)))  # type: ignore[misc]
         page.click_twice(page.in_card("button.small", 0), 0.25)
         page.until("one card is left", lambda page=page: len(page.all("article.card")) == 1)  # type: ignore[misc]
     dealer.quote("19.5")
-    dealer.card_says(
-        "Your first price on this bond is 80.5 points from 100: Enter again if it is meant.",
-        "No live quote",
+    dealer.until_said(
+        "Your first price on this bond is 80.5 points from 100: Enter again if it is meant."
     )
+    dealer.card_says("No live quote")
     dealer.script(
         """const entry = arguments[0];
         entry.value = '19.25';
@@ -223,19 +225,20 @@ def test_presses_that_were_meant_for_what_stood_there_before(house: House) -> No
         for (let count = 0; count < 5; ++count) entry.dispatchEvent(new KeyboardEvent('keydown', {key: 'Enter', bubbles: true, cancelable: true}));""",
         dealer.in_card("input.entry"),
     )
-    dealer.card_says("80.75 points from 100", "No live quote")
+    dealer.until_said("80.75 points from 100")
+    dealer.card_says("No live quote")
     dealer.quote("99.5")
     dealer.card_says("Live 99.5")
     dealer.until("Withdraw stands", lambda: dealer.stands(dealer.in_card("button.withdraw")))
     dealer.click_twice(dealer.in_card("button.withdraw"), 0.4)
     dealer.card_says("No live quote")
-    assert "Declined" not in dealer.card().text
+    assert "Declined" not in dealer.card_text()
     investor.press_in_card("button.pass")
     investor.card_says("Pass?")
     dealer.press_in_card("button.decline")
     dealer.card_says("Decline?")
     view.until("nothing is pending", lambda: not view.requests[second]["pending"])
-    assert view.requests[second]["state"] == "open" and "Declined" not in dealer.card().text
+    assert view.requests[second]["state"] == "open" and "Declined" not in dealer.card_text()
 
 
 def test_who_leaves_live_quotes_is_asked(house: House) -> None:
@@ -246,7 +249,8 @@ def test_who_leaves_live_quotes_is_asked(house: House) -> None:
     dealer.quote("99.5")
     dealer.card_says("Live 99.5")
     dealer.click("#logout")
-    dealer.until_says("#top", "1 quote stays live and can be hit", "Venue connected")
+    dealer.until_said("1 quote stays live and can be hit")
+    dealer.until_says("#top", "Venue connected")
 
     def left() -> bool:
         if dealer.all("#login") and dealer.one("#login").is_displayed():
@@ -347,7 +351,7 @@ def test_blotter_filter_and_export(house: House) -> None:
     investor.one("#filter").send_keys("alder")
     investor.until_says("#blotter", "2 of 3 requests, 2 done: bought 4,000,000, sold 0")
     investor.click("button.export")
-    investor.until_says("#top", "-filtered.csv: 2 requests")
+    investor.until_said("-filtered.csv: 2 requests")
     folder = investor.profile / "downloads"
     investor.until("the file is there", lambda: any(folder.glob("INV1-*.csv")))
     lines = next(folder.glob("INV1-*-filtered.csv")).read_text().splitlines()

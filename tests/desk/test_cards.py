@@ -13,8 +13,10 @@ PLACE = """const card = [...document.querySelectorAll('article.card')].find(one 
 const {left, top} = card.querySelector('button.send').getBoundingClientRect(); return [left, top + scrollY];"""
 
 # Presses a button as soon as the price of the other dealer is another: in the same moment as the page.
-PRESS_AT_A_CHANGE = """const [button] = arguments;
-const watch = new MutationObserver(() => { watch.disconnect(); button.click(); });
+# So it is also where the page is not let to work for half a second in between: its clock stands still.
+PRESS_AT_A_CHANGE = """const [button] = arguments, at = performance.now();
+performance.now = () => at;
+const watch = new MutationObserver(() => { watch.disconnect(); button.click(); delete performance.now; });
 const other = [...document.querySelectorAll('.quotes tbody tr')].find(one => one.textContent.includes('DLR2'));
 watch.observe(other.querySelector('td.price'), {childList: true, characterData: true, subtree: true});"""
 
@@ -73,7 +75,7 @@ def test_a_press_too_soon_behind_a_change_is_told(house: House) -> None:
         investor.script(PRESS_AT_A_CHANGE, investor.arm("DLR1"))
         second.quote(other, price * POINT)
         investor.card_says(str(price))
-        return "look again. Once more: buy 1,000,000 at 99 from DLR1" in investor.card().text
+        return "look again. Once more: buy 1,000,000 at 99 from DLR1" in investor.card_text()
 
     investor.until("the press is told", told)
     assert first.requests["R1"]["state"] == "open" and not first.requests["R1"]["pending"]
@@ -151,6 +153,7 @@ def test_a_withdrawal_is_never_refused(house: House) -> None:
     dealer.card_says("Live 99.5")
     dealer.one("input.entry").send_keys("99.25")
     dealer.script(MOVED, "button.send")
-    dealer.card_says("The page moved under your press: look again.", "Live 99.5")
+    dealer.until_said("The page moved under your press: look again.")
+    dealer.card_says("Live 99.5")
     dealer.script(MOVED, "button.withdraw")
     dealer.card_says("No live quote")

@@ -146,6 +146,6 @@ def test_without_colours_and_by_keys_alone(house: House) -> None:
 def press_enter(page: Browser) -> bool:
     if "Confirm" in page.focused():
         page.press(Keys.ENTER)
-    elif "Bought" not in page.card().text and "not answered" not in page.card().text:
+    elif "Bought" not in page.card_text() and "not answered" not in page.card_text():
         page.press(Keys.F3, Keys.ENTER)
-    return "Bought" in page.card().text
+    return "Bought" in page.card_text()
