@@ -39,6 +39,9 @@ constexpr const char *operator_ends_day =
 constexpr const char *bytes_are_used_up =
     "this firm has sent all the bytes that it may send in a day: until the operator raises that, "
     "no request and no quote is taken; cancels, declines, hits and passes are";
+constexpr const char *spare_is_used_up =
+    "this is more than a firm may take back at once when its bytes of the day are used up, or the "
+    "disk of the venue's log is nearly full: wait some seconds, and send it again";
 constexpr const char *disk_is_nearly_full =
     "the disk of the venue's log is nearly full: until the operator makes room, no request and no "
     "quote is taken; cancels, declines, hits and passes are";
@@ -133,16 +136,31 @@ NotTaken not_supported() {
     return {unsupported_message_type, type_is_not_supported};
 }
 
+NotTaken too_much_is_taken_back() {
+    return {other_reason, spare_is_used_up};
+}
+
+std::string_view name_in(std::string_view frame) {
+    const std::string_view type = value_in(frame, "35");
+    if (type == "S" || type == "Z") {
+        return value_in(frame, "117");
+    }
+    if (type == "R" || type == "AG") {
+        return value_in(frame, "131");
+    }
+    return type == "AJ" ? value_in(frame, "693") : std::string_view();
+}
+
 std::optional<Business> business_in(std::string_view frame) {
     const std::string_view type = value_in(frame, "35");
     if (type == "R") {
-        return Business{Business::Kind::request, value_in(frame, "131"), frame};
+        return Business{Business::Kind::request, frame};
     }
     if (type == "S") {
-        return Business{Business::Kind::quote, value_in(frame, "117"), frame};
+        return Business{Business::Kind::quote, frame};
     }
     if (is_hit(frame)) {
-        return Business{Business::Kind::hit, value_in(frame, "693"), frame};
+        return Business{Business::Kind::hit, frame};
     }
     return std::nullopt;
 }

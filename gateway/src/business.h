@@ -18,11 +18,12 @@ namespace gateway {
 struct Business {
     enum class Kind { request, quote, hit };
     Kind kind = Kind::request;
-    std::string_view id;    // the firm's name of it: 131, 117 or 693
     std::string_view frame; // as the venue is given it
 };
 std::optional<Business> business_in(std::string_view frame);
 bool is_hit(std::string_view frame);
+// The firm's own name of what a message is or is about: 117, 131 or 693. Empty where it has none.
+std::string_view name_in(std::string_view frame);
 
 // Who sends it, when it was received, and how that firm stands.
 struct Sender {
@@ -43,6 +44,8 @@ struct NotTaken {
 // end.
 bool is_unsupported(std::string_view type);
 NotTaken not_supported();
+// Of what ends something, where the firm's spare bytes are used up.
+NotTaken too_much_is_taken_back();
 
 // Nothing where it is. A hit is stopped by a halt alone: the request that it ends is open already.
 std::optional<NotTaken> why_not_taken(const VenueDay &day, const Sender &sender,

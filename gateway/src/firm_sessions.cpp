@@ -110,7 +110,7 @@ FirmSessions::renew(const std::map<std::string, Credentials> &credentials) {
         }
         const std::uint64_t most = own->second.day_bytes;
         firm.limits.configure_bytes(most > 0 ? most : day_.config.day_bytes);
-        firm.told_of_bytes = false;
+        firm.told_of_bytes = firm.told_of_spare = false;
         if (is_elsewhere(firm, own->second) && std::ranges::count(gone, name) == 0) {
             gone.push_back(name);
         }
@@ -131,7 +131,7 @@ void FirmSessions::set_limit(const LimitSet &set) {
     const auto found = firms_.find(set.firm);
     if (found != firms_.end()) {
         found->second.limits.set(set.key, set.value);
-        found->second.told_of_bytes = false;
+        found->second.told_of_bytes = found->second.told_of_spare = false;
     }
 }
 

@@ -2,6 +2,7 @@
 #ifndef GATEWAY_FIRM_SESSIONS_H
 #define GATEWAY_FIRM_SESSIONS_H
 
+#include "business.h"
 #include "connection_rows.h"
 #include "database.h"
 #include "doorkeeper.h"
@@ -11,6 +12,7 @@
 #include "log.h"
 #include "notes.h"
 #include "own_rows.h"
+#include "spare_bytes.h"
 #include "venue_day.h"
 
 #include <atomic>
@@ -105,6 +107,7 @@ class FirmSessions final : private SessionHost {
 
         FirmLimits limits;
         std::atomic<bool> told_of_bytes{false};
+        std::atomic<bool> told_of_spare{false};
         std::atomic<bool> is_suspended{false}; // by an operator
         std::atomic<bool> is_held_back{false}; // a message waits for an entry's commit
         FirmMetrics *metrics = nullptr;
@@ -134,6 +137,7 @@ class FirmSessions final : private SessionHost {
         std::mutex row_mutex;
 
         std::mutex mutex;                 // of what follows, and over changes of entries
+        SpareBytes spare;                 // while there is no other room
         std::string cancel_on_disconnect; // a trader, or empty
         Log::Turn turn;                   // at the log, of a message that waited
         // The row of the Logon of the connection that it has.
@@ -149,10 +153,14 @@ class FirmSessions final : private SessionHost {
     SessionStart start_of(const std::string &name, const Firm &firm);
     std::optional<Taken> denied(const std::string &name, Firm &firm, std::string_view frame,
                                 const Receipt &receipt);
+    std::optional<NotTaken> why_not(const std::string &name, Firm &firm, std::string_view frame,
+                                    const Receipt &receipt);
+    bool lacks_room(const Firm &firm) const;
     std::vector<std::string> ends_of(const FirmEnd &end, const Firm &firm);
     std::vector<std::string> cancels_of(const FirmEnd &end, Author author);
     void count_said(const std::string &name, Firm &firm, const std::vector<std::string> &frames);
     void tell_bytes_used_up(const std::string &name, Firm &firm);
+    void tell_spare_used_up(const std::string &name, Firm &firm);
     static SessionRow row_of(const std::string &name, Firm &firm, const SessionEvent &event);
     void put_not_left(const std::string &name, Firm &firm);
     void cancel_all_of(const std::string &name, Firm &firm);

@@ -1,7 +1,6 @@
 // What the firms' sessions put into the log and read of it.
 #include "firm_sessions.h"
 
-#include "business.h"
 #include "frame.h"
 #include "patient_reader.h"
 #include "wire.h"
@@ -128,6 +127,9 @@ Taken FirmSessions::take(const std::string &name, const SessionInput &input,
         return {Taken::Verdict::waits, 0, {}, {}};
     }
     firm.metrics->came(value_in(*frame, "35"), is_hit(*frame));
+    if (lacks_room(firm)) {
+        firm.spare.add(bytes_of_line(name, *frame));
+    }
     firm.limits.bytes.add(bytes_of_line(name, *frame));
     ++firm.entries;
     return {};
@@ -162,30 +164,52 @@ std::optional<Taken> FirmSessions::denied(const std::string &name, Firm &firm,
         const NotTaken why = not_supported();
         return Taken{Taken::Verdict::denied, why.reason, {}, why.text};
     }
+    auto why = why_not(name, firm, frame, receipt);
+    if (!why && lacks_room(firm) && !firm.spare.has_some()) {
+        tell_spare_used_up(name, firm);
+        why = too_much_is_taken_back();
+    }
+    if (!why) {
+        return std::nullopt;
+    }
+    Taken taken;
+    taken.verdict = Taken::Verdict::denied;
+    taken.reason = why->reason;
+    taken.id = std::string(name_in(frame).substr(0, longest_denied_id));
+    taken.text = std::move(why->text);
+    return taken;
+}
+
+// The same of a message that begins something.
+std::optional<NotTaken> FirmSessions::why_not(const std::string &name, Firm &firm,
+                                              std::string_view frame, const Receipt &receipt) {
     const auto business = business_in(frame);
     if (!business) {
         return std::nullopt;
     }
     const bool are_used_up = firm.limits.bytes.are_used_up();
-    const Sender sender{name, receipt.at, are_used_up, firm.is_suspended};
-    const auto why = why_not_taken(day_, sender, *business);
-    if (!why) {
-        return std::nullopt;
-    }
-    if (are_used_up) {
+    auto why = why_not_taken(day_, {name, receipt.at, are_used_up, firm.is_suspended}, *business);
+    if (why && are_used_up) {
         tell_bytes_used_up(name, firm);
     }
-    Taken taken;
-    taken.verdict = Taken::Verdict::denied;
-    taken.reason = why->reason;
-    taken.id = std::string(business->id.substr(0, longest_denied_id));
-    taken.text = why->text;
-    return taken;
+    return why;
+}
+
+// In the log, for anything but what takes something back.
+bool FirmSessions::lacks_room(const Firm &firm) const {
+    return firm.limits.bytes.are_used_up() || day_.reserve.is_reached();
 }
 
 void FirmSessions::tell_bytes_used_up(const std::string &name, Firm &firm) {
     if (!firm.told_of_bytes.exchange(true)) {
         day_.events->warn("day's bytes used up firm={}{} bytes={} limit={}", name, day_.of_venue(),
+                          firm.limits.bytes.used(), firm.limits.bytes.limit());
+    }
+}
+
+void FirmSessions::tell_spare_used_up(const std::string &name, Firm &firm) {
+    if (!firm.told_of_spare.exchange(true)) {
+        day_.events->warn("takes back too much firm={}{} bytes={} limit={}", name, day_.of_venue(),
                           firm.limits.bytes.used(), firm.limits.bytes.limit());
     }
 }
