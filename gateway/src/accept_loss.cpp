@@ -1,6 +1,7 @@
 #include "accept_loss.h"
 
 #include "chain.h"
+#include "day.h"
 #include "log_guard.h"
 #include "log_places.h"
 #include "moment.h"
@@ -14,24 +15,29 @@ namespace gateway {
 
 namespace {
 
-// The log is sealed up to this entry, and `seals` is the number of that seal.
-void commit_acts(const Config &config, const std::vector<std::string> &texts, Database &database,
-                 LogReader &log, const Entry &last, std::uint32_t seals) {
+std::uint32_t term_in(Database &database) {
     const auto term = database.take_over();
     if (!term) {
         throw std::runtime_error("another gateway writes the log: there it was accepted, or is to "
                                  "be, and this one can put nothing there");
     }
+    return *term;
+}
+
+// The log is sealed up to this entry, and `seals` is the number of that seal.
+void commit_acts(const Config &config, const std::vector<std::string> &texts, Database &database,
+                 LogReader &log, const Entry &last, std::uint32_t seals) {
+    const std::uint32_t term = term_in(database);
     DayClock clock(config.firms.date);
     clock.not_before(ExactMoment::end_of(moment_of(last.moment).value_or(Moment{})));
     const auto event = log.connections().last;
-    const Position end{*term, last.place, last.hash, event ? event->place : 0,
+    const Position end{term, last.place, last.hash, event ? event->place : 0,
                        event ? event->hash : Digest{}};
     Batch batch;
     std::uint32_t place = last.place;
     for (const std::string &text : texts) {
         batch.entries.push_back(
-            note_entry(++place, *term, note_kinds::act, text, clock.exact_now()));
+            note_entry(++place, term, note_kinds::act, text, clock.exact_now()));
     }
     Chain chain(end, sealer_of(config), seals);
     chain.link(batch);
@@ -39,21 +45,33 @@ void commit_acts(const Config &config, const std::vector<std::string> &texts, Da
     database.writer()->commit(batch);
 }
 
+// In one transaction with its first entry: a day that opened without them would not be halted.
+void begin_with_acts(Config config, const std::vector<std::string> &texts, Database &database,
+                     LogGuard &guard, const std::shared_ptr<spdlog::logger> &events) {
+    const std::uint32_t term = term_in(database);
+    DayClock clock(config.firms.date);
+    config.opening_acts = texts;
+    open_day(config, database, guard, term, clock, events);
+}
+
 } // namespace
 
-AcceptedLoss accept_loss(const Config &config, const std::vector<Act> &acts,
-                         const std::shared_ptr<spdlog::logger> &events) {
+std::string accept_loss(const Config &config, const std::vector<Act> &acts,
+                        const std::shared_ptr<spdlog::logger> &events) {
     const std::vector<std::string> texts = texts_of(acts);
     const auto database = open_database(config);
     const auto reader = database->reader();
     LogGuard guard(sealer_of(config), config.checkpoints, events);
-    AcceptedLoss accepted;
-    accepted.has_begin = reader->last_entry().has_value();
-    accepted.said = guard.accept(*reader, [&](const Entry &last) {
-        commit_acts(config, texts, *database, *reader, last, guard.seals());
+    const bool is_gone = !reader->last_entry();
+    const std::string said = guard.accept(*reader, [&](const Entry &last) {
+        if (is_gone) {
+            begin_with_acts(config, texts, *database, guard, events);
+        } else {
+            commit_acts(config, texts, *database, *reader, last, guard.seals());
+        }
     });
-    events->warn("loss accepted {} act=\"{}\"", accepted.said, fmt::join(texts, "; "));
-    return accepted;
+    events->warn("loss accepted {} act=\"{}\"", said, fmt::join(texts, "; "));
+    return said;
 }
 
 } // namespace gateway

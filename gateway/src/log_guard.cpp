@@ -26,14 +26,16 @@ LogGuard::LogGuard(Sealer sealer, const std::filesystem::path &checkpoints,
     : sealer_(std::move(sealer)), file_(checkpoints, sealer_), events_(std::move(events)) {}
 
 Seal LogGuard::begin(const Entry &last) {
-    const auto kept = file_.read();
+    const auto kept = was_kept_ ? file_.read() : std::optional<Checkpoint>();
     if (kept && kept->at.hash != nothing) {
         throw LogNotAccepted(
             fmt::format("the log is empty, and had entry {} by the checkpoint in {}{}",
                         kept->at.place, file_.path().string(), way_out()));
     }
     // So a start that comes after the first entry, and before the first signature, knows of it.
-    file_.write(sealer_.sign(0, Position{}));
+    if (was_kept_) {
+        file_.write(sealer_.sign(0, Position{}));
+    }
     sealed_ = sealer_.seal(1, {last.term, last.place, last.hash, 0, {}});
     return sealed_;
 }
@@ -165,11 +167,12 @@ std::string LogGuard::accept(LogReader &log, const std::function<void(const Entr
     const auto last = log.last_entry();
     if (last) {
         check_sealed(log, *last);
-        commit(*last);
-        read_on(log);
     }
+    was_kept_ = false;
+    commit(last.value_or(Entry{}));
+    read_on(log);
     was_kept_ = true;
-    file_.write(sealer_.sign(0, last ? sealed_.at : Position{}));
+    file_.write(sealer_.sign(0, sealed_.at));
     return fmt::format("{}: the log goes on behind {}; the checkpoint that was kept had {}",
                        file_.path().string(),
                        last ? fmt::format("entry {}", last->place) : "nothing", had);

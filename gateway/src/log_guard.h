@@ -34,8 +34,8 @@ class LogGuard {
 
     const Sealer &sealer() const { return sealer_; }
 
-    // Before the first batch of the day: throws LogNotAccepted where there was one. The seal is
-    // that of the batch, whose last entry this is.
+    // Before the first batch of the day: throws LogNotAccepted where there was one, which is not
+    // given up just now. The seal is that of the batch, whose last entry this is.
     Seal begin(const Entry &last);
     // Verifies all seals of the log that a start found, and holds it against the checkpoint that
     // was kept. Throws as read_on() and begin() do.
@@ -54,9 +54,9 @@ class LogGuard {
     // Who signs the log, from now on.
     std::unique_ptr<Notary> notary(Log &log) const;
 
-    // Takes the log as it is, which is sealed up to its end: what the checkpoint that was kept says
-    // beyond that is given up. Where it has an entry, `commit` is given the last one first, and
-    // commits behind it that the loss is accepted. Returns what was given up, for the operator.
+    // Takes the log as it is, which is sealed up to its end. First `commit` puts it behind the last
+    // entry that the loss is accepted, or begins the log with that: it is given an empty one then.
+    // What the checkpoint that was kept says beyond is given up, and returned for the operator.
     std::string accept(LogReader &log, const std::function<void(const Entry &last)> &commit);
 
   private:
@@ -71,7 +71,7 @@ class LogGuard {
     std::shared_ptr<spdlog::logger> events_;
     Seal sealed_;              // the last one that was verified
     std::uint32_t signed_ = 0; // the number of the log's last checkpoint
-    bool was_kept_ = true;     // a checkpoint of this log, or one came since
+    bool was_kept_ = true;     // a checkpoint that is not given up, or one came since
 };
 
 } // namespace gateway

@@ -161,13 +161,14 @@ void make_keys(const std::vector<std::string> &words) {
 }
 
 void accept_loss(const std::string &path) {
+    gateway::make_files_private();
     gateway::ConfigFiles files;
     const std::vector<gateway::Config> configs =
         gateway::read_configs(files, path, gateway::today());
     const auto events = make_events(configs.front().event_level);
     for (const gateway::Config &config : configs) {
         const gateway::Act act{gateway::who_is(::getuid()), "log accept-loss", ""};
-        std::cout << gateway::accept_loss(config, {act}, events).said << '\n';
+        std::cout << gateway::accept_loss(config, {act}, events) << '\n';
     }
 }
 

@@ -350,14 +350,9 @@ std::string Service::accept_loss(const std::vector<Act> &acts) {
     }
     std::string said;
     for (const std::size_t at : venues) {
-        const AcceptedLoss accepted = gateway::accept_loss(configs[at], acts, events_);
-        configs[at].opening_acts = accepted.has_begin ? std::vector<std::string>() : texts_of(acts);
-        said += (said.empty() ? "" : "; ") + accepted.said;
+        said += (said.empty() ? "" : "; ") + gateway::accept_loss(configs[at], acts, events_);
     }
     const std::lock_guard lock(mutex_);
-    if (waiting_configs_ != nullptr) {
-        *waiting_configs_ = std::move(configs);
-    }
     not_accepted_.clear();
     waits_for_ = "the gateway begins";
     changed_.notify_all();

@@ -2,6 +2,7 @@
 
 import socket
 import sqlite3
+import subprocess
 from collections.abc import Callable
 
 import pytest
@@ -100,6 +101,38 @@ def test_a_day_that_opens_halted(stage: Stage, lose: Callable[[Stage], None]) ->
     halt_is_seen(stage, "yes", takes_business=False)
     did(stage, "resume")
     halt_is_seen(stage, "no", takes_business=True)
+    until("the record is whole", LONG, lambda: audit(stage, "check").status == 0)
+
+
+@pytest.mark.parametrize("lose", LOSSES, ids=NAMES)
+def test_a_gateway_that_is_killed_behind_its_answer(
+    stage: Stage, lose: Callable[[Stage], None]
+) -> None:
+    """What the operator was told holds: the next start finds the halt, and who ordered it."""
+    until_it_waits(stage, lose)
+    did(stage, "log", "accept-loss", "--halt", "--because", "until the firms agree")
+    stage.door.kill()
+    stage.door.start()
+    stage.door.wait_open()
+    (accepted, halted) = acts(stage)[-2:]
+    assert accepted.endswith(b' log accept-loss because="until the firms agree"'), accepted
+    assert halted.endswith(b' halt because="until the firms agree"'), halted
+    halt_is_seen(stage, "yes", takes_business=False)
+
+
+def test_without_a_socket(stage: Stage) -> None:
+    """--accept-loss says who did it, in a log that is gone too."""
+    stage.open(*stage.firms)
+    stage.auction()
+    stage.log_off(*stage.firms)
+    stage.door.stop()
+    gone(stage)
+    words = [stage.door.programs.gateway, "--accept-loss", stage.folder / "gateway.toml"]
+    subprocess.run([str(word) for word in words], check=True, capture_output=True)
+    stage.door.start()
+    stage.door.wait_open()
+    line = stage.door.ledger().entries[1].line
+    assert b" log accept-loss" in line, line
     until("the record is whole", LONG, lambda: audit(stage, "check").status == 0)
 
 
