@@ -30,6 +30,7 @@ IN_OTHER_FILES = {  # tests/limits: test_clock.py, test_renewal.py; tests/operat
     "mireseason_log_disk_free_bytes",
     "mireseason_log_disk_reserve_reached",
     "mireseason_venue_info",
+    "mireseason_clock_doubtful",
     "mireseason_clock_steps_total",
     "mireseason_clock_synchronised",
     "mireseason_clock_greatest_error_seconds",

@@ -174,6 +174,8 @@ def test_the_keeper(machine: Machine, place: Path) -> None:
         (folder / name).chmod(0o600)
     for name in ("seal.pem", "keys/gw1.pub"):
         (folder / name).touch()
+    with (folder / "keeper.toml").open("a") as file:
+        file.write('[audit]\ncommand = ["%s"]\n' % (ROOT / "audit" / "mireseason-audit"))
     words = [str(ROOT / "deploy" / "mireseason-keeper"), str(folder / "keeper.toml")]
     checked = on(machine, COPIES.name, *words, "--check")
     assert checked.returncode == 0, checked.stdout + checked.stderr
