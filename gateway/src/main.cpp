@@ -161,6 +161,8 @@ void make_keys(const std::vector<std::string> &words) {
 }
 
 void accept_loss(const std::string &path) {
+    // A log that is gone is begun: the venue's program tries the configuration, as in check().
+    std::signal(SIGPIPE, SIG_IGN);
     gateway::make_files_private();
     gateway::ConfigFiles files;
     const std::vector<gateway::Config> configs =

@@ -1,5 +1,6 @@
 """A log whose end is lost: the gateway opens its operator's socket alone, until the loss is accepted."""
 
+import re
 import socket
 import sqlite3
 import subprocess
@@ -134,6 +135,26 @@ def test_without_a_socket(stage: Stage) -> None:
     line = stage.door.ledger().entries[1].line
     assert b" log accept-loss" in line, line
     until("the record is whole", LONG, lambda: audit(stage, "check").status == 0)
+
+
+def test_without_a_socket_and_a_venue(stage: Stage) -> None:
+    """Where the venue's program ends before it has read the configuration, --accept-loss says so, and accepts nothing."""
+    stage.open()
+    stage.door.stop()
+    gone(stage)
+    kept = stage.door.kept.read_bytes()
+    file = stage.folder / "gateway.toml"
+    other = re.sub("(?m)^command = .*$", 'command = ["/bin/false"]', file.read_text())
+    file.write_text(other)
+    for venue in ("venue.toml", "longer"):
+        words = [str(stage.door.programs.gateway), "--accept-loss", str(file)]
+        said = subprocess.run(words, check=False, capture_output=True, text=True)
+        assert said.returncode == 1, "%s: %r" % (venue, said)
+        assert "/bin/false does not take the configuration" in said.stderr, said.stderr
+        assert stage.door.kept.read_bytes() == kept
+        # More than a pipe takes: it is still being written when the program ends.
+        with (stage.folder / "venue.toml").open("a") as configuration:
+            configuration.write(("# " + "x" * 98 + "\n") * 2000)
 
 
 def test_a_gateway_that_waits_is_ended(stage: Stage) -> None:
