@@ -5,6 +5,7 @@
 #include "sqlite_parts.h"
 #include "sqlite_statement.h"
 
+#include <array>
 #include <stdexcept>
 
 #include <fcntl.h>
@@ -28,6 +29,10 @@ using sqlite::Statement;
 // checkpoint.
 constexpr std::size_t usual_length = 8 << 20;
 
+// It is lengthened by pages of the system, one by one. Of a piece of more the kernel makes one
+// folio of its cache, all of which it walks through at each commit that writes some bytes there.
+constexpr std::size_t system_page = 4096;
+
 // Of a new file. A commit writes whole pages, as a rule the last one of `entry` alone.
 constexpr int page_bytes = 2048;
 
@@ -38,14 +43,15 @@ void lengthen(const std::string &log) {
     if (file.number() < 0 || ::fstat(file.number(), &found) != 0) {
         return;
     }
-    const std::string zeros(1 << 20, '\0');
-    off_t at = found.st_size;
-    while (at < static_cast<off_t>(usual_length)) {
-        const ssize_t count = ::pwrite(file.number(), zeros.data(), zeros.size(), at);
+    const std::array<char, system_page> zeros{};
+    auto at = static_cast<std::size_t>(found.st_size);
+    while (at < usual_length) {
+        const std::size_t size = system_page - at % system_page;
+        const ssize_t count = ::pwrite(file.number(), zeros.data(), size, static_cast<off_t>(at));
         if (count <= 0) {
             return;
         }
-        at += count;
+        at += static_cast<std::size_t>(count);
     }
     ::fsync(file.number());
 }
