@@ -13,6 +13,7 @@
 // QuickFIX's headers are those of C++14, so this file is too.
 #include <quickfix/Application.h>
 #include <quickfix/FileStore.h>
+#include <quickfix/MessageStore.h>
 #include <quickfix/Session.h>
 #include <quickfix/SocketAcceptor.h>
 #include <quickfix/SocketInitiator.h>
@@ -224,7 +225,8 @@ void run_firm(int count, char **words) {
     const std::string role = words[1];
     Firm firm(words[3], words[4]);
     const FIX::SessionSettings settings(words[2]);
-    FIX::FileStoreFactory stores(settings);
+    // A firm's engine is on a machine of its own: what it writes there is no write of this disk.
+    FIX::MemoryStoreFactory stores;
     FIX::SocketInitiator initiator(firm, stores, settings);
     initiator.start();
     firm.wait_on();
