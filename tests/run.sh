@@ -37,6 +37,7 @@ testers="python3-pytest python3-pytest-xdist python3-hypothesis" # Debian's pack
 work=$(mktemp -d) || exit 2
 child=
 asides=
+library=
 end() {
     # shellcheck disable=SC2086 # a word for each process
     kill $child $asides 2>/dev/null
@@ -196,10 +197,17 @@ gate() {
 # The proved sessions, with which the gateway is linked. Without them it would be built over the second implementation.
 session_library() {
     told=$work/library
-    (cd crates/fix_sessions_c && rt lib) >"$told" 2>&1 && return
+    in_time 7200 sh -c 'cd crates/fix_sessions_c && exec rt lib' && return
     tail -n 20 "$told"
     echo "gate: crates/fix_sessions_c gives no library"
     count 0 1
+}
+
+# begin_library: beside what needs no gateway, since it takes minutes.
+begin_library() {
+    [ "$(what_is_left)" -ge "$least" ] || return 0
+    aside session_library
+    library=$!
 }
 
 # folder NAME SECONDS PACKAGES WORDS ..: pytest on a folder of tests. A few that fail are tried once more, alone: one that
@@ -222,6 +230,7 @@ day_folder() {
 
 # The gateway, and its tests. What ccache keeps of it need not be compiled again for tests/mutants.
 build_gateway() {
+    [ -z "$library" ] || wait "$library"
     [ -z "${GATEWAY:-}" ] || return 0
     in_one_day ctest || return 0
     told=$work/ccache
@@ -307,7 +316,7 @@ debians_python
 case "${1:-}" in
 '')
     gate
-    session_library
+    begin_library
     beside
     ;;
 --beside) beside ;;
