@@ -1,6 +1,8 @@
 -- How bytes move the expected number: each row of the tables.
 use Rattle.std.proofs.Common.{◌≡◌, ℕ, ◌+◌, ◌<◌, true, false, ◌==◌, ◌||◌, not, nat_lt, List, inl, inr, Option, Some, None, is_some, refl, sym, ap, subst, ◌∙◌, arith, if◌then◌else◌}
+use Rattle.std.proofs.lemmas.Bool.{eq-eqb}
 use Rattle.std.proofs.lemmas.Bool.Decides.{nat_tests}
+use Rattle.std.specs.Prelude.{unwrap_or}
 use Rattle.fix_sessions.specs.Outcomes.{counted, counted_if, parts, denial_of}
 use Rattle.fix_sessions.specs.Logons.{is_off, is_today}
 use Rattle.fix_sessions.specs.Rows.{heard_at, highest_left, asked_of, requested_as, resets_to, missing_noted, above, is_after_sent, repeated_below, below, is_test_of, tested, tests, fills, by_kind, by_form, by_times, repeated, sent_once, expected_message, by_number, by_names, if_numbered, reset_in, unless_reset, by_version, at}
@@ -90,7 +92,7 @@ below_moves m a now number is h =
     let same : counted_if a now m.origin.number ≡ a =
     ap (counted_if a now) is ∙ not_counted a now number h in
     inl (subst (λ (b : Live). (parts b now bye).session.day.expected ≡ a.day.expected) (sym same)
-    (parts_leaf a now bye refl).keeps))
+    (parts_leaf a now bye (λ came. refl)).keeps))
 
 tested_same : (a : Live) (answered : Option ℕ) → (tested a answered).day.expected ≡ a.day.expected
 tested_same a None = refl
@@ -149,10 +151,12 @@ kind_moves m a now number (kind.Reset next) is here =
 kind_moves m a now number kind.Logout is here =
     own_counted m a _ here.bears (leaves_leaf (counted a now) why.Answered).keeps (ap is_own is)
 kind_moves m a now number kind.Logon is here =
-    own_counted m a _ here.bears (parts_leaf (counted a now) now (word.Logout why.LoggedOn) refl).keeps
+    own_counted m a _ here.bears (parts_leaf (counted a now) now (word.Logout why.LoggedOn) (λ came. refl)).keeps
     (ap is_own is)
 kind_moves m a now number (kind.Denied denial) is here =
-    let leaf = denies_answer (counted a now) now (denial_of m.origin denial) refl in
+    let names : (unwrap_or m.origin.number 0 == a.day.expected) ≡ true =
+    ap (λ n. unwrap_or n 0 == a.day.expected) here.bears ∙ eq-eqb a.day.expected a.day.expected refl in
+    let leaf = denies_answer a.day.expected (counted a now) now (denial_of m.origin denial) names in
     inr (inl (record { numbered = here.bears; by_one = leaf.keeps; dealt = inr (inl leaf.answered) }))
 kind_moves m a now number kind.Other is here =
     inr (inl (record { numbered = here.bears; by_one = refl; dealt = inl refl }))
@@ -213,7 +217,7 @@ names_moves m a clock number (Some tag) is = both_said m a clock.moment (at tag 
 
 numbered_moves : (m : Incoming) (a : Live) (clock : Clock) (number : Option ℕ) → m.origin.number ≡ number
     → Moves m a (if_numbered a clock m number)
-numbered_moves m a clock None is = inl (parts_leaf a clock.moment (word.Logout why.Number) refl).keeps
+numbered_moves m a clock None is = inl (parts_leaf a clock.moment (word.Logout why.Number) (λ came. refl)).keeps
 numbered_moves m a clock (Some number) is = names_moves m a clock number m.stranger is
 
 unless_moves : (m : Incoming) (a : Live) (clock : Clock) (k : Kind) → m.kind ≡ k
@@ -235,11 +239,11 @@ version_moves : (m : Incoming) (a : Live) (clock : Clock) (version : Option (Lis
 version_moves m a clock None is = unless_moves m (heard_at a clock.moment) clock m.kind refl
 version_moves m a clock (Some version) is =
     by_leaf (heard.Message m) a clock.moment m.origin.number _ (ap is_some is) refl
-    (parts_leaf (counted_if a clock.moment m.origin.number) clock.moment (word.Foreign version) refl)
+    (parts_leaf (counted_if a clock.moment m.origin.number) clock.moment (word.Foreign version) (λ came. refl))
 
 pub live_moves : (a : Live) (clock : Clock) (said : Heard) → MovesTo said a.day (came_as a clock said)
 live_moves a clock heard.Garbled = inl refl
 live_moves a clock (heard.TooLong number) =
     by_leaf (heard.TooLong number) a clock.moment number _ refl refl
-    (parts_leaf (counted_if a clock.moment number) clock.moment (word.Logout why.TooLong) refl)
+    (parts_leaf (counted_if a clock.moment number) clock.moment (word.Logout why.TooLong) (λ came. refl))
 live_moves a clock (heard.Message m) = version_moves m a clock m.version refl

@@ -80,18 +80,18 @@ new_number bytes = if is_message bytes then new_in (kind_in bytes) else None
 
 -- What becomes of a message that is counted.
 
--- an answer: a Reject, a BusinessMessageReject or a Logout
-abbrev pub is_answer_word : Word → Bool
-is_answer_word (word.Reject number kind fault) = true
-is_answer_word (word.Denied number kind denial) = true
-is_answer_word (word.Logout why) = true
-is_answer_word (word.LogoutFor text) = true
-is_answer_word (word.Foreign version) = true
-is_answer_word other = false
+-- an answer to the message of a number: a Reject or a BusinessMessageReject that names it (45), or a Logout
+abbrev pub is_answer_to : ℕ → Word → Bool
+is_answer_to came (word.Reject number kind fault) = number == came
+is_answer_to came (word.Denied number kind denial) = number == came
+is_answer_to came (word.Logout why) = true
+is_answer_to came (word.LogoutFor text) = true
+is_answer_to came (word.Foreign version) = true
+is_answer_to came other = false
 
-abbrev pub is_answered_by : Option Said → Bool
-is_answered_by None = false
-is_answered_by (Some said) = is_answer_word said.word
+abbrev pub is_answered_by : ℕ → Option Said → Bool
+is_answered_by came None = false
+is_answered_by came (Some said) = is_answer_to came said.word
 
 -- TestReqID (112) of a TestRequest, and of the Heartbeat that answers one
 abbrev pub test_in : Kind → Option (List ℕ)
@@ -132,7 +132,7 @@ pub record IsCutOff (bytes : List ℕ) (t : Turn) : Type 0 where
 abbrev pub IsDealtWith : List ℕ → Day → Turn → Type 0
 IsDealtWith bytes d t =
     (t.takes ≡ Some d.expected)
-    ⊎ ((is_answered_by t.first ≡ true)
+    ⊎ ((is_answered_by d.expected t.first ≡ true)
     ⊎ ((is_own_message bytes ≡ true) ⊎ (IsEchoed bytes t ⊎ IsCutOff bytes t)))
 
 -- The ways in which the expected number moves.

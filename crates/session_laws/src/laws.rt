@@ -62,15 +62,16 @@ pub fn each_message_is_taken_once()
 
 /// A law: no message is counted and dropped. Bytes move the expected number only in these ways: by one,
 /// if they are one message with right length and right sum and one readable 34 that equals it (or if
-/// they are more than 65,536 bytes and such a 34 stands at their front); to a higher one, by the firm's
-/// own SequenceReset, in reset mode or as a gap fill; by one, on a Logon that bears it and is answered;
-/// or to 1, by a Logon with 141=Y and 34=1 that is counted at once and answered, while the venue has been
-/// given nothing of the firm. In the turn that counts a message, it is given to the venue, or it is
-/// answered (Reject, BusinessMessageReject, Logout; a TestRequest by a Heartbeat with its 112), or it is
-/// the session's own (Logon, Heartbeat, ResendRequest, Reject, SequenceReset, Logout); one that is not
-/// read any further, for its BeginString or its length, may end the connection with no Logout. Nothing
-/// else but an operator's reset moves the number. And where the day's mark says that the venue has been
-/// given nothing, that is so since the last reset by an operator. It does nothing.
+/// they are more than 65,536 bytes and such a 34 stands at their front); to a higher one,
+/// by the firm's own SequenceReset, in reset mode or as a gap fill; by one, on a Logon that bears it and
+/// is answered; or to 1, by a Logon with 141=Y and 34=1 that is counted at once and answered, while the
+/// venue has been given nothing of the firm. In the turn that counts a message, it is given to the
+/// venue, or it is answered (by a Reject or a BusinessMessageReject that names its number in 45, or by a
+/// Logout; a TestRequest by a Heartbeat with its 112), or it is the session's own (Logon, Heartbeat,
+/// ResendRequest, Reject, SequenceReset, Logout); one that is not read any further, for its BeginString
+/// or its length, may end the connection with no Logout. Nothing else but an operator's reset moves the
+/// number. And where the day's mark says that the venue has been given nothing, that is so since the
+/// last reset by an operator. It does nothing.
 pub fn no_message_is_counted_and_dropped()
     ensures bytes { (names : Names) (s : Session) (connection : ℕ) (clock : Clock) (bytes : List ℕ)
         (is_known : Bool) (denial : Option Denial)
