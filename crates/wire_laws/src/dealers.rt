@@ -1,5 +1,5 @@
 //! A dealer of the venue, on the wire.
-ghost use Rattle.std.specs.Prelude.{◌≡◌, ℕ, List, [], Option, Some, true, map};
+ghost use Rattle.std.specs.Prelude.{◌≡◌, ℕ, List, [], Option, Some, true};
 ghost use Rattle.fix_fields.specs.Frame.{Field};
 ghost use Rattle.dealer_desk.specs.declared.notes.DealerNote.{DealerNote};
 ghost use Rattle.fix_sessions.specs.declared.state.Session.{Session};
@@ -20,15 +20,16 @@ use crate::carrying::what_is_kept_reads_back;
 use step_replay::dealers_are_isolated;
 
 /// A law: take what is kept for a dealer in the order of its numbers, and read it back: it is the dealer
-/// view of its due list. What is told beside a message is a function of the note beside it (`words`),
-/// and so of the date, the row and the due list too. It does nothing.
+/// view of its due list. What is told beside the messages is a function of the notes beside them
+/// (`words`), and so of the date, the row and the due list too. The name of a trade (1003) counts the
+/// trades before it, so it is no function of its own note alone. It does nothing.
 pub fn dealers_are_read_back()
     ensures { (date : List ℕ) (row : DealerRow) (dues : List Due)
-        (words : Option DealerNote → Option Field)
+        (words : List (Option DealerNote) → List (Option Field))
         (names : Names) (s : Session) (events : List Event) → without_resets events ≡ true
-        → AreCarried 1 (dealer_view date row dues) (map words (dealer_note_view date row dues))
+        → AreCarried 1 (dealer_view date row dues) (words (dealer_note_view date row dues))
         (given_bodies names s events)
-        → AreRead (dealer_view date row dues) (map words (dealer_note_view date row dues))
+        → AreRead (dealer_view date row dues) (words (dealer_note_view date row dues))
         (of_venue (all_kept names s [] events)) }
 {
     what_is_kept_reads_back();
@@ -41,7 +42,7 @@ pub fn dealers_are_read_back()
 /// differ in all that comes to them, as the steps of all firms may. It does nothing.
 pub fn dealers_are_isolated_on_the_wire()
     ensures { (one other : Configuration) (steps others : List Step) (dealer number : ℕ)
-        (row : DealerRow) (words : Option DealerNote → Option Field)
+        (row : DealerRow) (words : List (Option DealerNote) → List (Option Field))
         (names more_names : Names) (s t : Session) (events more : List Event)
         → one.date ≡ other.date
         → dealer_numbered one dealer ≡ Some row → dealer_numbered other number ≡ Some row
@@ -49,11 +50,11 @@ pub fn dealers_are_isolated_on_the_wire()
         ≡ venue.due_to number (venue.audit_trail other others)
         → without_resets events ≡ true → without_resets more ≡ true
         → AreCarried 1 (venue.sent_to one dealer (venue.audit_trail one steps))
-        (map words (dealer_note_view one.date row
+        (words (dealer_note_view one.date row
         (venue.due_to dealer (venue.audit_trail one steps))))
         (given_bodies names s events)
         → AreCarried 1 (venue.sent_to other number (venue.audit_trail other others))
-        (map words (dealer_note_view other.date row
+        (words (dealer_note_view other.date row
         (venue.due_to number (venue.audit_trail other others))))
         (given_bodies more_names t more)
         → AreSame (of_venue (all_kept names s [] events))
