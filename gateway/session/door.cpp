@@ -51,16 +51,16 @@ Door::Standing Door::judge(std::string_view first) {
     }
     line_.is_judged();
     session_ = named_in(*logon);
-    Refusal refusal = Refusal::unknown_name;
-    if (!judge_sender(*logon, refusal)) {
+    Judged judged;
+    if (!judge_sender(*logon, judged)) {
         return Standing::over;
     }
     if (session_ == nullptr) {
         turn_away(stranger_words::unknown_name, logon->firm);
         return Standing::over;
     }
-    if (refusal != Refusal::none) {
-        return refuse(word_of(refusal));
+    if (judged.refusal != Refusal::none) {
+        return refuse(word_of(judged.refusal));
     }
     if (line_.is_ending()) {
         // Meanwhile.
@@ -68,7 +68,7 @@ Door::Standing Door::judge(std::string_view first) {
     }
     // From here on the session tells how it ends.
     is_known_ = is_told_ = true;
-    const Standing standing = session_->enter(connection_, line_, first);
+    const Standing standing = session_->enter(connection_, line_, first, judged.reading);
     if (standing == Standing::waits) {
         logon_ = first;
     }
@@ -85,7 +85,7 @@ FirmSession *Door::named_in(const LogonQuestion &logon) const {
 
 // Of a name that nobody has too: so that it takes as long. False where the connection has ended
 // before its turn came.
-bool Door::judge_sender(const LogonQuestion &logon, Refusal &refusal) const {
+bool Door::judge_sender(const LogonQuestion &logon, Judged &judged) const {
     const ConnectionFacts connection = line_.facts();
     LogonFacts facts;
     facts.firm = logon.firm;
@@ -99,13 +99,14 @@ bool Door::judge_sender(const LogonQuestion &logon, Refusal &refusal) const {
         return false;
     }
     if (asked->host().judges_from(facts.address) == SessionHost::Time::max()) {
-        refusal = Refusal::wrong_address;
+        judged.refusal = Refusal::wrong_address;
         return true;
     }
     return sessions_.turns().take(
         facts.address, [this] { return line_.is_ending(); },
         [&] {
-            refusal = asked->host().judge(facts);
+            judged.reading = asked->host().readings();
+            judged.refusal = asked->host().judge(facts);
             return next_turn_of(*asked, facts.address);
         });
 }

@@ -43,7 +43,12 @@ class Door {
 
   private:
     FirmSession *named_in(const LogonQuestion &logon) const;
-    bool judge_sender(const LogonQuestion &logon, Refusal &refusal) const;
+    // What was found of a sender, and by which reading of the credentials.
+    struct Judged {
+        Refusal refusal = Refusal::unknown_name;
+        std::uint64_t reading = 0;
+    };
+    bool judge_sender(const LogonQuestion &logon, Judged &judged) const;
     Standing refuse(const char *word);
 
     const Sessions &sessions_;

@@ -126,6 +126,9 @@ class SessionHost {
     // refused at once. Asked before judge(), which takes a processor for long.
     using Time = std::chrono::steady_clock::time_point;
     virtual Time judges_from(const std::string & /*address*/) { return {}; }
+    // How often the credentials were read anew: a Logon that was judged by an older reading is
+    // judged no more.
+    virtual std::uint64_t readings() const { return 0; }
     // Why no Logon of the firm is accepted, whatever it says; nothing as a rule.
     virtual std::optional<NotOpen> not_open(const std::string & /*firm*/) { return std::nullopt; }
     // A Logon of the firm was accepted on this connection: returns the connection's number in the

@@ -49,9 +49,10 @@ class FirmSession final {
         over,  // it ends, or has ended
     };
 
-    // The first message of a connection, a Logon with the right credentials, is judged. The line
-    // is called until release().
-    Standing enter(std::uint64_t connection, Line &line, std::string_view logon);
+    // The first message of a connection, a Logon with the right credentials by this reading of
+    // them, is judged. The line is called until release().
+    Standing enter(std::uint64_t connection, Line &line, std::string_view logon,
+                   std::uint64_t reading);
     // The same again of one that waits.
     Standing look_again(std::uint64_t connection, std::string_view logon);
     // A message that came after the Logon. Whether something is to leave before the next one is
@@ -99,7 +100,8 @@ class FirmSession final {
     // A connection that has the session, or would have it.
     struct Visitor {
         Line *line = nullptr;
-        std::uint32_t number = 0; // in the log, 0 where no Logon was accepted
+        std::uint64_t reading = 0; // of the credentials that were right
+        std::uint32_t number = 0;  // in the log, 0 where no Logon was accepted
         std::deque<Unsent> unsent;
         std::uint64_t last_ticket = 0; // of what was put there
         bool parts = false;
@@ -142,6 +144,7 @@ class FirmSession final {
     Standing judge_logon(std::uint64_t connection, std::string_view logon);
     Standing refuse_before_opening(std::uint64_t connection, std::string_view logon,
                                    const NotOpen &why);
+    Standing refuse_old_reading(std::uint64_t connection);
     const char *word_of_refusal(std::uint64_t connection, std::string_view logon);
     void tell_refused(Visitor &refused, const char *word);
     Came judge(std::uint64_t connection, std::string_view message, Received at); // takes the lock

@@ -37,9 +37,11 @@ constexpr std::string_view too_much_is_answered =
 } // namespace
 
 FirmSession::Standing FirmSession::enter(std::uint64_t connection, Line &line,
-                                         std::string_view logon) {
+                                         std::string_view logon, std::uint64_t reading) {
     const std::lock_guard lock(mutex_);
-    visitors_[connection].line = &line;
+    Visitor &of = visitors_[connection];
+    of.line = &line;
+    of.reading = reading;
     return judge_logon(connection, logon);
 }
 
@@ -63,6 +65,9 @@ FirmSession::Standing FirmSession::look_again(std::uint64_t connection, std::str
 FirmSession::Standing FirmSession::judge_logon(std::uint64_t connection, std::string_view logon) {
     if (const auto why = host_.not_open(names_.firm)) {
         return refuse_before_opening(connection, logon, *why);
+    }
+    if (visitors_[connection].reading != host_.readings()) {
+        return refuse_old_reading(connection);
     }
     machine_.came(begin(), connection, logon, true);
     const auto notice = static_cast<Notice>(machine_.turn().told.notice);
@@ -105,6 +110,15 @@ FirmSession::Standing FirmSession::refuse_before_opening(std::uint64_t connectio
         events_.dropped("no Logout", name_ + ": " + fault.what());
         end(of, why.text);
     }
+    return standing_here(connection);
+}
+
+// Whoever has read them since has logged out whom they let in no more, and this one was not in yet.
+// It may come again at once, and is judged by those of now.
+FirmSession::Standing FirmSession::refuse_old_reading(std::uint64_t connection) {
+    Visitor &of = visitors_[connection];
+    tell_refused(of, refusal_words::read_again);
+    end(of, refusal_words::read_again);
     return standing_here(connection);
 }
 

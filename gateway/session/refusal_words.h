@@ -25,6 +25,8 @@ constexpr const char *wrong_password = "wrong password";
 constexpr const char *wrong_certificate = "wrong certificate";
 constexpr const char *wrong_address = "wrong address";
 constexpr const char *no_longer = "credentials have ended";
+// While its password was judged, or while it waited for the firm's old connection to end.
+constexpr const char *read_again = "credentials were read again";
 constexpr const char *second_connection = "second connection";
 constexpr const char *version = "version";           // 1137
 constexpr const char *encryption = "encryption";     // 98

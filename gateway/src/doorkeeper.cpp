@@ -3,6 +3,7 @@
 #include "password.h"
 
 #include <algorithm>
+#include <utility>
 
 namespace gateway {
 
@@ -48,7 +49,9 @@ std::shared_ptr<const Doorkeeper::Book> Doorkeeper::book() const {
 }
 
 std::vector<std::string> Doorkeeper::renew(const std::map<std::string, Credentials> &credentials) {
-    const auto renewed = std::make_shared<const Book>(book_of(credentials));
+    Book read = book_of(credentials);
+    read.reading = readings() + 1;
+    const auto renewed = std::make_shared<const Book>(std::move(read));
     std::shared_ptr<const Book> old = renewed;
     {
         const std::lock_guard lock(mutex_);

@@ -7,6 +7,7 @@
 #include "guesses.h"
 
 #include <chrono>
+#include <cstdint>
 #include <map>
 #include <memory>
 #include <mutex>
@@ -33,6 +34,9 @@ class Doorkeeper {
     // How many wrong passwords came from this address, one after the other.
     std::size_t wrong_of(const std::string &address) { return guesses_.wrong_of(address); }
 
+    // How often there were other credentials. To be asked before judge().
+    std::uint64_t readings() const { return book()->reading; }
+
     // Other credentials from now on. Returns the firms that have none any more, or others, or whose
     // time is over: what was let in by the old ones is to go.
     std::vector<std::string> renew(const std::map<std::string, Credentials> &credentials);
@@ -43,6 +47,7 @@ class Doorkeeper {
         std::map<std::string, Credentials> credentials; // of firms of the venue
         std::map<std::string, std::string> hashes;      // of each setting, one that has it
         bool is_open = false;                           // some firm may come from any address
+        std::uint64_t reading = 0;
     };
 
     Book book_of(const std::map<std::string, Credentials> &credentials) const;

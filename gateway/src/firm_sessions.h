@@ -168,6 +168,7 @@ class FirmSessions final : private SessionHost {
     // SessionHost
     Refusal judge(const LogonFacts &facts) override;
     Time judges_from(const std::string &address) override;
+    std::uint64_t readings() const override { return doorkeeper_.readings(); }
     std::uint32_t logon_accepted(const std::string &firm, const ConnectionFacts &facts) override;
     void logon_refused(const std::string &firm, const ConnectionFacts &facts,
                        const std::string &why) override;

@@ -95,6 +95,10 @@ void Gateway::listen() {
     if (status_.stopping().stop_requested() || ends_day()) {
         return;
     }
+    if (is_to_renew_.exchange(false)) {
+        // Asked for while another gateway spoke.
+        renew();
+    }
     engine_.listen(std::move(port_));
     status_.is_now(Phase::ready);
     const EngineSettings &settings = configs_.front().engine;

@@ -57,8 +57,10 @@ class Book final : public SessionHost {
   public:
     Refusal judge(const LogonFacts &facts) override {
         judged.push_back(facts.firm);
+        reading += read_while_judged;
         return verdict;
     }
+    std::uint64_t readings() const override { return reading; }
     std::uint32_t logon_accepted(const std::string &, const ConnectionFacts &) override {
         calls.push_back(fmt::format("accepted {}", ++connections_));
         return connections_;
@@ -138,9 +140,11 @@ class Book final : public SessionHost {
     }
 
     Refusal verdict = Refusal::none;
-    Taken denial;                      // of what the venue is to be given
-    std::vector<std::string> judged;   // the names
-    std::vector<std::string> refusals; // their words
+    std::uint64_t reading = 0;           // how often the credentials were read again
+    std::uint64_t read_while_judged = 0; // and how often within each judgement
+    Taken denial;                        // of what the venue is to be given
+    std::vector<std::string> judged;     // the names
+    std::vector<std::string> refusals;   // their words
     std::vector<std::string> calls;
     std::map<std::uint32_t, KeptMessage> kept;
     SessionNumbers numbers;

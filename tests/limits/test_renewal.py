@@ -2,6 +2,7 @@
 
 import re
 import subprocess
+import time
 from datetime import datetime, timedelta, timezone
 from pathlib import Path
 
@@ -14,7 +15,7 @@ from tests.gateway.test_logon import refused_for
 from tests.gateway.wait import LONG, until
 from tests.gateway.wire import Wire
 from tests.harness.budget import seconds_of
-from tests.limits.flood import hang_up, logged_on
+from tests.limits.flood import cancel, hang_up, logged_on
 
 GUESSES = 10
 LONGEST_PAUSE = 0.25  # seconds: what each wrong password after the fifth makes the next one wait
@@ -64,6 +65,31 @@ def test_only_who_has_lost_its_credentials_is_logged_out(stage: Stage) -> None:
     stage.ping(stage.other)
     assert stage.other.times_on == on, "another firm's session was ended"
     assert not stage.door.has_ended()
+
+
+def ended_within(wire: Wire, limit: float) -> bool:
+    """Whether a connection ends within this time that answers each TestRequest: one that has a session stays."""
+    end = time.monotonic() + limit
+    while not wire.is_over and time.monotonic() < end:
+        wire.read(end - time.monotonic())
+    return wire.is_over
+
+
+def test_a_logon_that_waits_has_no_old_credentials(stage: Stage) -> None:
+    """It waits for the firm's old connection, and the firm's credentials are taken away meanwhile: the old session ends, and what
+    waited gets none."""
+    stage.open(stage.other)
+    with logged_on(stage, DEALER) as old, Wire(stage.door.port) as second:
+        old.answers = False
+        second.number = old.number
+        without(stage, "DLR1")
+        assert second.logon(b"DLR1", DEALER.password.encode())
+        assert second.raw(cancel(second, second.number))
+        old.got(b"1")  # it is asked whether it is alive, and says nothing
+        renew(stage)
+        assert old.closed_within(LONG), "the old connection stays"
+        assert ended_within(second, LONG), "it is logged on by credentials that are gone"
+    stage.ping(stage.other)
 
 
 def test_credentials_end_on_a_date(stage: Stage) -> None:
