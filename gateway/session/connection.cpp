@@ -124,8 +124,15 @@ void Connection::look_at_certificate() {
         const std::lock_guard<std::mutex> lock(mutex_);
         server.swap(renewed_);
     }
-    if (server && !channel_.is_taken_by(*server)) {
-        conversation_.log_out("the certificate is not valid any more");
+    if (!server || channel_.is_taken_by(*server)) {
+        return;
+    }
+    constexpr const char *why = "the certificate is not valid any more";
+    if (admitted_) {
+        conversation_.log_out(why);
+    } else {
+        // Its Logon is to come, or waits for the firm's old connection to end.
+        shut(why);
     }
 }
 
@@ -210,12 +217,16 @@ bool Connection::shake_hands() {
 }
 
 void Connection::turn() {
-    if (conversation_.waits()) {
-        // What it sends meanwhile is left where it is.
-        wait(false);
+    const bool waits = conversation_.waits();
+    // What it sends while its Logon waits is left where it is.
+    wait(!waits && !is_held());
+    look_at_certificate();
+    if (is_ending()) {
+        return;
+    }
+    if (waits) {
         conversation_.look_again();
     } else {
-        wait(!is_held());
         read();
     }
     conversation_.serve();
@@ -223,7 +234,6 @@ void Connection::turn() {
         admitted_ = true;
         slot_.give_back();
     }
-    look_at_certificate();
     write();
     if (conversation_.is_known() && Clock::now() - ticked_ >= tick) {
         // What the firm said while this thread had to wait for the log is no silence of it.

@@ -11,7 +11,7 @@ import pytest
 from tests.gateway.door import today
 from tests.gateway.stage import DEALER, Stage
 from tests.gateway.strangers import with_tls
-from tests.gateway.test_logon import refused_for
+from tests.gateway.test_logon import context, refused_for
 from tests.gateway.wait import LONG, until
 from tests.gateway.wire import Wire
 from tests.harness.budget import seconds_of
@@ -236,6 +236,21 @@ def test_a_certificate_that_is_taken_back(stage: Stage) -> None:
     until("it can't come again", LONG, lambda: stage.counters().get(refused_for("no TLS"), 0) >= 1)
     stage.ping(stage.other)
     assert stage.other.times_on == on, "another firm's session was ended"
+
+
+def test_a_certificate_that_is_taken_back_before_its_logon(stage: Stage) -> None:
+    """Its connection has done its handshake by then, and is nobody's yet: it gets no session."""
+    with_tls(stage, True)
+    revoked_list(stage.folder)
+    stage.door.tls |= {"revoked": '"revoked.pem"'}
+    stage.limits["logon_seconds"] = 600
+    stage.open(stage.other)
+    with Wire(stage.door.port, context(stage.folder, DEALER.name)) as early:
+        revoked_list(stage.folder, DEALER.name)
+        renew(stage)
+        early.logon(b"DLR1", DEALER.password.encode())
+        assert ended_within(early, LONG), "it is logged on by a certificate that was taken back"
+    stage.ping(stage.other)
 
 
 @pytest.mark.parametrize(
