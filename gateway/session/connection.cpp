@@ -209,7 +209,7 @@ bool Connection::shake_hands() {
             conversation_.turn_away(stranger_words::no_tls, channel_.fault());
             return false;
         }
-        wants_write_ = progress == Channel::Progress::wants_write;
+        is_blocked_ = progress == Channel::Progress::wants_write;
         wait(true);
         keep_time();
     }
@@ -251,7 +251,9 @@ void Connection::turn() {
 void Connection::wait(bool reads) {
     std::array<pollfd, 2> set{};
     set[0].fd = channel_.number();
-    set[0].events = static_cast<short>((reads ? POLLIN : 0) | (wants_write_ ? POLLOUT : 0));
+    // Where it is blocked poll() would say at once, each time, that there is more to read.
+    set[0].events = static_cast<short>((reads && !is_blocked_ ? POLLIN : 0) |
+                                       (wants_write_ || is_blocked_ ? POLLOUT : 0));
     set[1].fd = bell_.number();
     set[1].events = POLLIN;
     const auto limit = std::chrono::ceil<milliseconds>(longest_wait());
@@ -291,6 +293,7 @@ void Connection::read() {
     const bool was_held = held_for_ > Clock::duration(0);
     const Channel::Progress progress =
         channel_.read(bytes.data(), was_held && !is_late ? read_while_held : bytes.size(), count);
+    is_blocked_ = progress == Channel::Progress::wants_write;
     is_all_heard_ = progress == Channel::Progress::wants_read;
     if (is_all_heard_) {
         held_for_ = {};
@@ -331,7 +334,7 @@ void Connection::write() {
         }
         wants_write_ = !writing_.empty();
         if (!wants_write_) {
-            progress_ = Clock::now();
+            progress_ = is_blocked_ ? progress_ : Clock::now();
             return;
         }
         std::size_t count = 0;
@@ -359,7 +362,7 @@ void Connection::keep_time() {
             held_for_ = is_left;
             conversation_.is_held_too_long();
         }
-        if (wants_write_ && now - progress_ >= seconds(settings_.send_seconds)) {
+        if ((wants_write_ || is_blocked_) && now - progress_ >= seconds(settings_.send_seconds)) {
             shut("the firm takes no byte");
         }
     } else if (!conversation_.waits() && !is_ending() &&
@@ -380,9 +383,11 @@ void Connection::linger() {
             is_written = true;
             channel_.end_writing();
         }
-        if (channel_.read(bytes.data(), bytes.size(), count) == Channel::Progress::ended) {
+        const Channel::Progress progress = channel_.read(bytes.data(), bytes.size(), count);
+        if (progress == Channel::Progress::ended) {
             return;
         }
+        is_blocked_ = progress == Channel::Progress::wants_write;
         wait(true);
     }
 }

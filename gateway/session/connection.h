@@ -85,6 +85,7 @@ class Connection final : public Line {
     std::string writing_;
     std::size_t written_ = 0;
     bool wants_write_ = false;
+    bool is_blocked_ = false; // TLS has to answer before it reads on, and the peer takes nothing
     Clock::time_point progress_;
     Clock::time_point ticked_;
     Clock::time_point reads_from_; // before it nothing is read: the firm is above its rate
