@@ -80,7 +80,23 @@ void NextConfiguration::tell_change(const TradingDay &day) {
 
 std::vector<Config> NextConfiguration::in_force(std::string_view day) {
     const std::lock_guard lock(mutex_);
-    return read_configs(in_force_, path_, day);
+    std::vector<Config> configs = read_configs(in_force_, path_, day);
+    if (!faults_.empty()) {
+        take_credentials(configs);
+    }
+    return configs;
+}
+
+// All or nothing. What is at fault was told when the files were tried.
+void NextConfiguration::take_credentials(std::vector<Config> &configs) const {
+    try {
+        std::vector<Config> read = configs;
+        for (Config &config : read) {
+            config.credentials = read_access(path_, config).credentials;
+        }
+        configs = std::move(read);
+    } catch (const std::exception &) {
+    }
 }
 
 DayRules NextConfiguration::days_in_force() {

@@ -32,7 +32,8 @@ class NextConfiguration {
     // Tries them, whether they have changed or not.
     void try_for(const TradingDay &day);
 
-    // What is in force, for this day (eight digits).
+    // What is in force, for this day (eight digits). Where another file is at fault the credentials
+    // are those of now all the same: what was taken away does not come back with a day.
     std::vector<Config> in_force(std::string_view day);
     DayRules days_in_force();
     // How often what is in force has become another.
@@ -44,6 +45,7 @@ class NextConfiguration {
   private:
     void try_files(const TradingDay &day);
     void tell_change(const TradingDay &day);
+    void take_credentials(std::vector<Config> &configs) const;
 
     const std::filesystem::path path_;
     Metrics &metrics_;

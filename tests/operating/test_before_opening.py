@@ -9,6 +9,8 @@ from tests.gateway.stage import DEALER, INVESTOR, Stage
 from tests.gateway.strangers import CLOSED
 from tests.gateway.wait import LONG, until
 from tests.gateway.wire import Fields, Wire
+from tests.limits.flood import hang_up
+from tests.limits.test_renewal import without
 from tests.operating.test_configuration import VENUE
 from tests.operating.test_week import OPENS, Week, week
 
@@ -89,6 +91,25 @@ def test_other_credentials(stage: Stage) -> None:
     before = words(stage)
     until("they are read", LONG, lambda: "credentials changed" in words(stage)[len(before) :])
     until("they hold", LONG, lambda: told(stage, NAME, PASSWORD) == [])
+    assert stage.door.stop() == 0
+
+
+def test_credentials_beside_a_fault(stage: Stage) -> None:
+    """What is taken away, and read again, is gone also where another file is at fault."""
+    text = closed(stage)
+    assert told(stage, NAME, PASSWORD) == logout(1, text)
+    venue = stage.folder / "venue.toml"
+    venue.write_text(venue.read_text() + '[[bond]]\nid = "x"\n')
+    until("the fault is told", LONG, lambda: "configuration at fault" in words(stage))
+    without(stage, DEALER.name)
+    hang_up(stage)
+
+    def has_no_access() -> bool:
+        told(stage, NAME, PASSWORD)
+        return 'refused what="no access" firm=DLR1' in words(stage)
+
+    until("they are gone", LONG, has_no_access)
+    assert told(stage, INVESTOR.name.encode(), INVESTOR.password.encode()) == logout(1, text)
     assert stage.door.stop() == 0
 
 
