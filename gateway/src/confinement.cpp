@@ -133,7 +133,7 @@ void allow(const Descriptor &ruleset, const fs::path &path, std::uint64_t access
 void confine_files(const std::vector<std::string> &command) {
     const long version = ::syscall(landlock::create_ruleset, nullptr, 0, landlock::ask_version);
     if (version < 1) {
-        std::cerr << "this kernel has no Landlock: it may read any file of its user\n";
+        std::cerr << no_landlock;
         return;
     }
     const auto [rules, size] = landlock::all_of(version);
@@ -315,9 +315,38 @@ void confine_calls() {
     }
 }
 
+// What the command has of this process's environment: where it finds what it starts, such as a
+// script's interpreter. Any other variable may hold a secret (PGPASSWORD); and what a venue answers
+// is to hang on its input alone, not on a host's language or on a library that is loaded before its
+// own (LD_PRELOAD, which it may not read here anyway).
+constexpr auto passed_variables = std::to_array<const char *>({"PATH"});
+
+std::vector<std::string> passed_environment() {
+    std::vector<std::string> passed;
+    for (const char *name : passed_variables) {
+        if (const char *value = std::getenv(name)) {
+            passed.push_back(std::string(name) + "=" + value);
+        }
+    }
+    return passed;
+}
+
+// As exec takes them; they are valid for as long as the words.
+std::vector<char *> pointers_to(std::vector<std::string> &words) {
+    std::vector<char *> pointers;
+    for (std::string &word : words) {
+        pointers.push_back(word.data());
+    }
+    pointers.push_back(nullptr);
+    return pointers;
+}
+
 } // namespace
 
-std::vector<std::string> confined(const std::vector<std::string> &command) {
+std::vector<std::string> words_of_start(const std::vector<std::string> &command, bool is_confined) {
+    if (!is_confined) {
+        return command;
+    }
     std::vector<std::string> words = {"/proc/self/exe", "--confined"};
     words.insert(words.end(), command.begin(), command.end());
     return words;
@@ -331,12 +360,10 @@ void become_confined(const std::vector<std::string> &command) {
     confine_files(command);
     confine_calls();
     std::vector<std::string> words = command;
-    std::vector<char *> arguments;
-    for (std::string &word : words) {
-        arguments.push_back(word.data());
-    }
-    arguments.push_back(nullptr);
-    ::execvp(arguments[0], arguments.data());
+    std::vector<std::string> environment = passed_environment();
+    const std::vector<char *> arguments = pointers_to(words);
+    const std::vector<char *> variables = pointers_to(environment);
+    ::execvpe(arguments[0], arguments.data(), variables.data());
     fail(arguments[0]);
 }
 

@@ -1,5 +1,6 @@
 #include "day.h"
 
+#include "confinement.h"
 #include "notes.h"
 #include "process.h"
 #include "reasons.h"
@@ -77,7 +78,8 @@ std::string read_program(const std::filesystem::path &program) {
 
 Day day_now(const Config &config) {
     Day day;
-    day.version = first_line({config.program.string(), "--version"});
+    day.version =
+        first_line(words_of_start({config.program.string(), "--version"}, config.confined));
     day.program = sha256(read_program(config.program));
     day.configuration = config.configuration;
     day.venue = config.venue;
@@ -115,7 +117,7 @@ OpenedDay begin_log(const Config &config, const Day &day, Database &database, Lo
 OpenedDay begin_day_of(Day day, const Config &config, Database &database, LogGuard &guard,
                        std::optional<std::uint32_t> term, DayClock &clock,
                        const std::shared_ptr<spdlog::logger> &events) {
-    if (try_configuration(config.command, config.configuration)) {
+    if (try_configuration(config)) {
         day.reasons = built_in_reasons();
     }
     OpenedDay begun = begin_log(config, day, database, guard, term, clock);
@@ -126,7 +128,7 @@ OpenedDay begin_day_of(Day day, const Config &config, Database &database, LogGua
 
 // A day goes on as it began.
 void check_notes(const Day &begun, const Config &config) {
-    if (!begun.reasons.empty() && !try_configuration(config.command, config.configuration)) {
+    if (!begun.reasons.empty() && !try_configuration(config)) {
         throw std::runtime_error("entry 0: the day gives reasons and the names of trades, and the "
                                  "venue's program of now does not know --notes");
     }

@@ -106,7 +106,7 @@ void check_day(const Config &config, std::string_view day) {
     }
     check_settings(config.engine);
     check_reserve(config);
-    try_configuration(config.command, config.configuration);
+    try_configuration(config);
 }
 
 std::optional<int> running_gateway(const fs::path &file) {

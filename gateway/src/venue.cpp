@@ -115,7 +115,7 @@ std::string Venue::run_once(std::stop_token stop) {
     last_given_.reset();
     starts_.push_back(std::chrono::steady_clock::now());
     metrics_.venue_started();
-    Process process(settings_.confined ? confined(settings_.command) : settings_.command);
+    Process process(words_of_start(settings_.command, settings_.confined));
     events_->info("venue started program=\"{}\"", settings_.command.front());
     const Running running(*this, process);
     const std::exception_ptr fault = serve(process, stop);

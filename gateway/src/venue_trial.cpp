@@ -1,5 +1,6 @@
 #include "venue_trial.h"
 
+#include "confinement.h"
 #include "printable.h"
 #include "process.h"
 #include "reasons.h"
@@ -19,7 +20,7 @@ constexpr auto longest_trial = std::chrono::seconds(10);
 // What it says of a fault is one short line.
 constexpr std::size_t longest_line = 200;
 
-// How a run of the program ends, and the begin of what it says on standard error.
+// How a run of the program ends, and the first line that it says on standard error.
 struct Trial {
     std::string end;
     std::string told;
@@ -29,36 +30,44 @@ constexpr std::string_view done = "ended with status 0";
 constexpr std::string_view wrong_arguments = "ended with status 2";
 
 std::string read_to_end(std::string (Process::*read)(), Process &process) {
+    constexpr std::size_t longest = no_landlock.size() + longest_line;
     std::string text;
     for (std::string bytes = (process.*read)(); !bytes.empty(); bytes = (process.*read)()) {
-        text += bytes.substr(0, longest_line - text.size());
+        text += bytes.substr(0, longest - text.size());
     }
     return text;
 }
 
-Trial run_with(const std::vector<std::string> &command, const std::string &configuration) {
-    Process process(command);
+// The first line that is the program's own.
+std::string first_line_of(std::string_view told) {
+    if (told.starts_with(no_landlock)) {
+        told.remove_prefix(no_landlock.size());
+    }
+    return std::string(told.substr(0, told.find('\n')));
+}
+
+Trial run_with(const Config &config, bool notes) {
+    Process process(words_of_start(with_notes(config.command, notes), config.confined));
     const std::jthread limit([&process] { process.end_within(longest_trial); });
-    process.write(configuration + "%%\n");
+    process.write(config.configuration + "%%\n");
     process.close_input();
     read_to_end(&Process::read_output, process);
     Trial trial;
-    trial.told = read_to_end(&Process::read_errors, process);
+    trial.told = first_line_of(read_to_end(&Process::read_errors, process));
     trial.end = process.wait();
     return trial;
 }
 
 } // namespace
 
-bool try_configuration(const std::vector<std::string> &command, const std::string &configuration) {
-    const Trial noted = run_with(with_notes(command, true), configuration);
+bool try_configuration(const Config &config) {
+    const Trial noted = run_with(config, true);
     const bool knows_notes = noted.end != wrong_arguments;
-    const Trial trial = knows_notes ? noted : run_with(with_notes(command, false), configuration);
+    const Trial trial = knows_notes ? noted : run_with(config, false);
     if (trial.end != done) {
-        const std::string line = trial.told.substr(0, trial.told.find('\n'));
         throw std::runtime_error(
             fmt::format("the venue's program {} does not take the configuration: {}: {}",
-                        command.front(), trial.end, printable(line, longest_line)));
+                        config.command.front(), trial.end, printable(trial.told, longest_line)));
     }
     return knows_notes;
 }

@@ -1,5 +1,6 @@
 """How hard the gateway makes it for who finds a fault in it: the binary, its unit for systemd, and the venue's process."""
 
+import json
 import os
 import re
 import socket
@@ -227,3 +228,103 @@ def test_a_venue_inherits_no_socket(stage: Stage) -> None:
         stage.ping(stage.dealer)
         found = {pid: sockets_of(pid) for pid in stage.door.venues()}
     check(not any(found.values()), "a venue has sockets: %r" % found)
+
+
+# ------------------------------------------------------------ what a venue knows of its gateway's environment
+
+PASSWORD = "known to the gateway alone"
+# Says whether it has the gateway's password and may read its key: as its version, and as what is wrong with a configuration.
+NOSY = """#!/bin/sh
+said="password=${PGPASSWORD:-none} key=$( (: <'%s') 2>/dev/null && echo read || echo refused)"
+echo "$said"
+echo "$said" >&2
+test "$1" = --version
+"""
+
+
+def variables_of(pid: int) -> dict[str, str]:
+    """What a process was started with."""
+    pairs = Path("/proc/%d/environ" % pid).read_bytes().decode().split("\0")
+    return {name: value for name, _, value in (pair.partition("=") for pair in pairs if pair)}
+
+
+def test_a_venue_has_no_variable_but_path(stage: Stage) -> None:
+    """What its gateway has beside, such as a password of PostgreSQL, is not for it."""
+    stage.door.environment["PGPASSWORD"] = PASSWORD
+    stage.open(stage.dealer)
+    check("PGPASSWORD" in variables_of(stage.door.running.pid), "the gateway has no password")
+    until("there is a venue", LONG, lambda: bool(stage.door.venues()))
+    found = variables_of(stage.door.venues()[0])
+    check(found == {"PATH": os.environ["PATH"]}, "the venue has %r" % found)
+
+
+def nosy_program(stage: Stage) -> Path:
+    """The program NOSY, in a folder of its own."""
+    program = stage.folder / "nosy" / "program"
+    program.parent.mkdir()
+    program.write_text(NOSY % (stage.door.keys / "seal.key"))
+    program.chmod(0o755)
+    return program
+
+
+def with_lines(stage: Stage, lines: dict[str, str]) -> None:
+    """Puts keys into [venue] of the gateway's configuration, each in the place of the line that has it."""
+    file = stage.folder / "gateway.toml"
+    kept = [each for each in file.read_text().splitlines() if each.split(" = ")[0] not in lines]
+    at = kept.index("[venue]") + 1
+    kept[at:at] = ["%s = %s" % item for item in lines.items()]
+    file.write_text("\n".join(kept) + "\n")
+
+
+# The line of [venue], and what the program finds: by itself it is confined.
+CONFINED: dict[str, tuple[dict[str, str], str]] = {
+    "confined": ({}, "password=none key=refused"),
+    "not confined": ({"confined": "false"}, "password=%s key=read" % PASSWORD),
+}
+
+
+@pytest.mark.parametrize("how", CONFINED)
+def test_a_program_that_says_its_version_is_confined(stage: Stage, how: str) -> None:
+    """As the venue is: and `confined = false` leaves it what the gateway has."""
+    lines, expected = CONFINED[how]
+    stage.door.environment["PGPASSWORD"] = PASSWORD
+    stage.door.write()
+    with_lines(stage, {"program": json.dumps(str(nosy_program(stage))), **lines})
+    stage.door.start()
+    stage.door.wait_open()
+    venues = [name for name in stage.counters() if name.startswith("mireseason_venue_info{")]
+    check(any(expected in name for name in venues), "it said %r" % venues)
+
+
+@pytest.mark.parametrize("how", CONFINED)
+def test_a_program_that_is_given_a_configuration_is_confined(stage: Stage, how: str) -> None:
+    """Before a day, by --check and by a start."""
+    lines, expected = CONFINED[how]
+    stage.door.environment["PGPASSWORD"] = PASSWORD
+    stage.door.write()
+    with_lines(stage, {"command": json.dumps([str(nosy_program(stage))]), **lines})
+    words = [str(stage.door.programs.gateway), "--check", str(stage.folder / "gateway.toml")]
+    checked = subprocess.run(
+        words,
+        env={**os.environ, "PGPASSWORD": PASSWORD},
+        capture_output=True,
+        text=True,
+        check=False,
+        timeout=LONG,
+    )
+    check(checked.returncode == 1 and expected in checked.stderr, repr(checked))
+    stage.door.start()
+    check(stage.door.wait_end() == 1, "it does not end")
+    check(expected in stage.door.last_words(), stage.door.last_words())
+
+
+def test_a_fault_is_told_on_a_kernel_without_landlock(stage: Stage) -> None:
+    """What a confined program begins with there is none of its own words."""
+    program = stage.folder / "strict"
+    lines = ("this kernel has no Landlock: it may read any file of its user", "config: Limit")
+    told = "".join("echo '%s' >&2\n" % line for line in lines)
+    program.write_text("#!/bin/sh\ncat >/dev/null\n%sexit 1\n" % told)
+    program.chmod(0o755)
+    stage.door.write()
+    with_lines(stage, {"command": json.dumps([str(program)])})
+    stage.refused("ended with status 1: config: Limit")
