@@ -128,10 +128,14 @@ int check(const std::string &path, const std::string &day) {
     if (running) {
         std::cout << "a gateway runs with it, process " << *running << ", and has its ports\n";
     }
-    for (const gateway::Config &config : gateway::read_configs(files, path, day)) {
+    const std::vector<gateway::Config> configs = gateway::read_configs(files, path, day);
+    for (const gateway::Config &config : configs) {
         gateway::check_start(config, day, running.has_value());
         std::cout << path << " is a configuration of " << config.firms.names.size() << " firms for "
                   << day << '\n';
+    }
+    if (const auto doubt = gateway::doubt_about(configs.front())) {
+        std::cerr << "mireseason-gateway: in doubt: " << *doubt << '\n';
     }
     return 0;
 }

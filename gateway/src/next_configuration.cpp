@@ -47,6 +47,9 @@ void NextConfiguration::try_files(const TradingDay &day) {
         for (const Config &config : configs) {
             check_day(config, day.date);
         }
+        if (const auto doubt = doubt_about(configs.front())) {
+            events_->warn("configuration in doubt: {}", *doubt);
+        }
         if (!(tried_ == in_force_)) {
             ++changes_;
             tell_change(day);

@@ -124,13 +124,17 @@ bool SigningKey::has_signed(const Signature &signature, std::string_view text) c
                             text.size()) == 1;
 }
 
+bool SigningKey::is_of_pair(const SigningKey &other) const {
+    return EVP_PKEY_eq(key_.get(), other.key_.get()) == 1;
+}
+
 std::shared_ptr<const SealKeys> read_seal_keys(const SealFiles &files) {
     SealKeys keys{read_secret(files.secret),
-                  SigningKey::private_of(read_private(files.own), files.own.string()),
-                  {}};
+                  SigningKey::private_of(read_private(files.own), files.own.string())};
     keys.gateways.push_back(keys.own);
     for (const std::filesystem::path &file : files.gateways) {
         keys.gateways.push_back(SigningKey::public_of(read_public(file), file.string()));
+        keys.is_own_listed = keys.is_own_listed || keys.gateways.back().is_of_pair(keys.own);
     }
     return std::make_shared<const SealKeys>(std::move(keys));
 }

@@ -47,6 +47,8 @@ class SigningKey {
     // With the private half.
     Signature sign(std::string_view text) const;
     bool has_signed(const Signature &signature, std::string_view text) const;
+    // Whether both are of one pair of keys.
+    bool is_of_pair(const SigningKey &other) const;
 
   private:
     explicit SigningKey(std::shared_ptr<EVP_PKEY> key) : key_(std::move(key)) {}
@@ -58,7 +60,8 @@ class SigningKey {
 struct SealKeys {
     SealKey secret;
     SigningKey own;
-    std::vector<SigningKey> gateways; // the public halves of all
+    std::vector<SigningKey> gateways{}; // the public halves of all
+    bool is_own_listed = false;         // whether its own is among those that it was given
 };
 
 // The files of them, as the configuration names them.

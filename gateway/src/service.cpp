@@ -5,6 +5,7 @@
 #include "day_copies.h"
 #include "log_places.h"
 #include "moment.h"
+#include "start_check.h"
 #include "venue_file.h"
 #include "version.h"
 
@@ -48,6 +49,9 @@ Service::Service(std::filesystem::path path, ConfigFiles files, std::vector<Conf
       next_(path_, std::move(files), first_.front().days, metrics_, events_),
       monitor_(first_.front().metrics_port, sources()),
       supervised_(std::move(supervisor), [this] { return condition(); }) {
+    if (const auto doubt = doubt_about(first_.front())) {
+        events_->warn("configuration in doubt: {}", *doubt);
+    }
     open_operator_socket();
 }
 

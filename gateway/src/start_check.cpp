@@ -109,6 +109,15 @@ void check_day(const Config &config, std::string_view day) {
     try_configuration(config);
 }
 
+// A gateway knows its own signatures all the same, so the day can go on. Who checks it can't.
+std::optional<std::string> doubt_about(const Config &config) {
+    if (config.keys->is_own_listed) {
+        return std::nullopt;
+    }
+    return "[seal] gateways: none of them is the public key of signing_key. Who checks a day by "
+           "these keys takes this gateway's signatures for nobody's";
+}
+
 std::optional<int> running_gateway(const fs::path &file) {
     std::error_code fault;
     const fs::path own = fs::canonical(file, fault);

@@ -6,6 +6,7 @@
 
 #include <filesystem>
 #include <optional>
+#include <string>
 #include <string_view>
 
 namespace gateway {
@@ -16,6 +17,8 @@ void check_day(const Config &config, std::string_view day);
 // The same, and what a start needs beside it: the folders of logs and copies, the operators' group,
 // and ports that nobody has. A gateway of this configuration that runs has these itself.
 void check_start(const Config &config, std::string_view day, bool runs);
+// What is no fault of a configuration, and yet hardly meant; nothing where there is no such thing.
+std::optional<std::string> doubt_about(const Config &config);
 // The process of a gateway that runs with this configuration's file; nothing where none is seen.
 std::optional<int> running_gateway(const std::filesystem::path &file);
 

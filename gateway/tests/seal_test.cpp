@@ -393,6 +393,21 @@ void keys_of_all_modes(const fs::path &folder) {
     check(stays, "keys are overwritten");
 }
 
+// By the pairs and not by the files' names.
+void keys_that_are_listed(const fs::path &folder) {
+    const fs::path keys = folder / "seal_keys_listed";
+    make_keys(keys, {"gw1", "gw2"});
+    fs::copy_file(keys / "gw1.pub", keys / "another.pub");
+    const auto is_listed = [&](const std::vector<fs::path> &gateways) {
+        return read_seal_keys({keys / "seal.key", keys / "gw1.pem", gateways})->is_own_listed;
+    };
+    check(is_listed({keys / "gw1.pub"}), "its own alone");
+    check(is_listed({keys / "gw2.pub", keys / "another.pub"}), "its own behind another's");
+    check(is_listed({keys / "another.pub", keys / "gw2.pub"}), "its own before another's");
+    check(!is_listed({keys / "gw2.pub"}), "another's alone");
+    check(!is_listed({}), "none");
+}
+
 // An entry is signed, and kept outside of the database, in less than a second: here in thirty,
 // since a machine may be busy.
 void in_time(const fs::path &folder) {
@@ -470,6 +485,11 @@ TEST_CASE("of one log") {
 TEST_CASE("keys of all modes") {
     const Scratch folder("seal");
     keys_of_all_modes(folder.path());
+}
+
+TEST_CASE("keys that are listed") {
+    const Scratch folder("seal");
+    keys_that_are_listed(folder.path());
 }
 
 TEST_CASE("in time") {

@@ -258,6 +258,65 @@ def test_another_secret(stage: Stage) -> None:
     nothing_sent(stage, lambda: stage.refused("the log was changed at or before entry 0"))
 
 
+DOUBT = "[seal] gateways: none of them is the public key of signing_key"
+
+
+def list_another_key(stage: Stage) -> Path:
+    """Has [seal] gateways name the public key of another pair alone, which is returned."""
+    other = stage.folder / "other"
+    words = [str(stage.door.programs.gateway), "--make-keys", str(other)]
+    subprocess.run(words, capture_output=True, check=True)
+    file = stage.folder / "gateway.toml"
+    listed, others = '["keys/gateway.pub"]', '["other/gateway.pub"]'
+    text = file.read_text()
+    check(text.count(listed) == 1, text)
+    file.write_text(text.replace(listed, others))
+    return other / "gateway.pub"
+
+
+def checked(stage: Stage) -> subprocess.CompletedProcess[str]:
+    words = [str(stage.door.programs.gateway), "--check", str(stage.folder / "gateway.toml")]
+    return subprocess.run(words, capture_output=True, text=True, timeout=LONG, check=False)
+
+
+def test_a_key_that_is_not_listed(stage: Stage) -> None:
+    """The day opens, since a gateway knows its own signatures; --check and a start say that who checks it would not."""
+    stage.door.write()
+    right = checked(stage)
+    check((right.returncode, right.stderr) == (0, ""), repr(right))
+    listed = list_another_key(stage)
+    doubtful = checked(stage)
+    check(doubtful.returncode == 0 and DOUBT in doubtful.stderr, repr(doubtful))
+    stage.door.start()
+    stage.door.wait_open()
+    told = stage.door.told.read_text()
+    check(told.count(" configuration in doubt: " + DOUBT) == 1, told)
+    check(stage.door.stop() == 0, stage.door.last_words())
+    by_own = audited(stage, "--gateway-key", str(stage.door.keys / "gateway.pub"))
+    check(by_own.returncode == 0, by_own.stdout)
+    by_listed = audited(stage, "--gateway-key", str(listed))
+    check(by_listed.returncode == 1, by_listed.stdout)
+
+
+def test_a_key_that_the_next_day_does_not_list(stage: Stage) -> None:
+    """It is told as soon as the files say so, while there is time to mend them."""
+    stage.door.write()
+    config, venue = stage.folder / "gateway.toml", stage.folder / "venue.toml"
+    config.write_text(config.read_text().replace('"day.db"', '"day-{date}.db"'))
+    lines = venue.read_text().splitlines(keepends=True)
+    venue.write_text("".join(line for line in lines if not line.startswith("date")))
+    stage.door.start()
+    stage.door.wait_open()
+    check("in doubt" not in stage.door.told.read_text(), "keys that are right are in doubt")
+    list_another_key(stage)
+    until("it is told", LONG, lambda: DOUBT in stage.door.told.read_text(errors="replace"))
+    until(
+        "the files apply all the same",
+        LONG,
+        lambda: "configuration changed: it is right" in stage.door.told.read_text(errors="replace"),
+    )
+
+
 def test_a_checkpoint_is_in_time(stage: Stage) -> None:
     """The last checkpoint outside of the database is a second late at most."""
     stage.open(*stage.firms)
