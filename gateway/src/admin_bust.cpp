@@ -69,10 +69,18 @@ AdminAnswer run_bust(AdminCall &call) {
     const TradeName name = name_of(trade);
     OpenDay day(call.scene);
     Speaker &speaker = speaker_of(day, name, trade);
-    if (!speaker.day().trades.has(trade)) {
+    Trades &trades = speaker.day().trades;
+    if (!trades.has(trade)) {
         throw AdminFault(fmt::format("there is no trade {} today", trade));
     }
-    OpenDay::commit(speaker, call.act(fmt::format("bust {}", trade)));
+    const Act act = call.act(fmt::format("bust {}", trade));
+    // A reason that is too long voids nothing.
+    text_of(act);
+    // Before the commit, so that of two operators one does it.
+    if (!trades.make_void(trade)) {
+        throw AdminFault(fmt::format("{} is void already: mireseason-audit acts says why", trade));
+    }
+    OpenDay::commit(speaker, act);
     return {fmt::format("{} is void: the record says so, and no firm is sent anything", trade), {}};
 }
 

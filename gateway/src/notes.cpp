@@ -151,6 +151,13 @@ std::optional<HaltSet> halt_in(const Note &note) {
                       : std::nullopt;
 }
 
+std::optional<std::string> bust_in(const Note &note) {
+    // WHO bust TRADE
+    const bool is_bust =
+        note.kind == note_kinds::act && note.words.size() == 3 && note.words[1] == "bust";
+    return is_bust ? std::optional(std::string(note.words[2])) : std::nullopt;
+}
+
 DayEnd day_end_in(const Note &note) {
     // WHO end-day, or WHO end-day --now
     if (note.kind != note_kinds::act || note.words.size() < 2 || note.words[1] != "end-day") {

@@ -82,6 +82,8 @@ struct HaltSet {
     bool is_halted = false;
 };
 std::optional<HaltSet> halt_in(const Note &note);
+// The trade that it voids.
+std::optional<std::string> bust_in(const Note &note);
 // The end of the day that it orders; as_configured where it orders none.
 DayEnd day_end_in(const Note &note);
 std::optional<std::chrono::microseconds> step_in(const Note &note);

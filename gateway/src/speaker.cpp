@@ -125,6 +125,9 @@ void Speaker::take_note(const std::string &line) {
     if (const auto ordered = firm_order_in(*note); ordered && sessions_.has_firm(ordered->firm)) {
         take_order(*ordered);
     }
+    if (const auto trade = bust_in(*note)) {
+        day_.trades.make_void(*trade);
+    }
     day_.ordered_end.order(day_end_in(*note));
     if (accepts_clock(*note)) {
         day_.clock_is_right = true;

@@ -81,6 +81,20 @@ TEST_CASE("notes are read") {
     }
 }
 
+TEST_CASE("busts are read") {
+    const std::string trade = "20261127-INV1-DLR1-1";
+    const std::string line = "# act 09:00:00.123 a(1) bust " + trade;
+    for (const std::string &text : {line, line + " because=\"y\""}) {
+        check(bust_in(note_of(text).value_or(Note{})) == trade, text);
+    }
+    for (const std::string &text :
+         {line + " " + trade, "# act 09:00:00.123 a(1) halt " + trade,
+          std::string("# act 09:00:00.123 a(1) bust"), "# clock 09:00:00.123 a(1) bust " + trade,
+          "# act 09:00:00.123 a(1) reload because=\"a(1) bust " + trade + "\""}) {
+        check(!bust_in(note_of(text).value_or(Note{})), text);
+    }
+}
+
 // What is written is read, whatever its bytes.
 TEST_CASE("requests are read") {
     std::string all;

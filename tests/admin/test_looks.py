@@ -4,6 +4,7 @@ import csv
 import io
 import json
 import tomllib
+from concurrent.futures import ThreadPoolExecutor
 from datetime import datetime, timedelta, timezone
 
 from tests.admin.desk import acts, admin, audit, did, rows
@@ -116,17 +117,22 @@ def voids(stage: Stage) -> dict[str, str]:
     return {row["trade"]: row["void"] for row in csv.DictReader(io.StringIO(said.out))}
 
 
+def traded(stage: Stage) -> str:
+    """The name of a trade that there is now."""
+    stage.auction()
+    return next(
+        message.given(1003).decode()
+        for message in stage.dealer.looked()
+        if message.value(694) == b"1"
+    )
+
+
 def test_a_trade_that_is_voided(stage_of_log: Stage) -> None:
     """`bust` names a trade of the day and a reason; the record says so, and neither firm is sent a byte."""
     stage = stage_of_log
     stage.door.operators = ""
     stage.open(*stage.firms)
-    stage.auction()
-    trade = next(
-        message.given(1003).decode()
-        for message in stage.dealer.looked()
-        if message.value(694) == b"1"
-    )
+    trade = traded(stage)
     sent = [len(firm.looked()) for firm in stage.firms]
     refused(stage, "say why", "bust", trade)
     refused(stage, "there is no trade", "bust", trade[:-1] + "2", "--because", REASON)
@@ -147,3 +153,29 @@ def test_a_trade_that_is_voided(stage_of_log: Stage) -> None:
     for firm, count in zip(stage.firms, sent):
         kinds = [message.kind for message in firm.looked()[count:]]
         check(not any(kind in (b"S", b"AI", b"AJ", b"AG", b"R") for kind in kinds), kinds)
+
+
+def test_a_trade_is_voided_once(stage: Stage) -> None:
+    """A second `bust` is refused and commits nothing: beside the first, behind it, and after a start."""
+    stage.door.operators = ""
+    stage.open(*stage.firms)
+    trade = traded(stage)
+    longest = "x" * 200
+    refused(stage, "give a shorter reason", "bust", trade, "--because", longest)
+    reasons = ["reason %d" % number for number in range(3)]
+    with ThreadPoolExecutor(len(reasons)) as operators:
+        answers = list(
+            operators.map(lambda reason: admin(stage, "bust", trade, "--because", reason), reasons)
+        )
+    check(sorted(answer.status for answer in answers) == [0, 1, 1], answers)
+    check(all("is void already" in answer.err for answer in answers if answer.status), answers)
+    done = next(reason for reason, answer in zip(reasons, answers) if answer.status == 0)
+    committed = acts(stage)
+    check(len(committed) == 1 and done.encode() in committed[0], committed)
+    refused(stage, "is void already", "bust", trade, "--because", REASON)
+    stage.door.kill()
+    stage.door.start()
+    stage.door.wait_open()
+    refused(stage, "is void already", "bust", trade, "--because", REASON)
+    check(acts(stage) == committed, "a second act stands in the log")
+    check(voids(stage) == {trade: done}, voids(stage))
