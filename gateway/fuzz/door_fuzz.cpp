@@ -13,14 +13,24 @@
 #include <cstring>
 #include <vector>
 
-#include <unistd.h>
+#include <sys/time.h>
 
 namespace {
 
 // More than one after the other bring nothing new, and take time.
 constexpr std::size_t most_connections = 3;
 
-constexpr unsigned most_seconds = 60; // of one input, on a busy machine
+// Of one input, and of the processor: by the clock a process takes long that was stopped, or that a
+// busy machine gave little. The one thread waits for nobody, so what does not end uses up a
+// processor.
+constexpr time_t most_seconds = 60;
+
+// 0 ends the limit.
+void limit_processor_time(time_t seconds) {
+    itimerval limit{};
+    limit.it_value.tv_sec = seconds;
+    ::setitimer(ITIMER_PROF, &limit, nullptr);
+}
 
 std::string text_of(const std::uint8_t *data, std::size_t size) {
     return std::string(reinterpret_cast<const char *>(data), size);
@@ -41,14 +51,14 @@ extern "C" int LLVMFuzzerInitialize(int *count, char ***words) {
     *count = static_cast<int>(all.size());
     all.push_back(nullptr);
     *words = all.data();
-    std::signal(SIGALRM, [](int) { gateway::fuzz::violated("it takes too long"); });
+    std::signal(SIGPROF, [](int) { gateway::fuzz::violated("it takes too long"); });
     return 0;
 }
 
 extern "C" int LLVMFuzzerTestOneInput(const std::uint8_t *data, std::size_t size) {
     using namespace gateway::fuzz;
     const gateway::tests::StillClock clock;
-    ::alarm(most_seconds);
+    limit_processor_time(most_seconds);
     std::vector<Bytes> connections = connections_of(text_of(data, size));
     if (connections.size() > most_connections) {
         connections.resize(most_connections);
@@ -59,7 +69,7 @@ extern "C" int LLVMFuzzerTestOneInput(const std::uint8_t *data, std::size_t size
     if (whole != pieces) {
         violated("cut into pieces it is\n" + pieces + "and whole\n" + whole);
     }
-    ::alarm(0);
+    limit_processor_time(0);
     return 0;
 }
 
