@@ -276,6 +276,18 @@ def with_lines(stage: Stage, lines: dict[str, str]) -> None:
     file.write_text("\n".join(kept) + "\n")
 
 
+def checked(stage: Stage) -> subprocess.CompletedProcess[str]:
+    """What --check says of the configuration, with the gateway's environment."""
+    return subprocess.run(
+        [str(stage.door.programs.gateway), "--check", str(stage.folder / "gateway.toml")],
+        env={**os.environ, **stage.door.environment},
+        capture_output=True,
+        text=True,
+        check=False,
+        timeout=LONG,
+    )
+
+
 # The line of [venue], and what the program finds: by itself it is confined.
 CONFINED: dict[str, tuple[dict[str, str], str]] = {
     "confined": ({}, "password=none key=refused"),
@@ -303,16 +315,8 @@ def test_a_program_that_is_given_a_configuration_is_confined(stage: Stage, how: 
     stage.door.environment["PGPASSWORD"] = PASSWORD
     stage.door.write()
     with_lines(stage, {"command": json.dumps([str(nosy_program(stage))]), **lines})
-    words = [str(stage.door.programs.gateway), "--check", str(stage.folder / "gateway.toml")]
-    checked = subprocess.run(
-        words,
-        env={**os.environ, "PGPASSWORD": PASSWORD},
-        capture_output=True,
-        text=True,
-        check=False,
-        timeout=LONG,
-    )
-    check(checked.returncode == 1 and expected in checked.stderr, repr(checked))
+    found = checked(stage)
+    check(found.returncode == 1 and expected in found.stderr, repr(found))
     stage.door.start()
     check(stage.door.wait_end() == 1, "it does not end")
     check(expected in stage.door.last_words(), stage.door.last_words())
@@ -327,4 +331,6 @@ def test_a_fault_is_told_on_a_kernel_without_landlock(stage: Stage) -> None:
     program.chmod(0o755)
     stage.door.write()
     with_lines(stage, {"command": json.dumps([str(program)])})
-    stage.refused("ended with status 1: config: Limit")
+    found = checked(stage)
+    expected = "ended with status 1: config: Limit\n"
+    check(found.returncode == 1 and found.stderr.endswith(expected), repr(found))
