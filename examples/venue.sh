@@ -14,12 +14,23 @@
 set -eu
 root=$(cd "$(dirname "$0")/.." && pwd)
 here=$root/examples/venue
-day=${FOLDER:-$here/out}
-gateway=${GATEWAY:-$root/gateway/out}/mireseason-gateway
-desks=${DESK:-$root/desk/out}
+# absolute PATH: from wherever this script goes.
+absolute() {
+    case $1 in
+    /*) echo "$1" ;;
+    *) echo "$PWD/$1" ;;
+    esac
+}
+# quoted PATH: as one word of a command line, whatever is in it.
+quoted() { printf "'%s'" "$(printf '%s' "$1" | sed "s/'/'\\\\''/g")"; }
+
+day=$(absolute "${FOLDER:-$here/out}")
+gateway=$(absolute "${GATEWAY:-$root/gateway/out}")/mireseason-gateway
+desks=$(absolute "${DESK:-$root/desk/out}")
 built=$here/out/built
-program=$root/crates/rfq_venue/out/rfq_venue
-[ -x "$program" ] || program="python3 $root/tests/model/program.py"
+proved=$root/crates/rfq_venue/out/rfq_venue
+program=$(quoted "$proved") # its command line
+[ -x "$proved" ] || program="python3 $(quoted "$root/tests/model/program.py")"
 start=$(date +%s)
 pids=
 building=
@@ -116,8 +127,7 @@ if ! [ -x "$gateway" ] || ! [ -x "$desks/mireseason-desk" ] || ! [ -x "$desks/sa
     build
 fi
 
-# shellcheck disable=SC2086 # the words of a command
-python3 "$here/prepare.py" "$day" "$gateway" $program
+python3 "$here/prepare.py" "$day" "$gateway" "$program"
 echo $$ >"$day/pid"
 cd "$day"
 : >gateway.events

@@ -1,4 +1,4 @@
-"""Writes what the venue of examples/venue.sh needs for today into a folder: prepare.py FOLDER GATEWAY VENUE ..
+"""Writes what the venue of examples/venue.sh needs for today into a folder: prepare.py FOLDER GATEWAY VENUE
 
 VENUE is the command line of the venue's program. What stands in the folder and can be kept is kept, so
 that a venue that was stopped goes on with its day.
@@ -8,6 +8,7 @@ import json
 import os
 import re
 import secrets
+import shlex
 import socket
 import subprocess
 import sys
@@ -187,7 +188,7 @@ def write_sample(folder: Path, venue: Row, firm: str, fix_port: int) -> None:
 
 
 def main() -> None:
-    folder, gateway, command = Path(sys.argv[1]), sys.argv[2], sys.argv[3:]
+    folder, gateway, command = Path(sys.argv[1]), sys.argv[2], shlex.split(sys.argv[3])
     os.umask(0o077)
     today = datetime.now(timezone.utc).strftime("%Y%m%d")
     text = re.sub(r"(?m)^date = .*", f'date = "{today}"', (HERE / "venue.toml").read_text())

@@ -9,9 +9,10 @@ from tests.desk.desks import DEALER, INVESTOR, ROOT, Desk, FirmOf
 from tests.desk.view import View, log_in
 from tests.gateway.wait import LONG, until
 
-COMMAND = ROOT / "examples" / "venue.sh"
 BOND = "XS0000000036"
 POINT = 256
+CLONE, FOLDER = "a clone", "a day"
+COMMAND = os.path.join(".", CLONE, "examples", "venue.sh")
 
 
 def page(text: str, firm: str, role: FirmOf, program: Path, folder: Path) -> View:
@@ -49,24 +50,47 @@ def is_banner_true(banner: str, gateway: Path) -> bool:
     )
 
 
+def environment(folder: str) -> dict[str, str]:
+    return {**os.environ, "PATH": "/usr/bin:" + os.environ["PATH"], "FOLDER": folder}
+
+
+def begun(
+    desk_program: Path, gateway_program: Path, place: Path
+) -> tuple["subprocess.Popen[bytes]", Path]:
+    """The command, and what it has told. There is a space in each path, and none begins at the root."""
+    (place / CLONE).symlink_to(ROOT)
+    words = environment(FOLDER) | {
+        "GATEWAY": os.path.relpath(gateway_program.parent, place),
+        "DESK": os.path.relpath(desk_program.parent, place),
+    }
+    told = place / "told"
+    with told.open("wb") as out:
+        running = subprocess.Popen([COMMAND], env=words, stdout=out, stderr=out, cwd=place)
+    until(
+        "it runs",
+        LONG,
+        lambda: "How each auction ends" in told.read_text() or running.poll() is not None,
+    )
+    return running, told
+
+
+def down(place: Path) -> "subprocess.CompletedProcess[str]":
+    return subprocess.run(
+        [COMMAND, "down"],
+        env=environment(FOLDER),
+        stdout=subprocess.PIPE,
+        stderr=subprocess.STDOUT,
+        text=True,
+        timeout=LONG,
+        check=False,
+        cwd=place,
+    )
+
+
 def test_a_venue_to_try(desk_program: Path, gateway_program: Path, place: Path) -> None:
     """Its two desks trade, it tells how that auction ended, and the audit finds the day in order."""
-    told = place / "told"
-    environment = {
-        **os.environ,
-        "PATH": "/usr/bin:" + os.environ["PATH"],
-        "FOLDER": str(place / "day"),
-        "GATEWAY": str(gateway_program.parent),
-        "DESK": str(desk_program.parent),
-    }
-    with told.open("wb") as out:
-        running = subprocess.Popen([COMMAND], env=environment, stdout=out, stderr=out)
+    running, told = begun(desk_program, gateway_program, place)
     try:
-        until(
-            "it runs",
-            LONG,
-            lambda: "How each auction ends" in told.read_text() or running.poll() is not None,
-        )
         investor, dealer = (
             page(told.read_text(), firm, role, desk_program, place)
             for firm, role in (("INV1", INVESTOR), ("DLR3", DEALER))
@@ -77,15 +101,7 @@ def test_a_venue_to_try(desk_program: Path, gateway_program: Path, place: Path) 
         sentence = "INV1 bought 2,000,000 of %s from DLR3 at 100; there was no cover" % BOND
         until("its end is told", LONG, lambda: sentence in told.read_text())
     finally:
-        ended = subprocess.run(
-            [COMMAND, "down"],
-            env=environment,
-            stdout=subprocess.PIPE,
-            stderr=subprocess.STDOUT,
-            text=True,
-            timeout=LONG,
-            check=False,
-        )
+        ended = down(place)
         running.wait(LONG)
     assert ended.returncode == 0, ended.stdout
     assert "The venue has ended." in ended.stdout and "the record is whole" in ended.stdout
