@@ -48,7 +48,31 @@ stop() {
         kill -- "$pid" 2>/dev/null || true
     done
     wait
-    rm -f "$day/pid"
+    rm -f "$day/pid" "$day/pids"
+}
+
+# started PID: a process of the venue. Its number is added, so that none is lost where this is killed.
+started() {
+    pids="$1 $pids"
+    echo "$1" >>"$day/pids"
+}
+
+# left: those that a script which was killed has left behind; they work in the day's folder.
+left() {
+    [ ! -e "$day/pids" ] || while read -r pid; do
+        [ "$(readlink "/proc/$pid/cwd")" != "$(cd "$day" && pwd -P)" ] || echo "$pid"
+    done <"$day/pids"
+}
+
+# sweep: ends them.
+sweep() {
+    [ -n "$(left)" ] || return 0
+    echo "The programs of a venue whose script was killed are ended."
+    for pid in $(left); do
+        kill "$pid" 2>/dev/null || true
+    done
+    while [ -n "$(left)" ]; do sleep 0.1; done
+    rm -f "$day/pids"
 }
 
 # log: the log of the last day in the folder.
@@ -63,6 +87,7 @@ down() {
         while runs; do sleep 0.1; done
         echo "The venue has ended."
     fi
+    sweep
     log=$(log)
     [ -n "$log" ] || fail "there is no day in $day"
     echo "The audit of $log:"
@@ -102,7 +127,7 @@ ready() {
 # run NAME PROGRAM CONFIG: in the background.
 run() {
     "$2" "$3" >"$day/$1.out" 2>>"$day/$1.events" &
-    pids="$! $pids"
+    started $!
 }
 
 [ "${1:-}" != down ] || down
@@ -114,6 +139,7 @@ umask 077 # the folder has passwords
 mkdir -p "$day"
 ! runs ||
     fail "a venue runs in $day already: examples/venue.sh down ends it"
+sweep
 trap stop EXIT
 trap 'exit 0' HUP INT TERM
 
@@ -133,7 +159,7 @@ cd "$day"
 : >gateway.events
 "$gateway" gateway.toml 2>gateway.events &
 server=$!
-pids=$server
+started "$server"
 ready "$server"
 before=$(python3 "$here/tell.py" "$(log)") # what an earlier start has told
 for firm in DLR1 DLR2 INV2; do
@@ -154,7 +180,7 @@ say "The venue runs until Ctrl-C: $program"
 cat addresses
 echo "Ask two or three dealers on INV1's page, and quote on DLR3's. How each auction ends:"
 python3 "$here/tell.py" "$(log)" "$before" &
-pids="$! $pids"
+started $!
 status=0
 wait "$server" || status=$?
 [ "$status" = 0 ] || { tail -n 3 gateway.events >&2; fail "the gateway ended with status $status"; }

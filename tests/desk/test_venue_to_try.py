@@ -87,6 +87,39 @@ def down(place: Path) -> "subprocess.CompletedProcess[str]":
     )
 
 
+def working_in(folder: Path) -> list[str]:
+    """The processes whose folder this is."""
+    return [
+        process.name
+        for process in Path("/proc").iterdir()
+        if process.name.isdigit() and is_link_to(process / "cwd", folder)
+    ]
+
+
+def is_link_to(link: Path, folder: Path) -> bool:
+    try:
+        return os.readlink(link) == str(folder.resolve())
+    except OSError:  # it has ended
+        return False
+
+
+def test_a_venue_whose_script_was_killed(
+    desk_program: Path, gateway_program: Path, place: Path
+) -> None:
+    """`down` ends what it has left, before the audit."""
+    running, told = begun(desk_program, gateway_program, place)
+    try:
+        assert "How each auction ends" in told.read_text(), told.read_text()
+        running.kill()
+        running.wait(LONG)
+        assert len(working_in(place / FOLDER)) >= 6, "the gateway, three sample firms, two desks"
+    finally:
+        ended = down(place)
+    assert ended.returncode == 0, ended.stdout
+    assert "whose script was killed are ended" in ended.stdout and "is whole" in ended.stdout
+    assert working_in(place / FOLDER) == []
+
+
 def test_a_venue_to_try(desk_program: Path, gateway_program: Path, place: Path) -> None:
     """Its two desks trade, it tells how that auction ended, and the audit finds the day in order."""
     running, told = begun(desk_program, gateway_program, place)
