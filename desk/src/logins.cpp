@@ -16,15 +16,19 @@ using nlohmann::json;
 
 namespace {
 
-constexpr std::size_t most_judged = 16;       // passwords that wait
-constexpr std::size_t most_sessions = 16;     // of one login; the oldest ends
-constexpr std::size_t most_remembered = 1024; // of those who failed
+constexpr std::size_t most_judged = 16;   // passwords that wait
+constexpr std::size_t most_sessions = 16; // of one login; the oldest ends
+constexpr std::size_t place_digits = 4;   // hexadecimal ones, of 65,536 places
 constexpr std::chrono::minutes window{1};
+
+std::string place_of(const std::string &who) {
+    return web::digest_of(who).substr(0, place_digits);
+}
 
 } // namespace
 
 bool Attempts::may_try(const std::string &who, Moment at) {
-    const auto found = failures_.find(who);
+    const auto found = failures_.find(place_of(who));
     if (found == failures_.end()) {
         return true;
     }
@@ -33,34 +37,17 @@ bool Attempts::may_try(const std::string &who, Moment at) {
 }
 
 void Attempts::begins(const std::string &who, Moment at) {
-    if (failures_.size() >= most_remembered && !failures_.contains(who)) {
-        make_room(at);
-    }
-    failures_[who].push_back(at);
+    failures_[place_of(who)].push_back(at);
 }
 
 void Attempts::succeeded(const std::string &who, Moment at) {
-    const auto found = failures_.find(who);
+    const auto found = failures_.find(place_of(who));
     if (found == failures_.end()) {
         return;
     }
     const auto one = std::find(found->second.begin(), found->second.end(), at);
     if (one != found->second.end()) {
         found->second.erase(one);
-    }
-}
-
-// Whoever has failed least is forgotten: others may come in whatever names to have somebody's
-// failures forgotten.
-void Attempts::make_room(Moment at) {
-    std::erase_if(failures_, [&](const auto &one) {
-        return one.second.empty() || one.second.back() + window <= at;
-    });
-    if (failures_.size() >= most_remembered) {
-        failures_.erase(std::min_element(failures_.begin(), failures_.end(),
-                                         [](const auto &one, const auto &other) {
-                                             return one.second.size() < other.second.size();
-                                         }));
     }
 }
 

@@ -7,7 +7,6 @@
 #include "config.h"
 #include "moment.h"
 
-#include <deque>
 #include <functional>
 #include <map>
 #include <optional>
@@ -21,7 +20,9 @@
 namespace desk {
 
 // How often something may fail in a minute, for each of those who try. A try counts as a failure
-// until it has succeeded, so that no more pass that come at once.
+// until it has succeeded, so that no more pass that come at once. Whoever tries has one of so many
+// places, which two hardly ever share: nobody's failures are forgotten to make room for another's,
+// and a login that nobody has is counted as one that somebody has.
 class Attempts {
   public:
     explicit Attempts(int most) : most_(most) {}
@@ -31,10 +32,8 @@ class Attempts {
     void succeeded(const std::string &who, Moment at);
 
   private:
-    void make_room(Moment at);
-
     const int most_;
-    std::map<std::string, std::deque<Moment>> failures_;
+    std::map<std::string, std::vector<Moment>> failures_; // by place
 };
 
 class Logins {

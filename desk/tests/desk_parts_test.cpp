@@ -112,6 +112,25 @@ TEST_CASE("whoever fails often is remembered, however many others fail") {
     CHECK_FALSE(attempts.may_try("one behind them", at));
 }
 
+TEST_CASE("no names that others try make room for one more guess of a login") {
+    constexpr int others = 1100;
+    Attempts attempts(3);
+    const Moment at = *moment_of("20260314-09:00:00.000");
+    for (int other = 0; other < others; ++other) {
+        attempts.begins("other " + std::to_string(other), at);
+    }
+    // The first of all names, and the last: whether somebody has it is not told by that either.
+    for (const std::string name : {"a", "~"}) {
+        CAPTURE(name);
+        for (int count = 0; count < 3; ++count) {
+            CHECK(attempts.may_try(name, at));
+            attempts.begins(name, at);
+            attempts.begins("one more than " + name + std::to_string(count), at);
+        }
+        CHECK_FALSE(attempts.may_try(name, at));
+    }
+}
+
 TEST_CASE("a page has a burst of commands, and then twenty a second") {
     const Moment at = *moment_of("20260314-09:00:00.000");
     Pace pace(at);
