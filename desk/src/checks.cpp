@@ -69,11 +69,11 @@ std::string why_not_quantity(Quantity quantity, Quantity most) {
 }
 
 std::string why_not_deadline(std::chrono::seconds within, Moment now) {
-    if (within < least_deadline || within > most_deadline) {
+    if (within < least_deadline) {
         return "The deadline has to be " + std::to_string(least_deadline.count()) +
                " seconds away at least.";
     }
-    return date_of(now + within) == date_of(now)
+    return within <= most_deadline && date_of(now + within) == date_of(now)
                ? ""
                : "The deadline is past midnight in UTC, where the venue's day ends.";
 }

@@ -255,7 +255,10 @@ TEST_CASE_FIXTURE(Fixture, "the desk helps before it sends") {
           "The quantity has to be from 1 to 5,000,000.");
     CHECK_FALSE(with([](auto &one) { one.quantity = 0; }).empty());
     CHECK_FALSE(with([](auto &one) { one.within = std::chrono::seconds(1); }).empty());
-    CHECK_FALSE(with([](auto &one) { one.within = std::chrono::hours(24); }).empty());
+    for (const auto within : {std::chrono::hours(24), std::chrono::hours(25)}) {
+        CHECK(with([&](auto &one) { one.within = within; }) ==
+              "The deadline is past midnight in UTC, where the venue's day ends.");
+    }
     CHECK_FALSE(with([](auto &one) { one.dealers = {}; }).empty());
     CHECK_FALSE(with([](auto &one) { one.dealers = {"DLR9"}; }).empty());
     CHECK_FALSE(with([](auto &one) { one.dealers = {"DLR1", "DLR1"}; }).empty());
