@@ -8,14 +8,15 @@ using nlohmann::json;
 
 namespace {
 
-constexpr std::size_t most_bytes = 64; // of a name
+constexpr std::size_t most_bytes = 64;       // of a name
+constexpr std::size_t most_group_bytes = 96; // of the name of a group: 24 characters in UTF-8
 constexpr std::size_t most_dealers = 64;
 constexpr std::int64_t most_number = 1'000'000'000'000'000;
 
 // Throws json::exception where it is no text of a name's length.
-std::string name_in(const json &text, const char *key) {
+std::string name_in(const json &text, const char *key, std::size_t most = most_bytes) {
     std::string name = text.at(key).get<std::string>();
-    if (name.size() > most_bytes) {
+    if (name.size() > most) {
         throw json::other_error::create(600, "too long", &text);
     }
     return name;
@@ -83,7 +84,7 @@ std::optional<Command> command_in(const json &text) {
         return command::CancelAll{};
     }
     if (what == "save group") {
-        return command::SaveGroup{name_in(text, "name"), dealers_in(text)};
+        return command::SaveGroup{name_in(text, "name", most_group_bytes), dealers_in(text)};
     }
     return {};
 }

@@ -2,6 +2,8 @@
 
 #include "file_store.h"
 
+#include <algorithm>
+#include <cstddef>
 #include <exception>
 
 #include <nlohmann/json.hpp>
@@ -11,7 +13,13 @@ namespace desk {
 namespace {
 
 constexpr std::size_t most_groups = 16;
-constexpr std::size_t most_name = 24; // bytes
+constexpr std::ptrdiff_t most_name = 24; // characters
+
+// Of a text in UTF-8: the bytes that begin one.
+std::ptrdiff_t characters_of(const std::string &text) {
+    return std::count_if(text.begin(), text.end(),
+                         [](char one) { return (static_cast<unsigned char>(one) & 0xC0) != 0x80; });
+}
 
 } // namespace
 
@@ -32,7 +40,7 @@ const Groups &GroupStore::of(const std::string &login) const {
 std::string GroupStore::save(const std::string &login, const std::string &name,
                              const std::vector<std::string> &dealers) {
     Groups &own = groups_[login];
-    if (name.empty() || name.size() > most_name) {
+    if (name.empty() || characters_of(name) > most_name) {
         return "A group's name has 1 to " + std::to_string(most_name) + " characters.";
     }
     if (!dealers.empty() && !own.contains(name) && own.size() >= most_groups) {

@@ -36,6 +36,14 @@ std::string fault_of(const std::string &path) {
     return {};
 }
 
+std::string times(int count, const std::string &word) {
+    std::string text;
+    for (int at = 0; at < count; ++at) {
+        text += word;
+    }
+    return text;
+}
+
 void replace(std::string &text, const std::string &old, const std::string &fresh) {
     const std::size_t at = text.find(old);
     REQUIRE(at != std::string::npos);
@@ -67,6 +75,10 @@ TEST_CASE("a command is read whole, or not at all") {
         CHECK_FALSE(read_command(json::parse(text)));
     }
     CHECK_FALSE(read_command(json{{"do", "pass"}, {"request", std::string(65, 'x')}}));
+    json group{{"do", "save group"}, {"name", times(24, "債")}, {"dealers", {"DLR1"}}};
+    CHECK(read_command(group));
+    group["name"] = std::string(97, 'x');
+    CHECK_FALSE(read_command(group));
     CHECK_FALSE(read_command(
         json{{"do", "save group"}, {"name", "x"}, {"dealers", std::vector<std::string>(65, "D")}}));
 }
@@ -156,7 +168,9 @@ TEST_CASE("groups are each trader's own, have a limit, and outlive the process")
         CHECK(groups.save("tom", "big", {"DLR3"}).empty());
         CHECK_FALSE(groups.save("tess", "", {"DLR1"}).empty());
         CHECK_FALSE(groups.save("tess", std::string(25, 'x'), {"DLR1"}).empty());
-        for (int count = 1; count < 16; ++count) {
+        CHECK_FALSE(groups.save("tess", times(25, "é"), {"DLR1"}).empty());
+        CHECK(groups.save("tess", times(24, "é"), {"DLR1"}).empty());
+        for (int count = 2; count < 16; ++count) {
             CHECK(groups.save("tess", std::to_string(count), {"DLR1"}).empty());
         }
         CHECK_FALSE(groups.save("tess", "more", {"DLR1"}).empty());
