@@ -31,6 +31,7 @@ class Page {
     this.leavesAt = -leaveFor;
     this.ticket = null;
     this.blotter = null;
+    this.madeFor = ''; // the firm, the market and the trader of this page
     of('top').append(...this.top.nodes);
     document.addEventListener('keydown', event => this.key(event));
     setInterval(() => this.tick(), tickTime);
@@ -61,7 +62,9 @@ class Page {
     this.login.focus();
   }
   begin() {
-    const {model} = this;
+    const {model} = this, {firm, market, trader} = model.hello, madeFor = JSON.stringify([firm, market, trader]);
+    if (this.madeFor && this.madeFor !== madeFor) return location.reload(); // its parts have bonds and dealers of before
+    this.madeFor = madeFor;
     this.login.node.remove();
     show(of('body'), true);
     document.body.classList.add(model.hello.market.role);

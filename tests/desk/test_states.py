@@ -227,6 +227,18 @@ def test_a_desk_that_goes_and_comes_back_under_its_page(house: House) -> None:
     page.card_says("99", "Buy")
 
 
+def test_a_page_has_the_dealers_of_a_desk_that_was_started_with_more(house: House) -> None:
+    desk = house.investor
+    page = house.browser(desk)
+    page.until_says("#ticket", "DLR1")
+    desk.stop()
+    page.until_says("#top", "No connection to the desk: trying")
+    market = desk.folder / "INV1.market.toml"
+    market.write_text(market.read_text() + '[[dealer]]\nname = "DLR9"\n')
+    desk.start()
+    page.until_says("#ticket", "DLR1", "DLR9")
+
+
 def test_a_quote_that_is_withdrawn_at_the_moment_of_the_hit(house: House) -> None:
     """The venue decides it once: both sides show the same, whichever it is."""
     investor, dealer = house.view(house.investor), house.view(house.dealer)
