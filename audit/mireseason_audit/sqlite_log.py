@@ -14,6 +14,10 @@ OLD_FORM = 1  # of the tables: without connections
 # So few rows, and pages of the file, that a processor's cache holds them and what is made of them.
 ROWS_AT_A_TIME = 128
 PAGES = "PRAGMA cache_size = -256"  # kilobytes
+MOST_BYTES = 17 << 20  # of a value: the greatest is entry 0, whose configuration has up to 16 MiB
+# What makes rows or values while it is read: a view, a virtual table, a computed column.
+MADE = """SELECT objects.name FROM pragma_table_list AS objects, pragma_table_xinfo(objects.name)
+    AS columns WHERE objects.schema = 'main' AND (objects.type IN ('view', 'virtual') OR columns.hidden > 0)"""
 
 
 @dataclass(frozen=True)
@@ -42,6 +46,7 @@ class SqliteLog(SqlLog):
             raise Unreadable("%s: there is no such file" % source.path)
         try:
             self._connection = connected(source.path)
+            check_tables(self._connection, source.path)
             forms = self._connection.execute("SELECT number FROM form").fetchall()
         except sqlite3.Error as fault:
             raise Unreadable("%s is no log of the gateway: %s" % (source.path, fault)) from None
@@ -82,6 +87,16 @@ class SqliteLog(SqlLog):
         self._connection.close()
 
 
+def check_tables(connection: sqlite3.Connection, path: Path) -> None:
+    """Unreadable where the file has more than tables: what is made while it is read may have no
+    end.
+    """
+    made = connection.execute(MADE).fetchone()
+    if made is not None:
+        text = "%s is no log of the gateway: %s is no table, or has a computed column"
+        raise Unreadable(text % (path, made[0]))
+
+
 def fetched(cursor: sqlite3.Cursor) -> Iterator[Rows]:
     """The rows that are left, so many at a time."""
     while rows := cursor.fetchmany(ROWS_AT_A_TIME):
@@ -103,7 +118,9 @@ def connected(path: Path) -> sqlite3.Connection:
     address = path.resolve().as_uri()
     for ending in ("?mode=ro", "?mode=ro&immutable=1"):
         connection = sqlite3.connect(address + ending, uri=True, timeout=10, isolation_level=None)
+        connection.setlimit(sqlite3.SQLITE_LIMIT_LENGTH, MOST_BYTES)
         try:
+            connection.execute("PRAGMA trusted_schema = OFF")
             connection.execute("BEGIN")
             connection.execute("SELECT 1 FROM sqlite_master").fetchone()
             connection.execute(PAGES)

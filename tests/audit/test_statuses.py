@@ -220,6 +220,36 @@ class Statuses(LogCase):
             self.assertIn(text, ran.err)
             self.assertEqual(len(ran.err.splitlines()), 1)
 
+    def test_what_makes_rows_while_it_is_read(self) -> None:
+        """Whoever writes a view or a computed column says how many rows it has, and how long ones."""
+        for queries, name in (
+            (
+                ("ALTER TABLE session RENAME TO rows", "CREATE VIEW session AS SELECT * FROM rows"),
+                "session",
+            ),
+            (("CREATE VIRTUAL TABLE words USING fts5(word)",), "words"),
+            (("ALTER TABLE sent ADD COLUMN more BLOB AS (zeroblob(1000000))",), "sent"),
+        ):
+            shutil.copyfile(DAY, self.log)
+            for query in queries:
+                self.change(query)
+            ran = audit("check", self.log)
+            self.assertEqual((ran.status, ran.out), (2, ""), queries)
+            self.assertIn("%s is no table, or has a computed column" % name, ran.err)
+            self.assertEqual(len(ran.err.splitlines()), 1)
+
+    def test_a_value_that_is_longer_than_any(self) -> None:
+        for query in (
+            "UPDATE entry SET line = zeroblob(20000000) WHERE place = 0",
+            "UPDATE entry SET moment = CAST(zeroblob(20000000) AS TEXT) WHERE place = 300",
+            "UPDATE sent SET bytes = zeroblob(20000000) WHERE firm = 'ALPHA' AND number = 1",
+        ):
+            shutil.copyfile(DAY, self.log)
+            self.change(query)
+            ran = audit("check", self.log)
+            self.assertEqual((ran.status, ran.out), (2, ""), query)
+            self.assertEqual(ran.err, "mireseason-audit: day.db: string or blob too big\n")
+
     def test_a_line_feed_in_a_line(self) -> None:
         """An entry is one line for the venue, so that those behind it keep their places."""
         self.change(
