@@ -1,11 +1,13 @@
 pub mod AcceptedQuotes
 pub mod AcceptedRequests
 pub mod Ascending
+pub mod LawfulFields
 pub mod ListLemmas
 pub mod Messages
 pub mod OrderLaws
 pub mod OwnIds
 pub mod OwnNumbers
+pub mod ReadBack
 pub mod ReadFields
 pub mod ReadQuotes
 pub mod ReadRequests

@@ -4,7 +4,7 @@ use Rattle.std.proofs.Common.{Some, None, Result, Ok, refl, sym, ap, ◌∙◌, 
 use Rattle.bond_prices.specs.Price.{price_digits, price_of}
 use Rattle.bond_prices.proofs.Meaning.{price_of-ok_iff}
 use Rattle.bond_prices.proofs.ReadBack.{price_of-price_digits}
-use Rattle.fix_fields.specs.Frame.{Field, value_of}
+use Rattle.fix_fields.specs.Frame.{Field, frame_of, value_of}
 use Rattle.fix_fields.specs.UtcTimestamp.{moment_of, timestamp_text}
 use Rattle.fix_fields.specs.declared.fault.MomentFault.{MomentFault}
 use Rattle.fix_fields.proofs.MomentLemmas.{is_own, moment_of-own}
@@ -16,8 +16,9 @@ use Rattle.quote_messages.specs.declared.out_messages.Head.{Head}
 use Rattle.quote_messages.specs.declared.out_messages.OutMessage.{OutMessage}
 use Rattle.quote_messages.specs.declared.out_messages.OutMessage.TheVariants as out
 use Rattle.quote_messages.specs.declared.out_messages.ShownQuote.{ShownQuote}
-use Rattle.shown_laws.specs.Said.{IsTextOf}
+use Rattle.shown_laws.specs.Said.{SaysWhenRead}
 use Rattle.shown_laws.specs.ShownQuotes.{ShowsNoQuote}
+use Rattle.shown_laws.proofs.ReadBack.{type_read}
 use Rattle.venue_rows.specs.Texts.{same_text}
 use Rattle.std.proofs.lemmas.Bool.{both_ways}
 use Rattle.std.proofs.lemmas.Option.{same_Some}
@@ -56,32 +57,27 @@ not_quote message plain is =
 some_same : {A : Type 0} (x y : A) → Some x ≡ Some y → x ≡ y
 some_same x y is = same_Some x y is
 
-pub plain_to_dealer : (Says : List Field → Type 0) (head : Head) (message : OutMessage)
-    → shows message ≡ false → IsTextOf (codes "R") Says (written head message)
-unfolding written
-plain_to_dealer Says head message plain = record {
-  fields = written_fields head message;
-  text = refl;
-  says = λ is. absurd (not_request message plain (some_same _ _ is));
-}
+-- a message is read as one of its own type
+typed : (head : Head) (message : OutMessage) (msg_type : List ℕ) (fields : List Field)
+    → frame_of (written head message) ≡ Some fields → value_of 35 fields ≡ Some msg_type
+    → msg_type_of message ≡ msg_type
+typed head message msg_type fields read is =
+    some_same (msg_type_of message) msg_type (sym (type_read head message fields read) ∙ is)
 
-pub plain_to_investor : (Says : List Field → Type 0) (head : Head) (message : OutMessage)
-    → shows message ≡ false → IsTextOf (codes "S") Says (written head message)
-unfolding written
-plain_to_investor Says head message plain = record {
-  fields = written_fields head message;
-  text = refl;
-  says = λ is. absurd (not_quote message plain (some_same _ _ is));
-}
+pub plain_to_dealer : (Says : List Field → Type 0) (head : Head) (message : OutMessage)
+    → shows message ≡ false → SaysWhenRead (codes "R") Says (written head message)
+plain_to_dealer Says head message plain fields read is =
+    absurd (not_request message plain (typed head message (codes "R") fields read is))
 
 pub plain_shows_none : (head : Head) (message : OutMessage) → shows message ≡ false
     → ShowsNoQuote (written head message)
-unfolding written
-plain_shows_none head message plain = record {
-  fields = written_fields head message;
-  text = refl;
-  type_isnt = λ is. not_quote message plain (some_same _ _ is);
-}
+plain_shows_none head message plain fields read is =
+    not_quote message plain (typed head message (codes "S") fields read is)
+
+pub plain_to_investor : (Says : List Field → Type 0) (head : Head) (message : OutMessage)
+    → shows message ≡ false → SaysWhenRead (codes "S") Says (written head message)
+plain_to_investor Says head message plain fields read is =
+    absurd (plain_shows_none head message plain fields read is)
 
 -- The fields of a quote as it is shown.
 pub record QuoteFields (head : Head) (quote : ShownQuote) : Type 0 where

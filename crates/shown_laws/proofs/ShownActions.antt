@@ -177,10 +177,11 @@ module _ (config : Configuration) (facts : List Fact) (stood : Stood config fact
     -- An event at an investor's desk on a request that it knows.
 
     known_brings : (number request : ℕ) (quote : Option ℕ) (more : InvestorEvent)
-        → ((row : InvestorRow) → R (at_market facts (market_of config number row) more []))
+        → ((row : InvestorRow) → investor_numbered config number ≡ Some row
+        → R (at_market facts (market_of config number row) more []))
         → R (done_for (market_for config number) (where_known facts request quote more))
     known_brings number request quote more each =
-        invested_with R none config number _ (λ row is. if_does R none _ _ (each row))
+        invested_with R none config number _ (λ row is. if_does R none _ _ (each row is))
 
     -- Duties.
 
@@ -259,26 +260,26 @@ module _ (config : Configuration) (facts : List Fact) (stood : Stood config fact
     duty_brings (duty.Open room ask dealers moment) ok = opened_brings room ask dealers moment ok
     duty_brings (duty.Show dealer room ask moment) ok =
         numbered_does R none config dealer _ (λ row found. unless_does R none _ _
-        (shown_brings config facts by dealer row room ask moment ok))
+        (shown_brings config facts by dealer row found room ask moment ok))
     duty_brings (duty.Ready room moment) ok = room_brings room true at_room.Ready [] tt
     duty_brings (duty.Post room quote price valid_until moment) ok =
         posted_brings room quote price valid_until moment ok
     duty_brings (duty.Relay room offer moment) ok =
         known_brings room.investor room.n None _
-        (λ row. came_brings config facts by room.investor row stood room.n offer moment ok)
+        (λ row is. came_brings config facts by room.investor row stood is room.n offer moment ok)
     duty_brings (duty.Unpost room quote moment) ok =
         by_does R none (acting_dealer config by) _
         (λ dealer. room_brings room _ _ _ (follows _ _ _ tt))
     duty_brings (duty.Gone room word moment) ok =
         known_brings room.investor room.n None _
-        (λ row. gone_brings config facts by room.investor row room.n word moment)
+        (λ row is. gone_brings config facts by room.investor row room.n word moment)
     duty_brings (duty.Decline room moment) ok =
         by_does R none (acting_dealer config by) _
         (λ dealer. room_brings room _ _ _ (follows _ _ _ tt))
     duty_brings (duty.Declined room moment) ok =
         by_does R none (acting_dealer config by) _ (λ dealer.
         known_brings room.investor room.n None _
-        (λ row. declined_brings config facts by room.investor row room.n dealer.row.name moment))
+        (λ row is. declined_brings config facts by room.investor row room.n dealer.row.name moment))
     duty_brings (duty.Hit room response word moment) ok =
         if_does R none _ _ (hit_brings room response word moment)
     duty_brings (duty.Pass room response moment) ok =
@@ -296,7 +297,7 @@ module _ (config : Configuration) (facts : List Fact) (stood : Stood config fact
         (answered_brings config facts by room.investor row room.n response reply moment)))
     duty_brings (duty.Close room moment) ok =
         known_brings room.investor room.n None _
-        (λ row. closed_brings config facts by room.investor row room.n moment)
+        (λ row is. closed_brings config facts by room.investor row room.n moment)
     duty_brings (duty.Tell dealer room close moment) ok =
         numbered_does R none config dealer _
         (λ row found. told_does R none config facts (dealer_of dealer row) close moment

@@ -11,8 +11,9 @@ use Rattle.market_terms.specs.declared.asks.Ask.{Ask}
 use Rattle.market_terms.specs.declared.closes.Close.{Close}
 use Rattle.market_terms.specs.declared.duties.Duty.{Duty}
 use Rattle.market_terms.specs.declared.rooms.RoomRef.{RoomRef}
+use Rattle.quote_messages.specs.declared.out_messages.Head.{Head}
 use Rattle.quote_messages.specs.declared.out_messages.OutMessage.{OutMessage}
-use Rattle.venue_rows.specs.Rows.{Configuration}
+use Rattle.venue_rows.specs.Rows.{Configuration, dealer_numbered}
 use Rattle.venue_rows.specs.declared.dealer_rows.DealerRow.{DealerRow}
 use Rattle.venue_places.specs.declared.actors.Actor.{Actor}
 use Rattle.dealer_desk.specs.DealerFacts.{Came, DealerBook, DealerFact, Dropped, Quoted}
@@ -47,6 +48,7 @@ use Rattle.shown_laws.proofs.ShownParts.{turn_none}
 use Rattle.shown_laws.specs.ShownRequests.{ComesFromARequest, ShowsWhatWasAsked, at_dealer}
 use Rattle.shown_laws.specs.ShownRequests.{at_investor}
 use Rattle.shown_laws.proofs.AcceptedQuotes.{asks_of}
+use Rattle.shown_laws.proofs.LawfulFields.{dealer_value}
 use Rattle.shown_laws.proofs.ListLemmas.{AreFrom}
 use Rattle.shown_laws.proofs.Messages.{plain_to_dealer, shows}
 use Rattle.shown_laws.proofs.ShownParts.{AreAsked, DealerOk, DutyOk, FactOk, IsAsked}
@@ -206,15 +208,15 @@ module _ (config : Configuration) (facts : List Fact) (by : Actor) where
             (dealer_output.moment_of more)) message))
         by_message None is = tt
         by_message (Some message) is =
-            (plain_to_dealer (ShowsWhatWasAsked config now) _ message is, tt)
+            (λ limits. plain_to_dealer (ShowsWhatWasAsked config now) _ message is, tt)
 
   -- A dealer is shown a request.
 
-  pub shown_brings : (number : ℕ) (row : DealerRow) (room : RoomRef) (ask : Ask) (moment : ℕ)
-      → IsAsked config facts room ask
+  pub shown_brings : (number : ℕ) (row : DealerRow) → dealer_numbered config number ≡ Some row
+      → (room : RoomRef) (ask : Ask) (moment : ℕ) → IsAsked config facts room ask
       → Brings (at_desk config facts (dealer_of number row) (event.Shown room ask moment) [])
   unfolding event_facts event_message
-  shown_brings number row room ask moment is =
+  shown_brings number row row_is room ask moment is =
       let more = event.Shown room ask moment in
       let day = now number row more [] in
       let asked = asked_later config facts (effect number row more []).facts room ask is in
@@ -224,8 +226,17 @@ module _ (config : Configuration) (facts : List Fact) (by : Actor) where
         is_written = asked.is_request;
         ask_is = asked.ask_is;
       } in
-      desk_brings number row more [] (from, tt)
-      (request_text config day _ refl _ ask from, tt) (asked, tt) tt
+      let head : Head = record {
+        date = config.date;
+        firm = row.name;
+        number = length (sent_by (of_dealer number facts)) + 1;
+        moment = moment;
+      } in
+      desk_brings number row more [] (from, tt) (
+        λ limits. request_text config day head refl (dealer_value config limits number row row_is) _
+            ask from,
+        tt,
+      ) (asked, tt) tt
 
   -- A dealer is told how a request ended.
 

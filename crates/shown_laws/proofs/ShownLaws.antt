@@ -4,7 +4,7 @@ use Rattle.std.proofs.Common.{IfSome, codes, subst, refl, ap, is_some, length}
 use Rattle.std.proofs.Common.{◌≤◌, inl, inr, suc, zero, arith}
 use Rattle.std.specs.Prelude.{slice_get}
 use Rattle.std.proofs.lemmas.Bool.{cond_both, eqb-true}
-use Rattle.venue_rows.specs.Rows.{Configuration, dealer_numbered, investor_numbered}
+use Rattle.venue_rows.specs.Rows.{Configuration, KeepsLimits, dealer_numbered, investor_numbered}
 use Rattle.venue_rows.specs.declared.dealer_rows.DealerRow.{DealerRow}
 use Rattle.venue_rows.specs.declared.investor_rows.InvestorRow.{InvestorRow}
 use Rattle.market_terms.specs.declared.asks.Ask.{Ask}
@@ -25,7 +25,7 @@ use Rattle.step_replay.specs.VenueFacts.{AtDealer, AtInvestor, Fact, InRoom, ent
 use Rattle.step_replay.specs.VenueFacts.{entry_at_investor, of_dealer, of_investor}
 use Rattle.step_replay.specs.declared.steps.Step.{Step}
 use Rattle.day_parts.specs.KeptItems.{every_found}
-use Rattle.shown_laws.specs.Said.{IsTextOf}
+use Rattle.shown_laws.specs.Said.{SaysWhenRead}
 use Rattle.shown_laws.specs.ShownQuotes.{ComesFromAQuote, ShowsWhatWasQuoted, WasWritten, shown_to}
 use Rattle.shown_laws.specs.ShownRequests.{ComesFromARequest, IsWrittenRequest, ShowsWhatWasAsked}
 use Rattle.shown_laws.specs.ShownRequests.{at_dealer, at_investor, room_of}
@@ -178,14 +178,14 @@ module _ (config : Configuration) (steps : List Step) where
       (at_investor investor known) (investor_facts config known all investor)
       (shown_fact shown (at_investor investor known) is)
 
-  pub sent_to_dealer : (dealer : ℕ) (row : DealerRow) (message : List ℕ)
+  pub sent_to_dealer : (dealer : ℕ) (row : DealerRow) (message : List ℕ) → KeepsLimits config
       → dealer_numbered config dealer ≡ Some row
       → In message (sent_to config dealer (audit_trail config steps))
-      → IsTextOf (codes "R") (ShowsWhatWasAsked config known) message
-  sent_to_dealer dealer row message is sent =
+      → SaysWhenRead (codes "R") (ShowsWhatWasAsked config known) message
+  sent_to_dealer dealer row message limits is sent =
       all_in (λ text. DealerOk config known dealer (dealer_trail.Sent text)) message
       (dealer_trail.sent_by (of_dealer dealer known)) (dealer_sent config known all dealer)
-      (rw is at sent)
+      (rw is at sent) limits
 
   no_dealer : (investor : ℕ) (row : InvestorRow) → investor_numbered config investor ≡ Some row
       → is_some (dealer_numbered config investor) ≡ false
@@ -195,7 +195,7 @@ module _ (config : Configuration) (steps : List Step) where
   pub sent_to_investor : (investor : ℕ) (row : InvestorRow) (message : List ℕ)
       → investor_numbered config investor ≡ Some row
       → In message (sent_to config investor (audit_trail config steps))
-      → IsTextOf (codes "S") (ShowsWhatWasQuoted config known investor) message
+      → SaysWhenRead (codes "S") (ShowsWhatWasQuoted config known investor) message
   sent_to_investor investor row message is sent =
       all_in (λ text. InvestorOk config known investor (investor_trail.Sent text)) message
       (investor_trail.sent_by (of_investor investor known))

@@ -30,7 +30,7 @@ use Rattle.step_replay.specs.PlaceLemmas.{everything_of, nothing_of, other_inves
 use Rattle.step_replay.specs.PlaceLemmas.{trail_at_investor}
 use Rattle.step_replay.specs.VenueFacts.{AtInvestor, Fact, of_investor}
 use Rattle.day_parts.specs.KeptItems.{every_in}
-use Rattle.shown_laws.specs.Said.{IsTextOf}
+use Rattle.shown_laws.specs.Said.{SaysWhenRead}
 use Rattle.shown_laws.specs.ShownQuotes.{ShowsWhatWasQuoted}
 use Rattle.shown_laws.specs.ShownRequests.{at_investor}
 use Rattle.shown_laws.proofs.ListLemmas.{AreFrom}
@@ -128,7 +128,8 @@ module _ (config : Configuration) (facts : List Fact) (by : Actor) (firm : ℕ) 
 
       -- what a message says that is sent
       abbrev pub Says : OutMessage → Type 0
-      Says message = (number moment : ℕ) → IsTextOf (codes "S") (ShowsWhatWasQuoted config now firm)
+      Says message = (number moment : ℕ)
+          → SaysWhenRead (codes "S") (ShowsWhatWasQuoted config now firm)
           (written (head_of market number moment) message)
 
       written_ok : (number moment : ℕ) (messages : List OutMessage) → Every Says messages

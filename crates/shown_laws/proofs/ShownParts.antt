@@ -9,7 +9,7 @@ use Rattle.market_terms.specs.declared.duties.Duty.{Duty}
 use Rattle.market_terms.specs.declared.duties.Duty.TheVariants as duty
 use Rattle.market_terms.specs.declared.rooms.Offer.{Offer}
 use Rattle.market_terms.specs.declared.rooms.RoomRef.{RoomRef}
-use Rattle.venue_rows.specs.Rows.{Configuration}
+use Rattle.venue_rows.specs.Rows.{Configuration, KeepsLimits}
 use Rattle.venue_places.specs.Dealers.{dealer_of, offer_of}
 use Rattle.venue_places.specs.declared.actors.Actor.{Actor}
 use Rattle.venue_places.specs.declared.actors.Actor.TheVariants as actor
@@ -25,7 +25,7 @@ use Rattle.step_replay.specs.InvestorTrail as investor_trail
 use Rattle.step_replay.specs.InvestorTrail.{InvestorEntry}
 use Rattle.step_replay.specs.PlaceLemmas.{dealer_grown, investor_grown}
 use Rattle.step_replay.specs.VenueFacts.{AtDealer, AtInvestor, Fact, InRoom, of_dealer}
-use Rattle.shown_laws.specs.Said.{IsTextOf}
+use Rattle.shown_laws.specs.Said.{SaysWhenRead}
 use Rattle.shown_laws.specs.ShownQuotes.{AreShownInTurn, Shows}
 use Rattle.shown_laws.specs.ShownQuotes.{ComesFromAQuote, IsShown, IsWritten, IsWrittenQuote}
 use Rattle.shown_laws.specs.ShownQuotes.{ShowsWhatWasQuoted, shown_to}
@@ -123,7 +123,7 @@ module _ (config : Configuration) where
   DealerOk facts dealer (dealer_trail.AtDesk (Shown ask moment)) =
       ComesFromARequest config facts ask
   DealerOk facts dealer (dealer_trail.Sent message) =
-      IsTextOf (codes "R") (ShowsWhatWasAsked config facts) message
+      KeepsLimits config → SaysWhenRead (codes "R") (ShowsWhatWasAsked config facts) message
   DealerOk facts dealer other = Unit {0}
 
   abbrev pub InvestorOk : List Fact → ℕ → InvestorEntry → Type 0
@@ -132,7 +132,7 @@ module _ (config : Configuration) where
   InvestorOk facts investor (investor_trail.AtDesk (Offered shown)) =
       ComesFromAQuote config facts investor shown
   InvestorOk facts investor (investor_trail.Sent message) =
-      IsTextOf (codes "S") (ShowsWhatWasQuoted config facts investor) message
+      SaysWhenRead (codes "S") (ShowsWhatWasQuoted config facts investor) message
   InvestorOk facts investor other = Unit {0}
 
   abbrev pub FactOk : List Fact → Fact → Type 0
@@ -273,12 +273,9 @@ module _ (config : Configuration) where
 
     text_later : (kind : List ℕ) (P Q : List Field → Type 0)
         → ((fields : List Field) → P fields → Q fields) → (message : List ℕ)
-        → IsTextOf kind P message → IsTextOf kind Q message
-    text_later kind P Q weaker message is = record {
-      fields = is.fields;
-      text = is.text;
-      says = λ type_is. weaker is.fields (is.says type_is);
-    }
+        → SaysWhenRead kind P message → SaysWhenRead kind Q message
+    text_later kind P Q weaker message is fields read type_is =
+        weaker fields (is fields read type_is)
 
     pub duty_later : (by : Actor) (left : Duty) → DutyOk facts by left
         → DutyOk (facts ++ more) by left
@@ -309,8 +306,8 @@ module _ (config : Configuration) where
         record { room = ok.room; is_quote = of_later ok.room dealer quote ok.is_quote }
     dealer_later dealer (dealer_trail.AtDesk (Shown ask moment)) ok = from_later ask ok
     dealer_later dealer (dealer_trail.Sent message) ok =
-        text_later (codes "R") (ShowsWhatWasAsked config facts)
-        (ShowsWhatWasAsked config (facts ++ more)) asks_later message ok
+        λ limits. text_later (codes "R") (ShowsWhatWasAsked config facts)
+        (ShowsWhatWasAsked config (facts ++ more)) asks_later message (ok limits)
     dealer_later dealer other ok = tt
 
     investor_later : (investor : ℕ) (entry : InvestorEntry) → InvestorOk facts investor entry
@@ -336,6 +333,7 @@ module _ (config : Configuration) where
     shows_later investor message None is = is
     shows_later investor message (Some shown) is = record {
       fields = is.fields;
+      body = is.body;
       text = is.text;
       type_is = is.type_is;
       number = is.number;

@@ -1,10 +1,13 @@
 -- What a quote that comes to an investor's desk brings of what is shown.
 use Rattle.std.proofs.Common.{◌≡◌, ℕ, ◌+◌, ◌==◌, List, [], ◌∷◌, ◌++◌, length}
 use Rattle.std.proofs.Common.{Option, Some, None, option_map, refl, sym, ap, ◌∙◌, inl, inr}
+use Rattle.std.proofs.Common.{subst}
 use Rattle.std.proofs.lemmas.Bool.{eqb-true}
+use Rattle.std.proofs.lemmas.Option.{same_Some}
+use Rattle.fix_fields.specs.Frame.{IsValue}
 use Rattle.std.specs.Option.{option_to_list}
 use Rattle.market_terms.specs.declared.rooms.Offer.{Offer}
-use Rattle.venue_rows.specs.Rows.{Configuration}
+use Rattle.venue_rows.specs.Rows.{Configuration, investor_numbered}
 use Rattle.venue_rows.specs.declared.investor_rows.InvestorRow.{InvestorRow}
 use Rattle.venue_places.specs.declared.actors.Actor.{Actor}
 use Rattle.investor_desk.specs.InvestorDesk.{market_of}
@@ -27,6 +30,7 @@ use Rattle.step_replay.specs.InvestorTrail.{AtDesk, book_by}
 use Rattle.step_replay.specs.VenueFacts.{Fact, of_investor}
 use Rattle.shown_laws.specs.ShownQuotes.{IsShown}
 use Rattle.shown_laws.specs.ShownRequests.{at_investor, room_of}
+use Rattle.shown_laws.proofs.LawfulFields.{frame_value}
 use Rattle.shown_laws.proofs.ListLemmas.{AreFrom, found_first, found_in, one_with}
 use Rattle.shown_laws.proofs.ShownDesk.{Brings, Stood}
 use Rattle.quote_messages.specs.Written.{written}
@@ -73,7 +77,8 @@ module _ (config : Configuration) (facts : List Fact) (by : Actor) (firm : ℕ) 
 
     -- A quote comes.
 
-    module _ (stood : Stood config facts) (number : ℕ) (offer : Offer) (moment : ℕ)
+    module _ (stood : Stood config facts) (row_is : investor_numbered config firm ≡ Some row)
+        (number : ℕ) (offer : Offer) (moment : ℕ)
         (relays : Relays config facts by (room_of firm number) offer) where
       abbrev more : InvestorEvent
       more = event.QuoteCame number offer moment
@@ -83,6 +88,15 @@ module _ (config : Configuration) (facts : List Fact) (by : Actor) (firm : ℕ) 
 
       abbrev shown : ShownOffer
       shown = next_offer book number offer
+
+      -- the investor wrote its name in a frame
+      named : IsValue row.name
+      named =
+          let asked = relays.is_quote.is_written.is_request in
+          subst (λ (r : InvestorRow). IsValue r.name)
+          (same_Some asked.row row (sym asked.is_investor ∙ row_is))
+          (frame_value asked.came.bytes asked.asked 49 asked.row.name asked.came.frame
+          asked.says.sender)
 
       -- it is an accepted quote
       is_shown : IsShown config facts firm shown relays.dealer relays.quote
@@ -143,8 +157,8 @@ module _ (config : Configuration) (facts : List Fact) (by : Actor) (firm : ℕ) 
           (offer_message own shown ∷ [])
           (plain_says config facts by firm row more [] _
           (gone_plain config facts by firm row own (offer_of_dealer own offer.dealer))) (
-            (λ next when. quote_text config now (head_of market next when) refl firm shown relays.dealer
-                relays.quote (shown_later config facts (effect config facts by firm row more []).facts firm
+            (λ next when. quote_text config now (head_of market next when) refl named firm shown
+                relays.dealer relays.quote (shown_later config facts (effect config facts by firm row more []).facts firm
                 shown relays.dealer relays.quote is_shown)
                 (offered_in shown (at_investor firm now)
                 (added (Offered shown) (in_right (Offered shown)
@@ -180,8 +194,8 @@ module _ (config : Configuration) (facts : List Fact) (by : Actor) (firm : ℕ) 
               → ShowsQuote config now firm (written (head_of market next when)
               (offer_message own shown)) shown
           text next when offered =
-              quote_beside config now (head_of market next when) refl firm shown relays.dealer
-              relays.quote (shown_later config facts
+              quote_beside config now (head_of market next when) refl named firm shown
+              relays.dealer relays.quote (shown_later config facts
               (effect config facts by firm row more []).facts firm shown relays.dealer relays.quote
               is_shown) offered own.request (one_request own is)
 

@@ -1,7 +1,7 @@
 -- A message that shows a dealer a request, or an investor a quote, says what was written.
 use Rattle.std.proofs.Common.{◌≡◌, ◌≤◌, ◌<◌, ℕ, ◌+◌, ◌==◌, ◌^◌, Bool, true, false, List, []}
 use Rattle.std.proofs.Common.{codes, decimal, length, nat_le, nat_lt, Option, Some, None, Result, Ok}
-use Rattle.std.proofs.Common.{refl, sym, ap, ◌∙◌, option_map, arith, if◌then◌else◌}
+use Rattle.std.proofs.Common.{refl, sym, ap, ◌∙◌, option_map, arith, if◌then◌else◌, subst}
 use Rattle.std.specs.List.{after_first, before_first, list_all, position, position_or_len}
 use Rattle.std.proofs.Common.{Err, get_or}
 use Rattle.std.specs.Char.{is_ascii_digit}
@@ -16,7 +16,7 @@ use Rattle.quote_messages.proofs.NumberLemmas.{digit_at}
 use Rattle.quote_messages.specs.declared.session_faults.SessionRejectReason.TheVariants.{ValueIncorrect}
 use Rattle.quote_messages.specs.declared.session_faults.SessionRejectReason.TheVariants.{IncorrectDataFormat}
 use Rattle.std.proofs.lemmas.List.Sums.{position_or_len_is}
-use Rattle.fix_fields.specs.Frame.{Field, value_of}
+use Rattle.fix_fields.specs.Frame.{Field, IsValue, value_of}
 use Rattle.fix_fields.specs.UtcTimestamp.{moment_of, timestamp_text}
 use Rattle.fix_fields.specs.declared.fault.MomentFault.{MomentFault}
 use Rattle.bond_prices.specs.Price.{price_digits, price_of}
@@ -33,16 +33,20 @@ use Rattle.quote_messages.specs.Written.{price_tag, size_tag, written, written_f
 use Rattle.quote_messages.specs.declared.session_faults.SessionRejectReason.{SessionRejectReason}
 use Rattle.quote_messages.specs.declared.out_messages.Head.{Head}
 use Rattle.quote_messages.specs.declared.out_messages.OutMessage.TheVariants as out
+use Rattle.quote_messages.specs.declared.out_messages.ShownQuote.{ShownQuote}
 use Rattle.venue_rows.specs.Rows.{Configuration}
 use Rattle.investor_desk.specs.declared.standing.AcceptedRequest.{AcceptedRequest}
 use Rattle.investor_desk.specs.declared.standing.ShownOffer.{ShownOffer}
 use Rattle.step_replay.specs.GrowthLemmas.{In}
 use Rattle.step_replay.specs.VenueFacts.{Fact}
 use Rattle.dealer_desk.specs.declared.accepted.AcceptedQuote.{AcceptedQuote}
-use Rattle.shown_laws.specs.Said.{IsTextOf}
+use Rattle.shown_laws.specs.Said.{SaysWhenRead}
 use Rattle.shown_laws.specs.ShownRequests.{ComesFromARequest, ShowsWhatWasAsked}
 use Rattle.shown_laws.specs.ShownQuotes.{IsShown, ShowsQuote, ShowsWhatWasQuoted, shown_to}
+use Rattle.shown_laws.proofs.LawfulFields.{AreLawful, date_read, frame_value, quote_lawful}
+use Rattle.shown_laws.proofs.LawfulFields.{request_lawful}
 use Rattle.shown_laws.proofs.Messages.{moment_again, price_again, quote_fields, until_again}
+use Rattle.shown_laws.proofs.ReadBack.{fields_read}
 
 -- Quantities.
 
@@ -134,7 +138,7 @@ quantity_again (Some text) quantity is =
 -- Requests.
 
 module _ (config : Configuration) (facts : List Fact) (head : Head)
-    (date_is : head.date ≡ config.date) (number : ℕ) (ask : Ask)
+    (date_is : head.date ≡ config.date) (named : IsValue head.firm) (number : ℕ) (ask : Ask)
     (from : ComesFromARequest config facts ask) where
   says_asked : ShowsWhatWasAsked config facts
       (written_fields head (out.Request (record { number = number; ask = ask })))
@@ -163,25 +167,38 @@ module _ (config : Configuration) (facts : List Fact) (head : Head)
         ∙ sym from.is_written.says.sender;
   }
 
-  pub request_text : IsTextOf (codes "R") (ShowsWhatWasAsked config facts)
+  -- what the investor wrote came in a frame, so it may stand in one
+  asked_lawful : AreLawful
+      (written_fields head (out.Request (record { number = number; ask = ask })))
+  asked_lawful =
+      let is = from.is_written in
+      let came = frame_value is.came.bytes is.asked in
+      request_lawful head named
+      (subst IsValue (sym date_is) (date_read config.date (value_of 126 is.asked)
+      from.request.ask.deadline is.says.deadline)) number ask
+      (subst (λ (a : Ask). IsValue a.bond) from.ask_is
+      (came 48 from.request.ask.bond is.came.frame is.says.bond))
+      (subst (λ (a : Ask). IsValue a.investor) from.ask_is
+      (subst IsValue (sym is.says.asker) (came 49 is.row.name is.came.frame is.says.sender)))
+
+  pub request_text : SaysWhenRead (codes "R") (ShowsWhatWasAsked config facts)
       (written head (out.Request (record { number = number; ask = ask })))
-  unfolding written
-  request_text = record {
-    fields = written_fields head (out.Request (record { number = number; ask = ask }));
-    text = refl;
-    says = λ is. says_asked;
-  }
+  request_text fields read type_is =
+      subst (ShowsWhatWasAsked config facts)
+      (sym (fields_read head (out.Request (record { number = number; ask = ask })) fields read
+      asked_lawful)) says_asked
 
 -- Quotes.
 
 module _ (config : Configuration) (facts : List Fact) (head : Head)
-    (date_is : head.date ≡ config.date) (investor : ℕ) (shown : ShownOffer) (dealer : ℕ)
+    (date_is : head.date ≡ config.date) (named : IsValue head.firm) (investor : ℕ)
+    (shown : ShownOffer) (dealer : ℕ)
     (quote : AcceptedQuote) (is : IsShown config facts investor shown dealer quote)
     (offered : In shown (shown_to investor facts)) (own : AcceptedRequest)
     (same : own ≡ is.is_written.request) where
   -- the message
-  abbrev fields : List Field
-  fields = written_fields head (out.ShownQuote (record {
+  abbrev bears : ShownQuote
+  bears = record {
     request = own.id;
     number = shown.number;
     bond = own.ask.bond;
@@ -190,7 +207,10 @@ module _ (config : Configuration) (facts : List Fact) (head : Head)
     quantity = own.ask.quantity;
     valid_until = shown.offer.valid_until;
     dealer = shown.offer.dealer;
-  }))
+  }
+
+  abbrev fields : List Field
+  fields = written_fields head (out.ShownQuote bears)
 
   says_quoted : ShowsWhatWasQuoted config facts investor fields
   says_quoted =
@@ -235,7 +255,24 @@ module _ (config : Configuration) (facts : List Fact) (head : Head)
             ∙ sym asks.quantity;
       }
 
-  pub quote_text : IsTextOf (codes "S") (ShowsWhatWasQuoted config facts investor)
+  -- what the two firms wrote came in frames, so it may stand in one
+  quoted_lawful : AreLawful fields
+  quoted_lawful =
+      let wrote = is.is_written.is_quote in
+      let asked = is.is_written.is_request in
+      let came = frame_value asked.came.bytes asked.asked in
+      quote_lawful head named
+      (subst IsValue (sym date_is) (date_read config.date (value_of 126 asked.asked)
+      is.is_written.request.ask.deadline asked.says.deadline)) bears
+      (subst (λ (r : AcceptedRequest). IsValue r.id) (sym same)
+      (came 131 is.is_written.request.id asked.came.frame asked.says.id))
+      (subst (λ (r : AcceptedRequest). IsValue r.ask.bond) (sym same)
+      (came 48 is.is_written.request.ask.bond asked.came.frame asked.says.bond))
+      (subst (λ (o : Offer). IsValue o.dealer) (sym is.offer)
+      (frame_value wrote.came.bytes wrote.wrote 49 wrote.row.name wrote.came.frame
+      wrote.says.sender))
+
+  pub quote_text : SaysWhenRead (codes "S") (ShowsWhatWasQuoted config facts investor)
       (written head (out.ShownQuote (record {
         request = own.id;
         number = shown.number;
@@ -246,8 +283,9 @@ module _ (config : Configuration) (facts : List Fact) (head : Head)
         valid_until = shown.offer.valid_until;
         dealer = shown.offer.dealer;
       })))
-  unfolding written
-  quote_text = record { fields = fields; text = refl; says = λ type_is. says_quoted }
+  quote_text found read type_is =
+      subst (ShowsWhatWasQuoted config facts investor)
+      (sym (fields_read head (out.ShownQuote bears) found read quoted_lawful)) says_quoted
 
   pub quote_beside : ShowsQuote config facts investor (written head (out.ShownQuote (record {
     request = own.id;
@@ -262,6 +300,7 @@ module _ (config : Configuration) (facts : List Fact) (head : Head)
   unfolding written says_quoted
   quote_beside = record {
     fields = fields;
+    body = (refl, quoted_lawful);
     text = refl;
     type_is = refl;
     number = refl;

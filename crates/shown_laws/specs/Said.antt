@@ -4,7 +4,7 @@ use Rattle.std.specs.Prelude.{◌≡◌, ℕ, true, List, codes, decimal, Option
 use Rattle.std.specs.Option.{option_map}
 use Rattle.bond_prices.specs.Price.{price_of}
 use Rattle.bond_prices.specs.declared.fault.PriceFault.{PriceFault}
-use Rattle.fix_fields.specs.Frame.{Field, frame_of, frame_text, value_of}
+use Rattle.fix_fields.specs.Frame.{Field, frame_of, value_of}
 use Rattle.fix_fields.specs.UtcTimestamp.{moment_of}
 use Rattle.fix_fields.specs.declared.fault.MomentFault.{MomentFault}
 use Rattle.market_terms.specs.Codes.{side_code}
@@ -94,9 +94,7 @@ pub record SaysQuote (date name : List ℕ) (fields : List Field) (quote : Accep
 
 -- What was sent.
 
--- A message is the text of some fields, and says this where it is of this type (35).
-pub record IsTextOf (msg_type : List ℕ) (Says : List Field → Type 0) (message : List ℕ)
-    : Type 0 where
-  pub fields : List Field
-  pub text : message ≡ frame_text fields
-  pub says : value_of 35 fields ≡ Some msg_type → Says fields
+-- Whoever reads the message as a frame, and finds this type (35) in it, reads fields that say this.
+abbrev pub SaysWhenRead : List ℕ → (List Field → Type 0) → List ℕ → Type 0
+SaysWhenRead msg_type Says message = (fields : List Field) → frame_of message ≡ Some fields
+    → value_of 35 fields ≡ Some msg_type → Says fields

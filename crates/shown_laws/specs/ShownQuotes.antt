@@ -1,7 +1,7 @@
 -- What the venue shows an investor of a quote (35=S) is what a dealer wrote.
 use Rattle.std.specs.Prelude.{◌≡◌, ◌<◌, ℕ, List, ◌∷◌, ◌++◌, Some, Option, None, codes, filter_map}
 use Rattle.std.specs.List.{AllZip}
-use Rattle.fix_fields.specs.Frame.{Field, frame_text, value_of}
+use Rattle.fix_fields.specs.Frame.{AreBody, Field, frame_of, frame_text, value_of}
 use Rattle.market_terms.specs.declared.rooms.RoomRef.{RoomRef}
 use Rattle.quote_messages.specs.Written.{price_tag, quote_name, size_tag}
 use Rattle.venue_rows.specs.Rows.{Configuration, dealer_numbered}
@@ -124,16 +124,17 @@ pub record ShowsWhatWasQuoted (config : Configuration) (facts : List Fact) (inve
   pub quantity : quantity_at (size_tag quote.side) shown
       ≡ quantity_at 38 is_shown.is_written.is_request.asked
 
--- A message that an investor was sent, of another type than 35=S.
-pub record ShowsNoQuote (message : List ℕ) : Type 0 where
-  pub fields : List Field
-  pub text : message ≡ frame_text fields
-  pub type_isnt : value_of 35 fields ≡ Some (codes "S") → ⊥
+-- A message in which nobody who reads it as a frame finds the type 35=S.
+abbrev pub ShowsNoQuote : List ℕ → Type 0
+ShowsNoQuote message = (fields : List Field) → frame_of message ≡ Some fields
+    → value_of 35 fields ≡ Some (codes "S") → ⊥
 
 -- A message of that type, which shows this quote under its number: QuoteID (117) is `Q` and that.
+-- Its fields may stand in a frame, so whoever reads it as one reads these.
 pub record ShowsQuote (config : Configuration) (facts : List Fact) (investor : ℕ)
     (message : List ℕ) (shown : ShownOffer) : Type 0 where
   pub fields : List Field
+  pub body : AreBody fields
   pub text : message ≡ frame_text fields
   pub type_is : value_of 35 fields ≡ Some (codes "S")
   pub number : value_of 117 fields ≡ Some (quote_name shown.number)

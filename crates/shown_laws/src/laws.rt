@@ -1,7 +1,7 @@
 //! What is shown is what was written.
 ghost use Rattle.std.specs.Prelude.{◌≡◌, ℕ, List, Some, codes};
 ghost use Rattle.market_terms.specs.declared.asks.Ask.{Ask};
-ghost use Rattle.venue_rows.specs.Rows.{Configuration, dealer_numbered, investor_numbered};
+ghost use Rattle.venue_rows.specs.Rows.{Configuration, KeepsLimits, dealer_numbered, investor_numbered};
 ghost use Rattle.venue_rows.specs.declared.dealer_rows.DealerRow.{DealerRow};
 ghost use Rattle.venue_rows.specs.declared.investor_rows.InvestorRow.{InvestorRow};
 ghost use Rattle.dealer_desk.specs.DealerFacts.{Quoted, Shown};
@@ -12,7 +12,7 @@ ghost use Rattle.investor_desk.specs.declared.standing.ShownOffer.{ShownOffer};
 ghost use Rattle.step_replay.specs.AuditTrail as venue;
 ghost use Rattle.step_replay.specs.GrowthLemmas.{In};
 ghost use Rattle.step_replay.specs.declared.steps.Step.{Step};
-ghost use Rattle.shown_laws.specs.Said.{IsTextOf};
+ghost use Rattle.shown_laws.specs.Said.{SaysWhenRead};
 ghost use Rattle.shown_laws.specs.ShownQuotes.{AreShownInOrder, AreShownInTurn, AreShownOnce};
 ghost use Rattle.shown_laws.specs.ShownQuotes.{AreNumberedAsTheyCame, AreOfTheirOwn};
 ghost use Rattle.shown_laws.specs.ShownQuotes.{ComesFromAQuote};
@@ -71,19 +71,21 @@ pub fn quotes_are_shown_once()
         → AreOfTheirOwn (venue.audit_trail config steps).facts dealer }
 {}
 
-/// A law over the bytes that firms were sent, in every venue, after every list of steps. A message
-/// that shows an investor a quote (35=S) shows what the dealer wrote that it names (448): price
-/// (132 or 133), bond (48) and valid-until (62) of one accepted Quote of that dealer; on a request
-/// of this investor: side (54), quantity (134 or 135) and 131 are as the investor wrote them. Of
-/// these messages there is one for each quote that the investor was shown, in their order. A
-/// message that shows a dealer a request (35=R) shows what the investor wrote that it names (448):
-/// bond (48), side (54), quantity (38) and deadline (126). It does nothing.
+/// A law over the bytes that firms were sent, in every venue, after every list of steps: it says
+/// what whoever reads them as a frame finds there. Where an investor reads that it is shown a quote
+/// (35=S), it reads what the dealer wrote that it finds in 448: price (132 or 133), bond (48) and
+/// valid-until (62) of one accepted Quote of that dealer; on a request of its own: side (54),
+/// quantity (134 or 135) and 131 are as the investor wrote them. Of these messages there is one for
+/// each quote that the investor was shown, in their order. Where a dealer reads that it is shown a
+/// request (35=R), it reads what the investor wrote that it finds in 448: bond (48), side (54),
+/// quantity (38) and deadline (126); this in a venue whose configuration keeps its limits, since a
+/// dealer whose name has an SOH could read anything behind it. It does nothing.
 pub fn what_is_shown_was_quoted()
     ensures investors { (config : Configuration) (steps : List Step) (investor : ℕ)
         (row : InvestorRow) (message : List ℕ)
         → investor_numbered config investor ≡ Some row
         → In message (venue.sent_to config investor (venue.audit_trail config steps))
-        → IsTextOf (codes "S")
+        → SaysWhenRead (codes "S")
         (ShowsWhatWasQuoted config (venue.audit_trail config steps).facts investor) message }
     ensures in_turn { (config : Configuration) (steps : List Step) (investor : ℕ)
         (row : InvestorRow) → investor_numbered config investor ≡ Some row
@@ -92,8 +94,8 @@ pub fn what_is_shown_was_quoted()
         (shown_to investor (venue.audit_trail config steps).facts) }
     ensures dealers { (config : Configuration) (steps : List Step) (dealer : ℕ) (row : DealerRow)
         (message : List ℕ)
-        → dealer_numbered config dealer ≡ Some row
+        → KeepsLimits config → dealer_numbered config dealer ≡ Some row
         → In message (venue.sent_to config dealer (venue.audit_trail config steps))
-        → IsTextOf (codes "R")
+        → SaysWhenRead (codes "R")
         (ShowsWhatWasAsked config (venue.audit_trail config steps).facts) message }
 {}
