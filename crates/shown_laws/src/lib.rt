@@ -11,7 +11,7 @@
 //! - [`quotes_are_shown_in_order`], [`quotes_are_shown_once`]: the quotes of one dealer on one
 //!   request in the order in which they came, and each accepted quote at most once.
 //!
-//! No code stands on this crate.
+//! No code stands on this crate, and `trade_laws` does.
 #![tactic(auto)]
 
 mod laws;

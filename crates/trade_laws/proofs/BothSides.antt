@@ -184,7 +184,7 @@ module _ {config : Configuration} {venue : AuditTrail} (stood : VenueOk config v
       abbrev room : RoomRef
       room = room_of investor request
 
-      closed : ClosedBy venue.facts investor request quote name price
+      closed : ClosedBy config venue.facts investor request quote name price
       closed = at_market stood trades investor (Closed request (Awarded quote name price)) answer
 
       shown_it : In (Offered closed.shown) (investor_facts venue.facts investor)

@@ -1,4 +1,5 @@
 mod BothSides
+mod CalmMessages
 mod LiveLemmas
 mod NameAwards
 mod NameDay
@@ -7,6 +8,8 @@ mod NameParts
 mod NameSilent
 mod NameTurns
 mod QuoteNumbers
+mod ReadIds
+mod ReadMessages
 mod SentNotices
 mod SentTrades
 mod TradeDay

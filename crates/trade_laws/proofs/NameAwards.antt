@@ -300,7 +300,7 @@ module _ (h : Here) (p : Pair) (trades : TradeOk h.config h.venue) (limits : Kee
       hit_is = hits_in p room.investor _ _
           ∙ ap (λ (l : List InvestorFact). if room.investor == p.investor
           then filter_map (hit_in p.investor p.seller) l else [])
-          (closes_it h room response moment some.0 answer knows_it)
+          (closes_it h room response moment some.0 some.1 answer knows_it)
           ∙ answered;
       told_is = notices_in p room.investor _;
       batch = still_batch p [] tt;

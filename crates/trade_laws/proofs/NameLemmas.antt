@@ -59,7 +59,7 @@ dealer_name config dealer row is =
     ∙ ap (option_map (λ (r : DealerRow). r.name)) is in
     get_first names others dealer (slice_get_within names dealer row.name at) ∙ at
 
-investor_name : (config : Configuration) (investor : ℕ) (row : InvestorRow)
+pub investor_name : (config : Configuration) (investor : ℕ) (row : InvestorRow)
     → investor_numbered config investor ≡ Some row
     → slice_get (firm_names config) investor ≡ Some row.name
 investor_name config investor row is =

@@ -1,7 +1,7 @@
 -- The messages of the two sides of a trade, where no duty is left.
 use Rattle.venue_laws.proofs.Common.{List, None, Some, ℕ, [], ap, arith}
 use Rattle.venue_laws.proofs.Common.{inl, inr, length, refl, subst}
-use Rattle.venue_laws.proofs.Common.{sym, true, ◌++◌, ◌∙◌, ◌∷◌, ◌≡◌, ◌≤◌, append_assoc, cases_Bool}
+use Rattle.venue_laws.proofs.Common.{sym, true, ◌++◌, ◌∙◌, ◌∷◌, ◌≡◌, ◌≤◌, append_assoc}
 use Rattle.venue_laws.proofs.Common.{filter_map-append, same_Some, slice_get_within, Ask}
 use Rattle.venue_laws.proofs.Common.{Configuration, dealer_numbered, investor_numbered, DealerRow}
 use Rattle.venue_laws.proofs.Common.{InvestorRow, Told, tells, AcceptedQuote, Asked}
@@ -9,7 +9,7 @@ use Rattle.venue_laws.proofs.Common.{AuditTrail, AtDesk, DealerEntry, facts_of, 
 use Rattle.venue_laws.proofs.Common.{all_in, ◌+◌, each_of, In, in_right, AtInvestor, of_dealer}
 use Rattle.venue_laws.proofs.Common.{of_investor, InvestorEntry, next_sent}
 use Rattle.std.proofs.Common.{◌<◌}
-use Rattle.fix_fields.specs.Frame.{Field, frame_text, value_of}
+use Rattle.fix_fields.specs.Frame.{Field, IsValue, frame_of, frame_text, value_of}
 use Rattle.bond_prices.specs.Price.{price_digits}
 use Rattle.market_terms.specs.declared.asks.Side.{Side}
 use Rattle.market_terms.specs.declared.asks.Side.TheVariants.{Buy, Sell}
@@ -26,6 +26,14 @@ use Rattle.step_replay.specs.PlaceLemmas.{behind_dealers}
 use Rattle.venue_laws.proofs.ListLemmas.{cases_some}
 use Rattle.venue_laws.proofs.ShownRequests.{in_facts}
 use Rattle.venue_laws.proofs.VenueInvariant.{VenueOk}
+use Rattle.venue_laws.proofs.VenueParts.{investor_facts}
+use Rattle.venue_rows.specs.Rows.{KeepsLimits}
+use Rattle.fix_fields.proofs.FrameParts.{is_frame_of}
+use Rattle.shown_laws.proofs.LawfulFields.{AreLawful, dealer_value, firm_value}
+use Rattle.shown_laws.proofs.ReadBack.{fields_read}
+use Rattle.step_replay.specs.VenueFacts.{Fact}
+use Rattle.dealer_desk.specs.DealerFacts.{Quoted}
+use Rattle.investor_desk.specs.declared.standing.AcceptedRequest.{AcceptedRequest}
 use Rattle.trade_laws.specs.LiveDuties.{NoDutyIsLeft}
 use Rattle.trade_laws.specs.SentTrades.{AnswerIsOfTrade, AnswersTrade, NoticeIsOfTrade, NotesTrade}
 use Rattle.trade_laws.specs.SentTrades.{is_answer, is_notice}
@@ -35,7 +43,9 @@ use Rattle.trade_laws.proofs.TradeFound.{at_investor_all, at_market, filter_in, 
 use Rattle.trade_laws.proofs.TradeFound.{all_facts}
 use Rattle.trade_laws.proofs.QuoteNumbers.{QuotesFit}
 use Rattle.trade_laws.proofs.SentNotices.{SentFit}
-use Rattle.trade_laws.proofs.TradeParts.{AskedBy, ClosedBy, SentAs, TradeFact, TradeOk}
+use Rattle.trade_laws.proofs.NameLemmas.{investor_name}
+use Rattle.trade_laws.proofs.ReadMessages.{notice_lawful}
+use Rattle.trade_laws.proofs.TradeParts.{AskedBy, ClosedBy, MayBeRead, SentAs, TradeFact, TradeOk}
 
 -- Messages and the entries that send them.
 
@@ -95,11 +105,13 @@ price_said head number investor bond Sell quantity deadline ask quote = refl
 
 module _ {config : Configuration} (trail : AuditTrail) (trade : Trade config trail.facts)
     (head : Head) (number : ℕ)
+    (lawful : AreLawful (written_fields head (notice_of number trade.asked.ask trade.quote)))
     (sent : In (written head (notice_of number trade.asked.ask trade.quote))
     (sent_to config trade.dealer trail)) where
   notes : NotesTrade trail trade (written_fields head (notice_of number trade.asked.ask trade.quote))
   unfolding written fmt.digits
   notes = record {
+    body = (refl, lawful);
     sent = sent;
     is = refl;
     request = refl;
@@ -110,7 +122,18 @@ module _ {config : Configuration} (trail : AuditTrail) (trade : Trade config tra
     price = price_said head number [] [] trade.asked.ask.side 0 0 trade.asked.ask trade.quote;
   }
 
-module _ {config : Configuration} {venue : AuditTrail} (stood : VenueOk config venue)
+-- What firms wrote that is said of a trade may stand in a field: the ids and the bonds of requests,
+-- and the ids of quotes.
+pub record WroteValues (facts : List Fact) : Type 0 where
+  pub ids : (investor : ℕ) (asked : AcceptedRequest)
+      → In (Asked asked) (investor_facts facts investor) → IsValue asked.id
+  pub bonds : (investor : ℕ) (asked : AcceptedRequest)
+      → In (Asked asked) (investor_facts facts investor) → IsValue asked.ask.bond
+  pub quotes : (dealer : ℕ) (quote : AcceptedQuote)
+      → In (Quoted quote) (facts_of (of_dealer dealer facts)) → IsValue quote.id
+
+module _ {config : Configuration} {venue : AuditTrail} (limits : KeepsLimits config)
+    (dated : IsValue config.date) (wrote : WroteValues venue.facts) (stood : VenueOk config venue)
     (trades : TradeOk config venue)
     (fits : (dealer : ℕ) (row : DealerRow) → dealer_numbered config dealer ≡ Some row
     → QuotesFit (facts_of (of_dealer dealer venue.facts))) (idle : NoDutyIsLeft venue) where
@@ -130,7 +153,28 @@ module _ {config : Configuration} {venue : AuditTrail} (stood : VenueOk config v
       → sent_to config investor venue ≡ investor_sent investor
   to_investor investor row is = rw (no_dealer config investor row is) refl
 
+  -- what an investor is sent may be read
+  may_read : (investor : ℕ) (row : InvestorRow) → investor_numbered config investor ≡ Some row
+      → MayBeRead config.date row.name (investor_facts venue.facts investor)
+  may_read investor row is = record {
+    dated = dated;
+    named = firm_value config limits investor row.name (investor_name config investor row is);
+    ids = wrote.ids investor;
+  }
+
   module _ (trade : Trade config venue.facts) where
+    -- the notice of a trade may stand in a frame
+    lawful_notice : (head : Head) → head.date ≡ config.date → head.firm ≡ trade.row.name
+        → (number : ℕ)
+        → AreLawful (written_fields head (notice_of number trade.asked.ask trade.quote))
+    lawful_notice head date_is firm_is number =
+        notice_lawful head
+        (subst IsValue (sym firm_is)
+        (dealer_value config limits trade.dealer trade.row trade.is_dealer))
+        (subst IsValue (sym date_is) dated) number trade.asked.ask trade.quote
+        (wrote.quotes trade.dealer trade.quote trade.was_quoted)
+        (wrote.bonds trade.investor trade.asked trade.was_asked)
+
     -- the notice of a trade was sent
     notice_sent : (others : List Field) × NotesTrade venue trade others
     unfolding written
@@ -157,15 +201,15 @@ module _ {config : Configuration} {venue : AuditTrail} (stood : VenueOk config v
         (in_right message (dealer_trail.sent_by split.0) (dealer_trail.sent_by split.1)
         (next_in message split.1 bears.1))) in (
           written_fields head (notice_of bears.0 trade.asked.ask trade.quote),
-          notes venue trade head bears.0
+          notes venue trade head bears.0 (lawful_notice head refl refl bears.0)
               (subst (In message) (sym (to_dealer trade.dealer trade.row trade.is_dealer)) there),
         )
 
     -- its answer was sent
     answer_sent : (others : List Field) × AnswersTrade venue trade others
     answer_sent =
-        let closed : ClosedBy venue.facts trade.investor trade.asked.number trade.shown.number
-        trade.row.name trade.quote.price =
+        let closed : ClosedBy config venue.facts trade.investor trade.asked.number
+        trade.shown.number trade.row.name trade.quote.price =
         at_market stood trades trade.investor
         (Closed trade.asked.number (Awarded trade.shown.number trade.row.name trade.quote.price))
         trade.was_answered in
@@ -173,6 +217,8 @@ module _ {config : Configuration} {venue : AuditTrail} (stood : VenueOk config v
         at_market stood trades trade.investor (Asked trade.asked) trade.was_asked in (
           closed.fields,
           record {
+            body = closed.body asked.row asked.row_is
+                (may_read trade.investor asked.row asked.row_is);
             sent = subst (In (frame_text closed.fields))
                 (sym (to_investor trade.investor asked.row asked.row_is))
                 (entry_sent (frame_text closed.fields) (of_investor trade.investor venue.facts)
@@ -182,95 +228,86 @@ module _ {config : Configuration} {venue : AuditTrail} (stood : VenueOk config v
           },
         )
 
-  -- What an investor was sent.
+  -- What an investor was sent, as it is read.
   pub answer_is : (investor : ℕ) (buyer : InvestorRow) (message : List ℕ)
       → investor_numbered config investor ≡ Some buyer
-      → In message (sent_to config investor venue)
-      → (fields : List Field) × (message ≡ frame_text fields)
-      × (is_answer fields ≡ true → AnswerIsOfTrade config venue investor fields)
-  answer_is investor buyer message is among =
-      let sent : SentAs venue.facts investor message =
+      → In message (sent_to config investor venue) → (fields : List Field)
+      → frame_of message ≡ Some fields → is_answer fields ≡ true
+      → AnswerIsOfTrade config venue investor fields
+  answer_is investor buyer message is among fields read answers =
+      let sent : SentAs config venue.facts investor message =
       all_in (λ entry. TradeFact config (AtInvestor investor entry) venue)
       (investor_trail.Sent message) (of_investor investor venue.facts)
       (at_investor_all (λ fact. TradeFact config fact venue) investor venue.facts
       (all_facts stood trades))
       (sent_market message (of_investor investor venue.facts)
-      (subst (In message) (to_investor investor buyer is) among)) in (
-        sent.fields,
-        sent.text,
-        λ answers.
-            let closes = sent.closes answers in
-            let made = trade_of stood trades fits idle investor closes.0 closes.1 closes.3 closes.2
-            closes.5 in
-            let notice = notice_sent made.0 in
-            record {
-              trade = made.0;
-              investor_is = made.1;
-              answer = record {
-                sent = subst (λ (i : ℕ). In (frame_text sent.fields) (sent_to config i venue))
-                    (sym made.1)
-                    (subst (λ (m : List ℕ). In m (sent_to config investor venue)) sent.text among);
-                is = answers;
-                quote = closes.4 ∙ ap (λ (n : ℕ). Some (quote_name n)) (sym made.3);
-              };
-              others = notice.0;
-              notice = notice.1;
-            },
-      )
+      (subst (In message) (to_investor investor buyer is) among)) in
+      let reads = sent buyer is (may_read investor buyer is) fields read answers in
+      let made = trade_of stood trades fits idle investor reads.request reads.quote reads.dealer
+      reads.price reads.closed in
+      let notice = notice_sent made.0 in
+      record {
+        trade = made.0;
+        investor_is = made.1;
+        answer = record {
+          body = (is_frame_of message fields read).body;
+          sent = subst (λ (i : ℕ). In (frame_text fields) (sent_to config i venue)) (sym made.1)
+              (subst (λ (m : List ℕ). In m (sent_to config investor venue)) reads.text among);
+          is = answers;
+          quote = reads.names ∙ ap (λ (n : ℕ). Some (quote_name n)) (sym made.3);
+        };
+        others = notice.0;
+        notice = notice.1;
+      }
 
-  -- What a dealer was sent.
+  -- What a dealer was sent, as it is read.
   pub notice_is_of : (dealer : ℕ) (seller : DealerRow) (message : List ℕ)
       → dealer_numbered config dealer ≡ Some seller
-      → Each SentFit [] (of_dealer dealer venue.facts)
-      → In message (sent_to config dealer venue)
-      → (fields : List Field) × (message ≡ frame_text fields)
-      × (is_notice fields ≡ true → NoticeIsOfTrade config venue dealer fields)
-  unfolding written
-  notice_is_of dealer seller message is sents among =
+      → Each (SentFit config.date seller.name) [] (of_dealer dealer venue.facts)
+      → In message (sent_to config dealer venue) → (fields : List Field)
+      → frame_of message ≡ Some fields → is_notice fields ≡ true
+      → NoticeIsOfTrade config venue dealer fields
+  notice_is_of dealer seller message is sents among fields read notes_it =
       let trail = of_dealer dealer venue.facts in
       let split = in_split (dealer_trail.Sent message) trail
       (sent_entry message trail (subst (In message) (to_dealer dealer seller is) among)) in
-      let sent = each_of SentFit trail split.0 (dealer_trail.Sent message) split.1 sents split.2 in
-      elim (cases_Bool (is_notice sent.fields)) [
-        | inr other ↦ (sent.fields, sent.text, λ notes_it. cc)
-        | inl hit ↦
-            let told = sent.told hit in
-            let rest = dealer_trail.Sent message ∷ split.1 in
-            let whole : trail ≡ told.0 ++ AtDesk (Told told.1 closes.Hit told.2) ∷ rest =
-            split.2 ∙ ap (λ l. l ++ rest) told.3
-            ∙ append_assoc told.0 (AtDesk (Told told.1 closes.Hit told.2) ∷ []) rest in
-            let fact : In (Told told.1 closes.Hit told.2) (facts_of trail) =
-            subst (λ (l : List DealerEntry). In (Told told.1 closes.Hit told.2) (facts_of l)) (sym whole)
-            (subst (In (Told told.1 closes.Hit told.2)) (sym (filter_map-append dealer_trail.fact_in
-            told.0 (AtDesk (Told told.1 closes.Hit told.2) ∷ rest)))
-            (in_right (Told told.1 closes.Hit told.2) (facts_of told.0)
-            (facts_of (AtDesk (Told told.1 closes.Hit told.2) ∷ rest)) (inl refl))) in
-            let made = trade_told stood trades fits idle dealer seller told.1 told.2 is fact in
-            let trade = made.0 in
-            let bears = trade.notice told.2 told.0 rest
-            (ap (λ (d : ℕ). of_dealer d venue.facts) made.1 ∙ whole
-            ∙ ap (λ (n : ℕ). told.0 ++ AtDesk (Told n closes.Hit told.2) ∷ rest) (sym made.2)) in
-            let head : Head = record {
-              date = config.date;
-              firm = trade.row.name;
-              number = length (dealer_trail.sent_by told.0) + 1;
-              moment = told.2;
-            } in
-            let text : message ≡ written head (notice_of bears.0 trade.asked.ask trade.quote) =
-            same_Some message (written head (notice_of bears.0 trade.asked.ask trade.quote)) bears.1 in
-            let answer = answer_sent trade in (
-              written_fields head (notice_of bears.0 trade.asked.ask trade.quote),
-              text,
-              λ notes_it. record {
-                trade = trade;
-                dealer_is = made.1;
-                notice = notes venue trade head bears.0
-                    (subst (λ (d : ℕ). In (written head
-                    (notice_of bears.0 trade.asked.ask trade.quote)) (sent_to config d venue))
-                    (sym made.1)
-                    (subst (λ (m : List ℕ). In m (sent_to config dealer venue)) text among));
-                others = answer.0;
-                answer = answer.1;
-              },
-            )
-      ]
+      let sent = each_of (SentFit config.date seller.name) trail split.0 (dealer_trail.Sent message)
+      split.1 sents split.2 in
+      let told = sent.told dated (dealer_value config limits dealer seller is) fields read notes_it in
+      let rest = dealer_trail.Sent message ∷ split.1 in
+      let whole : trail ≡ told.0 ++ AtDesk (Told told.1 closes.Hit told.2) ∷ rest =
+      split.2 ∙ ap (λ l. l ++ rest) told.3
+      ∙ append_assoc told.0 (AtDesk (Told told.1 closes.Hit told.2) ∷ []) rest in
+      let fact : In (Told told.1 closes.Hit told.2) (facts_of trail) =
+      subst (λ (l : List DealerEntry). In (Told told.1 closes.Hit told.2) (facts_of l)) (sym whole)
+      (subst (In (Told told.1 closes.Hit told.2)) (sym (filter_map-append dealer_trail.fact_in
+      told.0 (AtDesk (Told told.1 closes.Hit told.2) ∷ rest)))
+      (in_right (Told told.1 closes.Hit told.2) (facts_of told.0)
+      (facts_of (AtDesk (Told told.1 closes.Hit told.2) ∷ rest)) (inl refl))) in
+      let made = trade_told stood trades fits idle dealer seller told.1 told.2 is fact in
+      let trade = made.0 in
+      let bears = trade.notice told.2 told.0 rest
+      (ap (λ (d : ℕ). of_dealer d venue.facts) made.1 ∙ whole
+      ∙ ap (λ (n : ℕ). told.0 ++ AtDesk (Told n closes.Hit told.2) ∷ rest) (sym made.2)) in
+      let head : Head = record {
+        date = config.date;
+        firm = trade.row.name;
+        number = length (dealer_trail.sent_by told.0) + 1;
+        moment = told.2;
+      } in
+      let notice = notice_of bears.0 trade.asked.ask trade.quote in
+      let text : message ≡ written head notice = same_Some message (written head notice) bears.1 in
+      let lawful = lawful_notice trade head refl refl bears.0 in
+      let same : fields ≡ written_fields head notice =
+      fields_read head notice fields
+      (subst (λ (m : List ℕ). frame_of m ≡ Some fields) text read) lawful in
+      let answer = answer_sent trade in
+      record {
+        trade = trade;
+        dealer_is = made.1;
+        notice = subst (NotesTrade venue trade) (sym same) (notes venue trade head bears.0 lawful
+            (subst (λ (d : ℕ). In (written head notice) (sent_to config d venue)) (sym made.1)
+            (subst (λ (m : List ℕ). In m (sent_to config dealer venue)) text among)));
+        others = answer.0;
+        answer = answer.1;
+      }

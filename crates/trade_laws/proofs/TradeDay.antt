@@ -59,7 +59,7 @@ module _ (h : Here) where
   )
   turn_does (duty.Relay room offer moment) ok stands = (
     investor_makes h room.investor _
-        (λ row is. relayed_makes h room.investor row room offer moment refl stands),
+        (λ row is. relayed_makes h room.investor row is room offer moment refl stands),
     λ now later. tt,
   )
   turn_does (duty.Unpost room quote moment) ok stands = (
@@ -69,7 +69,7 @@ module _ (h : Here) where
   )
   turn_does (duty.Gone room word moment) ok stands = (
     investor_makes h room.investor _
-        (λ row is. withdrawn_makes h room.investor row room word moment),
+        (λ row is. withdrawn_makes h room.investor row is room word moment),
     λ now later. tt,
   )
   turn_does (duty.Decline room moment) ok stands = (
@@ -79,7 +79,7 @@ module _ (h : Here) where
   )
   turn_does (duty.Declined room moment) ok stands = (
     acting_makes h ok.who _ (investor_makes h room.investor _
-        (λ row is. declined_makes h room.investor row room ok.who.row.name moment)),
+        (λ row is. declined_makes h room.investor row is room ok.who.row.name moment)),
     λ now later. tt,
   )
   turn_does (duty.Hit room response word moment) ok stands = (
@@ -89,11 +89,11 @@ module _ (h : Here) where
     λ now later. tt,
   )
   turn_does (duty.Pass room response moment) ok stands =
-      (passed_makes h room response moment, λ now later. tt)
+      (passed_makes h room response moment (stands h.venue (later_same h.venue)), λ now later. tt)
   turn_does (duty.Answer room response reply moment) ok stands =
       answer_makes h room response moment reply ok.0 ok.1 stands
   turn_does (duty.Close room moment) ok stands = (
-    investor_makes h room.investor _ (λ row is. expired_makes h room.investor row room moment),
+    investor_makes h room.investor _ (λ row is. expired_makes h room.investor row is room moment),
     λ now later. tt,
   )
   turn_does (duty.Tell dealer room close moment) ok stands = (
@@ -111,7 +111,7 @@ module _ (h : Here) where
   unfolding message_effect
   message_makes firm moment bytes by_is = elim (cases_some (dealer_numbered h.config firm)) [
     | inl none ↦ rw none
-        (investor_makes h firm _ (λ row is. asked_makes h firm row by_is moment bytes is))
+        (investor_makes h firm _ (λ row is. asked_makes h firm row is by_is moment bytes))
     | inr some ↦ rw (some.1) (said_makes h firm some.0 some.1 by_is moment bytes)
   ]
 

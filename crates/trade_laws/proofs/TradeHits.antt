@@ -164,6 +164,7 @@ module _ (h : Here) (room : RoomRef) (response : ResponseRef) (word moment : ℕ
               request_is = hit.request_is;
               response_is = hit.response_is;
               word_is = refl;
+              id_is = hit.id_is;
             };
             award = awarded_to hit.shown.offer.word (word_is ∙ sym hit.word_is) now later;
           },
@@ -209,7 +210,13 @@ module _ (h : Here) (room : RoomRef) (response : ResponseRef) (word moment : ℕ
                 (award_makes award so.1 so.0 some.0 some.1 posted.0 posted.1)
           ]
       by_outcome (Err why) is =
-          rw (none_lifted (quote_with_word h.config word) why) (record {
-            facts = tt;
-            left = (λ now later. tt, tt);
-          })
+          let effect : Effect = record {
+            facts = lifting (quote_with_word h.config word) (Err why)
+                ++ map (InRoom room) (end_by (Err why) moment);
+            duties = duty.Answer room response (reply_of (Err why)) moment
+                ∷ told_of_hit (known h room) room moment (Err why);
+          } in
+          record {
+            facts = rw (none_lifted (quote_with_word h.config word) why) tt;
+            left = (λ now later. (means now (to_now h effect later)).id_is, tt);
+          }

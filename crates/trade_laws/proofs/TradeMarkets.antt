@@ -1,10 +1,10 @@
 -- What comes to an investor's desk, and what its message leaves, brings what stands of trades.
-use Rattle.venue_laws.proofs.Common.{List, None, Option, Some, ℕ, [], ap, eq-eqb}
+use Rattle.venue_laws.proofs.Common.{List, None, Option, Some, ℕ, [], ap}
 use Rattle.venue_laws.proofs.Common.{inl, inr, map}
 use Rattle.venue_laws.proofs.Common.{option_to_list, refl, subst, sym, ◌++◌, ◌==◌, ◌∙◌, ◌∷◌}
-use Rattle.venue_laws.proofs.Common.{◌≡◌, eqb-true, Duty}
+use Rattle.venue_laws.proofs.Common.{◌≡◌, Duty}
 use Rattle.venue_laws.proofs.Common.{RoomRef, investor_numbered, InvestorRow, market_for, market_of}
-use Rattle.venue_laws.proofs.Common.{same_text, Asked, InvestorBook}
+use Rattle.venue_laws.proofs.Common.{Asked}
 use Rattle.venue_laws.proofs.Common.{InvestorFact, Offered, book_of, own_facts}
 use Rattle.venue_laws.proofs.Common.{InvestorMarket, investor_verdict, InvestorEvent}
 use Rattle.venue_laws.proofs.Common.{ShownOffer, InvestorVerdict, Effect, done_for}
@@ -12,35 +12,19 @@ use Rattle.venue_laws.proofs.Common.{where_known, AuditTrail, Every, every_both,
 use Rattle.venue_laws.proofs.Common.{in_left, in_right, investor_grown, AtInvestor}
 use Rattle.venue_laws.proofs.Common.{of_investor}
 use Rattle.market_terms.specs.declared.rooms.Offer.{Offer}
-use Rattle.quote_messages.specs.Arrivals.{investor_arrival}
-use Rattle.quote_messages.specs.Written.{quote_name, written, written_fields}
-use Rattle.quote_messages.specs.declared.out_messages.Head.{Head}
 use Rattle.quote_messages.specs.declared.out_messages.OutMessage.{OutMessage}
-use Rattle.investor_desk.specs.InvestorOutput.{decline_messages, event_messages, expiry_messages}
-use Rattle.investor_desk.specs.InvestorOutput.{gone_message, head_of, moment_of, offer_message}
-use Rattle.investor_desk.specs.InvestorOutput.{offer_messages, verdict_message}
-use Rattle.investor_desk.specs.InvestorOutput.{withdrawal_messages, written_from}
+use Rattle.investor_desk.specs.InvestorOutput.{event_messages}
+use Rattle.investor_desk.specs.InvestorOutput.{moment_of}
+use Rattle.investor_desk.specs.InvestorOutput.{written_from}
 use Rattle.step_replay.specs.InvestorTrail.{sent_by}
-use Rattle.venue_laws.proofs.Common.{length, option_map, false, ◌+◌}
-use Rattle.trade_laws.specs.SentTrades.{is_answer}
-use Rattle.quote_messages.specs.declared.arrivals.Arrival.TheVariants as arrival
-use Rattle.investor_desk.specs.declared.refusals.RequestRefusal.{RequestRefusal}
-use Rattle.quote_messages.specs.declared.requests.InvestorMessage.TheVariants as message
-use Rattle.quote_messages.specs.declared.requests.QuoteHit.{QuoteHit}
-use Rattle.quote_messages.specs.declared.requests.QuoteRequest.{QuoteRequest}
-use Rattle.quote_messages.specs.declared.requests.RequestPass.{RequestPass}
-use Rattle.venue_rows.specs.declared.bond_rows.BondRow.{BondRow}
-use Rattle.investor_desk.specs.InvestorFacts.{StandingRequest, expected_number}
-use Rattle.investor_desk.specs.InvestorFacts.{offer_named, offer_numbered, offer_of_dealer}
+use Rattle.venue_laws.proofs.Common.{length, ◌+◌}
+use Rattle.fix_fields.specs.Frame.{IsValue}
+use Rattle.investor_desk.specs.InvestorFacts.{offer_numbered, offer_of_dealer}
 use Rattle.investor_desk.specs.InvestorFacts.{offer_with_word, open_request, request_numbered}
-use Rattle.investor_desk.specs.InvestorFacts.{request_with_id}
 use Rattle.investor_desk.specs.InvestorOutput.{DeskState}
 use Rattle.investor_desk.specs.InvestorOutput.{event_facts}
 use Rattle.investor_desk.specs.InvestorOutput.{expiry_facts, gone_facts, next_offer}
 use Rattle.investor_desk.specs.InvestorOutput.{offer_facts, verdict_duty, withdrawal_facts}
-use Rattle.investor_desk.specs.InvestorRules.{arrival_verdict, hit_of, hit_verdict, pass_of}
-use Rattle.investor_desk.specs.InvestorRules.{pass_verdict, request_answer}
-use Rattle.investor_desk.specs.InvestorRules.{request_verdict}
 use Rattle.investor_desk.specs.declared.events.InvestorEvent.TheVariants as at_investor
 use Rattle.investor_desk.specs.declared.verdicts.InvestorVerdict.TheVariants as verdict
 use Rattle.venue_places.specs.declared.actors.Actor.TheVariants as actor
@@ -50,13 +34,16 @@ use Rattle.step_replay.specs.InvestorGrowth.{trail_push}
 use Rattle.step_replay.specs.InvestorTrail.{AtDesk, Sent, entries_of}
 use Rattle.step_replay.specs.PlaceLemmas.{own_investor}
 use Rattle.venue_laws.proofs.KnownDesks.{offers_both}
-use Rattle.venue_laws.proofs.ListLemmas.{cases_some, find_grown, found_passes}
+use Rattle.venue_laws.proofs.ListLemmas.{cases_some, find_grown}
+use Rattle.std.proofs.lemmas.Option.{same_Some}
 use Rattle.venue_laws.proofs.VenueParts.{Later, Still, investor_facts}
 use Rattle.venue_laws.proofs.VenueParts.{investor_facts_grown}
 use Rattle.venue_laws.proofs.VenueSteps.{Here, day, to_now}
 use Rattle.trade_laws.specs.Trades.{room_of}
-use Rattle.trade_laws.proofs.TradeLists.{find_fewer}
-use Rattle.trade_laws.proofs.TradeParts.{OfferOf}
+use Rattle.trade_laws.proofs.CalmMessages.{Harmless, Means, decline_harmless, expiry_harmless}
+use Rattle.trade_laws.proofs.CalmMessages.{numbered_asked, offer_harmless, open_asked}
+use Rattle.trade_laws.proofs.CalmMessages.{verdict_harmless, verdict_means, withdrawal_harmless}
+use Rattle.trade_laws.proofs.TradeParts.{MayBeRead, OfferOf}
 use Rattle.trade_laws.proofs.TradeSteps.{DutyNow, FactNow, Makes, idle_makes}
 use Rattle.trade_laws.proofs.TradeSteps.{when_makes}
 
@@ -79,109 +66,6 @@ fact_later {was} later investor fact is =
     rw (later.facts_are, investor_facts_grown was.facts later.more investor)
     (in_left fact (investor_facts was.facts investor) (investor_facts later.more investor) is)
 
--- Messages.
-
--- a message that answers no hit with 297=0, whatever its header
-abbrev pub Harmless : OutMessage → Type 0
-Harmless message = (head : Head) → is_answer (written_fields head message) ≡ false
-
-gone_harmless : (own : StandingRequest) (found : Option ShownOffer)
-    → Every Harmless (option_to_list (option_map (gone_message own) found))
-gone_harmless own None = tt
-gone_harmless own (Some shown) = (λ head. refl, tt)
-
-offer_harmless : (book : InvestorBook) (request : ℕ) (offer : Offer) (own : Option StandingRequest)
-    → Every Harmless (offer_messages book request offer own)
-offer_harmless book request offer None = tt
-offer_harmless book request offer (Some own) =
-    every_both Harmless
-    (option_to_list (option_map (gone_message own) (offer_of_dealer own offer.dealer)))
-    (offer_message own (next_offer book request offer) ∷ [])
-    (gone_harmless own (offer_of_dealer own offer.dealer)) (λ head. refl, tt)
-
-withdrawal_harmless : (word : ℕ) (own : Option StandingRequest)
-    → Every Harmless (withdrawal_messages word own)
-withdrawal_harmless word None = tt
-withdrawal_harmless word (Some own) = gone_harmless own (offer_with_word own word)
-
-decline_harmless : (dealer : List ℕ) (own : Option StandingRequest)
-    → Every Harmless (decline_messages dealer own)
-decline_harmless dealer None = tt
-decline_harmless dealer (Some own) = (λ head. refl, tt)
-
-expiry_harmless : (own : Option StandingRequest) → Every Harmless (expiry_messages own)
-expiry_harmless None = tt
-expiry_harmless (Some own) = (λ head. refl, tt)
-
--- What a verdict on a message means by a hit: a quote that was shown, under its number.
-
-abbrev Means : InvestorMarket → List InvestorFact → InvestorVerdict → Type 0
-Means market facts (verdict.RequestAccepted id request) =
-    request.ask.investor ≡ market.row.name
-Means market facts (verdict.Hits request response word) =
-    (shown : ShownOffer) × (offer_numbered (book_of facts) shown.number ≡ Some shown)
-    × (shown.request ≡ request) × (response.k ≡ Some shown.number) × (shown.offer.word ≡ word)
-Means market facts other = Unit {0}
-
-verdict_harmless : (market : InvestorMarket) (facts : List InvestorFact) (v : InvestorVerdict)
-    → Means market facts v → Every Harmless (option_to_list (verdict_message v))
-verdict_harmless market facts verdict.Dropped means = tt
-verdict_harmless market facts (verdict.OutOfSequence reject) means = (λ head. refl, tt)
-verdict_harmless market facts (verdict.Rejected reject) means = (λ head. refl, tt)
-verdict_harmless market facts (verdict.RequestRefused request bond refusal) means =
-    (λ head. refl, tt)
-verdict_harmless market facts (verdict.HitUnknown id quote) means = (λ head. refl, tt)
-verdict_harmless market facts (verdict.PassUnknown id request) means = (λ head. refl, tt)
-verdict_harmless market facts (verdict.RequestAccepted id request) means = (λ head. refl, tt)
-verdict_harmless market facts (verdict.Hits request response word) means = tt
-verdict_harmless market facts (verdict.Passes request response) means = tt
-
-module _ (market : InvestorMarket) (facts : List InvestorFact) where
-  abbrev book : InvestorBook
-  book = book_of facts
-
-  hit_means : (hit : QuoteHit) (shown : Option ShownOffer) → offer_named book hit.quote ≡ shown
-      → Means market facts (hit_of hit shown)
-  unfolding offer_named offer_numbered
-  hit_means hit None is = tt
-  hit_means hit (Some shown) is =
-      let named = found_passes (λ (s : ShownOffer). same_text (quote_name s.number) hit.quote)
-      book.offers shown is in (
-        shown,
-        find_fewer (λ (s : ShownOffer). same_text (quote_name s.number) hit.quote)
-            (λ (s : ShownOffer). s.number == shown.number)
-            (λ s same. ap (λ (n : ℕ). same_text (quote_name n) hit.quote)
-            (eqb-true s.number shown.number same) ∙ named)
-            book.offers shown is (eq-eqb shown.number shown.number refl),
-        refl,
-        refl,
-        refl,
-      )
-
-  request_means : (moment : ℕ) (request : QuoteRequest) (bond : Option BondRow)
-      (refused : Option RequestRefusal)
-      → Means market facts (request_answer market book moment request bond refused)
-  request_means moment request bond (Some reason) = tt
-  request_means moment request None None = tt
-  request_means moment request (Some bond) None = refl
-
-  pass_means : (pass : RequestPass) (own : Option StandingRequest) → Means market facts (pass_of pass own)
-  pass_means pass None = tt
-  pass_means pass (Some own) = tt
-
-  verdict_means : (moment : ℕ) (bytes : List ℕ)
-      → Means market facts (investor_verdict market book moment bytes)
-  unfolding investor_verdict request_verdict hit_verdict pass_verdict
-  verdict_means moment bytes =
-      elim (investor_arrival market.date market.row (expected_number book) bytes)
-      as (λ came. Means market facts (arrival_verdict market book moment came)) [
-        | arrival.Taken (message.Request request) ↦ request_means moment request _ _
-        | arrival.Taken (message.Hit hit) ↦ hit_means hit (offer_named book hit.quote) refl
-        | arrival.Taken (message.Pass pass) ↦
-            pass_means pass (request_with_id book pass.request)
-        | other ↦ tt
-      ]
-
 module _ (h : Here) where
   -- what comes to stand at an investor's desk
   market_facts : (effect : Effect) (firm : ℕ) (facts : List InvestorFact) (messages : List (List ℕ))
@@ -194,20 +78,35 @@ module _ (h : Here) where
       (sent.0, market_facts effect firm [] messages tt sent.1)
   market_facts effect firm [] [] is sent = tt
 
-  -- messages that answer no hit with 297=0
-  pub harmless_sent : (effect : Effect) (firm : ℕ) (at : InvestorMarket) (number moment : ℕ)
-      (messages : List OutMessage) → Every Harmless messages
+  -- what may be read later may be read now
+  pub may_now : (effect : Effect) (firm : ℕ) (row : InvestorRow)
+      → investor_numbered h.config firm ≡ Some row → (now : AuditTrail)
+      → Later (day h effect) now → (other : InvestorRow)
+      → investor_numbered h.config firm ≡ Some other
+      → MayBeRead h.config.date other.name (investor_facts now.facts firm)
+      → MayBeRead h.config.date row.name (investor_facts h.venue.facts firm)
+  may_now effect firm row row_is now later other other_is may = record {
+    dated = may.dated;
+    named = subst (λ (r : InvestorRow). IsValue r.name)
+        (same_Some other row (sym other_is ∙ row_is)) may.named;
+    ids = λ asked among. may.ids asked
+        (fact_later (to_now h effect later) firm (Asked asked) among);
+  }
+
+  -- messages that nobody reads as an answer 297=0 to a hit
+  pub harmless_sent : (effect : Effect) (firm : ℕ) (row : InvestorRow)
+      → investor_numbered h.config firm ≡ Some row → (number moment : ℕ)
+      (messages : List OutMessage)
+      → Every (Harmless (market_of h.config firm row) (investor_facts h.venue.facts firm)) messages
       → Every (λ message. FactNow h effect (AtInvestor firm (Sent message)))
-      (written_from at number moment messages)
-  unfolding written
-  harmless_sent effect firm at number moment [] harmless = tt
-  harmless_sent effect firm at number moment (message ∷ messages) harmless = (
-    λ now later. record {
-      fields = written_fields (head_of at number moment) message;
-      text = refl;
-      closes = λ is. cc (harmless.0 (head_of at number moment), is);
-    },
-    harmless_sent effect firm at (number + 1) moment messages harmless.1,
+      (written_from (market_of h.config firm row) number moment messages)
+  harmless_sent effect firm row row_is number moment [] harmless = tt
+  harmless_sent effect firm row row_is number moment (message ∷ messages) harmless = (
+    λ now later other other_is may fields read is.
+        let calm = harmless.0 number moment
+        (may_now effect firm row row_is now later other other_is may) fields read in
+        cc (calm, is),
+    harmless_sent effect firm row row_is (number + 1) moment messages harmless.1,
   )
 
   pub investor_makes : (firm : ℕ) (action : InvestorMarket → Effect)
@@ -265,12 +164,13 @@ module _ (h : Here) where
 
     -- A quote that is shown, that is gone, a decline, an expiry.
 
-    pub relayed_makes : (room : RoomRef) (offer : Offer) (moment : ℕ) → room.investor ≡ firm
+    pub relayed_makes : investor_numbered h.config firm ≡ Some row → (room : RoomRef)
+        (offer : Offer) (moment : ℕ) → room.investor ≡ firm
         → Still (λ now. OfferOf h.config now.facts room offer) h.venue
         → Makes h (where_known h.venue.facts room.n None
         (at_investor.QuoteCame room.n offer moment) market)
     unfolding event_facts event_messages
-    relayed_makes room offer moment is offers =
+    relayed_makes row_is room offer moment is offers =
         let event = at_investor.QuoteCame room.n offer moment in
         let effect = at_market h.venue.facts market event [] in
         when_makes h _ effect (λ test. event_makes event
@@ -287,14 +187,16 @@ module _ (h : Here) where
                 tt,
               )
         ])
-        (harmless_sent effect firm market _ moment _ (offer_harmless (book_of desk_facts) room.n offer
-        (open_request (book_of desk_facts) room.n))))
+        (harmless_sent effect firm row row_is _ moment _ (offer_harmless market desk_facts
+        (book_of desk_facts) room.n offer (open_request (book_of desk_facts) room.n)
+        (open_asked desk_facts room.n))))
 
-    pub withdrawn_makes : (room : RoomRef) (word moment : ℕ)
+    pub withdrawn_makes : investor_numbered h.config firm ≡ Some row → (room : RoomRef)
+        (word moment : ℕ)
         → Makes h (where_known h.venue.facts room.n None
         (at_investor.QuoteGone room.n word moment) market)
     unfolding event_facts event_messages
-    withdrawn_makes room word moment =
+    withdrawn_makes row_is room word moment =
         let event = at_investor.QuoteGone room.n word moment in
         let effect = at_market h.venue.facts market event [] in
         when_makes h _ effect (λ test. event_makes event
@@ -304,24 +206,28 @@ module _ (h : Here) where
           | None ↦ tt
           | Some own ↦ gone_makes effect room.n (offer_with_word own word)
         ])
-        (harmless_sent effect firm market _ moment _
-        (withdrawal_harmless word (open_request (book_of desk_facts) room.n))))
+        (harmless_sent effect firm row row_is _ moment _
+        (withdrawal_harmless market desk_facts word (open_request (book_of desk_facts) room.n)
+        (open_asked desk_facts room.n))))
 
-    pub declined_makes : (room : RoomRef) (dealer : List ℕ) (moment : ℕ)
+    pub declined_makes : investor_numbered h.config firm ≡ Some row → (room : RoomRef)
+        (dealer : List ℕ) (moment : ℕ)
         → Makes h (where_known h.venue.facts room.n None
         (at_investor.DealerDeclined room.n dealer moment) market)
     unfolding event_facts event_messages
-    declined_makes room dealer moment =
+    declined_makes row_is room dealer moment =
         let event = at_investor.DealerDeclined room.n dealer moment in
         let effect = at_market h.venue.facts market event [] in
         when_makes h _ effect (λ test. event_makes event tt
-        (harmless_sent effect firm market _ moment _
-        (decline_harmless dealer (open_request (book_of desk_facts) room.n))))
+        (harmless_sent effect firm row row_is _ moment _
+        (decline_harmless market desk_facts dealer (open_request (book_of desk_facts) room.n)
+        (open_asked desk_facts room.n))))
 
-    pub expired_makes : (room : RoomRef) (moment : ℕ)
+    pub expired_makes : investor_numbered h.config firm ≡ Some row → (room : RoomRef)
+        (moment : ℕ)
         → Makes h (where_known h.venue.facts room.n None (at_investor.Closed room.n moment) market)
     unfolding event_facts event_messages
-    expired_makes room moment =
+    expired_makes row_is room moment =
         let event = at_investor.Closed room.n moment in
         let effect = at_market h.venue.facts market event [] in
         when_makes h _ effect (λ test. event_makes event
@@ -331,12 +237,14 @@ module _ (h : Here) where
           | None ↦ tt
           | Some own ↦ (λ now later. tt, tt)
         ])
-        (harmless_sent effect firm market _ moment _
-        (expiry_harmless (request_numbered (book_of desk_facts) room.n))))
+        (harmless_sent effect firm row row_is _ moment _
+        (expiry_harmless market desk_facts (request_numbered (book_of desk_facts) room.n)
+        (numbered_asked desk_facts room.n))))
 
     -- A message.
 
-    module _ (by_is : h.by ≡ actor.Firm firm) (moment : ℕ) (bytes : List ℕ) where
+    module _ (row_is : investor_numbered h.config firm ≡ Some row)
+        (by_is : h.by ≡ actor.Firm firm) (moment : ℕ) (bytes : List ℕ) where
       said_left : (effect : Effect) (v : InvestorVerdict) → Means market desk_facts v
           → investor_facts (day h effect).facts firm ≡ desk_facts ++ own_facts moment bytes v
           → Every (DutyNow h effect) (option_to_list (verdict_duty market moment v))
@@ -358,34 +266,34 @@ module _ (h : Here) where
           request_is = means.2;
           response_is = means.3;
           word_is = means.4;
+          id_is = means.5;
         },
         tt,
       )
-      said_left effect (verdict.Passes request response) means follows = (λ now later. tt, tt)
+      said_left effect (verdict.Passes request response) means follows =
+          (λ now later. means, tt)
       said_left effect other means follows = tt
 
       said_facts : (effect : Effect) (v : InvestorVerdict) → Means market desk_facts v
-          → investor_numbered h.config firm ≡ Some row
           → Every (λ fact. FactNow h effect (AtInvestor firm (AtDesk fact)))
           (own_facts moment bytes v)
-      said_facts effect (verdict.RequestAccepted id request) means is = (
+      said_facts effect (verdict.RequestAccepted id request) means = (
         λ now later. tt,
-        (λ now later. record { row = row; row_is = is; name_is = means }, tt),
+        (λ now later. record { row = row; row_is = row_is; name_is = means.0 }, tt),
       )
-      said_facts effect other means is = (λ now later. tt, tt)
+      said_facts effect other means = (λ now later. tt, tt)
 
-      pub asked_makes : investor_numbered h.config firm ≡ Some row
-          → Makes h (received_by_investor h.venue.facts moment bytes market)
+      pub asked_makes : Makes h (received_by_investor h.venue.facts moment bytes market)
       unfolding event_facts event_messages entries_of
-      asked_makes is =
+      asked_makes =
           let left = left_by_investor h.venue.facts moment bytes market in
           let own = at_investor.Received moment bytes in
           let effect = at_market h.venue.facts market own left in
           let v = investor_verdict market (book_of desk_facts) moment bytes in
           record {
             facts = market_facts effect firm (own_facts moment bytes v) _
-                (said_facts effect v (verdict_means market desk_facts moment bytes) is)
-                (harmless_sent effect firm market _ moment _
+                (said_facts effect v (verdict_means market desk_facts moment bytes))
+                (harmless_sent effect firm row row_is _ moment _
                 (verdict_harmless market desk_facts v (verdict_means market desk_facts moment bytes)));
             left = said_left effect v (verdict_means market desk_facts moment bytes)
                 (facts_then own left);

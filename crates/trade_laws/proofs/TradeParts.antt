@@ -4,13 +4,13 @@ use Rattle.venue_laws.proofs.Common.{List, Option, Some, ℕ, filter_map, nat_le
 use Rattle.venue_laws.proofs.Common.{◌&&◌, ◌≡◌, Ask, Duty, ResponseRef, RoomRef, slice_get}
 use Rattle.venue_laws.proofs.Common.{Configuration, dealer_numbered, DealerRow, Quoted}
 use Rattle.venue_laws.proofs.Common.{AcceptedQuote, AcceptedRequest, ShownOffer}
-use Rattle.venue_laws.proofs.Common.{Asked, Offered, book_of, Ended, end_of, End, Actor}
+use Rattle.venue_laws.proofs.Common.{Asked, InvestorFact, Offered, book_of, Ended, end_of, End, Actor}
 use Rattle.venue_laws.proofs.Common.{AuditTrail, dealer_of, word_for, Lifted, ShownIn}
 use Rattle.venue_laws.proofs.Common.{facts_of, rooms_by, was_lifted, In, Every, AtDealer}
 use Rattle.venue_laws.proofs.Common.{AtInvestor, Fact, InRoom, of_dealer, of_room}
 use Rattle.venue_rows.specs.Rows.{investor_numbered}
 use Rattle.venue_rows.specs.declared.investor_rows.InvestorRow.{InvestorRow}
-use Rattle.fix_fields.specs.Frame.{Field, frame_text, value_of}
+use Rattle.fix_fields.specs.Frame.{AreBody, Field, IsValue, frame_of, frame_text, value_of}
 use Rattle.quote_messages.specs.Written.{quote_name}
 use Rattle.market_terms.specs.declared.closes.Reply.TheVariants as reply
 use Rattle.market_terms.specs.declared.duties.Duty.TheVariants as duty
@@ -54,7 +54,7 @@ pub record QuoteOf (facts : List Fact) (dealer : ℕ) (room : RoomRef) (quote pr
   pub price_is : own.price ≡ price
   pub valid_is : own.valid_until ≡ valid_until
 
--- the quote that a hit means, as it was shown
+-- the quote that a hit means, as it was shown; its QuoteRespID (693) may stand in a field
 pub record HitOf (facts : List Fact) (room : RoomRef) (response : ResponseRef) (word : ℕ)
     : Type 0 where
   pub shown : ShownOffer
@@ -63,6 +63,7 @@ pub record HitOf (facts : List Fact) (room : RoomRef) (response : ResponseRef) (
   pub request_is : shown.request ≡ room.n
   pub response_is : response.k ≡ Some shown.number
   pub word_is : shown.offer.word ≡ word
+  pub id_is : IsValue response.id
 
 -- a room was awarded to the quote of this dealer with this word
 pub record AwardedTo (facts : List Fact) (room : RoomRef) (dealer word : ℕ) : Type 0 where
@@ -83,17 +84,35 @@ pub record IsAnswerTo (fields : List Field) (quote : ℕ) : Type 0 where
   pub is : is_answer fields ≡ true
   pub names : value_of 117 fields ≡ Some (quote_name quote)
 
--- a message that an investor was sent: where it is such an answer, its request is closed so
-pub record SentAs (facts : List Fact) (investor : ℕ) (bytes : List ℕ) : Type 0 where
-  pub fields : List Field
+-- what stands in each message to an investor may stand in a field: the date, the investor's name,
+-- and the ids of its requests
+pub record MayBeRead (date name : List ℕ) (facts : List InvestorFact) : Type 0 where
+  pub dated : IsValue date
+  pub named : IsValue name
+  pub ids : (asked : AcceptedRequest) → In (Asked asked) facts → IsValue asked.id
+
+-- a message is read as such an answer: it is one, and its request is closed so
+pub record ReadsAnswer (facts : List Fact) (investor : ℕ) (bytes : List ℕ) (fields : List Field)
+    : Type 0 where
   pub text : bytes ≡ frame_text fields
-  pub closes : is_answer fields ≡ true → (request quote price : ℕ) × (dealer : List ℕ)
-      × (value_of 117 fields ≡ Some (quote_name quote))
-      × In (Closed request (Awarded quote dealer price)) (investor_facts facts investor)
+  pub request : ℕ
+  pub quote : ℕ
+  pub dealer : List ℕ
+  pub price : ℕ
+  pub names : value_of 117 fields ≡ Some (quote_name quote)
+  pub closed : In (Closed request (Awarded quote dealer price)) (investor_facts facts investor)
+
+-- so it is of each message that an investor was sent, whoever reads it
+abbrev pub SentAs : Configuration → List Fact → ℕ → List ℕ → Type 0
+SentAs config facts investor bytes = (row : InvestorRow)
+    → investor_numbered config investor ≡ Some row
+    → MayBeRead config.date row.name (investor_facts facts investor) → (fields : List Field)
+    → frame_of bytes ≡ Some fields → is_answer fields ≡ true
+    → ReadsAnswer facts investor bytes fields
 
 -- a request was closed by the award of a quote that the investor was shown on it
-pub record ClosedBy (facts : List Fact) (investor request quote : ℕ) (dealer : List ℕ) (price : ℕ)
-    : Type 0 where
+pub record ClosedBy (config : Configuration) (facts : List Fact) (investor request quote : ℕ)
+    (dealer : List ℕ) (price : ℕ) : Type 0 where
   pub shown : ShownOffer
   pub winner : ℕ
   pub found : offer_numbered (book_of (investor_facts facts investor)) quote ≡ Some shown
@@ -104,6 +123,8 @@ pub record ClosedBy (facts : List Fact) (investor request quote : ℕ) (dealer :
   pub fields : List Field
   pub sent : In (investor_trail.Sent (frame_text fields)) (of_investor investor facts)
   pub is : IsAnswerTo fields quote
+  pub body : (row : InvestorRow) → investor_numbered config investor ≡ Some row
+      → MayBeRead config.date row.name (investor_facts facts investor) → AreBody fields
 
 -- the request of a room was closed by an award
 pub record IsClosed (facts : List Fact) (room : RoomRef) : Type 0 where
@@ -174,9 +195,9 @@ module _ (config : Configuration) where
   TradeFact (AtInvestor investor (investor_trail.AtDesk (Offered shown))) venue =
       OfferOf venue.facts (room_of investor shown.request) shown.offer
   TradeFact (AtInvestor investor (investor_trail.AtDesk (Closed request (Awarded quote dealer price))))
-      venue = ClosedBy venue.facts investor request quote dealer price
+      venue = ClosedBy config venue.facts investor request quote dealer price
   TradeFact (AtInvestor investor (investor_trail.Sent bytes)) venue =
-      SentAs venue.facts investor bytes
+      SentAs config venue.facts investor bytes
   TradeFact (AtInvestor investor entry) venue = Unit {0}
 
   -- what stands where a duty was left
@@ -188,8 +209,10 @@ module _ (config : Configuration) where
       × QuoteOf venue.facts dealer room quote price valid_until
   TradeDuty by (duty.Relay room offer moment) venue = OfferOf venue.facts room offer
   TradeDuty by (duty.Hit room response word moment) venue = HitOf venue.facts room response word
+  TradeDuty by (duty.Pass room response moment) venue = IsValue response.id
   TradeDuty by (duty.Answer room response reply.Awarded moment) venue =
       (by ≡ actor.Firm room.investor) × AnswerOf venue.facts room response
+  TradeDuty by (duty.Answer room response reply moment) venue = IsValue response.id
   TradeDuty by other venue = Unit {0}
 
   -- what stands in a venue

@@ -21,19 +21,24 @@ use Rattle.venue_laws.proofs.VenueParts.{KnownIn, Later, Still, later_same}
 use Rattle.venue_laws.proofs.VenueParts.{investor_facts, said_later}
 use Rattle.venue_laws.proofs.VenueSteps.{Here, day, to_now}
 use Rattle.venue_laws.proofs.Common.{ap, ◌∙◌, In, List, Option, Some, None, map, ◌++◌, length, ◌+◌, in_left, investor_grown, of_investor}
-use Rattle.fix_fields.specs.Frame.{Field, frame_text}
+use Rattle.fix_fields.specs.Frame.{Field, IsValue, frame_text, value_of}
 use Rattle.quote_messages.specs.Written.{written, written_fields}
+use Rattle.quote_messages.specs.declared.out_messages.OutMessage.{OutMessage}
 use Rattle.quote_messages.specs.declared.out_messages.Head.{Head}
 use Rattle.quote_messages.specs.declared.out_messages.OutMessage.TheVariants as out
 use Rattle.investor_desk.specs.InvestorOutput.{answer_messages, event_messages, head_of}
-use Rattle.investor_desk.specs.InvestorOutput.{response_message, written_from}
+use Rattle.investor_desk.specs.InvestorOutput.{pass_status, response_message, written_from}
 use Rattle.investor_desk.specs.InvestorFacts.{StandingRequest}
 use Rattle.step_replay.specs.InvestorTrail.{Sent, entries_of, sent_by}
 use Rattle.step_replay.specs.PlaceLemmas.{own_investor}
-use Rattle.trade_laws.proofs.TradeMarkets.{Harmless, harmless_sent, sent_with}
+use Rattle.shown_laws.proofs.LawfulFields.{AreLawful}
+use Rattle.shown_laws.proofs.ReadBack.{all_read}
+use Rattle.trade_laws.proofs.ReadMessages.{answer_lawful, pass_read, refused_read}
+use Rattle.trade_laws.proofs.CalmMessages.{Harmless, WasAsked, numbered_asked}
+use Rattle.trade_laws.proofs.TradeMarkets.{harmless_sent, may_now, sent_with}
 use Rattle.trade_laws.proofs.TradeMarkets.{desk_facts, event_makes, fact_later, facts_then, market}
 use Rattle.trade_laws.proofs.TradeMarkets.{investor_makes, offer_later}
-use Rattle.trade_laws.proofs.TradeParts.{IsAnswerTo}
+use Rattle.trade_laws.proofs.TradeParts.{IsAnswerTo, MayBeRead}
 use Rattle.trade_laws.proofs.TradeParts.{AnswerOf, AwardedTo, ClosedBy, TradeDuty}
 use Rattle.trade_laws.proofs.TradeSteps.{DoneNow, FactNow, Makes, when_makes}
 
@@ -48,7 +53,7 @@ awarded_later later room dealer word award = record {
 }
 
 module _ (h : Here) (room : RoomRef) (response : ResponseRef) (moment : ℕ) where
-  module _ (row : InvestorRow) where
+  module _ (row : InvestorRow) (row_is : investor_numbered h.config room.investor ≡ Some row) where
     abbrev pub replied : Reply → InvestorEvent
     replied reply = at_investor.Answered room.n response reply moment
 
@@ -95,6 +100,15 @@ module _ (h : Here) (room : RoomRef) (response : ResponseRef) (moment : ℕ) whe
           written_fields head
           (out.HitReport response.id own.0.request.id answer.hit.shown.number None)
 
+      -- it may stand in a frame where the texts of the desk may
+      reply_lawful : MayBeRead h.config.date row.name (investor_facts h.venue.facts room.investor)
+          → AreLawful reply_fields
+      reply_lawful may =
+          answer_lawful head may.named may.dated response.id own.0.request.id
+          answer.hit.shown.number answer.hit.id_is
+          (may.ids own.0.request (numbered_asked (investor_facts h.venue.facts room.investor) room.n
+          own.0 own.1))
+
       sends_it : sent_with h room.investor row (replied reply.Awarded) ≡ frame_text reply_fields ∷ []
       unfolding event_messages written
       sends_it =
@@ -136,7 +150,7 @@ module _ (h : Here) (room : RoomRef) (response : ResponseRef) (moment : ℕ) whe
       answers_it = record { is = refl; names = refl }
 
       closed_by : (now : AuditTrail) → Later (day h (replying reply.Awarded)) now
-          → ClosedBy now.facts room.investor room.n answer.hit.shown.number
+          → ClosedBy h.config now.facts room.investor room.n answer.hit.shown.number
           answer.hit.shown.offer.dealer answer.hit.shown.offer.price
       closed_by now later = record {
         shown = answer.hit.shown;
@@ -153,6 +167,11 @@ module _ (h : Here) (room : RoomRef) (response : ResponseRef) (moment : ℕ) whe
         fields = reply_fields;
         sent = sent_then now later;
         is = answers_it;
+        body = λ other other_is may. (
+          refl,
+          reply_lawful (may_now h (replying reply.Awarded) room.investor row row_is now later other
+              other_is may),
+        );
       }
 
       award_makes : Makes h (replying reply.Awarded)
@@ -160,18 +179,19 @@ module _ (h : Here) (room : RoomRef) (response : ResponseRef) (moment : ℕ) whe
           event_makes h room.investor row (replied reply.Awarded)
           (rw closes_it (λ now later. closed_by now later, tt))
           (rw sends_it (
-            λ now later. record {
-              fields = reply_fields;
-              text = refl;
-              closes = λ is. (
-                room.n,
-                answer.hit.shown.number,
-                answer.hit.shown.offer.price,
-                answer.hit.shown.offer.dealer,
-                answers_it.names,
-                closed_then now later,
-              );
-            },
+            λ now later other other_is may fields read is.
+                let same : fields ≡ reply_fields = all_read reply_fields fields (reply_lawful
+                (may_now h (replying reply.Awarded) room.investor row row_is now later other other_is
+                may)) read in
+                record {
+                  text = ap frame_text (sym same);
+                  request = room.n;
+                  quote = answer.hit.shown.number;
+                  dealer = answer.hit.shown.offer.dealer;
+                  price = answer.hit.shown.offer.price;
+                  names = ap (value_of 117) same ∙ answers_it.names;
+                  closed = closed_then now later;
+                },
             tt,
           ))
 
@@ -186,24 +206,40 @@ module _ (h : Here) (room : RoomRef) (response : ResponseRef) (moment : ℕ) whe
     -- Any other reply.
 
     -- a message by which a response is refused
-    refused_harmless : (why : HitRefusal) (own : Option StandingRequest)
-        → Every Harmless (answer_messages response (reply.Refused why) own)
-    refused_harmless why None = tt
-    refused_harmless why (Some own) = (by_response response.k, tt)
+    abbrev Calm : OutMessage → Type 0
+    Calm message = Harmless (market h room.investor row) (desk_facts h room.investor row) message
+
+    refused_harmless : (why : HitRefusal) → IsValue response.id → (own : Option StandingRequest)
+        → WasAsked (desk_facts h room.investor row) own
+        → Every Calm (answer_messages response (reply.Refused why) own)
+    refused_harmless why id None asked = tt
+    refused_harmless why id (Some own) asked = (by_response response.k, tt)
       where
         by_response : (quote : Option ℕ)
-            → Harmless (response_message own response.id quote (Some why))
-        by_response None head = refl
-        by_response (Some quote) head = refl
+            → Calm (response_message own response.id quote (Some why))
+        by_response None number moment may =
+            pass_read (head_of (market h room.investor row) number moment) may.named may.dated
+            response.id own.request.id (pass_status (Some why)) id
+            (may.ids own.request (asked own refl))
+        by_response (Some quote) number moment may =
+            refused_read (head_of (market h room.investor row) number moment) may.named may.dated
+            response.id own.request.id quote why id (may.ids own.request (asked own refl))
 
-    passed_harmless : response.k ≡ None → (own : Option StandingRequest)
-        → Every Harmless (answer_messages response reply.Passed own)
-    passed_harmless none None = tt
-    passed_harmless none (Some own) = rw none (λ head. refl, tt)
+    passed_harmless : response.k ≡ None → IsValue response.id → (own : Option StandingRequest)
+        → WasAsked (desk_facts h room.investor row) own
+        → Every Calm (answer_messages response reply.Passed own)
+    passed_harmless none id None asked = tt
+    passed_harmless none id (Some own) asked = rw none (
+      λ number moment may. pass_read (head_of (market h room.investor row) number moment) may.named
+          may.dated response.id own.request.id (pass_status None) id
+          (may.ids own.request (asked own refl)),
+      tt,
+    )
 
-    refused_makes : (why : HitRefusal) → Makes h (replying (reply.Refused why))
+    refused_makes : (why : HitRefusal) → IsValue response.id
+        → Makes h (replying (reply.Refused why))
     unfolding event_facts event_messages
-    refused_makes why =
+    refused_makes why id =
         event_makes h room.investor row (replied (reply.Refused why))
         (elim (request_numbered (book_of (desk_facts h room.investor row)) room.n)
         as (λ own. Every
@@ -213,13 +249,14 @@ module _ (h : Here) (room : RoomRef) (response : ResponseRef) (moment : ℕ) whe
           | None ↦ tt
           | Some own ↦ tt
         ])
-        (harmless_sent h (replying (reply.Refused why)) room.investor (market h room.investor row) _
-        moment _ (refused_harmless why
-        (request_numbered (book_of (desk_facts h room.investor row)) room.n)))
+        (harmless_sent h (replying (reply.Refused why)) room.investor row row_is _ moment _
+        (refused_harmless why id
+        (request_numbered (book_of (desk_facts h room.investor row)) room.n)
+        (numbered_asked (desk_facts h room.investor row) room.n)))
 
-    passed_makes : response.k ≡ None → Makes h (replying reply.Passed)
+    passed_makes : response.k ≡ None → IsValue response.id → Makes h (replying reply.Passed)
     unfolding event_facts event_messages
-    passed_makes none =
+    passed_makes none id =
         event_makes h room.investor row (replied reply.Passed)
         (elim (request_numbered (book_of (desk_facts h room.investor row)) room.n)
         as (λ own. Every
@@ -228,9 +265,10 @@ module _ (h : Here) (room : RoomRef) (response : ResponseRef) (moment : ℕ) whe
           | None ↦ tt
           | Some own ↦ rw none (λ now later. tt, tt)
         ])
-        (harmless_sent h (replying reply.Passed) room.investor (market h room.investor row) _ moment _
-        (passed_harmless none
-        (request_numbered (book_of (desk_facts h room.investor row)) room.n)))
+        (harmless_sent h (replying reply.Passed) room.investor row row_is _ moment _
+        (passed_harmless none id
+        (request_numbered (book_of (desk_facts h room.investor row)) room.n)
+        (numbered_asked (desk_facts h room.investor row) room.n)))
 
   -- what the duty does
   abbrev pub effect_of : Reply → Effect
@@ -248,15 +286,15 @@ module _ (h : Here) (room : RoomRef) (response : ResponseRef) (moment : ℕ) whe
       elim (cases_some (investor_numbered h.config room.investor)) [
         | inl none ↦ cc (rw none at (known_room h.stood room response.k knows_it))
         | inr some ↦ rw (some.1, replies, knows_it) (
-          award_makes some.0 answer knows_it,
-          award_done some.0 answer knows_it,
+          award_makes some.0 some.1 answer knows_it,
+          award_done some.0 some.1 answer knows_it,
         )
       ]
   answer_makes reply.Passed replies knows_it answers = (
     investor_makes h room.investor (answered_by h.venue.facts room response reply.Passed moment)
-        (λ row is. when_makes h (replies_to response.k reply.Passed) (if_known row reply.Passed)
-        (λ test. when_makes h (is_known row) (replying row reply.Passed) (λ also. elim (cases_some response.k) [
-          | inl none ↦ passed_makes row none
+        (λ row is. when_makes h (replies_to response.k reply.Passed) (if_known row is reply.Passed)
+        (λ test. when_makes h (is_known row is) (replying row is reply.Passed) (λ also. elim (cases_some response.k) [
+          | inl none ↦ passed_makes row is none (answers h.venue (later_same h.venue))
           | inr some ↦ cc (rw (some.1) at replies)
         ]))),
     λ now later. tt,
@@ -265,8 +303,8 @@ module _ (h : Here) (room : RoomRef) (response : ResponseRef) (moment : ℕ) whe
     investor_makes h room.investor
         (answered_by h.venue.facts room response (reply.Refused why) moment)
         (λ row is. when_makes h (replies_to response.k (reply.Refused why))
-        (if_known row (reply.Refused why)) (λ test.
-        when_makes h (is_known row) (replying row (reply.Refused why))
-        (λ also. refused_makes row why))),
+        (if_known row is (reply.Refused why)) (λ test.
+        when_makes h (is_known row is) (replying row is (reply.Refused why))
+        (λ also. refused_makes row is why (answers h.venue (later_same h.venue))))),
     λ now later. tt,
   )

@@ -6,6 +6,7 @@ use Rattle.venue_laws.proofs.Common.{Opened, Readied, Ended, is_open, is_opening
 use Rattle.venue_laws.proofs.Common.{request_of, End, where_follows, Effect, Dealer, Configuration}
 use Rattle.venue_laws.proofs.Common.{DealerRow, dealer_numbered, dealer_of, word_for, nothing, in_room}
 use Rattle.venue_laws.proofs.Common.{Fact, Every, every_both, InRoom, sweep_effect}
+use Rattle.fix_fields.specs.Frame.{IsValue}
 use Rattle.market_terms.specs.declared.duties.Duty.TheVariants as duty
 use Rattle.request_room.specs.Book.{event_facts, expired, may_expire, may_unpost, passed}
 use Rattle.request_room.specs.Book.{quote_posted}
@@ -132,20 +133,21 @@ module _ (h : Here) (room : RoomRef) where
   -- Ends by which nothing is traded.
 
   reply_left : (effect : Effect) (response : ResponseRef) (moment : ℕ) (b : Bool)
+      → IsValue response.id
       → DutyNow h effect (duty.Answer room response (reply_to_pass b) moment)
-  reply_left effect response moment true now later = tt
-  reply_left effect response moment false now later = tt
+  reply_left effect response moment true id_is now later = id_is
+  reply_left effect response moment false id_is now later = id_is
 
-  pub passed_makes : (response : ResponseRef) (moment : ℕ)
+  pub passed_makes : (response : ResponseRef) (moment : ℕ) → IsValue response.id
       → Makes h (in_room h.config h.venue.facts room true (at_room.Pass moment)
       (duties_of_pass (known h room) room response moment))
   unfolding event_facts
-  passed_makes response moment =
+  passed_makes response moment id_is =
       let is = is_open (known h room) in
       let duties = duties_of_pass (known h room) room response moment in
       let effect = in_it h room (where_so is (Ended passed moment)) duties in
       step_makes _ is (Ended passed moment) duties (λ now later. tt) (
-        reply_left effect response moment is,
+        reply_left effect response moment is id_is,
         if_left h effect is _ (told_left effect passed moment),
       )
 

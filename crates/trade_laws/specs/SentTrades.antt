@@ -2,7 +2,7 @@
 use Rattle.std.specs.Prelude.{◌≡◌, ℕ, Bool, true, false, ◌&&◌, List, codes, decimal, Option, Some}
 use Rattle.std.specs.Prelude.{None, is_some}
 use Rattle.bond_prices.specs.Price.{price_digits}
-use Rattle.fix_fields.specs.Frame.{Field, frame_text, value_of}
+use Rattle.fix_fields.specs.Frame.{AreBody, Field, frame_text, value_of}
 use Rattle.market_terms.specs.Codes.{side_code}
 use Rattle.quote_messages.specs.Written.{price_tag, quote_name, request_name}
 use Rattle.venue_rows.specs.Rows.{Configuration}
@@ -35,8 +35,10 @@ is_notice fields = says 35 (codes "AJ") fields && says 694 (codes "1") fields
 module _ {config : Configuration} (trail : AuditTrail) (trade : Trade config trail.facts)
     (fields : List Field) where
   -- The fields are the answer to the hit of a trade: it was sent to the trade's investor, and its
-  -- QuoteID (117) names the quote that was hit.
+  -- QuoteID (117) names the quote that was hit. They may stand in a frame, so whoever reads it as
+  -- one reads these.
   pub record AnswersTrade : Type 0 where
+    pub body : AreBody fields
     pub sent : In (frame_text fields) (sent_to config trade.investor trail)
     pub is : is_answer fields ≡ true
     pub quote : value_of 117 fields ≡ Some (quote_name trade.shown.number)
@@ -44,6 +46,7 @@ module _ {config : Configuration} (trail : AuditTrail) (trade : Trade config tra
   -- The fields are the notice of a trade: it was sent to the trade's dealer, and names the dealer's
   -- quote (117) and its request (131), with the bond, the side, the quantity and the price.
   pub record NotesTrade : Type 0 where
+    pub body : AreBody fields
     pub sent : In (frame_text fields) (sent_to config trade.dealer trail)
     pub is : is_notice fields ≡ true
     pub request : value_of 131 fields ≡ Some (request_name trade.quote.request)
@@ -54,7 +57,7 @@ module _ {config : Configuration} (trail : AuditTrail) (trade : Trade config tra
     pub price : value_of (price_tag trade.asked.ask.side) fields
         ≡ Some (price_digits trade.quote.price)
 
--- What an investor was sent in fields that answer a hit with 297=0 is of a trade, whose dealer was
+-- What an investor reads in fields that answer a hit with 297=0 is of a trade, whose dealer was
 -- sent its notice.
 pub record AnswerIsOfTrade (config : Configuration) (trail : AuditTrail) (investor : ℕ)
     (fields : List Field) : Type 0 where
@@ -64,7 +67,7 @@ pub record AnswerIsOfTrade (config : Configuration) (trail : AuditTrail) (invest
   pub others : List Field
   pub notice : NotesTrade trail trade others
 
--- What a dealer was sent in fields that are a notice 694=1 is of a trade, whose investor was sent its
+-- What a dealer reads in fields that are a notice 694=1 is of a trade, whose investor was sent its
 -- answer.
 pub record NoticeIsOfTrade (config : Configuration) (trail : AuditTrail) (dealer : ℕ)
     (fields : List Field) : Type 0 where

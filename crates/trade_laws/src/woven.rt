@@ -1,7 +1,8 @@
 //! The two sides of a trade on a day on threads.
 ghost use Rattle.std.specs.Prelude.{◌≡◌, ℕ, List, Some, true};
-ghost use Rattle.fix_fields.specs.Frame.{Field, frame_text};
-ghost use Rattle.venue_rows.specs.Rows.{Configuration, dealer_numbered, investor_numbered};
+ghost use Rattle.fix_fields.specs.Frame.{Field, frame_of};
+ghost use Rattle.fix_fields.specs.UtcTimestamp.{IsDate};
+ghost use Rattle.venue_rows.specs.Rows.{Configuration, KeepsLimits, dealer_numbered, investor_numbered};
 ghost use Rattle.venue_rows.specs.declared.dealer_rows.DealerRow.{DealerRow};
 ghost use Rattle.venue_rows.specs.declared.investor_rows.InvestorRow.{InvestorRow};
 ghost use Rattle.step_replay.specs.AuditTrail.{audit_trail};
@@ -22,20 +23,20 @@ use step_replay::firms_are_sent_one_list;
 pub fn both_sides_of_a_trade_are_sent_it_on_threads()
     ensures answers { (config : Configuration) (day : RecordedDay) (steps : List Step)
         (investor : ℕ) (buyer : InvestorRow) (sent : List (List ℕ)) (message : List ℕ)
+        → KeepsLimits config → IsDate config.date
         → SendAsRecorded config day steps → NoDutyIsLeft (audit_trail config steps)
         → investor_numbered config investor ≡ Some buyer
         → sent_by_record day investor ≡ Some sent → In message sent
-        → (fields : List Field) × (message ≡ frame_text fields)
-        × (is_answer fields ≡ true
-        → AnswerIsOfTrade config (audit_trail config steps) investor fields) }
+        → (fields : List Field) → frame_of message ≡ Some fields → is_answer fields ≡ true
+        → AnswerIsOfTrade config (audit_trail config steps) investor fields }
     ensures notices { (config : Configuration) (day : RecordedDay) (steps : List Step)
         (dealer : ℕ) (seller : DealerRow) (sent : List (List ℕ)) (message : List ℕ)
+        → KeepsLimits config → IsDate config.date
         → SendAsRecorded config day steps → NoDutyIsLeft (audit_trail config steps)
         → dealer_numbered config dealer ≡ Some seller
         → sent_by_record day dealer ≡ Some sent → In message sent
-        → (fields : List Field) × (message ≡ frame_text fields)
-        × (is_notice fields ≡ true
-        → NoticeIsOfTrade config (audit_trail config steps) dealer fields) }
+        → (fields : List Field) → frame_of message ≡ Some fields → is_notice fields ≡ true
+        → NoticeIsOfTrade config (audit_trail config steps) dealer fields }
 {
     both_sides_of_a_trade_are_sent_it();
     firms_are_sent_one_list();

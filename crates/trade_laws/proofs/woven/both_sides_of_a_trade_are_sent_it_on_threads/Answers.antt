@@ -4,15 +4,19 @@ use Rattle.trade_laws.proofs.WovenLemmas.{recorded_dealer, recorded_investor}
 use Rattle.trade_laws.proofs.woven.both_sides_of_a_trade_are_sent_it_on_threads.Goals as goal
 
 pub returns-clause-answers : goal.returns-clause-answers
-returns-clause-answers c config day steps investor buyer sent message sends idle is recorded among =
-    c.both_sides_of_a_trade_are_sent_it.ensures.answers config steps investor buyer message idle is
+returns-clause-answers c config day steps investor buyer sent message limits date sends idle is
+    recorded among =
+    c.both_sides_of_a_trade_are_sent_it.ensures.answers config steps investor buyer message limits
+    date idle is
     (subst (λ (l : List (List ℕ)). In message l)
     (recorded_investor c.firms_are_sent_one_list.ensures.days config day steps sends investor buyer
     sent is recorded) among)
 
 pub returns-clause-notices : goal.returns-clause-notices
-returns-clause-notices c config day steps dealer seller sent message sends idle is recorded among =
-    c.both_sides_of_a_trade_are_sent_it.ensures.notices config steps dealer seller message idle is
+returns-clause-notices c config day steps dealer seller sent message limits date sends idle is
+    recorded among =
+    c.both_sides_of_a_trade_are_sent_it.ensures.notices config steps dealer seller message limits
+    date idle is
     (subst (λ (l : List (List ℕ)). In message l)
     (recorded_dealer c.firms_are_sent_one_list.ensures.days config day steps sends dealer seller sent
     is recorded) among)
