@@ -72,7 +72,7 @@ def run_jobs(
         return []
     progress.begin("jobs", len(plan.jobs))
     results: dict[int, Result] = {}
-    with pool_of(max(1, at_once)) as pool:
+    with pool_of(max(1, min(at_once, len(plan.jobs)))) as pool:  # it begins all of them at once
         running = submitted(pool, plan, range(len(plan.jobs)), results)
         meanwhile()
         while running:

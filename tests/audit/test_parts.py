@@ -4,9 +4,11 @@ lines, lists and words.
 
 import unittest
 from collections import Counter
+from functools import partial
 from pathlib import Path
+from unittest import mock
 
-from mireseason_audit import pair_command
+from mireseason_audit import pair_command, work
 from mireseason_audit.dictionary import read_dictionary
 from mireseason_audit.facts import quantity_in
 from mireseason_audit.faults import Unreadable
@@ -17,6 +19,7 @@ from mireseason_audit.arguments import connection_of, source_of
 from mireseason_audit.main import parser_of
 from mireseason_audit.pair import Compared, Differences, compared_by, difference_words, differences
 from mireseason_audit.prices import Price
+from mireseason_audit.progress import Progress
 from mireseason_audit.reading import Reader
 from mireseason_audit.records import Sent, configured
 from mireseason_audit.second_day import moved_fields
@@ -343,6 +346,14 @@ class Pairs(unittest.TestCase):
         self.assertTrue(Compared(("row equal", "due equal", "messages equal")).holds)
         self.assertTrue(Compared(("row equal", "due differs at 3", "messages differ at 2")).holds)
         self.assertFalse(Compared(("row equal", "due equal", "messages differ at 2")).holds)
+
+
+class Processes(unittest.TestCase):
+    def test_there_are_no_more_than_jobs(self) -> None:
+        jobs = work.plan_of([partial(int, "3"), partial(int, "4")])
+        with mock.patch.object(work, "pool_of", wraps=work.pool_of) as pool:
+            self.assertEqual(work.run_jobs(jobs, 20, Progress()), [3, 4])
+        pool.assert_called_once_with(2)
 
 
 if __name__ == "__main__":
