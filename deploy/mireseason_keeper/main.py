@@ -7,6 +7,7 @@ import shutil
 import sys
 from collections.abc import Iterator
 from contextlib import contextmanager
+from datetime import datetime
 from pathlib import Path
 
 from mireseason_audit.version import version_text
@@ -48,16 +49,26 @@ def run(configuration: Path, settings: Settings) -> int:
     except (Fault, OSError) as fault:
         say('nothing is done cause="%s"' % fault)
         counts = Counts(at_fault=1)
-    if settings.metrics is not None:
-        write_metrics(settings.metrics, counts, keeper.now())
-    return 1 if counts.at_fault else 0
+    is_told = settings.metrics is None or told(settings.metrics, counts, keeper.now())
+    return 1 if counts.at_fault or not is_told else 0
+
+
+def told(metrics: Path, counts: Counts, now: datetime) -> bool:
+    """Whether the metrics were written. What was due is done all the same."""
+    try:
+        write_metrics(metrics, counts, now)
+    except OSError as fault:
+        say('metrics are not written cause="%s"' % fault)
+        return False
+    return True
 
 
 def faults_of(settings: Settings) -> list[str]:
     """What a run would find: a file or a program that is missing, a folder that can't be read, or a database that does not answer."""
     files = (settings.program, settings.key, *settings.gateways)
     found = ["%s: there is no such file" % path for path in files if not path.is_file()]
-    folders = [settings.folder] if settings.sealed is None else [settings.folder, settings.sealed]
+    metrics = None if settings.metrics is None else settings.metrics.parent
+    folders = [one for one in (settings.folder, settings.sealed, metrics) if one is not None]
     found += ["%s: there is no such folder" % path for path in folders if not path.is_dir()]
     if not shutil.which(settings.audit[0]):
         found.append("%s: there is no such program" % settings.audit[0])

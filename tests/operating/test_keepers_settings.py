@@ -5,6 +5,7 @@ from pathlib import Path
 
 import pytest
 from mireseason_keeper.faults import Fault
+from mireseason_keeper.main import faults_of, run
 from mireseason_keeper.settings import read_settings
 
 POSTGRES = 'postgres = "host=db1"'
@@ -178,3 +179,16 @@ def test_a_fault_is_told(file: Path, name: str) -> None:
     with pytest.raises(Fault) as fault:
         read_settings(file)
     assert expected in str(fault.value) and str(fault.value).startswith(str(file.parent))
+
+
+def test_metrics_that_can_not_be_written(file: Path, capsys: pytest.CaptureFixture[str]) -> None:
+    """A fault in one line, which a look at the configuration finds too."""
+    for name in ("given", "copies"):
+        (file.parent / name).mkdir()
+    metrics = '[metrics]\nfile = "none/keeper.prom"\n'
+    file.write_text(RIGHT.replace(POSTGRES, 'copies = "given"') + metrics)
+    settings = read_settings(file)
+    assert run(file, settings) == 1
+    (line,) = capsys.readouterr().err.splitlines()
+    assert line.startswith('metrics are not written cause="[Errno 2] No such file or directory')
+    assert "%s: there is no such folder" % (file.parent / "none") in faults_of(settings)
