@@ -44,7 +44,7 @@ Incoming read_incoming(Text bytes) {
     if (front.kind == Front::Kind::too_long) {
         message.kind = Incoming::Kind::too_long;
         const std::size_t header = static_cast<std::size_t>(front.body.data() - bytes.data());
-        message.fields = Fields::of_beginning(front.body.substr(0, MOST_MESSAGE - header));
+        message.fields = Fields::of_beginning(bytes.substr(header, MOST_MESSAGE - header));
         return message;
     }
     if (front.kind != Front::Kind::whole || front.length != bytes.size() || !front.is_sum_right) {

@@ -79,7 +79,7 @@ class Desk:
             return self.repeat(rest)
         if name in ORDERS:
             return self.order(name)
-        if name in ("came", "wrong", "foreign", "bare", "long", "bytes"):
+        if name in ("came", "wrong", "foreign", "bare", "long", "late", "bytes"):
             return self.come(name, rest)
         answer: list[str] = getattr(self, "call_" + name)(rest)
         return answer
@@ -98,18 +98,16 @@ class Desk:
 
     def come(self, name: str, rest: str) -> list[str]:
         connection, _, fields = rest.partition(" ")
-        length = 0
-        if name == "long":
-            number, _, fields = fields.partition(" ")
-            length = int(number)
         if name == "bytes":
             data = bytes_of(fields)
         elif name == "bare":
             data = framed(bytes_of(fields))
+        elif name in ("long", "late"):
+            data = framed(self.with_long_field(name, fields))
         else:
-            body = self.with_header(fields)
-            body += b"5000=%s\x01" % (b"x" * length) if name == "long" else b""
-            data = framed(body, b"FIX.4.4" if name == "foreign" else b"FIXT.1.1")
+            data = framed(
+                self.with_header(fields), b"FIX.4.4" if name == "foreign" else b"FIXT.1.1"
+            )
         turn = self.session.came(int(connection), data[:MOST_MESSAGE], name != "wrong", self.denial)
         return self.done(turn, True)
 
@@ -206,6 +204,12 @@ class Desk:
         if told.notice:
             answer.append("tells " + NOTICES[told.notice])
         return answer
+
+    def with_long_field(self, name: str, rest: str) -> bytes:
+        """Fields with a long one behind them, or before them."""
+        length, _, fields = rest.partition(" ")
+        front, behind = ("35=S", with_end(bytes_of(fields))) if name == "late" else (fields, b"")
+        return self.with_header(front) + b"5000=%s\x01" % (b"x" * int(length)) + behind
 
     def with_header(self, fields: str) -> bytes:
         """The fields of a message, with those of the header that they lack."""

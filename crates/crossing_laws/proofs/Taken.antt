@@ -2,7 +2,7 @@
 -- form nothing is at fault.
 use Rattle.std.proofs.Common.{◌≡◌, ℕ, ◌==◌, ◌&&◌, ◌||◌, Bool, true, false, not, nat_lt, List, length, Option, Some, None, refl, sym, ◌∙◌, ap, arith}
 use Rattle.std.proofs.lemmas.Bool.Decides.{nat_tests}
-use Rattle.fix_sessions.specs.Cuts.{behind_length, body_of, front_of, is_whole, version_of}
+use Rattle.fix_sessions.specs.Cuts.{body_of, front_of, is_whole, read_of_long, version_of}
 use Rattle.fix_sessions.specs.Fields.{fields_in}
 use Rattle.fix_sessions.specs.Flaws.{flaw_of}
 use Rattle.fix_sessions.specs.Heard.{as_taken, denied_message, heard_by, heard_of, incoming_of, is_logout, foreign_of, logon_of, number_once}
@@ -266,7 +266,7 @@ front_given : (names : Names) (a : Live) (clock : Clock) (denial : Option Denial
 front_given names a clock denial bytes front.Begun is = nothing bytes _ refl
 front_given names a clock denial bytes front.Garbled is = nothing bytes _ refl
 front_given names a clock denial bytes (front.Wrong len) is = nothing bytes _ refl
-front_given names a clock denial bytes front.TooLong is = nothing bytes _ (logs_out_none a clock.moment (number_once (fields_in (behind_length bytes))) (word.Logout why.TooLong))
+front_given names a clock denial bytes front.TooLong is = nothing bytes _ (logs_out_none a clock.moment (number_once (fields_in (read_of_long bytes))) (word.Logout why.TooLong))
 front_given names a clock denial bytes (front.Whole len) is =
     choice (λ (x : Heard). Given bytes (came_as a clock (as_taken denial x))) (len == length bytes) _ _
     (λ h. λ n given.

@@ -9,7 +9,7 @@ use Rattle.std.specs.Char.{is_ascii_digit}
 use Rattle.std.specs.Str.{bytes_eq}
 use Rattle.std.specs.Str.Parse.{digits_value}
 use Rattle.fix_fields.specs.Frame.{end_text, three_digits}
-use Rattle.fix_sessions.specs.Fields.{front_piece}
+use Rattle.fix_sessions.specs.Fields.{front_piece, ended_pieces}
 use Rattle.fix_sessions.specs.declared.cuts.Found.{Found}
 use Rattle.fix_sessions.specs.declared.cuts.What.{What}
 use Rattle.fix_sessions.specs.declared.cuts.What.TheVariants as what
@@ -68,6 +68,10 @@ body_of bytes = take (digits_value 10 (length_text bytes)) (behind_length bytes)
 
 abbrev pub sum_of : List ℕ → ℕ
 sum_of bytes = sum (take (whole_len bytes - 7) bytes) % 256
+
+-- what is read of a message that is too long: the fields that end with SOH among its first 65,536 bytes
+abbrev pub read_of_long : List ℕ → List ℕ
+read_of_long bytes = ended_pieces (behind_length (take MOST_MESSAGE bytes))
 
 -- what stands where the message that bytes begin has its CheckSum
 abbrev pub end_of : List ℕ → List ℕ

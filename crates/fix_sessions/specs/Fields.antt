@@ -2,7 +2,7 @@
 -- that are a field count.
 use Rattle.std.specs.Prelude.{ℕ, ◌+◌, Bool, false, ◌&&◌, ◌==◌, not, List, [], ◌∷◌, length, nat_le, if◌then◌else◌}
 use Rattle.std.specs.Prelude.{Option, Some, None, is_some, take, drop, zero, suc}
-use Rattle.std.specs.List.{list_all, before_first, after_first, position}
+use Rattle.std.specs.List.{list_all, before_first, before_last, after_first, position}
 use Rattle.std.specs.Char.{is_ascii_digit}
 use Rattle.std.specs.Str.Parse.{digits_value}
 use Rattle.fix_fields.specs.Frame.{Field}
@@ -13,6 +13,10 @@ front_piece body = before_first (λ byte. byte == 1) body
 
 abbrev pub behind_piece : List ℕ → List ℕ
 behind_piece body = after_first (λ byte. byte == 1) body
+
+-- the pieces that end with SOH, of bytes that are cut somewhere: what stands before the last SOH
+abbrev pub ended_pieces : List ℕ → List ℕ
+ended_pieces bytes = before_last (λ byte. byte == 1) bytes
 
 -- where the first equals sign of a piece stands
 abbrev pub equals_place : List ℕ → Option ℕ

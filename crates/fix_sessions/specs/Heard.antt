@@ -3,7 +3,7 @@ use Rattle.std.specs.Prelude.{ℕ, Bool, true, ◌&&◌, ◌||◌, ◌==◌, not
 use Rattle.std.specs.Prelude.{if◌then◌else◌, option_and_then, is_some}
 use Rattle.std.specs.Cmp.Lexicographic.{pointwise}
 use Rattle.fix_fields.specs.Frame.{Field, value_of, times_of}
-use Rattle.fix_sessions.specs.Cuts.{front_of, version_of, body_of, behind_length, is_whole}
+use Rattle.fix_sessions.specs.Cuts.{front_of, version_of, body_of, read_of_long, is_whole}
 use Rattle.fix_sessions.specs.Fields.{fields_in}
 use Rattle.fix_sessions.specs.Flaws.{flaw_of, is_msg_type}
 use Rattle.fix_sessions.specs.Texts.{has_text, number_of, number_at, text_at, time_at, text_if_short}
@@ -101,7 +101,7 @@ abbrev pub heard_by : Names → Front → List ℕ → Heard
 heard_by names front.Begun bytes = heard.Garbled
 heard_by names front.Garbled bytes = heard.Garbled
 heard_by names (front.Wrong len) bytes = heard.Garbled
-heard_by names front.TooLong bytes = heard.TooLong (number_once (fields_in (behind_length bytes)))
+heard_by names front.TooLong bytes = heard.TooLong (number_once (fields_in (read_of_long bytes)))
 heard_by names (front.Whole len) bytes =
     if len == length bytes
     then heard.Message (incoming_of names (version_of bytes) (length bytes) (body_of bytes))

@@ -4,7 +4,7 @@ ghost use Rattle.std.specs.List.{list_all};
 ghost use Rattle.std.specs.Char.{is_ascii_digit};
 ghost use Rattle.fix_sessions.specs.Cuts as spec;
 
-use crate::fields::{front_piece, near, past};
+use crate::fields::{ended_pieces, front_piece, near, past};
 use crate::numbers::{are_digits, small_number};
 
 /// How many bytes the longest message has that is read.
@@ -256,7 +256,7 @@ fn length_text(bytes: &[u8]) -> &[u8]
 }
 
 /// What stands behind them.
-pub(crate) fn behind_length(bytes: &[u8]) -> &[u8]
+fn behind_length(bytes: &[u8]) -> &[u8]
     ensures value { result.now ≡ spec.behind_length bytes.now }
     ensures shorter { length result.now ≤ length bytes.now }
 {
@@ -271,4 +271,12 @@ pub(crate) fn body_of(bytes: &[u8], len: usize) -> &[u8]
 {
     let around = version_of(bytes).len() + length_text(bytes).len() + 13;
     near(behind_length(bytes), len - around)
+}
+
+/// What is read of a message that is too long: the fields that end with SOH among its first 65,536
+/// bytes.
+pub(crate) fn read_of_long(bytes: &[u8]) -> &[u8]
+    ensures { result.now ≡ spec.read_of_long bytes.now }
+{
+    ended_pieces(behind_length(near(bytes, MOST_MESSAGE)))
 }

@@ -57,6 +57,16 @@ pub(crate) fn front_piece(body: &[u8]) -> &[u8]
     front
 }
 
+/// The pieces that end with SOH, of bytes that are cut somewhere: what stands before the last SOH.
+pub(crate) fn ended_pieces(bytes: &[u8]) -> &[u8]
+    ensures { result.now ≡ spec.ended_pieces bytes.now }
+{
+    match bytes.iter().rposition(|byte| *byte == SOH) {
+        Some(place) => &bytes[..place],
+        None => &[],
+    }
+}
+
 /// Whether a piece has an equals sign.
 pub(crate) fn has_equals(piece: &[u8]) -> bool
     ensures { result ≡ spec.has_equals piece.now }

@@ -7,7 +7,7 @@ ghost use Rattle.fix_sessions.specs.Heard as spec;
 ghost use Rattle.fix_sessions.specs.Texts as texts;
 ghost use Rattle.fix_sessions.specs.Texts.{number_of};
 
-use crate::cuts::{Front, behind_length, body_of, front_of, version_of};
+use crate::cuts::{Front, body_of, front_of, read_of_long, version_of};
 use crate::fields::has;
 use crate::flaws::{flaw_of, is_msg_type};
 use crate::messages::{Heard, Incoming, Kind, Origin, Reading, Terms, TestId};
@@ -104,7 +104,7 @@ pub(crate) fn heard_of<'a>(names: &Names, bytes: &'a [u8]) -> Heard<'a>
         Front::Garbled => Heard::Garbled,
         Front::Wrong { .. } => Heard::Garbled,
         Front::TooLong => Heard::TooLong {
-            number: number_once(&Scanned::of(behind_length(bytes))),
+            number: number_once(&Scanned::of(read_of_long(bytes))),
         },
         Front::Whole { len } => {
             if len != bytes.len() {

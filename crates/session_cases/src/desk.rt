@@ -11,7 +11,8 @@
 //! | `came C FIELDS` | a message on connection C: MsgType (35), 49, 56 and 52 but for those that FIELDS has, and the others of FIELDS |
 //! | `wrong C FIELDS` | the same, with wrong credentials |
 //! | `bare C FIELDS` | a message of these fields alone |
-//! | `long C N FIELDS` | the same, with a field 5000 that has N bytes behind them |
+//! | `long C N FIELDS` | the same as `came`, with a field 5000 of N bytes behind them; at most 65,536 bytes come |
+//! | `late C N FIELDS` | the same of a 35=S, with the fields behind the field 5000 |
 //! | `foreign C FIELDS` | the same as `came`, in a frame of FIX.4.4 |
 //! | `bytes C BYTES` | bytes |
 //! | `give FIELDS` | a message of the venue |
@@ -311,7 +312,7 @@ impl Place for Desk {
                 let bytes = frame_of(self.alloc, &body)?;
                 self.come(call, connection, &bytes, true)?;
             }
-            "long" => self.come_long(call)?,
+            "long" | "late" => self.come_long(call)?,
             "foreign" => self.come_foreign(call)?,
             "bytes" => {
                 let connection = call.words.number()?;
@@ -358,16 +359,23 @@ impl Desk {
         self.come(call, connection, &bytes, true)
     }
 
-    /// A message comes with a long field behind the others.
+    /// A message comes with a long field behind the others, or before them.
     fn come_long(&mut self, call: &mut Call<'_>) -> Result<(), CaseFault> {
         let connection = call.words.number()?;
         let len = call.words.number()?;
-        let mut body = self.with_header(call.words.rest())?;
+        let fields = call.words.rest();
+        let (front, behind) = if call.name == "late" {
+            ("35=S", with_end(piped_bytes_of(self.alloc, fields)?)?)
+        } else {
+            (fields, Vec::new(self.alloc))
+        };
+        let mut body = self.with_header(front)?;
         body.extend_from_slice(b"5000=")?;
         for _ in 0..len {
             body.push(b'x')?;
         }
         body.push(1)?;
+        body.extend_from_slice(&behind)?;
         let bytes = frame_of(self.alloc, &body)?;
         let most = bytes.len().min(65_536);
         self.come(call, connection, &bytes[..most], true)

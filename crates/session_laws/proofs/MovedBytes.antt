@@ -1,7 +1,7 @@
 -- What the session hears of bytes, and the bytes themselves.
 use Rattle.std.proofs.Common.{◌≡◌, ℕ, ◌+◌, Bool, true, false, ◌==◌, ◌&&◌, ◌||◌, List, length, ◌⊎◌, inl, inr, Option, Some, None, is_some, refl, sym, ap, ◌∙◌, if◌then◌else◌}
 use Rattle.std.proofs.lemmas.Bool.{false≢true}
-use Rattle.fix_sessions.specs.Cuts.{body_of, behind_length, front_of, is_whole, version_of}
+use Rattle.fix_sessions.specs.Cuts.{body_of, front_of, is_whole, read_of_long, version_of}
 use Rattle.fix_sessions.specs.Fields.{fields_in}
 use Rattle.fix_sessions.specs.Heard.{as_taken, denied_kind, foreign_of, heard_by, heard_of, incoming_of, is_logout, number_once}
 use Rattle.fix_sessions.specs.Steps.{last_counted, came_leaving_as}
@@ -77,7 +77,7 @@ garbled_moves names bytes d t (inr (inl counted)) = absurd (false≢true (ap is_
 garbled_moves names bytes d t (inr (inr set)) = absurd (false≢true (ap is_some set.set))
 
 long_moves : (names : Names) (bytes : List ℕ) (d : Day) (t : Turn) → front_of bytes ≡ front.TooLong
-    → MovesTo (heard.TooLong (number_once (fields_in (behind_length bytes)))) d t
+    → MovesTo (heard.TooLong (number_once (fields_in (read_of_long bytes)))) d t
     → Moved names bytes d t
 long_moves names bytes d t is (inl still) = inl still
 long_moves names bytes d t is (inr (inr set)) = absurd (false≢true (ap is_some set.set))

@@ -1,6 +1,6 @@
 -- How bytes move the expected number, and that no message is counted and dropped.
 use Rattle.std.specs.Prelude.{◌≡◌, ℕ, ◌+◌, ◌<◌, Bool, true, false, ◌&&◌, ◌||◌, ◌==◌, List, length, Option, Some, None, is_some, ◌⊎◌, if◌then◌else◌}
-use Rattle.fix_sessions.specs.Cuts.{body_of, behind_length, front_of, is_whole, version_of}
+use Rattle.fix_sessions.specs.Cuts.{body_of, front_of, is_whole, read_of_long, version_of}
 use Rattle.fix_sessions.specs.Fields.{fields_in}
 use Rattle.fix_sessions.specs.Heard.{foreign_of, is_logout, kind_of, logon_of, number_once}
 use Rattle.fix_sessions.specs.declared.cuts.Front.{Front}
@@ -27,11 +27,11 @@ abbrev pub is_message : List ℕ → Bool
 is_message bytes = is_whole (front_of bytes) bytes
 
 -- the MsgSeqNum (34) that a message bears: there once, and readable. Of one of more than 65,536 bytes
--- it is read at its front
+-- it is read if it ends with SOH among the first 65,536
 abbrev pub number_by : Front → List ℕ → Option ℕ
 number_by (front.Whole len) bytes =
     if len == length bytes then number_once (fields_in (body_of bytes)) else None
-number_by front.TooLong bytes = number_once (fields_in (behind_length bytes))
+number_by front.TooLong bytes = number_once (fields_in (read_of_long bytes))
 number_by other bytes = None
 
 abbrev pub number_borne : List ℕ → Option ℕ

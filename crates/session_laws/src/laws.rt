@@ -62,7 +62,7 @@ pub fn each_message_is_taken_once()
 
 /// A law: no message is counted and dropped. Bytes move the expected number only in these ways: by one,
 /// if they are one message with right length and right sum and one readable 34 that equals it (or if
-/// they are more than 65,536 bytes and such a 34 stands at their front); to a higher one,
+/// they are more than 65,536 bytes and such a 34 ends with SOH among the first 65,536); to a higher one,
 /// by the firm's own SequenceReset, in reset mode or as a gap fill; by one, on a Logon that bears it and
 /// is answered; or to 1, by a Logon with 141=Y and 34=1 that is counted at once and answered, while the
 /// venue has been given nothing of the firm. In the turn that counts a message, it is given to the
