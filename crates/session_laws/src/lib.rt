@@ -10,14 +10,17 @@
 //! - [`a_session_is_bounded`]: a turn sends at most two messages, and every number stays in its bounds.
 //! - [`a_restart_changes_nothing`], [`a_message_is_given_again_as_it_was`]: a session that is made of
 //!   what was kept goes on as the first one would have.
+//! - [`session_limits_are_as_written`]: the numbers that these laws name by constants of the code.
 //!
 //! Each event names its connection and is one message. No code stands on this crate.
 #![tactic(auto)]
 
 mod laws;
+mod limits;
 
 pub use laws::{
     a_message_is_given_again_as_it_was, a_restart_changes_nothing, a_session_is_bounded,
     each_message_is_taken_once, no_message_is_counted_and_dropped, nothing_without_a_logon,
     what_is_kept_was_given, what_leaves_is_what_is_kept, what_leaves_was_given,
 };
+pub use limits::session_limits_are_as_written;
