@@ -81,11 +81,43 @@ std::string bytes_of(const std::string &path) {
     return bytes.str();
 }
 
+// Whether all was written; errno says why not.
+bool write_all(int file, std::string_view bytes) {
+    while (!bytes.empty()) {
+        const ssize_t written = ::write(file, bytes.data(), bytes.size());
+        if (written < 0 && errno != EINTR) {
+            return false;
+        }
+        bytes.remove_prefix(written < 0 ? 0 : static_cast<std::size_t>(written));
+    }
+    return true;
+}
+
+// What is no whole record, or stands behind one that is none, is kept beside the journal: it may
+// be more than the end of the last one.
+void put_aside(const std::string &path, std::string_view rest) {
+    if (rest.empty()) {
+        return;
+    }
+    const std::string aside = path + ".cut";
+    const int file = ::open(aside.c_str(), O_WRONLY | O_CREAT | O_APPEND | O_CLOEXEC, 0600);
+    const bool is_written = file >= 0 && write_all(file, rest);
+    const std::string why = std::strerror(errno);
+    ::close(file);
+    if (!is_written) {
+        throw std::runtime_error(aside + " can't be written: " + why);
+    }
+    std::fprintf(stderr, "%s: its last %zu bytes are no whole record, and stand in %s\n",
+                 path.c_str(), rest.size(), aside.c_str());
+}
+
 } // namespace
 
 Journal::Journal(const std::string &path, const std::function<void(const Entry &)> &each)
     : path_(path) {
-    const std::size_t good = read_entries(bytes_of(path), each);
+    const std::string bytes = bytes_of(path);
+    const std::size_t good = read_entries(bytes, each);
+    put_aside(path, std::string_view(bytes).substr(good));
     file_ = ::open(path.c_str(), O_WRONLY | O_CREAT | O_APPEND | O_CLOEXEC, 0600);
     if (file_ < 0 || ::ftruncate(file_, static_cast<off_t>(good)) != 0) {
         throw std::runtime_error(path + " can't be opened: " + std::strerror(errno));
@@ -103,13 +135,8 @@ void Journal::write(const Entry &entry) {
     checked += std::to_string(milliseconds_of(entry.moment)) + ' ';
     checked += std::to_string(entry.bytes.size()) + ' ' + entry.bytes;
     const std::string record = std::to_string(check_of(checked)) + ' ' + checked + '\n';
-    std::string_view rest = record;
-    while (!rest.empty()) {
-        const ssize_t written = ::write(file_, rest.data(), rest.size());
-        if (written < 0 && errno != EINTR) {
-            end_process(path_, "can't be written");
-        }
-        rest.remove_prefix(written < 0 ? 0 : static_cast<std::size_t>(written));
+    if (!write_all(file_, record)) {
+        end_process(path_, "can't be written");
     }
 }
 

@@ -28,8 +28,9 @@ struct Entry {
 
 class Journal {
   public:
-    // Opens or begins a day's file, hands its entries to `each`, and goes on at its end. Throws
-    // std::runtime_error where it can't.
+    // Opens or begins a day's file, hands its entries to `each`, and goes on behind the last one
+    // before which all are whole: what stands there is put aside, into a file that ends with .cut.
+    // Throws std::runtime_error where it can't.
     Journal(const std::string &path, const std::function<void(const Entry &)> &each);
     ~Journal();
     Journal(const Journal &) = delete;

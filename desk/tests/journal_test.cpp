@@ -87,7 +87,9 @@ TEST_CASE(
         std::string changed = whole;
         changed[at] = static_cast<char>(changed[at] ^ 1);
         put(path, changed);
+        std::filesystem::remove(path + ".cut");
         CHECK(read(path).size() == 2);
+        CHECK(bytes_of(path + ".cut") == changed.substr(ends[2]));
     }
 }
 
