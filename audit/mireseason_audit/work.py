@@ -114,12 +114,13 @@ def pool_of(count: int) -> Iterator[ProcessPoolExecutor]:
     try:
         yield pool
     except BaseException:
-        pool.shutdown(wait=False, cancel_futures=True)
         for process in multiprocessing.active_children():
             process.kill()
         raise
     finally:
-        pool.shutdown()
+        # Waited for: a thread of the pool that goes on closes, at times, what Python's end still
+        # writes to, and that is told on standard error.
+        pool.shutdown(cancel_futures=True)
 
 
 def begin_worker(parent: int) -> None:
