@@ -7,11 +7,12 @@ from pathlib import Path
 
 from tests.desk.desks import DEALER, INVESTOR, ROOT, Desk, FirmOf
 from tests.desk.view import View, log_in
-from tests.gateway.wait import LONG, until
+from tests.gateway.wait import LONG, TooLong, until
 
 BOND = "XS0000000036"
 POINT = 256
 CLONE, FOLDER = "a clone", "a day"
+PROGRAMS = 7  # the gateway, three sample firms, two desks, and who tells how auctions end
 COMMAND = os.path.join(".", CLONE, "examples", "venue.sh")
 
 
@@ -66,11 +67,15 @@ def begun(
     told = place / "told"
     with told.open("wb") as out:
         running = subprocess.Popen([COMMAND], env=words, stdout=out, stderr=out, cwd=place)
-    until(
-        "it runs",
-        LONG,
-        lambda: "How each auction ends" in told.read_text() or running.poll() is not None,
-    )
+    try:
+        until(
+            "it runs",
+            LONG,
+            lambda: "How each auction ends" in told.read_text() or running.poll() is not None,
+        )
+    except TooLong:
+        down(place)
+        raise
     return running, told
 
 
@@ -108,11 +113,14 @@ def test_a_venue_whose_script_was_killed(
 ) -> None:
     """`down` ends what it has left, before the audit."""
     running, told = begun(desk_program, gateway_program, place)
+    known = place / FOLDER / "pids"
     try:
         assert "How each auction ends" in told.read_text(), told.read_text()
+        # Only then does it start the last one, which tells these ends.
+        until("it knows all", LONG, lambda: len(known.read_text().split()) == PROGRAMS)
         running.kill()
         running.wait(LONG)
-        assert len(working_in(place / FOLDER)) >= 6, "the gateway, three sample firms, two desks"
+        assert len(working_in(place / FOLDER)) >= PROGRAMS, known.read_text()
     finally:
         ended = down(place)
     assert ended.returncode == 0, ended.stdout
