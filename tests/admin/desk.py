@@ -10,7 +10,7 @@ from pathlib import Path
 from typing import Any
 
 from tests.gateway.stage import Stage
-from tests.gateway.wait import LONG
+from tests.gateway.wait import LONG, until
 from tests.harness.options import ROOT
 
 NOTE = re.compile(rb"# (act|clock) [0-9:.]{12} [ -~]+")
@@ -48,6 +48,12 @@ def did(stage: Stage, *words: str, at: Path | None = None) -> str:
     said = admin(stage, *words, at=at)
     assert said.status == 0, "%s: status %d, %s" % (" ".join(words), said.status, said.text)
     return said.out
+
+
+def wait_open(stage: Stage) -> None:
+    """Until the gateway takes an operator's commands too, which is some time after it takes connections."""
+    stage.door.wait_open()
+    until("it takes commands", LONG, lambda: admin(stage, "firms").status == 0)
 
 
 def rows(stage: Stage, *words: str, at: Path | None = None) -> list[dict[str, Any]]:

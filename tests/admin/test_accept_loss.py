@@ -8,7 +8,7 @@ from collections.abc import Callable
 
 import pytest
 
-from tests.admin.desk import acts, admin, audit, did, rows, socket_of
+from tests.admin.desk import acts, admin, audit, did, rows, socket_of, wait_open
 from tests.admin.test_orders import halt_is_seen
 from tests.gateway.stage import Stage
 from tests.gateway.test_seals import kept_aside, put_back
@@ -43,7 +43,7 @@ def until_it_waits(stage: Stage, lose: Callable[[Stage], None]) -> None:
     stage.door.stop()
     kept_aside(stage)
     stage.door.start()
-    stage.door.wait_open()
+    wait_open(stage)
     did(stage, "limit", "DLR1", "day_bytes=700000")
     stage.door.stop()
     lose(stage)

@@ -7,7 +7,7 @@ import tomllib
 from concurrent.futures import ThreadPoolExecutor
 from datetime import datetime, timedelta, timezone
 
-from tests.admin.desk import acts, admin, audit, did, rows
+from tests.admin.desk import acts, admin, audit, did, rows, wait_open
 from tests.gateway.door import today
 from tests.gateway.stage import Stage
 from tests.gateway.stage import check as check_text
@@ -60,7 +60,7 @@ def test_one_firm(stage: Stage) -> None:
     check(acts(stage) == [], "a look stands in the log")
     stage.door.kill()
     stage.door.start()
-    stage.door.wait_open()
+    wait_open(stage)
     again = firm_values(stage, "DLR1")["day_bytes"]
     check(again == (used, most), "after a start %r bytes are used, before %r" % (again, used))
 
@@ -144,7 +144,7 @@ def test_a_trade_that_is_voided(stage_of_log: Stage) -> None:
     check(voids(stage) == {trade: ""}, voids(stage))
     stage.door.kill()
     stage.door.start()
-    stage.door.wait_open()
+    wait_open(stage)
     did(stage, "bust", trade, "--because", REASON)
     line = acts(stage)[-1].decode()
     check(line.endswith(' bust %s because="%s"' % (trade, REASON)), line)
@@ -175,7 +175,7 @@ def test_a_trade_is_voided_once(stage: Stage) -> None:
     refused(stage, "is void already", "bust", trade, "--because", REASON)
     stage.door.kill()
     stage.door.start()
-    stage.door.wait_open()
+    wait_open(stage)
     refused(stage, "is void already", "bust", trade, "--because", REASON)
     check(acts(stage) == committed, "a second act stands in the log")
     check(voids(stage) == {trade: done}, voids(stage))
