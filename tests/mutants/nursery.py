@@ -142,4 +142,8 @@ def nursery(venue: tuple[str, ...], gateway: Path | None) -> Iterator[Nursery]:
     with alone(FOLDER):
         made = Nursery(FOLDER / "tree", venue, gateway)
         made.refresh()
-        yield made
+        try:
+            yield made
+        finally:
+            # It was to be compiled with. Below the top of a tree `rt` would refuse that tree for it.
+            (made.folder / "crates.txt").unlink(missing_ok=True)
