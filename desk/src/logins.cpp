@@ -21,11 +21,11 @@ constexpr std::size_t most_sessions = 16; // of one login; the oldest ends
 constexpr std::size_t place_digits = 4;   // hexadecimal ones, of 65,536 places
 constexpr std::chrono::minutes window{1};
 
-std::string place_of(const std::string &who) {
-    return web::digest_of(who).substr(0, place_digits);
-}
-
 } // namespace
+
+std::string Attempts::place_of(const std::string &who) const {
+    return web::digest_of(secret_ + who).substr(0, place_digits);
+}
 
 bool Attempts::may_try(const std::string &who, Moment at) {
     const auto found = failures_.find(place_of(who));

@@ -6,11 +6,13 @@
 
 #include "config.h"
 #include "moment.h"
+#include "web/secrets.h"
 
 #include <functional>
 #include <map>
 #include <optional>
 #include <string>
+#include <utility>
 #include <variant>
 #include <vector>
 
@@ -22,17 +24,22 @@ namespace desk {
 // How often something may fail in a minute, for each of those who try. A try counts as a failure
 // until it has succeeded, so that no more pass that come at once. Whoever tries has one of so many
 // places, which two hardly ever share: nobody's failures are forgotten to make room for another's,
-// and a login that nobody has is counted as one that somebody has.
+// and a login that nobody has is counted as one that somebody has. Without the secret nobody can
+// tell who shares a place with whom.
 class Attempts {
   public:
-    explicit Attempts(int most) : most_(most) {}
+    explicit Attempts(int most, std::string secret = web::new_secret())
+        : most_(most), secret_(std::move(secret)) {}
     bool may_try(const std::string &who, Moment at);
     void begins(const std::string &who, Moment at);
     // The try that began then.
     void succeeded(const std::string &who, Moment at);
 
   private:
+    std::string place_of(const std::string &who) const;
+
     const int most_;
+    const std::string secret_;
     std::map<std::string, std::vector<Moment>> failures_; // by place
 };
 

@@ -84,7 +84,7 @@ TEST_CASE("a command is read whole, or not at all") {
 }
 
 TEST_CASE("who fails too often waits a minute, and nobody else") {
-    Attempts attempts(3);
+    Attempts attempts(3, "");
     const Moment at = *moment_of("20260314-09:00:00.000");
     for (int count = 0; count < 3; ++count) {
         CHECK(attempts.may_try("one", at));
@@ -96,7 +96,7 @@ TEST_CASE("who fails too often waits a minute, and nobody else") {
 }
 
 TEST_CASE("a try counts until it has succeeded") {
-    Attempts attempts(1);
+    Attempts attempts(1, "");
     const Moment at = *moment_of("20260314-09:00:00.000");
     attempts.begins("one", at);
     CHECK_FALSE(attempts.may_try("one", at));
@@ -108,7 +108,7 @@ TEST_CASE("a try counts until it has succeeded") {
 }
 
 TEST_CASE("whoever fails often is remembered, however many others fail") {
-    Attempts attempts(3);
+    Attempts attempts(3, "");
     const Moment at = *moment_of("20260314-09:00:00.000");
     for (int count = 0; count < 3; ++count) {
         attempts.begins("one", at);
@@ -126,7 +126,7 @@ TEST_CASE("whoever fails often is remembered, however many others fail") {
 
 TEST_CASE("no names that others try make room for one more guess of a login") {
     constexpr int others = 1100;
-    Attempts attempts(3);
+    Attempts attempts(3, "");
     const Moment at = *moment_of("20260314-09:00:00.000");
     for (int other = 0; other < others; ++other) {
         attempts.begins("other " + std::to_string(other), at);
