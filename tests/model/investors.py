@@ -16,7 +16,7 @@ from collections.abc import Callable
 
 from .configuration import Configuration, read_configuration
 from .days import Day, Draw
-from .lawful import Search, Threads, message_of, ran
+from .lawful import Search, Threads, Undecided, message_of, searched
 from .lines import LineFault, StepReader
 from .live import LiveDay
 from .prices import price_text
@@ -333,18 +333,17 @@ class Found(Search):
 def threads(program: list[str], seed: int) -> tuple[int, list[str]]:
     """How many messages the investors of a day on threads were sent, and those whose view differs."""
     try:
-        configuration, inboxes, wanted = ran(program, seed)
-        search = Found(inboxes, wanted)
-        if not search.finds(Heard(configuration)):
-            return 0, ["no order of its actions gives these messages"]
-    except (ValueError, LineFault, RuntimeError) as fault:
+        configuration, search, found = searched(program, seed, Found, Heard)
+    except (ValueError, LineFault, Undecided) as fault:
         return 0, [str(fault)]
+    if not found:
+        return 0, ["no order of its actions gives these messages"]
     faults, sent = [], 0
     for firm in range(len(configuration.dealers), len(configuration.firms)):
         assert search.venue is not None
         desk = investor_alone(seen_by(configuration, firm), search.venue.due[firm])
         sent += len(desk.sent)
-        if [message_of(fields) for fields in desk.sent] != wanted[firm]:
+        if [message_of(fields) for fields in desk.sent] != search.wanted[firm]:
             faults.append("the view of %s" % configuration.firms[firm].name.decode())
     return sent, faults
 

@@ -5,6 +5,9 @@ threads. What each firm was sent is given to a search, which knows nothing of ho
 each firm takes its messages in their order and does its duties behind each, the clock its sweeps,
 and at every moment any of them may be the next. The search asks the venue of the model what each
 action sends, and goes no further where that is not what the firm was sent.
+
+Some runs have so many orders that a search is given up. Such a run shows nothing, right or wrong:
+the day is run again, and its test fails where no run is decided.
 """
 
 import pickle
@@ -12,7 +15,7 @@ import subprocess
 from collections.abc import Callable, Iterator
 from dataclasses import dataclass
 from functools import partial
-from typing import Any, NamedTuple, cast
+from typing import Any, NamedTuple, TypeVar, cast
 
 from .compare import joined
 from .configuration import Configuration, read_configuration
@@ -28,12 +31,18 @@ Place = tuple[str, object]
 Step = tuple[Actor, Duty]
 Inboxes = dict[Actor, list[Duty]]
 
-MOST_ACTIONS = (
-    2_000_000  # that are tried in the search for one day; a lawful day takes some hundreds
-)
+MOST_ACTIONS = 50_000  # that are tried in the search for one run; a lawful one takes some hundreds
+RUNS = 5  # of a day, whose threads go their own way each time, until the search for one is done
 
 ROOM_DUTIES = ("Open", "Ready", "Post", "Unpost", "Decline", "Hit", "Pass")
 DEALER_DUTIES = ("Show", "Tell")  # their first operand is the dealer
+
+
+class Undecided(RuntimeError):
+    """No order was found, and not all were tried."""
+
+    def __init__(self) -> None:
+        super().__init__("no order was found, and not all were tried")
 
 
 class Message(NamedTuple):
@@ -135,7 +144,7 @@ class Search:
     tried: int = 0
 
     def finds(self, venue: Threads) -> bool:
-        """Whether there is an order; RuntimeError where too many were tried."""
+        """Whether there is an order; Undecided where too many were tried."""
         seen: set[int] = set()
         ways = [iter([venue])]
         while ways:
@@ -170,7 +179,7 @@ class Search:
                 continue
             self.tried += 1
             if self.tried > MOST_ACTIONS:
-                raise RuntimeError("no order was found, and not all were tried")
+                raise Undecided
             heard = self.hears(after)
             if heard is None or not all(self.is_promised(after, duty) for duty in left):
                 continue
@@ -337,12 +346,33 @@ def ran(program: list[str], seed: int) -> tuple[Configuration, Inboxes, list[lis
     return configuration, inboxes_of(configuration, lines), sent_in(configuration, run.stdout)
 
 
+AnySearch = TypeVar("AnySearch", bound=Search)
+
+
+def searched(
+    program: list[str],
+    seed: int,
+    search_of: Callable[[Inboxes, list[list[Message]]], AnySearch],
+    venue_of: Callable[[Configuration], Threads],
+) -> tuple[Configuration, AnySearch, bool]:
+    """The search for an order of the day of this seed, and whether there is one: of the first run whose search is done;
+    Undecided where none is.
+    """
+    for _ in range(RUNS):
+        configuration, inboxes, wanted = ran(program, seed)
+        search = search_of(inboxes, wanted)
+        try:
+            return configuration, search, search.finds(venue_of(configuration))
+        except Undecided:
+            continue
+    raise Undecided
+
+
 def held(program: list[str], seed: int) -> tuple[str, int]:
     """What is wrong with the day of this seed, or nothing; and how many messages it had."""
-    configuration, inboxes, wanted = ran(program, seed)
-    search = Search(inboxes, wanted)
     try:
-        found = search.finds(Threads(configuration))
-    except RuntimeError as fault:
+        _, search, found = searched(program, seed, Search, Threads)
+    except Undecided as fault:
         return str(fault), 0
-    return "" if found else "no order of its actions gives these messages", sum(map(len, wanted))
+    sent = sum(map(len, search.wanted))
+    return "" if found else "no order of its actions gives these messages", sent
