@@ -4,11 +4,10 @@
 #include <doctest/doctest.h>
 
 #include "log_days.h"
+#include "log_schema.h"
 #include "sqlite_statement.h"
 
 #include <cstdlib>
-
-#include <unistd.h>
 
 namespace gateway::tests {
 
@@ -163,12 +162,12 @@ void another_form(const std::filesystem::path &folder) {
          told, "the cause");
 }
 
-// In a file of SQLite, or where TEST_POSTGRES names a database in a schema there.
+// In a file of SQLite, or where TEST_POSTGRES names a database in a schema there, which stays.
 std::unique_ptr<Database> database_of(const std::filesystem::path &folder) {
     const char *connection = std::getenv("TEST_POSTGRES");
     if (connection != nullptr) {
         return open_postgres(
-            {connection, fmt::format("connection_log_test_{}", ::getpid()), "connection_log_test"});
+            {connection, log_schema("connection_log_test"), "connection_log_test"});
     }
     return open_sqlite(folder / "day.db");
 }

@@ -2,11 +2,12 @@
 //
 // usage: log_bench CONNECTION LOGS THREADS SECONDS
 //
-// LOGS logs, each a schema that is dropped after it; in each of them THREADS threads that append a
-// message of 200 bytes and wait until it is committed, again and again. Prints the messages a
-// second of all logs together, and how long one waited.
+// LOGS logs, each a schema that is dropped after it where this role may; in each of them THREADS
+// threads that append a message of 200 bytes and wait until it is committed, again and again.
+// Prints the messages a second of all logs together, and how long one waited.
 #include "check.h"
 #include "log.h"
+#include "log_schema.h"
 
 #include <algorithm>
 #include <iostream>
@@ -14,7 +15,6 @@
 
 #include <fmt/format.h>
 #include <pqxx/pqxx>
-#include <unistd.h>
 
 namespace gateway::tests {
 
@@ -26,9 +26,8 @@ using Waits = std::vector<double>; // milliseconds
 class BenchLog {
   public:
     BenchLog(const std::string &connection, unsigned number)
-        : schema_(fmt::format("log_bench_{}_{}", ::getpid(), number)), connection_(connection),
-          clock_(today()), committed_(0),
-          database_(open_postgres({connection, schema_, "log_bench"})) {
+        : schema_(log_schema("log_bench", number)), connection_(connection), clock_(today()),
+          committed_(0), database_(open_postgres({connection, schema_, "log_bench"})) {
         Log::Start start;
         start.term = database_->take_over().value();
         start.last = begin(start.term);
@@ -39,7 +38,7 @@ class BenchLog {
         log_.reset();
         database_.reset();
         pqxx::connection connection(connection_);
-        pqxx::nontransaction(connection).exec("DROP SCHEMA " + schema_ + " CASCADE");
+        drop_if_own(connection, schema_);
     }
 
     // Appends until then.

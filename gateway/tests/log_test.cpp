@@ -7,14 +7,13 @@
 #include "check.h"
 #include "frame.h"
 #include "log_days.h"
+#include "log_schema.h"
 #include "sqlite_statement.h"
 
 #include <cstdlib>
 #include <filesystem>
 #include <iostream>
 #include <new>
-
-#include <unistd.h>
 
 namespace {
 
@@ -373,11 +372,10 @@ void after_a_crash(const std::filesystem::path &folder) {
 
 // In a file of SQLite, or where TEST_POSTGRES names a database in a schema there, which stays.
 std::unique_ptr<Database> database_of(const std::filesystem::path &folder) {
-    static int count = 0;
+    static unsigned count = 0;
     const char *connection = std::getenv("TEST_POSTGRES");
     if (connection != nullptr) {
-        const std::string schema = fmt::format("log_test_{}_{}", ::getpid(), ++count);
-        return open_postgres({connection, schema, "log_test"});
+        return open_postgres({connection, log_schema("log_test", ++count), "log_test"});
     }
     return open_sqlite(folder / "day.db");
 }

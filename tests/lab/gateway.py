@@ -2,6 +2,7 @@
 
 import re
 import shutil
+import tomllib
 from collections.abc import Iterable, Mapping
 from dataclasses import dataclass
 from pathlib import Path
@@ -41,19 +42,34 @@ class GatewayHost(Place):
         """With the configurations of the venues by their names, these credentials, and the keys of
         all gateways.
         """
-        self.own.mkdir(parents=True, exist_ok=True)
-        tls = self.own / "site"
-        put_certificate(self.folder / "certificates", self.name, tls, "root")
-        files = self.site.files(self.name, Folders(str(self.own), str(self.own), tls=str(tls)))
+        self.make_known()
         (self.own / "keys").mkdir(exist_ok=True)
         for path in (keys / "seal.key", keys / (self.name + ".pem"), *keys.glob("*.pub")):
             shutil.copy(path, self.own / "keys")
-        files |= {file_of(name): text for name, text in configurations.items()}
-        files["credentials.toml"] = credentials
+        self.put({file_of(name): text for name, text in configurations.items()})
+        self.put({"credentials.toml": credentials}, 0o600)
+
+    def make_known(self) -> None:
+        """With its certificate and what configure.py writes for it: the database lets it in by
+        these.
+        """
+        self.own.mkdir(parents=True, exist_ok=True)
+        tls = self.own / "site"
+        put_certificate(self.folder / "certificates", self.name, tls, "root")
+        folders = Folders(str(self.own), str(self.own), tls=str(tls))
+        self.put(self.site.files(self.name, folders))
+        (self.own / "pgpass").chmod(0o600)
+
+    def put(self, files: Mapping[str, str], mode: int = 0o644) -> None:
+        """Writes files of its folder, by their names."""
         for name, text in files.items():
             (self.own / name).write_text(text)
-        for name in ("pgpass", "credentials.toml"):
-            (self.own / name).chmod(0o600)
+            (self.own / name).chmod(mode)
+
+    @property
+    def connection(self) -> str:
+        """How its gateway connects to the database of the logs (libpq), by its configuration."""
+        return str(tomllib.loads((self.own / "gateway.toml").read_text())["log"]["postgres"])
 
     def start(self) -> None:
         words = self.network.words(self.name)

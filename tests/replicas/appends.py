@@ -4,7 +4,8 @@
 usage: appends.py OUT [--seconds N] [--images FOLDER]
 
 Runs terms_test, log_test and connection_log_test of OUT, the folder in which the gateway was built,
-on the primary, and log_bench with one, two and four logs.
+on a gateway's host: they are let in at the primary as its gateway is, the owner of the logs makes
+their tables, and no more is allowed than to a gateway. Then log_bench with one, two and four logs.
 """
 
 import argparse
@@ -13,41 +14,84 @@ import signal
 import subprocess
 import sys
 import tempfile
+from collections.abc import Sequence
+from dataclasses import dataclass
 from pathlib import Path
 
-from parts.site import Site
-
-from tests.lab.database import DATABASE
-from tests.lab.machine import DATABASES, GATEWAYS, Machine, site_here
+from tests.lab.machine import Machine, site_here
 
 TESTS = ("terms_test", "log_test", "connection_log_test")
-LOADS = ((1, 1), (1, 8), (1, 32), (2, 32), (4, 32))  # logs, threads of each
+BENCH = "log_bench"
+LIMIT = 600.0  # seconds of a test, and of a measurement beyond its own
 
 
-def connection_to(site: Site) -> str:
-    return "host=%s dbname=%s user=gateway password=%s target_session_attrs=read-write" % (
-        ",".join(host.address for host in DATABASES),
-        DATABASE,
-        site.passwords["GATEWAY"],
-    )
+@dataclass(frozen=True)
+class Load:
+    """What a measurement puts on the database: so many logs, each with so many threads that append."""
+
+    logs: int
+    threads: int
 
 
-def tried(machine: Machine, out: Path, seconds: int) -> int:
-    """Runs the tests and the measurement; how many tests failed."""
-    inside = machine.network.words(GATEWAYS[0].name)
-    failed, connection = 0, connection_to(machine.site)
-    own = {**os.environ, "TEST_POSTGRES": connection}
-    for test in TESTS:
-        status = subprocess.run([*inside, str(out / test)], env=own, check=False).returncode
-        print("%s: %s" % (test, "failed" if status else "passed"), flush=True)
-        failed += status != 0
-    for logs, threads in LOADS:
-        subprocess.run(
-            [*inside, str(out / "log_bench"), connection, str(logs), str(threads), str(seconds)],
-            check=True,
+LOADS = (Load(1, 1), Load(1, 8), Load(1, 32), Load(2, 32), Load(4, 32))
+
+
+@dataclass(frozen=True)
+class Bench:
+    """The programs of a build, on the first gateway's host of a machine whose databases are up."""
+
+    machine: Machine
+    out: Path
+
+    def begin(self) -> None:
+        """The host gets what configure.py writes for it."""
+        self.machine.gateways[0].make_known()
+
+    def failures(self) -> list[str]:
+        """Runs the tests; what those that failed said."""
+        connection = {**os.environ, "TEST_POSTGRES": self.machine.gateways[0].connection}
+        return list(filter(None, (self._failure(test, connection) for test in TESTS)))
+
+    def _failure(self, test: str, environment: dict[str, str]) -> str:
+        """What a test said, where it failed."""
+        done = self._run([self.out / test], LIMIT, environment)
+        print("%s: %s" % (test, "failed" if done.returncode else "passed"), flush=True)
+        return "%s: %s" % (test, done.stdout) if done.returncode else ""
+
+    def measure(self, load: Load, seconds: int) -> str:
+        """How many messages a second logs take, and how long one waits, in a line of words."""
+        words = [self.out / BENCH, self.machine.gateways[0].connection]
+        numbers = [load.logs, load.threads, seconds]
+        done = self._run([*words, *numbers], LIMIT + seconds, dict(os.environ))
+        if done.returncode != 0:
+            raise RuntimeError("%s: %s" % (BENCH, done.stdout))
+        return done.stdout.strip()
+
+    def _run(
+        self, words: Sequence[object], limit: float, environment: dict[str, str]
+    ) -> subprocess.CompletedProcess[str]:
+        gateway = self.machine.gateways[0]
+        return subprocess.run(
+            [*self.machine.network.words(gateway.name), *map(str, words)],
+            cwd=gateway.own,
+            env=environment,
+            stdout=subprocess.PIPE,
+            stderr=subprocess.STDOUT,
+            text=True,
+            timeout=limit,
+            check=False,
         )
+
+
+def tried(bench: Bench, seconds: int) -> int:
+    """Runs the tests and the measurements; how many tests failed."""
+    bench.begin()
+    failures = bench.failures()
+    print("\n".join(failures))
+    for load in LOADS:
+        print(bench.measure(load, seconds), flush=True)
     print("load %.0f" % os.getloadavg()[0])
-    return failed
+    return len(failures)
 
 
 def main() -> None:
@@ -61,10 +105,11 @@ def main() -> None:
     with tempfile.TemporaryDirectory(prefix="mrt") as name:
         folder = Path(name)
         folder.chmod(0o755)
-        machine = Machine(folder, words.images / folder.name, words.out, site_here(()), folder.name)
+        images = words.images / folder.name
+        machine = Machine(folder, images, words.out, site_here(()), folder.name)
         try:
             machine.bring_up_databases()
-            failed = tried(machine, words.out, words.seconds)
+            failed = tried(Bench(machine, words.out.resolve()), words.seconds)
         finally:
             machine.down()
     print("%d passed, %d failed" % (len(TESTS) - failed, failed))

@@ -1,7 +1,9 @@
 """What somebody on a host of the site's network can reach of the database hosts without a certificate and a password: nothing
-of etcd, of Patroni's interface, of replication, or of the log.
+of etcd, of Patroni's interface, of replication, or of the log. And that the keeper and a gateway, with theirs, can do their work.
 """
 
+import os
+import re
 import subprocess
 from collections.abc import Iterator
 from dataclasses import replace
@@ -16,10 +18,11 @@ from tests.lab.machine import GATEWAYS, Machine, check_root, remove, site_here
 from tests.gateway.wait import LONG
 from tests.harness import lab
 from tests.harness.options import ROOT
+from tests.replicas.appends import BENCH, TESTS, Bench, Load
 
 ATTACKER = "firms"  # a host in the same network, which has nothing of the site's
 COPIES = GATEWAYS[1]  # the host of copies: in this site there is one gateway
-PREFIX = "closed"
+PREFIX = "closed%d" % os.getpid()
 CONFIG_KEY = "/v2/keys/service/mireseason/config"
 
 
@@ -41,7 +44,7 @@ def machine(tmp_path_factory: pytest.TempPathFactory) -> Iterator[Machine]:
     if lacking:
         pytest.skip(lacking)
     check_root()
-    folder = Path("/tmp/mireseason-closed")
+    folder = Path("/tmp") / PREFIX
     made = Machine(folder, folder / "images", Path("/bin/true"), site(), PREFIX)
     try:
         made.bring_up_databases()
@@ -183,8 +186,27 @@ def test_the_keeper(machine: Machine, place: Path) -> None:
     assert done.returncode == 0 and done.stderr.count("tables made log=day_") == 2, done.stderr
     primary = machine.cluster.primary()
     assert primary is not None
-    query = "SELECT count(*) FROM pg_tables WHERE tablename = 'entry' AND tableowner = 'log_owner'"
-    assert primary.asked(query) == "2"
+    made = "tablename = 'entry' AND tableowner = 'log_owner' AND schemaname LIKE 'day_%'"
+    assert primary.asked("SELECT count(*) FROM pg_tables WHERE " + made) == "2"
+
+
+def test_a_gateway(machine: Machine, gateway_program: Path) -> None:
+    """By what configure.py writes for its host: terms, and the rows of a log, are as on a server of one's own; and logs take
+    messages. `appends.py` measures how fast."""
+    out = gateway_program.parent
+    if not all((out / name).exists() for name in (*TESTS, BENCH)):
+        pytest.skip("the tests in C++ are not built beside the gateway")
+    bench = Bench(machine, out)
+    bench.begin()
+    failures = bench.failures()
+    assert not failures, "\n".join(failures)
+    primary = machine.cluster.primary()
+    assert primary is not None
+    made = "tablename = 'entry' AND tableowner = 'log_owner' AND schemaname LIKE '%_test_%'"
+    assert int(primary.asked("SELECT count(*) FROM pg_tables WHERE " + made) or 0) >= len(TESTS)
+    told = bench.measure(Load(logs=2, threads=4), seconds=1)
+    found = re.search(r": (\d+) messages a second", told)
+    assert found and int(found[1]) > 0, told
 
 
 def test_replication(machine: Machine) -> None:

@@ -13,6 +13,7 @@ import pytest
 from tests.gateway.stage import Tools
 from tests.harness import lab
 from tests.harness.options import Options
+from tests.replicas.appends import TESTS
 
 LIMIT = 14_400  # seconds of one part: each has its own limits, and ends by them
 ROOM = 1_500_000_000  # bytes of memory in which the disks of hosts may be
@@ -154,5 +155,6 @@ def test_a_wrong_set_up_fails(part: Part, tools: Tools, options: Options, wrong:
 
 @pytest.mark.long
 def test_terms_and_logs_on_the_primary(part: Part, tools: Tools) -> None:
-    _, failed, told = part("appends", tools.programs.gateway.parent, "--seconds", 5)
-    assert failed == 0, told
+    """And how fast logs take messages there. test_closed_doors.py::test_a_gateway is its short form, on hosts that are up."""
+    passed, failed, told = part("appends", tools.programs.gateway.parent, "--seconds", 5)
+    assert (passed, failed) == (len(TESTS), 0), told
