@@ -54,6 +54,10 @@ TlsServer::TlsServer(const EngineSettings &settings)
     // Those of TLS 1.2 by which nobody reads what was said before he had the key. All of TLS 1.3
     // are such.
     require(SSL_CTX_set_cipher_list(context_.get(), "ECDHE+AESGCM:ECDHE+CHACHA20") == 1, "TLS");
+    // Keys are agreed on by curves alone. By the groups of numbers that TLS 1.3 has beside them
+    // (ffdhe8192 above all) one small message of whoever connects, which costs its sender nothing,
+    // would take a processor for a fifth of a second.
+    require(SSL_CTX_set1_groups_list(context_.get(), "X25519:P-256:X448:P-521:P-384") == 1, "TLS");
     // No session of TLS is resumed: each connection shows its certificate. (OpenSSL refuses a
     // handshake that would resume one, where certificates are asked for and it has no context.)
     SSL_CTX_set_options(context_.get(), SSL_OP_NO_RENEGOTIATION | SSL_OP_NO_TICKET);

@@ -261,10 +261,14 @@ def test_a_certificate_that_is_taken_back_before_its_logon(stage: Stage) -> None
         (("-tls1_2", "-cipher", "AES256-GCM-SHA384"), False),
         (("-tls1_2", "-cipher", "ECDHE-RSA-AES256-SHA384"), False),
         (("-tls1_2", "-cipher", "DHE-RSA-AES256-GCM-SHA384"), False),
+        (("-tls1_3", "-groups", "P-384"), True),
+        (("-tls1_3", "-groups", "ffdhe2048"), False),
+        (("-tls1_3", "-groups", "ffdhe8192"), False),
     ],
 )
 def test_suites(stage: Stage, words: tuple[str, ...], is_taken: bool) -> None:
-    """TLS 1.3, and of TLS 1.2 what nobody can read later who is given the key."""
+    """TLS 1.3, and of TLS 1.2 what nobody can read later who is given the key; and no keys that cost a stranger nothing, and the
+    gateway a fifth of a second."""
     with_tls(stage, False)
     stage.open()
     run = subprocess.run(
