@@ -137,11 +137,24 @@ Channel::Progress Channel::shake_hands() {
     return result == 1 ? Progress::done : progress_of(result);
 }
 
+// A record that has come in part stays with TLS until the rest comes.
+Channel::Progress Channel::read_record(char *bytes, std::size_t room, std::size_t &count) {
+    BIO *const source = SSL_get_rbio(tls_.get());
+    const std::uint64_t before = BIO_number_read(source);
+    ERR_clear_error();
+    const int result = SSL_read_ex(tls_.get(), bytes, room, &count);
+    const Progress progress = result == 1 ? Progress::done : progress_of(result);
+    const std::uint64_t came = BIO_number_read(source) - before;
+    if (progress != Progress::wants_read || came == 0 || holds_more()) {
+        return progress;
+    }
+    count = came;
+    return Progress::empty;
+}
+
 Channel::Progress Channel::read(char *bytes, std::size_t room, std::size_t &count) {
     if (tls_) {
-        ERR_clear_error();
-        const int result = SSL_read_ex(tls_.get(), bytes, room, &count);
-        return result == 1 ? Progress::done : progress_of(result);
+        return read_record(bytes, room, count);
     }
     const ssize_t result = ::recv(socket_.number(), bytes, room, MSG_DONTWAIT);
     if (result > 0) {

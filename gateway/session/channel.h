@@ -43,11 +43,12 @@ class Channel {
     Channel(const Channel &) = delete;
     Channel &operator=(const Channel &) = delete;
 
-    enum class Progress { done, wants_read, wants_write, ended };
+    enum class Progress { done, empty, wants_read, wants_write, ended };
 
     // One step of TLS's handshake; `done` where there is none.
     Progress shake_hands();
-    // `done` with at least one byte.
+    // `done` with at least one byte. `empty` where a record of TLS was read in which the peer says
+    // nothing, as one that updates its keys: `count` is the record's length, and there may be more.
     Progress read(char *bytes, std::size_t room, std::size_t &count);
     // Whether bytes came that read() has not given yet and the socket does not show any more.
     bool holds_more() const;
@@ -70,6 +71,7 @@ class Channel {
     bool is_taken_by(const TlsServer &server) const;
 
   private:
+    Progress read_record(char *bytes, std::size_t room, std::size_t &count);
     Progress progress_of(int result);
     Progress ended(const std::string &fault);
 

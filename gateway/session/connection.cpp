@@ -1,6 +1,7 @@
 #include "connection.h"
 
 #include "refusal_words.h"
+#include "sessions.h"
 
 #include <algorithm>
 #include <array>
@@ -21,14 +22,11 @@ using std::chrono::seconds;
 // How long a connection that ends may take to write what waits, and its peer to take it.
 constexpr auto last_words = seconds(2);
 
-// How often a session looks at its clock, and a Logon whether the old connection of its firm is
-// gone.
-constexpr auto tick = milliseconds(200);
+// How often a Logon looks whether the old connection of its firm is gone.
 constexpr auto look = milliseconds(20);
 
-// How long a firm may be above its rate, and how much of it is read at once meanwhile.
+// How long a firm may be above its rate.
 constexpr auto longest_held = seconds(5);
-constexpr std::size_t read_while_held = 4096;
 
 } // namespace
 
@@ -37,8 +35,9 @@ Connection::Connection(Descriptor socket, std::string peer, const TlsServer *tls
                        EngineEvents &events)
     : peer_(std::move(peer)), given_(slot.number()), tls_(tls != nullptr), settings_(settings),
       events_(events), slot_(std::move(slot)), channel_(std::move(socket), tls),
-      bell_(::eventfd(0, EFD_CLOEXEC | EFD_NONBLOCK)), opened_(Clock::now()),
-      conversation_(sessions, events, *this), progress_(opened_), ticked_(opened_) {
+      bell_(::eventfd(0, EFD_CLOEXEC | EFD_NONBLOCK)), handshakes_(sessions.handshakes()),
+      opened_(Clock::now()), conversation_(sessions, events, *this), progress_(opened_),
+      ticked_(opened_) {
     if (bell_.number() < 0) {
         throw std::runtime_error(std::string("no event descriptor: ") + std::strerror(errno));
     }
@@ -201,7 +200,7 @@ void Connection::talk() {
 
 bool Connection::shake_hands() {
     while (!shut_) {
-        const Channel::Progress progress = channel_.shake_hands();
+        const Channel::Progress progress = go_on_with_handshake();
         if (progress == Channel::Progress::done) {
             return true;
         }
@@ -214,6 +213,21 @@ bool Connection::shake_hands() {
         keep_time();
     }
     return false;
+}
+
+// A step may be a signature, which takes a processor for a millisecond, and whoever connects may
+// ask for it: strangers have their turns at it, one after the other of an address.
+Channel::Progress Connection::go_on_with_handshake() {
+    if (!tls_) {
+        return Channel::Progress::done;
+    }
+    Channel::Progress progress = Channel::Progress::wants_read;
+    const auto gives_up = [this] { return is_ending() || is_late(); };
+    handshakes_.take(peer_.substr(0, peer_.rfind(':')), gives_up, [&] {
+        progress = channel_.shake_hands();
+        return Turns::Time();
+    });
+    return progress;
 }
 
 void Connection::turn() {
@@ -282,48 +296,6 @@ Connection::Clock::duration Connection::longest_wait() const {
     return longest;
 }
 
-void Connection::read() {
-    if (is_ending() || is_held()) {
-        return;
-    }
-    std::array<char, 65536> bytes;
-    std::size_t count = 0;
-    // Where it is this thread that comes late, by small pieces it would come later and later.
-    const bool is_late = Clock::now() - reads_from_ >= tick;
-    const bool was_held = held_for_ > Clock::duration(0);
-    const Channel::Progress progress =
-        channel_.read(bytes.data(), was_held && !is_late ? read_while_held : bytes.size(), count);
-    is_blocked_ = progress == Channel::Progress::wants_write;
-    is_all_heard_ = progress == Channel::Progress::wants_read;
-    if (is_all_heard_) {
-        held_for_ = {};
-    }
-    if (progress == Channel::Progress::ended) {
-        shut(channel_.fault());
-        return;
-    }
-    if (progress != Channel::Progress::done) {
-        return;
-    }
-    heard_at_ = std::chrono::system_clock::now();
-    if (channel_.holds_more()) {
-        // It does not show in poll().
-        ring();
-    }
-    conversation_.hear(bytes.data(), count, heard_at_);
-    taken_at_ = Clock::now();
-    reads_from_ = conversation_.may_hear_from(count);
-    // What this thread takes, for the log above all, is not held by the rate.
-    held_for_ += std::max(reads_from_ - taken_at_, Clock::duration(0));
-}
-
-// Until when it is known what the firm has said. Behind bytes that were read there may be more: the
-// time that it took to log them is no silence of the firm, nor is a longer one while it is held.
-std::chrono::system_clock::time_point Connection::heard_until() const {
-    return is_all_heard_ ? std::chrono::system_clock::now()
-                         : heard_at_ + std::chrono::floor<milliseconds>(Clock::now() - taken_at_);
-}
-
 void Connection::write() {
     for (;;) {
         if (written_ == writing_.size()) {
@@ -354,6 +326,11 @@ void Connection::write() {
     }
 }
 
+// Whoever has not logged on by now.
+bool Connection::is_late() const {
+    return Clock::now() - opened_ >= seconds(settings_.logon_seconds);
+}
+
 void Connection::keep_time() {
     const Clock::time_point now = Clock::now();
     if (admitted_) {
@@ -365,30 +342,8 @@ void Connection::keep_time() {
         if ((wants_write_ || is_blocked_) && now - progress_ >= seconds(settings_.send_seconds)) {
             shut("the firm takes no byte");
         }
-    } else if (!conversation_.waits() && !is_ending() &&
-               now - opened_ >= seconds(settings_.logon_seconds)) {
+    } else if (!conversation_.waits() && !is_ending() && is_late()) {
         conversation_.turn_away(stranger_words::no_logon_in_time, "");
-    }
-}
-
-// Writes what waits, ends its own direction, and passes over what the peer still sends until that
-// has ended too: a socket that is closed with bytes unread would take the last words away again.
-void Connection::linger() {
-    std::array<char, 65536> bytes;
-    std::size_t count = 0;
-    bool is_written = false;
-    while (!shut_ && Clock::now() < finish_at_) {
-        write();
-        if (!wants_write_ && !is_written) {
-            is_written = true;
-            channel_.end_writing();
-        }
-        const Channel::Progress progress = channel_.read(bytes.data(), bytes.size(), count);
-        if (progress == Channel::Progress::ended) {
-            return;
-        }
-        is_blocked_ = progress == Channel::Progress::wants_write;
-        wait(true);
     }
 }
 

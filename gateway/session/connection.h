@@ -7,6 +7,7 @@
 #include "engine.h"
 #include "line.h"
 #include "strangers.h"
+#include "turns.h"
 
 #include <atomic>
 #include <chrono>
@@ -52,19 +53,27 @@ class Connection final : public Line {
     bool has_ended() const { return ended_; }
 
   private:
+    // How often a session looks at its clock.
+    static constexpr auto tick = std::chrono::milliseconds(200);
+
     void run();
     void talk();
     bool shake_hands();
+    Channel::Progress go_on_with_handshake();
     void turn();
     // Waits until there is something to read, where that is looked for, to write, or to look at.
     void wait(bool reads);
     bool is_held() const { return Clock::now() < reads_from_; }
     Clock::duration longest_wait() const;
     void read();
+    void hear(std::string_view said, std::size_t count);
+    void hear_nothing();
     void write();
     void ring();
+    bool is_late() const;
     void keep_time();
     void linger();
+    bool pass_over(std::size_t &left);
     void look_at_certificate();
     std::chrono::system_clock::time_point heard_until() const;
     std::string why() const;
@@ -78,6 +87,7 @@ class Connection final : public Line {
     StrangerSlot slot_; // of the connection's thread, too
     Channel channel_;
     Descriptor bell_;
+    Turns &handshakes_;
     const Clock::time_point opened_;
 
     // Of the connection's thread.
@@ -93,6 +103,7 @@ class Connection final : public Line {
     std::chrono::system_clock::time_point heard_at_; // when the last bytes were read
     Clock::time_point taken_at_;                     // when all of them were taken
     bool is_all_heard_ = true;                       // nothing more had come at the last look
+    std::size_t empty_records_ = 0;                  // before its Logon
 
     mutable std::mutex mutex_;
     std::shared_ptr<const TlsServer> renewed_; // that its certificate is to be shown to

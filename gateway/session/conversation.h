@@ -25,6 +25,8 @@ class Conversation {
 
     // Bytes that were read at a moment.
     void hear(const char *bytes, std::size_t count, Received at);
+    // Something was read in which the peer says nothing: it counts as a message does, in the rate.
+    void hear_nothing() { ++pieces_; }
     // Whether a Logon waits for the firm's old connection to end. Then nothing is to be read, and
     // the next call is look_again(), soon.
     bool waits() const { return waits_; }

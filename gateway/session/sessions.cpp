@@ -11,9 +11,9 @@ namespace gateway {
 
 namespace {
 
-// How many passwords are judged at one time. Each takes 16 MB, and a processor for tens of
-// milliseconds, and whoever connects may ask for it: half of the processors are left to the firms
-// that trade.
+// How many passwords are judged at one time, and how many handshakes go on. A password takes 16 MB,
+// and a processor for tens of milliseconds, and whoever connects may ask for both: half of the
+// processors are left to the firms that trade.
 std::size_t judged_at_once() {
     constexpr int most = 4;
     cpu_set_t own{};
@@ -28,7 +28,7 @@ std::string session_name(const std::string &venue, const std::string &firm) {
 }
 
 Sessions::Sessions(const std::vector<SessionStart> &starts, EngineEvents &events)
-    : events_(events), turns_(judged_at_once()) {
+    : events_(events), turns_(judged_at_once()), handshakes_(judged_at_once()) {
     add(starts);
 }
 

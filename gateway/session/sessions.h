@@ -35,8 +35,9 @@ class Sessions {
     FirmSession *any() const;
     // A number for a connection, which no other has.
     std::uint64_t next_connection() const { return ++connections_; }
-    // Turns at the judging of passwords, of whoever connects.
+    // Turns of whoever connects: at the judging of passwords, and at the handshakes of TLS.
     Turns &turns() const { return turns_; }
+    Turns &handshakes() const { return handshakes_; }
     // By session_name(). Throws std::runtime_error where there is none.
     FirmSession &of(const std::string &name) const;
 
@@ -49,6 +50,7 @@ class Sessions {
     EngineEvents &events_;
     mutable std::atomic<std::uint64_t> connections_{0};
     mutable Turns turns_;
+    mutable Turns handshakes_;
     std::map<std::string, std::unique_ptr<FirmSession>> sessions_; // by session_name()
 };
 
