@@ -83,8 +83,8 @@ FirmSession *Door::named_in(const LogonQuestion &logon) const {
     return logon.venue == venue_name ? sessions_.named_by(logon.firm, logon.desk) : nullptr;
 }
 
-// Of a name that nobody has too: so that it takes as long. False where the connection has ended
-// before its turn came.
+// Of a name that nobody has too, by what the venue asks of the names that it has: so that it takes
+// as long. False where the connection has ended before its turn came.
 bool Door::judge_sender(const LogonQuestion &logon, Judged &judged) const {
     const ConnectionFacts connection = line_.facts();
     LogonFacts facts;
@@ -94,7 +94,7 @@ bool Door::judge_sender(const LogonQuestion &logon, Judged &judged) const {
     facts.over_tls = connection.over_tls;
     facts.certificate = connection.certificate;
     facts.address = connection.address.substr(0, connection.address.rfind(':'));
-    const FirmSession *const asked = session_ != nullptr ? session_ : sessions_.any();
+    const FirmSession *const asked = session_ != nullptr ? session_ : sessions_.any_of(logon.desk);
     if (asked == nullptr) {
         return false;
     }

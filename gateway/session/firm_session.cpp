@@ -58,7 +58,11 @@ FirmSession::FirmSession(const SessionStart &start, EngineEvents &events)
 FirmSession::~FirmSession() = default;
 
 bool FirmSession::is_named(const std::string &firm, const std::string &desk) const {
-    return firm == names_.firm && (names_.desk.empty() || desk == names_.desk);
+    return firm == names_.firm && is_of(desk);
+}
+
+bool FirmSession::is_of(const std::string &desk) const {
+    return names_.desk.empty() || desk == names_.desk;
 }
 
 std::uint32_t FirmSession::moment_at(Received at) const {

@@ -37,6 +37,8 @@ class FirmSession final {
 
     // Whether a Logon with this SenderCompID (49) and TargetSubID (57) is for this session.
     bool is_named(const std::string &firm, const std::string &desk) const;
+    // Whether it is one of the venue that this TargetSubID names.
+    bool is_of(const std::string &desk) const;
     SessionHost &host() const { return host_; }
     const std::string &firm() const { return names_.firm; }
     const std::string &date() const { return names_.date; }

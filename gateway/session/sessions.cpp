@@ -51,7 +51,12 @@ FirmSession *Sessions::named_by(const std::string &firm, const std::string &venu
     return nullptr;
 }
 
-FirmSession *Sessions::any() const {
+FirmSession *Sessions::any_of(const std::string &venue) const {
+    for (const auto &session : sessions_) {
+        if (session.second->is_of(venue)) {
+            return session.second.get();
+        }
+    }
     return sessions_.empty() ? nullptr : sessions_.begin()->second.get();
 }
 

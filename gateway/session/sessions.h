@@ -31,8 +31,8 @@ class Sessions {
     // it names none.
     FirmSession *named_by(const std::string &firm, const std::string &venue) const;
     std::size_t count() const { return sessions_.size(); }
-    // One of them, whichever; null where there is none.
-    FirmSession *any() const;
+    // One of this venue, or of another where it is none; null where there is no session.
+    FirmSession *any_of(const std::string &venue) const;
     // A number for a connection, which no other has.
     std::uint64_t next_connection() const { return ++connections_; }
     // Turns of whoever connects: at the judging of passwords, and at the handshakes of TLS.

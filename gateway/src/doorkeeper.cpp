@@ -88,11 +88,9 @@ bool Doorkeeper::has_password(const Credentials *own, const std::string &passwor
 
 Refusal Doorkeeper::judge(const LogonFacts &facts) {
     const Refusal refusal = judge(facts, *book());
-    // Whatever is at fault that says nothing of a right password: what the next Logon of the
-    // address waits for tells nobody which.
-    if (refusal == Refusal::wrong_password || refusal == Refusal::wrong_name ||
-        refusal == Refusal::unknown_name || refusal == Refusal::no_access ||
-        refusal == Refusal::wrong_address) {
+    // Whatever is at fault: what the next Logon of the address waits for tells nobody which. With
+    // another's certificate, too, whoever guesses a password does not learn that it is right.
+    if (refusal != Refusal::none) {
         guesses_.wrong(facts.address);
     }
     return refusal;

@@ -107,6 +107,28 @@ void judged(const std::filesystem::path &folder) {
     }
 }
 
+// Whatever is at fault the next Logon of the address waits: so nobody learns which it was, nor that
+// a password was right.
+void pauses_for_all(const std::filesystem::path &folder) {
+    Config config = config_of(folder);
+    config.engine.client_certificates = true;
+    config.credentials["G"].ends = "20000101";
+    OpenedDay opened(config);
+    const JudgedLogon tries[] = {
+        {{"F", "fred", "other", true, "F", "10.0.0.1"}, Refusal::wrong_password},
+        {{"F", "fred", "right", true, "G", "10.0.0.2"}, Refusal::wrong_certificate},
+        {{"G", "gail", "other", true, "G", "10.0.0.3"}, Refusal::no_longer},
+    };
+    for (const JudgedLogon &each : tries) {
+        check(opened.host->judge(each.facts) == each.refusal, "refused for another reason");
+        check(opened.host->judges_from(each.facts.address) > SessionHost::Time(),
+              fmt::format("no pause after refusal {}", static_cast<int>(each.refusal)));
+    }
+    check(opened.host->judge({"F", "fred", "right", true, "F", "10.0.0.4"}) == Refusal::none &&
+              opened.host->judges_from("10.0.0.4") == SessionHost::Time(),
+          "a pause after what is right");
+}
+
 // Of this thread's processor, so that other processes do not matter much: the least of some.
 std::chrono::nanoseconds work_of(SessionHost &host, const LogonFacts &facts) {
     const auto spent = [] {
@@ -300,6 +322,12 @@ TEST_CASE("judged") {
     std::signal(SIGPIPE, SIG_IGN);
     const Scratch folder("who_it_was");
     judged(folder.path());
+}
+
+TEST_CASE("a pause for whatever is wrong") {
+    std::signal(SIGPIPE, SIG_IGN);
+    const Scratch folder("who_it_was");
+    pauses_for_all(folder.path());
 }
 
 TEST_CASE("as long for every name") {
