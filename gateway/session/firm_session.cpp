@@ -163,6 +163,7 @@ void FirmSession::begin_if_accepted() {
     const SessionState &next = machine_.next();
     Visitor *const from = is_on(next) ? visitor(next.line.connection) : nullptr;
     if (!machine_.is_on() && from != nullptr) {
+        logons_.add(LogonRate::Time::clock::now());
         from->number = host_.logon_accepted(names_.firm, from->line->facts());
     }
 }

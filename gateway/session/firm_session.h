@@ -4,6 +4,7 @@
 
 #include "engine.h"
 #include "kept_rows.h"
+#include "logon_rate.h"
 #include "machine.h"
 
 #include <chrono>
@@ -173,6 +174,7 @@ class FirmSession final {
     Machine machine_;
     std::uint32_t moment_ = 0; // of its last event
     std::string_view message_; // that it is, empty where it is another
+    LogonRate logons_;
     KeptRows rows_;
     Time hands_from_{};            // by the firm's rate of what is sent again
     std::uint32_t load_from_ = 0;  // the number that step() found unknown

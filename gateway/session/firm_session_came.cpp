@@ -33,6 +33,9 @@ constexpr std::array<RefusalText, 11> refusal_texts = {{
 constexpr std::string_view too_much_is_answered =
     "more than a thousand messages of this firm, and then ten a second, had to be answered by the "
     "session";
+constexpr const char *logs_on_too_often =
+    "this firm has logged on more than a thousand times, and then once a second: wait some "
+    "seconds, and log on again";
 
 } // namespace
 
@@ -69,7 +72,9 @@ FirmSession::Standing FirmSession::judge_logon(std::uint64_t connection, std::st
     if (visitors_[connection].reading != host_.readings()) {
         return refuse_old_reading(connection);
     }
-    machine_.came(begin(), connection, logon, true);
+    const bool too_often = !logons_.may_log_on(LogonRate::Time::clock::now());
+    const Denial denial{0, {}, logs_on_too_often};
+    machine_.came(begin(), connection, logon, true, too_often ? &denial : nullptr);
     const auto notice = static_cast<Notice>(machine_.turn().told.notice);
     carry_out(nullptr);
     const Standing standing = standing_here(connection);
@@ -81,7 +86,7 @@ FirmSession::Standing FirmSession::judge_logon(std::uint64_t connection, std::st
         if (notice == Notice::lost_store) {
             word = refusal_words::lost_store;
         } else if (notice == Notice::refused) {
-            word = word_of_refusal(connection, logon);
+            word = too_often ? refusal_words::too_often : word_of_refusal(connection, logon);
         } else if (machine_.numbers().is_spent()) {
             word = refusal_words::over;
         }

@@ -28,6 +28,7 @@ constexpr const char *no_longer = "credentials have ended";
 // While its password was judged, or while it waited for the firm's old connection to end.
 constexpr const char *read_again = "credentials were read again";
 constexpr const char *second_connection = "second connection";
+constexpr const char *too_often = "too many Logons";
 constexpr const char *version = "version";           // 1137
 constexpr const char *encryption = "encryption";     // 98
 constexpr const char *heartbeat = "heartbeat";       // 108
