@@ -1,5 +1,7 @@
 #include "channel.h"
 
+#include "regular_file.h"
+
 #include <cerrno>
 #include <cstring>
 #include <stdexcept>
@@ -28,6 +30,16 @@ void require(bool holds, const std::string &what) {
     }
 }
 
+// Else OpenSSL might wait at it without end.
+void require_files(const EngineSettings &settings) {
+    for (const std::string &file :
+         {settings.certificate, settings.key, settings.authorities, settings.revoked}) {
+        if (may_have_no_end(file)) {
+            throw std::runtime_error(file + ": is no file");
+        }
+    }
+}
+
 struct FreeCertificate {
     void operator()(X509 *certificate) const { X509_free(certificate); }
 };
@@ -50,6 +62,7 @@ TlsServer::TlsServer(const EngineSettings &settings)
     const std::string &certificate = settings.certificate;
     const std::string &key = settings.key;
     require(context_ != nullptr, "TLS");
+    require_files(settings);
     SSL_CTX_set_min_proto_version(context_.get(), TLS1_2_VERSION);
     // Those of TLS 1.2 by which nobody reads what was said before he had the key. All of TLS 1.3
     // are such.

@@ -1,5 +1,7 @@
 #include "certificate_end.h"
 
+#include "regular_file.h"
+
 #include <algorithm>
 #include <ctime>
 #include <memory>
@@ -29,7 +31,8 @@ std::optional<std::chrono::sys_seconds> end_of(const Certificate &certificate) {
 } // namespace
 
 std::optional<std::chrono::sys_seconds> end_of_certificates(const std::filesystem::path &path) {
-    const std::unique_ptr<BIO, decltype(&BIO_free)> file(BIO_new_file(path.c_str(), "r"), BIO_free);
+    const std::unique_ptr<BIO, decltype(&BIO_free)> file(
+        may_have_no_end(path) ? nullptr : BIO_new_file(path.c_str(), "r"), BIO_free);
     std::optional<std::chrono::sys_seconds> first;
     if (!file) {
         return first;

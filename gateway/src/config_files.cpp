@@ -1,6 +1,7 @@
 #include "config_files.h"
 
 #include "private_file.h"
+#include "regular_file.h"
 
 #include <algorithm>
 #include <fstream>
@@ -15,6 +16,9 @@ namespace gateway {
 namespace {
 
 std::optional<std::string> read(const std::filesystem::path &file) {
+    if (may_have_no_end(file)) {
+        return std::nullopt;
+    }
     std::ifstream in(file, std::ios::binary);
     std::ostringstream text;
     // Nothing is put there of a file without a byte, and that is no fault of it.

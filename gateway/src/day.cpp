@@ -4,6 +4,7 @@
 #include "notes.h"
 #include "process.h"
 #include "reasons.h"
+#include "regular_file.h"
 #include "venue_trial.h"
 #include "version.h"
 
@@ -67,9 +68,12 @@ std::filesystem::path find_program(const std::filesystem::path &program) {
 
 std::string read_program(const std::filesystem::path &program) {
     const std::filesystem::path path = find_program(program);
-    std::ifstream file(path, std::ios::binary);
+    std::ifstream file;
+    if (!may_have_no_end(path)) {
+        file.open(path, std::ios::binary);
+    }
     std::ostringstream bytes;
-    if (!file || !(bytes << file.rdbuf())) {
+    if (!file.is_open() || !(bytes << file.rdbuf())) {
         throw std::runtime_error(
             fmt::format("the venue's program {} can't be read", path.string()));
     }

@@ -34,6 +34,19 @@ void require_private(mode_t mode, const fs::path &path) {
     }
 }
 
+// Whatever stands there, it is opened without a wait; and what has no end is not read.
+Descriptor open_file(const fs::path &path) {
+    Descriptor file(::open(path.c_str(), O_RDONLY | O_CLOEXEC | O_NONBLOCK));
+    struct stat found {};
+    if (file.number() < 0 || ::fstat(file.number(), &found) != 0) {
+        fail(path);
+    }
+    if (!S_ISREG(found.st_mode)) {
+        throw std::runtime_error(fmt::format("{}: is no file", path.string()));
+    }
+    return file;
+}
+
 std::string read_all(const Descriptor &file, const fs::path &path) {
     std::string text;
     std::array<char, 4096> bytes{};
@@ -74,9 +87,9 @@ void synchronise_folder(const fs::path &path) {
 } // namespace
 
 std::string read_private(const fs::path &path) {
-    const Descriptor file(::open(path.c_str(), O_RDONLY | O_CLOEXEC));
+    const Descriptor file = open_file(path);
     struct stat found {};
-    if (file.number() < 0 || ::fstat(file.number(), &found) != 0) {
+    if (::fstat(file.number(), &found) != 0) {
         fail(path);
     }
     require_private(found.st_mode, path);
@@ -95,11 +108,7 @@ void make_files_private() {
 }
 
 std::string read_public(const fs::path &path) {
-    const Descriptor file(::open(path.c_str(), O_RDONLY | O_CLOEXEC));
-    if (file.number() < 0) {
-        fail(path);
-    }
-    return read_all(file, path);
+    return read_all(open_file(path), path);
 }
 
 void write_new(const fs::path &path, const std::string &text, unsigned mode) {

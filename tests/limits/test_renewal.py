@@ -1,5 +1,6 @@
 """Credentials and certificates that are read again while the gateway runs, and who may come from where."""
 
+import os
 import re
 import subprocess
 import time
@@ -236,6 +237,21 @@ def test_a_certificate_that_is_taken_back(stage: Stage) -> None:
     until("it can't come again", LONG, lambda: stage.counters().get(refused_for("no TLS"), 0) >= 1)
     stage.ping(stage.other)
     assert stage.other.times_on == on, "another firm's session was ended"
+
+
+@pytest.mark.parametrize("name", ["credentials.toml", "revoked.pem"])
+def test_a_pipe_in_the_place_of_a_file(stage: Stage, name: str) -> None:
+    """It can't be read: what was read before stays in force, and the gateway waits for nobody."""
+    with_tls(stage, True)
+    revoked_list(stage.folder)
+    stage.door.tls |= {"revoked": '"revoked.pem"'}
+    stage.open(stage.other)
+    (stage.folder / name).unlink()
+    os.mkfifo(stage.folder / name, 0o600)
+    renew(stage, "stay as they were")
+    assert name in stage.door.last_words()
+    stage.ping(stage.other)
+    assert stage.door.stop() == 0
 
 
 def test_a_certificate_that_is_taken_back_before_its_logon(stage: Stage) -> None:

@@ -1,6 +1,7 @@
 """The venue's configuration, as its operator wrote it: each fault is told with its place, and nothing is written before it is right."""
 
 import json
+import os
 import random
 import re
 import socket
@@ -235,6 +236,18 @@ def test_files_without_a_byte(stage: Stage) -> None:
     (stage.folder / "credentials.toml").write_text("")
     found = told(stage)
     assert (found.returncode, "credentials.toml: has nothing in it" in found.stderr) == (1, True)
+
+
+@pytest.mark.parametrize("name", ["credentials.toml", "venue.toml", "keys/seal.key"])
+def test_a_pipe_in_the_place_of_a_file(stage: Stage, name: str) -> None:
+    """Nobody waits for whoever might write into it."""
+    write(stage, VENUE)
+    assert told(stage).returncode == 0
+    file = stage.folder / name
+    file.unlink()
+    os.mkfifo(file, 0o600)
+    found = told(stage)
+    assert (found.returncode, name in found.stderr) == (1, True), found.stderr
 
 
 def test_the_pages_have_the_defaults() -> None:
