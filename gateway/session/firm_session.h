@@ -178,6 +178,7 @@ class FirmSession final {
     KeptRows rows_;
     Time hands_from_{};            // by the firm's rate of what is sent again
     std::uint32_t load_from_ = 0;  // the number that step() found unknown
+    std::uint32_t load_end_ = 0;   // and the one behind the last that is to leave with it
     std::uint64_t forgotten_ = 0;  // how often what is kept was another from then on
     std::uint64_t own_ticket_ = 0; // of the last event but those by which the venue gives something
     std::uint64_t stored_ticket_ = 0; // the last one that is known to be committed

@@ -15,20 +15,26 @@ namespace {
 constexpr std::size_t most_steps = 256;
 constexpr std::size_t enough_bytes = 65536;
 
+// What is read of the log counts in the rate as so many messages at least, however few are sent:
+// a firm that asks for one number again and again has the log read each time.
+constexpr std::size_t least_of_a_read = 64;
+
 } // namespace
 
 FirmSession::Work FirmSession::serve(std::uint64_t connection) {
     std::size_t handed = 0;
+    std::size_t read = 0;
     Step done = Step::moved;
     for (std::size_t steps = 0; steps < most_steps && done != Step::idle && done != Step::held;
          ++steps) {
         done = step(connection);
         if (done == Step::unknown) {
             load(connection);
+            read += least_of_a_read;
         }
         handed += done == Step::handed ? 1 : 0;
     }
-    const Time from = count_handed(handed);
+    const Time from = count_handed(std::max(handed, read));
     if (!flush(connection, handed > 0) || done == Step::idle) {
         return {};
     }
@@ -117,10 +123,12 @@ FirmSession::Step FirmSession::step(std::uint64_t connection) {
 // Hands the machine what is kept under the number that it asks for.
 FirmSession::Step FirmSession::hand(const Wanted &wanted) {
     const bool is_again = wanted.kind == static_cast<std::uint32_t>(Want::again);
+    const std::uint64_t again_end = machine_.state().line.again_end;
     const KeptRows::Found found =
-        rows_.find(wanted.number, is_again ? machine_.state().line.again_end : wanted.number + 1);
+        rows_.find(wanted.number, is_again ? again_end : wanted.number + 1);
     if (!found.is_known) {
         load_from_ = static_cast<std::uint32_t>(wanted.number);
+        load_end_ = is_again ? static_cast<std::uint32_t>(again_end) : machine_.numbers().next;
         return Step::unknown;
     }
     if (found.row == nullptr) {
@@ -134,18 +142,20 @@ FirmSession::Step FirmSession::hand(const Wanted &wanted) {
     return Step::handed;
 }
 
-// Reads what is kept from a number on. What is kept meanwhile is put behind it.
+// Reads what is kept from a number on, and no more of it than is to leave. What is kept meanwhile
+// is put behind it.
 void FirmSession::load(std::uint64_t connection) {
     std::unique_lock lock(mutex_);
     const std::uint32_t from = load_from_;
-    const std::uint32_t next = machine_.numbers().next;
+    const std::uint32_t end = load_end_;
     const std::uint64_t before = forgotten_;
-    rows_.forget(next);
+    rows_.forget(machine_.numbers().next);
     lock.unlock();
-    std::vector<KeptMessage> read = host_.kept_messages(names_.firm, from, KeptRows::chunk);
+    std::vector<KeptMessage> read =
+        host_.kept_messages(names_.firm, from, std::min<std::size_t>(KeptRows::chunk, end - from));
     lock.lock();
     if (before == forgotten_ && machine_.has(connection)) {
-        rows_.put(from, next - 1, std::move(read));
+        rows_.put(from, end - 1, std::move(read));
     }
 }
 

@@ -112,6 +112,7 @@ class Book final : public SessionHost {
     std::vector<KeptMessage> kept_messages(const std::string &, std::uint32_t from,
                                            std::size_t limit) override {
         std::vector<KeptMessage> found;
+        reads.push_back(limit);
         for (auto at = kept.lower_bound(from); at != kept.end() && found.size() < limit; ++at) {
             found.push_back(at->second);
         }
@@ -133,6 +134,11 @@ class Book final : public SessionHost {
         calls.push_back("reset");
     }
 
+    Time was_sent_again(const std::string &, std::size_t messages) override {
+        sent_again += messages;
+        return {};
+    }
+
     // Whether the number of a message of the session's own is in the log, with all lower ones.
     bool is_stored(std::uint32_t number) const {
         const auto found = tickets_.find(number);
@@ -147,6 +153,8 @@ class Book final : public SessionHost {
     std::vector<std::string> refusals;   // their words
     std::vector<std::string> calls;
     std::map<std::uint32_t, KeptMessage> kept;
+    std::vector<std::size_t> reads; // of what is kept, and how many each could have
+    std::size_t sent_again = 0;     // by the firm's rate
     SessionNumbers numbers;
     int logons = 0; // that have not ended
     std::uint64_t last_ticket = 0;

@@ -336,6 +336,29 @@ TEST_CASE("asked again while it settles") {
 }
 
 // Each Logout is a disconnect.
+// No more is read of the log than is to leave, and each read counts as some messages, so that a
+// firm which asks for one again and again has the log read no faster than for many.
+TEST_CASE("what is read for a resend") {
+    constexpr std::uint32_t given = 300;
+    Scene scene;
+    Talk talk(scene);
+    talk.settle();
+    for (std::uint32_t number = 1; number <= given; ++number) {
+        scene.give(number);
+    }
+    talk.ear.heard();
+    talk.say(message_of("2", 3, "7=5|16=5|"));
+    check_calls({"5 AI again"}, talk.ear.heard(), "what it is sent");
+    same<std::size_t>(1, scene.book.reads.size(), "reads for one message");
+    same<std::size_t>(1, scene.book.reads.at(0), "what is read for it at most");
+    constexpr std::size_t of_a_read = 64;
+    same(of_a_read, scene.book.sent_again, "what it counts");
+    talk.say(message_of("2", 4, "7=3|16=0|"));
+    same<std::size_t>(given, talk.ear.heard().size(), "what it is sent of all");
+    const std::size_t counted = scene.book.sent_again - of_a_read;
+    check(counted >= given && counted < given + of_a_read, fmt::format("all count {}", counted));
+}
+
 TEST_CASE("no logout while it settles") {
     for (const std::string &bytes :
          {message_of("S", 1, ""), logon_of(2), raw("35=S|49=F|56=VENUE|52=" + nine + "|")}) {
