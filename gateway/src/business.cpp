@@ -36,6 +36,7 @@ constexpr const char *bond_is_halted =
 constexpr const char *operator_ends_day =
     "the operator ends the day: no new request is taken, and those that are open go on to their "
     "deadlines";
+constexpr const char *day_has_ended = "the operator has ended the day: nothing is traded any more";
 constexpr const char *bytes_are_used_up =
     "this firm has sent all the bytes that it may send in a day: until the operator raises that, "
     "no request and no quote is taken; cancels, declines, hits and passes are";
@@ -175,6 +176,9 @@ std::optional<NotTaken> why_not_taken(const VenueDay &day, const Sender &sender,
     }
     if (day.halts.has(bond_of(day, sender.firm, business))) {
         return not_available(bond_is_halted);
+    }
+    if (business.kind == Business::Kind::hit && day.ordered_end.end() == DayEnd::now) {
+        return not_available(day_has_ended);
     }
     if (business.kind == Business::Kind::hit) {
         return std::nullopt;

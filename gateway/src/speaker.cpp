@@ -3,6 +3,7 @@
 #include <algorithm>
 #include <chrono>
 #include <exception>
+#include <thread>
 #include <utility>
 
 namespace gateway {
@@ -23,6 +24,14 @@ constexpr auto longest_answer = 3s;
 
 // Requests without a notice that have a line of their own.
 constexpr std::size_t most_left_told = 100;
+
+// Until it holds, or for so long at most.
+template <typename Holds> void wait_for(Holds holds, std::chrono::milliseconds longest) {
+    const auto latest = std::chrono::steady_clock::now() + longest;
+    while (!holds() && std::chrono::steady_clock::now() < latest) {
+        std::this_thread::sleep_for(look_at_due);
+    }
+}
 
 // No moment is given that is before one of the log.
 void set_clock_behind(DayClock &clock, const Entry &last, const ConnectionState &connections) {
@@ -201,6 +210,11 @@ void Speaker::wait_for_due() {
 }
 
 void Speaker::end_requests() {
+    if (day_.ordered_end.end() == DayEnd::now) {
+        // No hit is taken any more: both firms are told of each before, while they are logged on.
+        wait_for([this] { return sessions_.are_between_messages(); }, longest_due);
+        follower_->answers().wait(log_.last_place(), longest_due, day_.status.failed());
+    }
     wait_for_due();
     std::size_t left = 0;
     for (const OpenRequests::Open &open : day_.open_requests.all()) {

@@ -99,6 +99,25 @@ def test_now(stage: Stage) -> None:
     assert audit(stage, "check").status == 0
 
 
+def test_no_trade_that_one_side_is_not_told(stage: Stage) -> None:
+    """A hit behind the order is not taken, as long as it is answered at all: the dealer may be logged out before it is told."""
+    opened(stage)
+    with logged_on(stage, DEALER) as dealer, logged_on(stage, INVESTOR) as investor:
+        asked(stage, dealer, investor)
+        quote = investor.got(b"S").given(117)
+        did(stage, "end-day", "--now")
+        fields: Fields = [(50, b"V1"), (693, b"h1"), (694, b"1"), (117, quote)]
+        investor.raw(investor.message(b"AJ", b"INV1", fields))
+        answers = [m for m in iter(lambda: investor.read(LONG), None) if m.kind in (b"AI", b"j")]
+        assert not any(message.value(693) == b"h1" for message in answers), "it is traded"
+        for message in answers:
+            assert (message.value(380), message.value(379)) == (NOT_AVAILABLE, b"h1")
+            assert b"nothing is traded any more" in message.given(58)
+        assert not any(m.kind == b"AJ" for m in iter(lambda: dealer.read(LONG), None))
+    ended(stage)
+    assert audit(stage, "check").status == 0
+
+
 def test_with_nothing_open(stage: Stage) -> None:
     """It ends at once; with a configuration of one day the gateway ends too, with status 0, and does not come back to it."""
     stage.door.operators = ""
