@@ -118,6 +118,11 @@ void Service::ask_to_stop(const std::string &why) {
     changed_.notify_all();
 }
 
+std::string Service::why() {
+    const std::lock_guard lock(mutex_);
+    return why_;
+}
+
 void Service::ask_to_renew() {
     is_to_renew_ = true;
     const std::lock_guard lock(mutex_);
@@ -150,7 +155,7 @@ int Service::run_days() {
         }
         ended = day.ends;
     }
-    events_->info("stop cause=\"{}\"", why_);
+    events_->info("stop cause=\"{}\"", why());
     return 0;
 }
 

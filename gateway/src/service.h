@@ -98,6 +98,8 @@ class Service final : private AdminScene {
     Overview overview();
     void show(const TradingDay &day);
     void is_now(Phase phase);
+    // Why it was asked to stop.
+    std::string why();
 
     const std::filesystem::path path_;
     const std::vector<Config> first_;
