@@ -7,7 +7,6 @@
 
 #include <fcntl.h>
 #include <sys/file.h>
-#include <unistd.h>
 
 namespace desk {
 
@@ -16,18 +15,13 @@ FolderLock::FolderLock(const std::string &folder) {
     std::filesystem::create_directories(folder, fault);
     std::filesystem::permissions(folder, std::filesystem::perms::owner_all, fault);
     const std::string path = folder + "/lock";
-    file_ = ::open(path.c_str(), O_RDWR | O_CREAT | O_CLOEXEC, 0600);
-    if (file_ < 0) {
+    file_ = gateway::Descriptor(::open(path.c_str(), O_RDWR | O_CREAT | O_CLOEXEC, 0600));
+    if (file_.number() < 0) {
         throw std::runtime_error(path + " can't be opened: " + std::strerror(errno));
     }
-    if (::flock(file_, LOCK_EX | LOCK_NB) != 0) {
-        ::close(file_);
+    if (::flock(file_.number(), LOCK_EX | LOCK_NB) != 0) {
         throw std::runtime_error(folder + ": another desk has this folder");
     }
-}
-
-FolderLock::~FolderLock() {
-    ::close(file_);
 }
 
 } // namespace desk

@@ -2,6 +2,8 @@
 #ifndef DESK_FOLDER_LOCK_H
 #define DESK_FOLDER_LOCK_H
 
+#include "../../gateway/src/descriptor.h"
+
 #include <string>
 
 namespace desk {
@@ -11,12 +13,9 @@ class FolderLock {
     // Makes the folder where it is missing, for its owner alone. Throws std::runtime_error where it
     // can't, or where another process has the folder.
     explicit FolderLock(const std::string &folder);
-    ~FolderLock();
-    FolderLock(const FolderLock &) = delete;
-    FolderLock &operator=(const FolderLock &) = delete;
 
   private:
-    int file_ = -1;
+    gateway::Descriptor file_;
 };
 
 } // namespace desk

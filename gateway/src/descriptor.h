@@ -1,4 +1,4 @@
-// A file descriptor that is closed with its owner. Plain C++14, for both libraries.
+// A file descriptor that is closed with its owner. The desk has it too.
 #ifndef GATEWAY_DESCRIPTOR_H
 #define GATEWAY_DESCRIPTOR_H
 
@@ -10,7 +10,8 @@ namespace gateway {
 
 class Descriptor {
   public:
-    Descriptor() = default;
+    Descriptor() = default; // none
+    // What a call of the system returned: below 0 it is none.
     explicit Descriptor(int number) : number_(number) {}
     ~Descriptor() { close(); }
     Descriptor(Descriptor &&other) noexcept : number_(std::exchange(other.number_, -1)) {}

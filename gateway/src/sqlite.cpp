@@ -202,24 +202,18 @@ class SqliteWriter final : public LogWriter {
 class FileLock {
   public:
     explicit FileLock(const std::string &path)
-        : descriptor_(::open(path.c_str(), O_RDWR | O_CREAT | O_CLOEXEC, 0600)) {
-        if (descriptor_ < 0 || ::flock(descriptor_, LOCK_EX | LOCK_NB) != 0) {
+        : file_(::open(path.c_str(), O_RDWR | O_CREAT | O_CLOEXEC, 0600)) {
+        if (file_.number() < 0 || ::flock(file_.number(), LOCK_EX | LOCK_NB) != 0) {
             const int fault = errno;
-            if (descriptor_ >= 0) {
-                ::close(descriptor_);
-            }
             throw std::runtime_error(
                 fault == EWOULDBLOCK
                     ? fmt::format("another gateway has the log: {} is locked", path)
                     : fmt::format("{}: {}", path, std::generic_category().message(fault)));
         }
     }
-    ~FileLock() { ::close(descriptor_); }
-    FileLock(const FileLock &) = delete;
-    FileLock &operator=(const FileLock &) = delete;
 
   private:
-    int descriptor_;
+    Descriptor file_;
 };
 
 class Sqlite final : public Database {
