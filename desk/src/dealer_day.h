@@ -46,7 +46,6 @@ class DealerDay final : public Day {
     const DealerRequest *request(const std::string &id) const;
     // The sum of a trader's own live quotes and of those that are sent and not answered.
     Quantity exposure_of(const std::string &trader) const;
-    bool has_live_quote() const { return usage_.exposure > 0; }
 
   private:
     void sent(const Message &message, const Sent &own, Moment at) override;

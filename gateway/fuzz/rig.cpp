@@ -26,7 +26,6 @@ class Unheard final : public EngineEvents {
     void stranger(const ConnectionFacts &, const std::string &, const std::string &) override {}
     void refused(const std::string &, const std::string &) override {}
     void dropped(const std::string &, const std::string &) override {}
-    void session_event(const std::string &, const std::string &) override {}
 };
 
 // One connection, without a network.

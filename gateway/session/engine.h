@@ -219,7 +219,6 @@ class EngineEvents {
     // The system gives no connection.
     virtual void refused(const std::string &what, const std::string &text) = 0;
     virtual void dropped(const std::string &what, const std::string &text) = 0;
-    virtual void session_event(const std::string &firm, const std::string &text) = 0;
     // A message of the venue is in its session's store, and left for the firm if that is there.
     virtual void delivered(const Delivery & /*delivery*/) {}
 };

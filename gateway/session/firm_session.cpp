@@ -99,11 +99,6 @@ FirmSession::Visitor *FirmSession::holder() {
     return visitor(is_on(state) ? state.line.connection : state.connection);
 }
 
-FirmSession::Standing FirmSession::standing(std::uint64_t connection) const {
-    const std::lock_guard lock(mutex_);
-    return standing_here(connection);
-}
-
 FirmSession::Standing FirmSession::standing_here(std::uint64_t connection) const {
     const auto found = visitors_.find(connection);
     if (found == visitors_.end() || found->second.is_over) {

@@ -65,7 +65,6 @@ class FirmSession final {
     void all_taken();
     // Heartbeats, and what else time brings about.
     void tick(Received now);
-    Standing standing(std::uint64_t connection) const;
     // Ends what the connection had. No call reaches its line after it.
     void release(std::uint64_t connection, const std::string &why);
 

@@ -14,8 +14,6 @@ namespace {
 
 constexpr std::string_view reason = "--because";
 
-AdminAnswer run_help(AdminCall &call);
-
 std::string usage_of(const AdminCommand &command) {
     return fmt::format("{}{}{}", command.name, command.words.empty() ? "" : " ", command.words);
 }

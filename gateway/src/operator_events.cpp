@@ -91,10 +91,6 @@ void OperatorEvents::dropped(const std::string &what, const std::string &text) {
     }
 }
 
-void OperatorEvents::session_event(const std::string &firm, const std::string &text) {
-    events_->debug("session firm={} text=\"{}\"", firm, text);
-}
-
 void OperatorEvents::delivered(const Delivery &delivery) {
     metrics_.handed_over(std::chrono::steady_clock::now() - delivery.given);
 }

@@ -40,7 +40,6 @@ class OperatorEvents final : public EngineEvents {
                   const std::string &text) override;
     void refused(const std::string &what, const std::string &text) override;
     void dropped(const std::string &what, const std::string &text) override;
-    void session_event(const std::string &firm, const std::string &text) override;
     void delivered(const Delivery &delivery) override;
 
   private:

@@ -15,7 +15,6 @@ class NoEvents : public EngineEvents {
     void stranger(const ConnectionFacts &, const std::string &, const std::string &) override {}
     void refused(const std::string &, const std::string &) override {}
     void dropped(const std::string &, const std::string &) override {}
-    void session_event(const std::string &, const std::string &) override {}
 };
 
 } // namespace gateway::tests
