@@ -49,9 +49,9 @@ void FirmSessions::open_firms(const States &states) {
             credentials == day_.config.credentials.end() ? Credentials{} : credentials->second;
         Firm &firm = firms_
                          .try_emplace(name, day_.config.rates, found.bytes,
-                                      own.day_bytes > 0 ? own.day_bytes : day_.config.day_bytes)
+                                      own.day_bytes > 0 ? own.day_bytes : day_.config.day_bytes,
+                                      day_.metrics.firm(day_.config.venue, name))
                          .first->second;
-        firm.metrics = &day_.metrics.firm(day_.config.venue, name);
         firm.cancel_on_disconnect = own.cancel_on_disconnect;
         firm.entries = found.entries;
         firm.numbers = numbers_of(found);
@@ -296,7 +296,7 @@ void FirmSessions::connection_ended(const std::string &name, std::uint32_t conne
 void FirmSessions::logged_on(const std::string &name) {
     day_.metrics.logged_on();
     Firm &firm = firm_of(name);
-    firm.metrics->logged_on(true);
+    firm.metrics.logged_on(true);
     const std::lock_guard lock(firm.mutex);
     const std::string words = firm.connection ? " " + words_of(*firm.connection) : "";
     day_.events->info("logged on firm={}{}{}", name, day_.of_venue(), words);
@@ -304,7 +304,7 @@ void FirmSessions::logged_on(const std::string &name) {
 
 void FirmSessions::logged_off(const std::string &firm) {
     day_.metrics.logged_off();
-    firm_of(firm).metrics->logged_on(false);
+    firm_of(firm).metrics.logged_on(false);
     day_.events->info("logged off firm={}{}", firm, day_.of_venue());
     try {
         cancel_all_of(firm, firm_of(firm));
@@ -315,8 +315,8 @@ void FirmSessions::logged_off(const std::string &firm) {
 
 void FirmSessions::count_waiting(const Engine &engine) {
     for (auto &[name, firm] : firms_) {
-        firm.metrics->suspended(firm.is_suspended);
-        firm.metrics->waits(engine.waiting_bytes(session_name(day_.config.venue, name)));
+        firm.metrics.suspended(firm.is_suspended);
+        firm.metrics.waits(engine.waiting_bytes(session_name(day_.config.venue, name)));
     }
 }
 

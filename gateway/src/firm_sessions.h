@@ -102,15 +102,16 @@ class FirmSessions final : private SessionHost {
   private:
     // One firm, as its venue's day sees it.
     struct Firm {
-        Firm(const RateLimits &configured, std::uint64_t used, std::uint64_t most)
-            : limits(configured, used, most) {}
+        Firm(const RateLimits &configured, std::uint64_t used, std::uint64_t most,
+             FirmMetrics &counts)
+            : limits(configured, used, most), metrics(counts) {}
 
         FirmLimits limits;
+        FirmMetrics &metrics;
         std::atomic<bool> told_of_bytes{false};
         std::atomic<bool> told_of_spare{false};
         std::atomic<bool> is_suspended{false}; // by an operator
         std::atomic<bool> is_held_back{false}; // a message waits for an entry's commit
-        FirmMetrics *metrics = nullptr;
         // The gateway before left it logged on: so it is in the log until its quotes are cancelled.
         std::atomic<bool> was_left{false};
 

@@ -72,7 +72,7 @@ std::uint64_t FirmSessions::put(const std::string &name, const SessionEvent &eve
             change.kept->sent = given->number;
         }
         day_.metrics.delivered();
-        firm.metrics->was_given(*given);
+        firm.metrics.was_given(*given);
     }
     return log_.put(std::move(change));
 }
@@ -126,7 +126,7 @@ Taken FirmSessions::take(const std::string &name, const SessionInput &input,
                              std::exchange(firm.turn, Log::Turn()))) {
         return {Taken::Verdict::waits, 0, {}, {}};
     }
-    firm.metrics->came(value_in(*frame, "35"), is_hit(*frame));
+    firm.metrics.came(value_in(*frame, "35"), is_hit(*frame));
     if (lacks_room(firm)) {
         firm.spare.add(bytes_of_line(name, *frame));
     }
