@@ -2,6 +2,7 @@
 
 #include "confinement.h"
 #include "notes.h"
+#include "pause.h"
 #include "process.h"
 #include "reasons.h"
 #include "regular_file.h"
@@ -9,10 +10,8 @@
 #include "version.h"
 
 #include <chrono>
-#include <condition_variable>
 #include <cstdlib>
 #include <fstream>
-#include <mutex>
 #include <sstream>
 #include <stdexcept>
 #include <thread>
@@ -141,10 +140,7 @@ void check_notes(const Day &begun, const Config &config) {
 // Tells that the venue's program takes long, where it does.
 std::jthread watch_start(const std::shared_ptr<spdlog::logger> &events) {
     return std::jthread([events](const std::stop_token &stop) {
-        std::mutex mutex;
-        std::condition_variable_any changed;
-        std::unique_lock lock(mutex);
-        changed.wait_for(lock, stop, longest_silence, [] { return false; });
+        pause_for(longest_silence, stop);
         if (!stop.stop_requested()) {
             events->warn("venue does not answer at its start");
         }

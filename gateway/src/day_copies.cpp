@@ -4,15 +4,14 @@
 #include "database.h"
 #include "file_copy.h"
 #include "log_places.h"
+#include "pause.h"
 #include "private_file.h"
 #include "records.h"
 #include "venue_rules.h"
 
 #include <algorithm>
 #include <chrono>
-#include <condition_variable>
 #include <map>
-#include <mutex>
 #include <stdexcept>
 
 #include <fmt/format.h>
@@ -70,13 +69,6 @@ bool is_whole(const fs::path &log) {
     return !fs::exists(log.string() + "-wal");
 }
 
-void wait_a_second(const std::stop_token &stop) {
-    std::mutex mutex;
-    std::condition_variable_any changed;
-    std::unique_lock lock(mutex);
-    changed.wait_for(lock, stop, std::chrono::seconds(1), [] { return false; });
-}
-
 // The day's own row, from a log that is whole when it returns.
 Day day_of_whole(const fs::path &log, const std::stop_token &stop) {
     Day day = read_day(log);
@@ -84,7 +76,7 @@ Day day_of_whole(const fs::path &log, const std::stop_token &stop) {
         if (tries == most_tries || stop.stop_requested()) {
             throw std::runtime_error("somebody has it open");
         }
-        wait_a_second(stop);
+        pause_for(std::chrono::seconds(1), stop);
         day = read_day(log);
     }
     return day;

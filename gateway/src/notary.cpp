@@ -1,5 +1,7 @@
 #include "notary.h"
 
+#include "pause.h"
+
 #include <utility>
 
 namespace gateway {
@@ -10,7 +12,7 @@ using namespace std::chrono_literals;
 
 // Between two looks, and between two signatures while entries come: together less than a second,
 // with room for the signature and its file.
-constexpr auto pause = 50ms;
+constexpr auto between_looks = 50ms;
 constexpr auto at_least = 800ms;
 
 // Between two signatures where none come.
@@ -28,8 +30,7 @@ void Notary::run(const std::stop_token &stop) {
         if (is_due()) {
             sign();
         }
-        std::unique_lock lock(mutex_);
-        changed_.wait_for(lock, stop, pause, [] { return false; });
+        pause_for(between_looks, stop);
     }
 }
 

@@ -7,9 +7,7 @@
 #include "seals.h"
 
 #include <chrono>
-#include <condition_variable>
 #include <memory>
-#include <mutex>
 #include <string>
 #include <thread>
 
@@ -41,6 +39,7 @@ class Notary {
     void keep(const Checkpoint &checkpoint);
     void stop();
 
+    // Of the thread, and of end() once that has ended.
     Log &log_;
     Sealer sealer_;
     CheckpointFile file_;
@@ -50,8 +49,6 @@ class Notary {
     Clock::time_point signed_at_;
     std::string told_; // why the last one could not be kept
 
-    std::mutex mutex_;
-    std::condition_variable_any changed_;
     std::jthread thread_;
 };
 

@@ -1,10 +1,9 @@
 #include "supervised.h"
 
-#include <condition_variable>
-#include <mutex>
-#include <utility>
+#include "pause.h"
 
-#include <fmt/format.h>
+#include <algorithm>
+#include <utility>
 
 namespace gateway {
 
@@ -36,12 +35,9 @@ Supervised::~Supervised() {
 }
 
 void Supervised::run(const std::stop_token &stop) {
-    std::mutex mutex;
-    std::condition_variable_any changed;
-    std::unique_lock lock(mutex);
     while (!stop.stop_requested()) {
         tell(condition_());
-        changed.wait_for(lock, stop, pause_of(socket_), [] { return false; });
+        pause_for(pause_of(socket_), stop);
     }
 }
 
