@@ -212,7 +212,7 @@ Service::Shown::~Shown() {
 }
 
 // With an operator's socket a log that is not accepted waits for the operator.
-int Service::run_day(std::vector<Config> configs, const std::optional<TradingDay> &hours) {
+int Service::run_day(const std::vector<Config> &configs, const std::optional<TradingDay> &hours) {
     for (;;) {
         const int status = run_gateway(configs, hours);
         if (status != log_not_accepted || !socket_) {
@@ -315,18 +315,18 @@ void Service::open_operator_socket() {
 }
 
 // Whether each log was accepted; false where the day is over, or the service is to stop.
-bool Service::wait_for_acceptance(std::vector<Config> &configs,
+bool Service::wait_for_acceptance(const std::vector<Config> &configs,
                                   const std::optional<TradingDay> &hours) {
     events_->error("waits for the operator: mireseason-admin log accept-loss, or put the log back "
                    "and restart");
     is_now(Phase::closed);
     std::unique_lock lock(mutex_);
-    waiting_configs_ = &configs;
+    waiting_configs_ = configs;
     while (!not_accepted_.empty() && !stopping_.stop_requested() &&
            !(hours && now() >= hours->ends)) {
         changed_.wait_for(lock, 1s);
     }
-    waiting_configs_ = nullptr;
+    waiting_configs_.clear();
     const bool is_accepted = not_accepted_.empty();
     not_accepted_.clear();
     between_ = Phase::opens;
@@ -351,11 +351,11 @@ std::string Service::accept_loss(const std::vector<Act> &acts) {
     std::vector<Config> configs;
     {
         const std::lock_guard lock(mutex_);
-        if (waiting_configs_ == nullptr || not_accepted_.empty()) {
+        if (waiting_configs_.empty() || not_accepted_.empty()) {
             throw AdminFault("no log waits to be accepted");
         }
         venues = not_accepted_;
-        configs = *waiting_configs_;
+        configs = waiting_configs_;
     }
     std::string said;
     for (const std::size_t at : venues) {

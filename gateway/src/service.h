@@ -72,9 +72,10 @@ class Service final : private AdminScene {
     int run_days();
     std::vector<Config> as_begun(std::vector<Config> configs);
     // The hours are nothing where the day stands alone.
-    int run_day(std::vector<Config> configs, const std::optional<TradingDay> &hours);
+    int run_day(const std::vector<Config> &configs, const std::optional<TradingDay> &hours);
     int run_gateway(const std::vector<Config> &configs, const std::optional<TradingDay> &hours);
-    bool wait_for_acceptance(std::vector<Config> &configs, const std::optional<TradingDay> &hours);
+    bool wait_for_acceptance(const std::vector<Config> &configs,
+                             const std::optional<TradingDay> &hours);
     void open_operator_socket();
 
     // AdminScene
@@ -108,6 +109,9 @@ class Service final : private AdminScene {
     std::shared_ptr<RecentEvents> recent_;
     NextConfiguration next_;
     std::stop_source stopping_;
+    // Over what other threads see of the day: the next five, and those for the operator below. The
+    // locks of the gateway that it shows are taken under it, and it is taken under the two others
+    // of this class.
     std::mutex mutex_;
     std::condition_variable changed_;
     std::string why_;
@@ -129,9 +133,9 @@ class Service final : private AdminScene {
     std::shared_mutex day_mutex_; // over the end of a day, which waits for commands
     std::mutex acceptance_mutex_; // one act accepts a loss at a time
     std::string waits_for_ = "the gateway begins";
-    std::vector<std::size_t> not_accepted_;          // venues whose logs wait, by their places
-    std::vector<Config> *waiting_configs_ = nullptr; // of the day that waits for them
-    std::unique_ptr<AdminSocket> socket_;            // the first to end
+    std::vector<std::size_t> not_accepted_; // venues whose logs wait, by their places
+    std::vector<Config> waiting_configs_;   // of the day that waits for them; none as a rule
+    std::unique_ptr<AdminSocket> socket_;   // the first to end
 };
 
 } // namespace gateway
