@@ -45,7 +45,7 @@ struct Config {
     std::string configuration; // the venue's, byte for byte, with a line feed at its end
     VenueFirms firms;
 
-    std::filesystem::path sqlite;    // empty where the next two name the log
+    std::filesystem::path sqlite;    // the log's file; empty where it is in PostgreSQL
     std::filesystem::path log_files; // the same, with `{date}` in the place of the day's
     std::string postgres;
     std::string schema;
