@@ -169,7 +169,9 @@ class FirmSession final {
     EngineEvents &events_;
     const Received midnight_;
 
-    mutable std::mutex mutex_; // over all that follows
+    // Over all that follows. `line_mutex_`, and the locks of the host and of lines, are taken under
+    // it: whoever holds one of those may try it, and not wait for it.
+    mutable std::mutex mutex_;
     Machine machine_;
     std::uint32_t moment_ = 0; // of its last event
     std::string_view message_; // that it is, empty where it is another

@@ -28,7 +28,7 @@ class Turns {
 
     // Waits for a turn of an address, and works; the address has its next turn from the moment on
     // that `work` returns. False, and nothing was done, where `gives_up` has said so meanwhile,
-    // which is asked now and then.
+    // which is asked now and then, with the lock held.
     bool take(const std::string &address, const std::function<bool()> &gives_up,
               const std::function<Time()> &work);
 

@@ -60,6 +60,8 @@ class Feeder final : private Committed::Reader {
     const std::string head_;
     const Feeding feeding_;
 
+    // Taken under that by which Committed tells its reader. Committed's other one, and those of
+    // whoever is told of entries, are taken under it.
     std::mutex mutex_;
     std::condition_variable_any changed_;
     bool waits_ = false; // the thread has nothing to do; the next three are its own until it waits

@@ -124,7 +124,11 @@ class FirmSessions final : private SessionHost {
         std::atomic<std::uint32_t> entries{
             0}; // messages of the firm in the log, with a number each
 
-        // Who is there, for the operator: whoever has the other mutex may wait for the log with it.
+        // `mutex` and `row_mutex` may be held as long as the log is waited for, whose own lock is
+        // taken under each; neither is taken under the other. `seen_mutex` is held for a moment,
+        // under `mutex` too.
+
+        // Who is there, for the operator.
         void see(const std::string &logon, const std::string &peer) {
             const std::lock_guard lock(seen_mutex);
             since = logon;

@@ -106,16 +106,16 @@ class Gateway final {
     std::vector<std::unique_ptr<Speaker>> speakers_; // of the days, once it has their terms
     std::atomic<bool> is_to_renew_{false};
 
-    std::mutex mutex_; // of the next three, and of the last
+    std::mutex mutex_; // over the next five; no other is taken under it
     std::condition_variable renewed_;
     std::uint64_t renewals_ = 0;
     std::string renewal_fault_; // of the last one
     std::vector<std::size_t> not_accepted_;
+    ListeningPort port_; // until connections are taken
 
+    // Kept by commands, and waited for where it opens and before it ends.
     std::shared_mutex open_mutex_;
     std::atomic<bool> is_open_{false}; // it speaks, and has not begun to end
-
-    ListeningPort port_; // until connections are taken
 };
 
 } // namespace gateway

@@ -245,6 +245,8 @@ class Log {
     std::unique_ptr<LogWriter> writer_;
     const std::size_t limit_;
 
+    // Over all that follows up to `committed_end_`. The clock's is the one lock that is taken under
+    // it; a commit, the venue and the listeners have none of it.
     std::mutex mutex_;
     std::condition_variable_any work_; // for the log's thread
     std::condition_variable_any done_; // for whoever waits for a commit
