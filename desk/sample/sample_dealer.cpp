@@ -1,7 +1,5 @@
 #include "sample_dealer.h"
 
-#include <algorithm>
-
 namespace sample {
 
 namespace tag = desk::tag;

@@ -12,7 +12,6 @@
 #include "identifiers.h"
 #include "record.h"
 
-#include <functional>
 #include <memory>
 #include <string>
 #include <vector>

@@ -3,7 +3,6 @@
 #include "open_page.h"
 #include "web/cookies.h"
 
-#include <algorithm>
 #include <vector>
 
 #include <nlohmann/json.hpp>

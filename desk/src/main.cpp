@@ -18,7 +18,6 @@
 #include <functional>
 #include <iostream>
 #include <string>
-#include <string_view>
 
 #include <boost/asio/io_context.hpp>
 #include <boost/asio/signal_set.hpp>

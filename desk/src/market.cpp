@@ -3,7 +3,6 @@
 #include "toml_file.h"
 
 #include <algorithm>
-#include <limits>
 
 namespace desk {
 

@@ -1,6 +1,5 @@
 #include "words.h"
 
-#include <array>
 #include <map>
 #include <string_view>
 

@@ -1,6 +1,5 @@
 #include "turns.h"
 
-#include <algorithm>
 
 namespace gateway {
 

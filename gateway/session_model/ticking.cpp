@@ -5,8 +5,6 @@
 #include "reasons.h"
 #include "resends.h"
 
-#include <algorithm>
-
 namespace session_model {
 
 namespace {

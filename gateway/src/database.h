@@ -6,8 +6,8 @@
 
 #include <map>
 #include <memory>
-#include <span>
 #include <stdexcept>
+#include <vector>
 
 #include <fmt/format.h>
 

@@ -2,7 +2,6 @@
 
 #include "descriptor.h"
 
-#include <array>
 #include <memory>
 #include <stdexcept>
 #include <string_view>

@@ -1,6 +1,5 @@
 #include "firm_row.h"
 
-#include <optional>
 #include <stdexcept>
 #include <string_view>
 

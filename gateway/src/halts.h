@@ -7,7 +7,6 @@
 #include <mutex>
 #include <set>
 #include <string>
-#include <string_view>
 
 namespace gateway {
 

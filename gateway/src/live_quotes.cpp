@@ -2,8 +2,6 @@
 
 #include "frame.h"
 
-#include <utility>
-
 namespace gateway {
 
 // docs/FORMATS.md, "Written messages": of what a dealer is told, a report with 131 and 117 answers

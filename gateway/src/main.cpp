@@ -16,7 +16,6 @@
 #include <csignal>
 #include <iostream>
 #include <memory>
-#include <string_view>
 #include <thread>
 
 #include <spdlog/pattern_formatter.h>

@@ -5,7 +5,6 @@
 #include "condition.h"
 #include "supervisor_socket.h"
 
-#include <chrono>
 #include <functional>
 #include <string>
 #include <thread>
