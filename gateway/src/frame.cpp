@@ -57,16 +57,14 @@ std::string framed(std::string_view body) {
     return frame;
 }
 
-std::string hexadecimal(std::string_view bytes) {
+void append_hexadecimal(std::string &text, std::string_view bytes) {
     static constexpr std::string_view digits = "0123456789ABCDEF";
-    std::string text;
-    text.reserve(bytes.size() * 2);
+    text.reserve(text.size() + bytes.size() * 2);
     for (const char c : bytes) {
         const auto byte = static_cast<unsigned char>(c);
         text += digits[byte >> 4];
         text += digits[byte & 15];
     }
-    return text;
 }
 
 std::string frame_of_line(std::string_view line) {
@@ -75,6 +73,7 @@ std::string frame_of_line(std::string_view line) {
         return "";
     }
     std::string frame;
+    frame.reserve((line.size() - last) / 2);
     for (std::size_t at = last + 1; at + 1 < line.size(); at += 2) {
         unsigned byte = 0;
         std::from_chars(line.data() + at, line.data() + at + 2, byte, 16);

@@ -35,8 +35,8 @@ std::string_view value_in(std::string_view frame, std::string_view tag);
 // A body in its frame: 8, 9, the body, 10.
 std::string framed(std::string_view body);
 
-// Capital hexadecimal digits, two a byte.
-std::string hexadecimal(std::string_view bytes);
+// Puts capital hexadecimal digits behind a text, two a byte.
+void append_hexadecimal(std::string &text, std::string_view bytes);
 
 // The frame of a line of the log, `hex FIRM MOMENT DIGITS`; empty where it is another one.
 std::string frame_of_line(std::string_view line);

@@ -34,7 +34,8 @@ Arrival Log::arrival_of(const std::string &firm, const std::optional<Came> &came
         arrival.entry.connection = came->connection;
     }
     arrival.verb = fmt::format("hex {} ", firm);
-    arrival.rest = fmt::format(" {}", hexadecimal(frame));
+    arrival.rest = " ";
+    append_hexadecimal(arrival.rest, frame);
     arrival.received = std::chrono::steady_clock::now() - since_receipt(came);
     return arrival;
 }

@@ -23,7 +23,9 @@ using namespace std::chrono_literals;
 constexpr auto seen_each = 1s;
 
 std::string bytea(std::string_view bytes) {
-    return fmt::format("\\x{}", hexadecimal(bytes));
+    std::string text = "\\x";
+    append_hexadecimal(text, bytes);
+    return text;
 }
 
 template <std::size_t Size> std::string bytea(const std::array<unsigned char, Size> &digest) {
