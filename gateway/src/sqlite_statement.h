@@ -25,8 +25,11 @@ struct FinalizeStatement {
     void operator()(sqlite3_stmt *statement) const { sqlite3_finalize(statement); }
 };
 
+// Throws std::runtime_error that names the file: of several venues each has its own.
 [[noreturn]] inline void fail(sqlite3 *connection, std::string_view what) {
-    throw std::runtime_error(fmt::format("SQLite, {}: {}", what, sqlite3_errmsg(connection)));
+    const char *file = sqlite3_db_filename(connection, "main");
+    throw std::runtime_error(fmt::format("SQLite, {}: {}: {}", file == nullptr ? "" : file, what,
+                                         sqlite3_errmsg(connection)));
 }
 
 // A prepared statement: parameters are bound in order, columns read by place.
