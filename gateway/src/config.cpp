@@ -1,11 +1,10 @@
 #include "config.h"
 
+#include "config_credentials.h"
 #include "config_day.h"
 #include "config_section.h"
-#include "password.h"
 #include "private_file.h"
 #include "venue_file.h"
-#include "venue_rules.h"
 
 #include <algorithm>
 #include <array>
@@ -17,9 +16,6 @@
 namespace gateway {
 
 namespace {
-
-// More than a day can have.
-constexpr std::size_t most_day_bytes = std::size_t{1} << 40;
 
 // Bytes of the log's disk that are held back.
 constexpr std::size_t usual_reserve = std::size_t{256} << 20;
@@ -83,7 +79,6 @@ class ConfigReader {
 
     Config read_access(const Config &in_force) {
         config_ = in_force;
-        config_.credentials.clear();
         read_sessions();
         read_tls();
         return config_;
@@ -243,75 +238,7 @@ class ConfigReader {
         beyond_loopback_ = fix.flag("plain_tcp_beyond_loopback");
         const fs::path credentials = fix.beside(fix.text_of_need("credentials"));
         fix.end();
-        read_credentials(credentials);
-    }
-
-    void read_credentials(const fs::path &file) {
-        files_.require_private(file);
-        if (files_.text(file).empty()) {
-            // As an editor leaves it where the disk is full: nobody is to be logged out by that.
-            fail(file, "has nothing in it");
-        }
-        const toml::table table = parse(file, files_.text(file));
-        for (const auto &[key, node] : table) {
-            const std::string firm(key.str());
-            if (std::ranges::find(config_.firms.names, firm) == config_.firms.names.end()) {
-                continue;
-            }
-            Section row(file, firm, node.as_table());
-            Credentials &own = config_.credentials[firm];
-            own.username = row.text_of_need("username");
-            own.password_hash = row.text_of_need("password");
-            if (!is_hash(own.password_hash)) {
-                row.fail_at("password", "is no hash: --hash makes one");
-            }
-            own.cancel_on_disconnect = row.text("cancel_on_disconnect");
-            own.day_bytes = row.number("day_bytes", 0, 0, most_day_bytes);
-            own.ends = row.text("ends");
-            if (!own.ends.empty() && !is_date(own.ends)) {
-                row.fail_at("ends", "is no date YYYYMMDD");
-            }
-            own.addresses = addresses_in(row);
-            row.end();
-            if (!own.cancel_on_disconnect.empty()) {
-                check_trader(file, firm, own.cancel_on_disconnect);
-            }
-        }
-    }
-
-    static std::vector<AddressRange> addresses_in(Section &row) {
-        std::vector<AddressRange> addresses;
-        for (const std::string &word :
-             row.has("addresses") ? row.words("addresses") : std::vector<std::string>{}) {
-            const auto range = address_range_of(word);
-            if (!range) {
-                row.fail_at("addresses", fmt::format("has {}, which is no address of IPv4, and no "
-                                                     "A.B.C.D/BITS",
-                                                     word));
-            }
-            addresses.push_back(*range);
-        }
-        return addresses;
-    }
-
-    // The trader who cancels is one of the dealer's own, so that the venue takes his cancel.
-    void check_trader(const fs::path &file, const std::string &firm, const std::string &trader) {
-        const toml::table venue = toml::parse(config_.configuration);
-        const toml::array *dealers = venue["dealer"].as_array();
-        for (std::size_t at = 0; dealers != nullptr && at < dealers->size(); ++at) {
-            const toml::table &row = *dealers->get(at)->as_table();
-            const toml::array *traders = row["traders"].as_array();
-            if (row["name"].value_or(std::string()) != firm || traders == nullptr) {
-                continue;
-            }
-            for (const toml::node &each : *traders) {
-                if (each.value_or(std::string()) == trader) {
-                    return;
-                }
-            }
-        }
-        fail(file, fmt::format("[{}] cancel_on_disconnect: {} is no trader of a dealer {}", firm,
-                               trader, firm));
+        config_.credentials = credentials_of(config_, credentials, files_);
     }
 
     void read_tls() {

@@ -1,0 +1,98 @@
+#include "config_credentials.h"
+
+#include "config_section.h"
+#include "password.h"
+#include "venue_rules.h"
+
+#include <algorithm>
+#include <vector>
+
+#include <fmt/format.h>
+#include <toml++/toml.h>
+
+namespace gateway {
+
+namespace {
+
+namespace fs = std::filesystem;
+
+std::vector<AddressRange> addresses_in(Section &row) {
+    std::vector<AddressRange> addresses;
+    for (const std::string &word :
+         row.has("addresses") ? row.words("addresses") : std::vector<std::string>{}) {
+        const auto range = address_range_of(word);
+        if (!range) {
+            row.fail_at("addresses", fmt::format("has {}, which is no address of IPv4, and no "
+                                                 "A.B.C.D/BITS",
+                                                 word));
+        }
+        addresses.push_back(*range);
+    }
+    return addresses;
+}
+
+// Whether a row of the venue's dealers is this firm's, and has this trader.
+bool has_trader(const toml::node &dealer, const std::string &firm, const std::string &trader) {
+    const toml::table &row = *dealer.as_table();
+    const toml::array *traders = row["traders"].as_array();
+    const auto is_his = [&](const toml::node &each) {
+        return each.value_or(std::string()) == trader;
+    };
+    return row["name"].value_or(std::string()) == firm && traders != nullptr &&
+           std::any_of(traders->begin(), traders->end(), is_his);
+}
+
+// The trader who cancels is one of the dealer's own, so that the venue takes his cancel.
+void check_trader(const Section &row, const Config &venue, const std::string &firm,
+                  const std::string &trader) {
+    const toml::table configuration = toml::parse(venue.configuration);
+    const toml::array *dealers = configuration["dealer"].as_array();
+    const auto has = [&](const toml::node &each) { return has_trader(each, firm, trader); };
+    if (dealers == nullptr || std::none_of(dealers->begin(), dealers->end(), has)) {
+        row.fail_at("cancel_on_disconnect",
+                    fmt::format("is {}, who is no trader of a dealer {}", trader, firm));
+    }
+}
+
+Credentials credentials_in(Section row, const Config &venue, const std::string &firm) {
+    Credentials own;
+    own.username = row.text_of_need("username");
+    own.password_hash = row.text_of_need("password");
+    if (!is_hash(own.password_hash)) {
+        row.fail_at("password", "is no hash: --hash makes one");
+    }
+    own.cancel_on_disconnect = row.text("cancel_on_disconnect");
+    own.day_bytes = row.number("day_bytes", 0, 0, most_day_bytes);
+    own.ends = row.text("ends");
+    if (!own.ends.empty() && !is_date(own.ends)) {
+        row.fail_at("ends", "is no date YYYYMMDD");
+    }
+    own.addresses = addresses_in(row);
+    row.end();
+    if (!own.cancel_on_disconnect.empty()) {
+        check_trader(row, venue, firm, own.cancel_on_disconnect);
+    }
+    return own;
+}
+
+} // namespace
+
+std::map<std::string, Credentials> credentials_of(const Config &venue, const fs::path &file,
+                                                  ConfigFiles &files) {
+    files.require_private(file);
+    if (files.text(file).empty()) {
+        // As an editor leaves it where the disk is full: nobody is to be logged out by that.
+        fail(file, "has nothing in it");
+    }
+    std::map<std::string, Credentials> all;
+    const toml::table table = parse(file, files.text(file));
+    for (const auto &[key, node] : table) {
+        const std::string firm(key.str());
+        if (std::ranges::find(venue.firms.names, firm) != venue.firms.names.end()) {
+            all[firm] = credentials_in(Section(file, firm, node.as_table()), venue, firm);
+        }
+    }
+    return all;
+}
+
+} // namespace gateway
