@@ -1,6 +1,5 @@
 #include "turns.h"
 
-
 namespace gateway {
 
 namespace {
@@ -65,23 +64,28 @@ bool Turns::may_be_served(const std::string &address) const {
            (!found->second.now && found->second.from <= std::chrono::steady_clock::now());
 }
 
+std::list<Turns::Waiting>::iterator Turns::next() {
+    auto found = waiting_.end();
+    for (auto each = waiting_.begin(); each != waiting_.end(); ++each) {
+        const bool may = !each->has_turn && may_be_served(each->address);
+        if (may && (found == waiting_.end() ||
+                    served_[each->address].last < served_[found->address].last)) {
+            found = each;
+        }
+    }
+    return found;
+}
+
 void Turns::call_next() {
     while (free_ > 0) {
-        auto next = waiting_.end();
-        for (auto each = waiting_.begin(); each != waiting_.end(); ++each) {
-            const bool may = !each->has_turn && may_be_served(each->address);
-            if (may && (next == waiting_.end() ||
-                        served_[each->address].last < served_[next->address].last)) {
-                next = each;
-            }
-        }
-        if (next == waiting_.end()) {
+        const auto first = next();
+        if (first == waiting_.end()) {
             return;
         }
-        served_[next->address] = {++turns_, true, {}};
+        served_[first->address] = {++turns_, true, {}};
         --free_;
-        next->has_turn = true;
-        next->called.notify_one();
+        first->has_turn = true;
+        first->called.notify_one();
     }
 }
 

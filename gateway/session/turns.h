@@ -52,6 +52,8 @@ class Turns {
               const std::function<bool()> &gives_up);
     void give_back(const std::string &address, Time from);
     bool may_be_served(const std::string &address) const;
+    // The end where none may be served now.
+    std::list<Waiting>::iterator next();
     void call_next();
     void forget();
 

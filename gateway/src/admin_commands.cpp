@@ -53,16 +53,22 @@ std::string take_reason(std::vector<std::string> &words) {
                                  nearest ? fmt::format("; `{}`?", *nearest) : ""));
 }
 
+// Null where there is none of the name.
+const AdminCommand *command_named(const std::string &name) {
+    const std::vector<AdminCommand> &all = admin_commands();
+    const auto found = std::find_if(
+        all.begin(), all.end(), [&](const AdminCommand &command) { return command.name == name; });
+    return found == all.end() ? nullptr : &*found;
+}
+
 // By its name of one word or of two, which are taken out of the words.
 const AdminCommand &take_command(std::vector<std::string> &words) {
-    std::string name = words.empty() ? "" : words.front();
+    std::string name;
     for (std::size_t taken = 1; taken <= 2 && taken <= words.size(); ++taken) {
         name = taken == 1 ? words[0] : words[0] + " " + words[1];
-        for (const AdminCommand &command : admin_commands()) {
-            if (command.name == name) {
-                words.erase(words.begin(), words.begin() + static_cast<std::ptrdiff_t>(taken));
-                return command;
-            }
+        if (const AdminCommand *const command = command_named(name)) {
+            words.erase(words.begin(), words.begin() + static_cast<std::ptrdiff_t>(taken));
+            return *command;
         }
     }
     fail_unknown(name);
