@@ -21,31 +21,13 @@ std::string grouped(Quantity quantity) {
     return text;
 }
 
-const char *words_of(Act act) {
-    switch (act) {
-    case Act::ask:
-        return "request";
-    case Act::hit:
-        return "hit";
-    case Act::pass:
-        return "pass";
-    case Act::quote:
-        return "quote";
-    case Act::withdraw:
-        return "withdrawal";
-    case Act::decline:
-        return "decline";
-    }
-    return "";
-}
-
 // One act of a request is answered before the next one is sent.
 std::string why_wait(const Request &request) {
     if (request.pending.empty()) {
         return {};
     }
     const Pending &first = request.pending.front();
-    return std::string("Wait: the ") + words_of(first.act) + " of " + first.trader +
+    return std::string("Wait: the ") + name_of(first.act) + " of " + first.trader +
            " is not answered yet.";
 }
 

@@ -216,14 +216,7 @@ void DealerDay::shown(const Message &message, Moment at) {
 }
 
 void DealerDay::nothing_cancelled(const Message &message, Moment at) {
-    cancelling_.clear();
-    for (auto &[id, request] : requests_) {
-        const auto gone = std::erase_if(
-            request.pending, [](const Pending &one) { return one.act == Act::withdraw; });
-        if (gone > 0) {
-            changed(id);
-        }
-    }
+    forget_withdrawals();
     notice(at,
            "Cancel of all: " +
                (message.has(tag::text) ? cancel_refusal(message) : "there was no live quote"),
@@ -317,14 +310,18 @@ void DealerDay::failed(const Sent &own, const std::string &why, bool is_refusal,
 }
 
 void DealerDay::cancel_all_failed(const std::string &why, bool is_refusal, Moment at) {
+    forget_withdrawals();
+    notice(at, "The cancel of all quotes was " + why, is_refusal);
+}
+
+void DealerDay::forget_withdrawals() {
+    const auto is_one = [](const Pending &one) { return one.act == Act::withdraw; };
     cancelling_.clear();
     for (auto &[id, request] : requests_) {
-        if (std::erase_if(request.pending,
-                          [](const Pending &one) { return one.act == Act::withdraw; }) > 0) {
+        if (std::erase_if(request.pending, is_one) > 0) {
             changed(id);
         }
     }
-    notice(at, "The cancel of all quotes was " + why, is_refusal);
 }
 
 } // namespace desk

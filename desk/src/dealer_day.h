@@ -58,6 +58,8 @@ class DealerDay final : public Day {
     void tell_cancelled(Moment at);
     void nothing_cancelled(const Message &message, Moment at);
     void cancel_all_failed(const std::string &why, bool is_refusal, Moment at);
+    // No withdrawal is waited for any more.
+    void forget_withdrawals();
     void answered(DealerRequest &request, const Message &message, Moment at);
     void closed(DealerRequest &request, const Message &message, Moment at);
     void quote_answered(DealerRequest &request, const Message &message, Moment at);

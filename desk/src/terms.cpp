@@ -10,6 +10,24 @@ constexpr std::size_t most_history = 256; // lines; the oldest goes
 
 } // namespace
 
+const char *name_of(Act act) {
+    switch (act) {
+    case Act::ask:
+        return "request";
+    case Act::hit:
+        return "hit";
+    case Act::pass:
+        return "pass";
+    case Act::quote:
+        return "quote";
+    case Act::withdraw:
+        return "withdrawal";
+    case Act::decline:
+        return "decline";
+    }
+    return "";
+}
+
 bool Request::awaits(Act act) const {
     return std::any_of(pending.begin(), pending.end(),
                        [&](const Pending &one) { return one.act == act; });

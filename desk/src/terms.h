@@ -21,6 +21,8 @@ using Quantity = std::int64_t; // of nominal
 
 // What a trader may do to a request.
 enum class Act { ask, hit, pass, quote, withdraw, decline };
+// The noun that a person, and the page, has for it.
+const char *name_of(Act act);
 
 // What was sent and is not answered yet.
 struct Pending {
@@ -51,9 +53,11 @@ struct Request {
     std::vector<Told> history;
     std::string trade; // its name, TradeID (1003), where the venue tells it
 
+    // Whether one of these is sent and not answered yet.
     bool awaits(Act act) const;
     // The first pending one of these was answered.
     void settle(Act act, const std::string &quote);
+    // A line of its history; and one that a trader is told, too.
     void note(Moment at, const std::string &text);
     void tell(Moment at, const std::string &text, bool is_refusal = false);
 };

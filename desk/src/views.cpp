@@ -10,24 +10,6 @@ using nlohmann::json;
 
 namespace {
 
-const char *name_of(Act act) {
-    switch (act) {
-    case Act::ask:
-        return "request";
-    case Act::hit:
-        return "hit";
-    case Act::pass:
-        return "pass";
-    case Act::quote:
-        return "quote";
-    case Act::withdraw:
-        return "withdrawal";
-    case Act::decline:
-        return "decline";
-    }
-    return "";
-}
-
 const char *name_of(InvestorRequest::State state) {
     using State = InvestorRequest::State;
     switch (state) {
