@@ -111,10 +111,10 @@ class FixSession::Engine final : public FIX::Application {
         : own_(own), listener_(listener), events_(listener), settings_(settings_of(own)),
           stores_(store) {
         if (own.has_tls) {
-            initiator_.reset(
-                new FIX::ThreadedSSLSocketInitiator(*this, stores_, settings_, events_));
+            initiator_ = std::make_unique<FIX::ThreadedSSLSocketInitiator>(*this, stores_,
+                                                                           settings_, events_);
         } else {
-            initiator_.reset(new FIX::SocketInitiator(*this, stores_, settings_, events_));
+            initiator_ = std::make_unique<FIX::SocketInitiator>(*this, stores_, settings_, events_);
         }
         session_ = FIX::Session::lookupSession(id_);
         session_->setTimestampPrecision(3);
@@ -173,7 +173,7 @@ class FixSession::Engine final : public FIX::Application {
 
 FixSession::FixSession(const FixSettings &settings, SessionStore &store, FixListener &listener) {
     try {
-        engine_.reset(new Engine(settings, store, listener));
+        engine_ = std::make_unique<Engine>(settings, store, listener);
     } catch (const FIX::Exception &fault) {
         throw std::runtime_error(std::string("the FIX session: ") + fault.what());
     }

@@ -49,29 +49,28 @@ bool has_field(std::string_view body, std::string_view field) {
 } // namespace
 
 struct FirmFamilies::Parts {
-    Family<Gauge> &logged_on;
-    Family<Gauge> &waiting_bytes;
-    Family<Gauge> &suspended;
-    Family<Counter> &messages;
-    Family<Counter> &requests;
-    Family<Counter> &quotes;
-    Family<Counter> &hits;
-    Family<Counter> &refusals;
+    explicit Parts(Registry &in) : registry(in) {}
+
+    Registry &registry;
+    Family<Gauge> &logged_on =
+        gauges(registry, "mireseason_firm_logged_on", "1 while the firm is logged on");
+    Family<Gauge> &waiting_bytes =
+        gauges(registry, "mireseason_firm_waiting_bytes", "bytes that the firm has not taken yet");
+    Family<Gauge> &suspended =
+        gauges(registry, "mireseason_firm_suspended", "1 while an operator has suspended it");
+    Family<Counter> &messages =
+        counters(registry, "mireseason_firm_messages_total", "messages of the firm in the log");
+    Family<Counter> &requests =
+        counters(registry, "mireseason_firm_requests_total", "of these its requests (35=R)");
+    Family<Counter> &quotes =
+        counters(registry, "mireseason_firm_quotes_total", "of these its quotes (35=S)");
+    Family<Counter> &hits =
+        counters(registry, "mireseason_firm_hits_total", "of these its hits (35=AJ, 694=1)");
+    Family<Counter> &refusals = counters(registry, "mireseason_firm_refusals_total",
+                                         "messages of the venue that refuse one of the firm's");
 };
 
-FirmFamilies::FirmFamilies(Registry &registry)
-    : parts_(new Parts{
-          gauges(registry, "mireseason_firm_logged_on", "1 while the firm is logged on"),
-          gauges(registry, "mireseason_firm_waiting_bytes",
-                 "bytes that the firm has not taken yet"),
-          gauges(registry, "mireseason_firm_suspended", "1 while an operator has suspended it"),
-          counters(registry, "mireseason_firm_messages_total", "messages of the firm in the log"),
-          counters(registry, "mireseason_firm_requests_total", "of these its requests (35=R)"),
-          counters(registry, "mireseason_firm_quotes_total", "of these its quotes (35=S)"),
-          counters(registry, "mireseason_firm_hits_total", "of these its hits (35=AJ, 694=1)"),
-          counters(registry, "mireseason_firm_refusals_total",
-                   "messages of the venue that refuse one of the firm's"),
-      }) {}
+FirmFamilies::FirmFamilies(Registry &registry) : parts_(std::make_unique<Parts>(registry)) {}
 
 FirmFamilies::~FirmFamilies() = default;
 

@@ -37,7 +37,7 @@ void check_format(FIX::TYPE::Type type, const std::string &value) {
 
 Dictionary::Dictionary(const std::string &text) {
     std::istringstream stream(text);
-    dictionary.reset(new FIX::DataDictionary(stream, true));
+    dictionary = std::make_unique<FIX::DataDictionary>(stream, true);
 }
 
 Verdict Dictionary::judge(const std::string &bytes) const {
