@@ -19,17 +19,23 @@ namespace gateway {
 // Throws std::runtime_error that names the file.
 [[noreturn]] void fail(const std::filesystem::path &file, std::string_view what);
 
+// The table that a text of TOML is. Throws std::runtime_error that names the file and the line.
 toml::table parse(const std::filesystem::path &path, const std::string &text);
 
 // A table of a file, whose keys are all asked for: one that is not is a fault, since it is a
-// misspelling.
+// misspelling. Each call throws std::runtime_error that names the file, its line, the table and the
+// key where a value is of another kind, or out of its limits.
 class Section {
   public:
+    // The table is null where the file has none of the name: then each key has its usual value. It
+    // outlives this.
     Section(std::filesystem::path file, std::string name, const toml::table *table)
         : file_(std::move(file)), name_(std::move(name)), table_(table) {}
 
+    // Whether the file has the table.
     bool stands() const { return table_ != nullptr; }
 
+    // The value of a key, or nothing.
     template <typename Value> std::optional<Value> find(std::string_view key) {
         asked_.emplace(key);
         const toml::node *node = table_ == nullptr ? nullptr : table_->get(key);
@@ -46,6 +52,7 @@ class Section {
     std::string text(std::string_view key, std::string_view otherwise = "") {
         return find<std::string>(key).value_or(std::string(otherwise));
     }
+    // The same, which may not be missing or empty.
     std::string text_of_need(std::string_view key) {
         const std::string value = text(key);
         if (value.empty()) {
@@ -53,7 +60,9 @@ class Section {
         }
         return value;
     }
+    // False where it is missing.
     bool flag(std::string_view key) { return find<bool>(key).value_or(false); }
+    // From `least` to `most`.
     std::size_t number(std::string_view key, std::size_t otherwise, std::size_t least,
                        std::size_t most) {
         const auto value = find<std::int64_t>(key);
@@ -65,7 +74,9 @@ class Section {
         }
         return static_cast<std::size_t>(*value);
     }
+    // Whether the key stands there; it counts as asked for only by one of the others.
     bool has(std::string_view key) const { return table_ != nullptr && table_->contains(key); }
+    // A list of texts, of one at least.
     std::vector<std::string> words(std::string_view key) {
         asked_.emplace(key);
         const toml::array *array = table_ == nullptr ? nullptr : (*table_)[key].as_array();
@@ -83,15 +94,17 @@ class Section {
         return all;
     }
 
-    // A path relative to the file, empty without one.
+    // The path of a key, as beside() has it; empty without one.
     std::filesystem::path path(std::string_view key) {
         const std::string value = text(key);
         return value.empty() ? std::filesystem::path() : beside(value);
     }
+    // A path relative to the file's folder.
     std::filesystem::path beside(const std::filesystem::path &path) const {
         return path.is_absolute() ? path : (file_.parent_path() / path).lexically_normal();
     }
 
+    // All was asked for: throws for a key that was not.
     void end() const {
         if (table_ == nullptr) {
             return;
