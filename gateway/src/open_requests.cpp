@@ -1,48 +1,25 @@
 #include "open_requests.h"
 
+#include "frame.h"
+
 namespace gateway {
-
-namespace {
-
-// The value of the first field of this tag (with SOH before it and `=` behind); empty without one.
-std::string_view value_of(std::string_view frame, std::string_view tag) {
-    const std::size_t at = frame.find(tag);
-    if (at == std::string_view::npos) {
-        return {};
-    }
-    const std::string_view rest = frame.substr(at + tag.size());
-    return rest.substr(0, rest.find('\x01'));
-}
-
-} // namespace
 
 // docs/FORMATS.md, "Written messages": an investor is told of its request itself without 117 and
 // 453, and a report with 693 is of its hit or its pass.
 void OpenRequests::was_given(const std::string &firm, std::string_view frame) {
-    if (value_of(frame, "\x01"
-                        "35=") != "AI" ||
-        !value_of(frame, "\x01"
-                         "453=")
-             .empty()) {
+    if (value_in(frame, "35") != "AI" || !value_in(frame, "453").empty()) {
         return;
     }
-    const std::string_view request = value_of(frame, "\x01"
-                                                     "131=");
-    const std::string_view status = value_of(frame, "\x01"
-                                                    "297=");
-    const bool of_response = !value_of(frame, "\x01"
-                                              "693=")
-                                  .empty();
-    if (request.empty() || (!of_response && !value_of(frame, "\x01"
-                                                             "117=")
-                                                 .empty())) {
+    const std::string_view request = value_in(frame, "131");
+    const std::string_view status = value_in(frame, "297");
+    const bool of_response = !value_in(frame, "693").empty();
+    if (request.empty() || (!of_response && !value_in(frame, "117").empty())) {
         return;
     }
     const std::lock_guard lock(mutex_);
     const std::pair key(firm, std::string(request));
     if (!of_response && status == "0") {
-        const std::string_view moment = value_of(frame, "\x01"
-                                                        "52=");
+        const std::string_view moment = value_in(frame, "52");
         open_[key] = moment.substr(moment.find('-') + 1);
     } else if (status == "7" || (of_response && (status == "0" || status == "11"))) {
         open_.erase(key);
