@@ -134,7 +134,7 @@ class Engine::Parts {
 
     void renew(const EngineSettings &settings) {
         std::shared_ptr<const TlsServer> renewed = tls_of(settings);
-        if ((renewed == nullptr) != (tls_ == nullptr)) {
+        if (settings.certificate.empty() != settings_.certificate.empty()) {
             throw std::runtime_error("[tls] can't begin or end while the gateway runs");
         }
         {
