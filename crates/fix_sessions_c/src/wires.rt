@@ -1,8 +1,7 @@
 //! Messages between the venue and the wire.
-ghost use Rattle.std.specs.Prelude.{◌≡◌, true, false, length, take};
-ghost use Rattle.wire_messages.specs.ToVenue.{IsGiven};
+ghost use Rattle.std.specs.Prelude.{◌≡◌, true, false, length};
 ghost use Rattle.fix_sessions_c.specs.Wires as spec;
-ghost use Rattle.fix_sessions_c.specs.Wires.{IsNotIn, IsNotOut, IsWireOut};
+ghost use Rattle.fix_sessions_c.specs.Wires.{IsNotIn, IsNotOut, IsWireIn, IsWireOut};
 
 use crate::told::copy;
 use fix_sessions::MOST_KEPT;
@@ -56,7 +55,7 @@ pub extern "C" fn fix_sessions_wire_in(
     out: &mut [u8],
     written: &mut usize,
 ) -> bool
-    ensures done { result ≡ true → IsGiven (take written.new out.new) bytes.now number }
+    ensures done { result ≡ true → IsWireIn bytes.now number out.new written.new }
     ensures not_done { result ≡ false → IsNotIn bytes.now number (length out.old) }
 {
     let Ok(given) = to_venue(alloc, bytes, u64::from(number)) else {
