@@ -8,10 +8,10 @@ use fix_fields::is_value;
 use std::marker::Model;
 
 /// The longest text that is taken over into a message, in bytes.
-pub(crate) const MOST_TEXT: usize = 1_024;
+pub const MOST_TEXT: usize = 1_024;
 
 /// The longest name of a firm or a venue, in bytes.
-pub(crate) const MOST_NAME: usize = 40;
+pub const MOST_NAME: usize = 40;
 
 /// A text of 1 to 1,024 bytes without SOH, as a name or a TestReqID (112).
 #[derive(Debug, Drop)]

@@ -14,7 +14,7 @@ mod streams;
 mod told;
 mod wires;
 
-pub use laws::sessions_are_read_back;
+pub use laws::{lengths_are_as_written, sessions_are_read_back};
 pub use states::SessionState;
 pub use streams::{Asked, FoundNext, Wanted};
 pub use told::{Sent, Told};

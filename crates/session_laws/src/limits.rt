@@ -3,6 +3,7 @@ ghost use Rattle.std.specs.Prelude.{◌≡◌};
 ghost use Rattle.fix_sessions.specs.declared.bodies.TheConstants as bodies;
 ghost use Rattle.fix_sessions.specs.declared.cuts.TheConstants as cuts;
 ghost use Rattle.fix_sessions.specs.declared.state.TheConstants as state;
+ghost use Rattle.fix_sessions.specs.declared.texts.TheConstants as texts;
 
 /// The limits of a session are these numbers. Definitions name them by constants of the code, and so
 /// would hold of others, too. It does nothing.
@@ -12,6 +13,11 @@ pub fn session_limits_are_as_written()
     ensures last_number { state.LAST_NUMBER ≡ 999999990 }
     ensures message { cuts.MOST_MESSAGE ≡ 65536 }
     ensures kept { bodies.MOST_KEPT ≡ 3800 }
+
+    // The bytes of a name of a session (49, 56), and of any other text of one, such as TestReqID
+    // (112).
+    ensures name { texts.MOST_NAME ≡ 40 }
+    ensures text { texts.MOST_TEXT ≡ 1024 }
 
     // In milliseconds: a day, and how far SendingTime (52) may be off.
     ensures day { state.DAY_LENGTH ≡ 86400000 }
