@@ -3,6 +3,7 @@ mod FieldLemmas
 mod FlawLemmas
 mod NumberLemmas
 mod ScanLemmas
+mod SeamLemmas
 mod ShortTexts
 mod StreamLemmas
 mod TagLemmas

@@ -34,12 +34,16 @@ is_read tag =
 abbrev pub is_outside : ℕ → Bool
 is_outside tag = (tag == 8) || (tag == 9) || (tag == 10)
 
+-- whether a field that the session reads stands among others already
+abbrev pub is_again : ℕ → List Field → Bool
+is_again tag before = is_read tag && nat_lt 0 (times_of tag before)
+
 -- what is wrong with a field that stands behind these bytes of a body
 abbrev pub field_flaw : List ℕ → Field → Option Fault
 field_flaw before field =
     if (length before == 0) && not (field.0 == 35) then fault_at field.0 14
     else if is_outside field.0 then fault_at field.0 13
-    else if is_read field.0 && nat_lt 0 (times_of field.0 (fields_in before)) then fault_at field.0 13
+    else if is_again field.0 (fields_in before) then fault_at field.0 13
     else if (field.0 == 35) && not (is_msg_type field.1) then fault_at 35 11
     else if (field.0 == 112) && nat_lt 1024 (length field.1) then fault_at 112 5
     else None

@@ -1,5 +1,5 @@
 //! What is wrong with the form of a message.
-ghost use Rattle.std.specs.Prelude.{◌≡◌, ◌≤◌, ◌+◌, ◌-◌, length, nat_lt, MatchOption, Some, None};
+ghost use Rattle.std.specs.Prelude.{◌≡◌, ◌≤◌, ◌+◌, ◌-◌, length, nat_lt, MatchOption, IfSome, Some, None, false};
 ghost use Rattle.std.specs.Option.{option_copied};
 ghost use Rattle.std.specs.List.{list_all};
 ghost use Rattle.std.specs.Char.{is_ascii_alphanumeric};
@@ -80,7 +80,9 @@ pub(crate) fn pieces_flaw(body: &[u8], start: usize) -> Option<Fault>
     let mut at = start;
     while at < body.len() {
         let piece = front_piece(past(body, at));
-        if let Some(fault) = piece_flaw(near(body, at), piece, piece_field(piece)) {
+        let before = near(body, at);
+        let field = piece_field(piece);
+        if let Some(fault) = piece_flaw(before, piece, field, is_again(before, field)) {
             return Some(fault);
         }
         at += piece.len() + 1;
@@ -95,10 +97,27 @@ fn is_closed(text: &[u8]) -> bool
     text.is_empty() || text[text.len() - 1] == 1
 }
 
-/// What is wrong with a piece, behind these bytes.
-pub(crate) fn piece_flaw(before: &[u8], piece: &[u8], field: Option<(u64, &[u8])>) -> Option<Fault>
-    requires { MatchOption field (piece_field piece.now ≡ None)
+/// Whether the session reads a field with the tag of this one, and one stands in these bytes.
+fn is_again(before: &[u8], field: Option<(u64, &[u8])>) -> bool
+    ensures { MatchOption field.entry (result ≡ false) (λ f. result ≡ spec.is_again f.0 (fields_in before.now)) }
+{
+    match field {
+        Some((tag, _)) => is_read(tag) && times(before, tag) > 0,
+        None => false,
+    }
+}
+
+/// What is wrong with a piece, behind these bytes. The caller says whether its field stands there
+/// again, since it may know that without reading them.
+pub(crate) fn piece_flaw(
+    before: &[u8],
+    piece: &[u8],
+    field: Option<(u64, &[u8])>,
+    is_again: bool,
+) -> Option<Fault>
+    requires field { MatchOption field (piece_field piece.now ≡ None)
         (λ f. piece_field piece.now ≡ Some (f.0, f.1.now)) }
+    requires again { IfSome field (λ f. is_again ≡ spec.is_again f.0 (fields_in before.now)) }
     ensures { result ≡ spec.piece_flaw before.now piece.now }
 {
     let Some((tag, value)) = field else {
@@ -110,7 +129,7 @@ pub(crate) fn piece_flaw(before: &[u8], piece: &[u8], field: Option<(u64, &[u8])
     if tag == 8 || tag == 9 || tag == 10 {
         return fault_at(tag, 13);
     }
-    if is_read(tag) && times(before, tag) > 0 {
+    if is_again {
         return fault_at(tag, 13);
     }
     if tag == 35 && !is_msg_type(value) {
@@ -139,7 +158,7 @@ fn no_field(before: &[u8], piece: &[u8]) -> Fault
 }
 
 /// Whether a session reads the field with this tag.
-fn is_read(tag: u64) -> bool
+pub(crate) fn is_read(tag: u64) -> bool
     ensures { result ≡ spec.is_read tag }
 {
     matches!(

@@ -1,12 +1,13 @@
 //! A body whose fields were found once.
-ghost use Rattle.std.specs.Prelude.{◌≡◌, ◌≤◌, MatchOption, Some, None, length, map};
+ghost use Rattle.std.specs.Prelude.{◌≡◌, ◌≤◌, MatchOption, Some, None, length, map, false};
 ghost use Rattle.std.specs.Option.{option_copied};
 ghost use Rattle.fix_fields.specs.Frame.{value_of, times_of};
 ghost use Rattle.fix_sessions.specs.Fields as fields;
+ghost use Rattle.fix_sessions.specs.Fields.{fields_in};
 ghost use Rattle.fix_sessions.specs.Flaws as spec;
 
 use crate::fields::{front_piece, near, past, piece_field, times, value};
-use crate::flaws::{piece_flaw, pieces_flaw};
+use crate::flaws::{is_read, piece_flaw, pieces_flaw};
 use crate::turns::Fault;
 use arrayvec::ArrayVec;
 use std::marker::Model;
@@ -63,7 +64,7 @@ impl<'a> Scanned<'a> {
             let piece = front_piece(past(bytes, at));
             let field = piece_field(piece);
             let next = at + piece.len() + 1;
-            flaw = flaw_with(flaw, near(bytes, at), piece, field);
+            flaw = flaw_with(flaw, listed.as_slice(), near(bytes, at), piece, field);
             at = next;
             if let Some(field) = field {
                 listed.push(field);
@@ -124,20 +125,33 @@ impl<'a> Scanned<'a> {
     }
 }
 
-/// The first fault of a body, once a piece is passed behind these bytes.
+/// The first fault of a body, once a piece is passed behind these bytes, whose fields are listed.
 fn flaw_with(
     flaw: Option<Fault>,
+    listed: &[(u64, &[u8])],
     before: &[u8],
     piece: &[u8],
     field: Option<(u64, &[u8])>,
 ) -> Option<Fault>
-    requires { MatchOption field (fields.piece_field piece.now ≡ None)
+    requires listed { fields_in before.now ≡ map (λ f. (f.0, f.1.now)) listed.now }
+    requires field { MatchOption field (fields.piece_field piece.now ≡ None)
         (λ f. fields.piece_field piece.now ≡ Some (f.0, f.1.now)) }
     ensures { result ≡ spec.or_else flaw (spec.piece_flaw before.now piece.now) }
 {
     match flaw {
         Some(fault) => Some(fault),
-        None => piece_flaw(before, piece, field),
+        None => piece_flaw(before, piece, field, is_listed(listed, field)),
+    }
+}
+
+/// Whether the session reads a field with the tag of this one, and one is listed.
+fn is_listed(listed: &[(u64, &[u8])], field: Option<(u64, &[u8])>) -> bool
+    ensures { MatchOption field.entry (result ≡ false)
+        (λ f. result ≡ spec.is_again f.0 (map (λ f. (f.0, f.1.now)) listed.now)) }
+{
+    match field {
+        Some((tag, _)) => is_read(tag) && listed_times(listed, tag) > 0,
+        None => false,
     }
 }
 

@@ -8,7 +8,7 @@ pub returns-in-Some : goal.returns-in-Some
 returns-in-Some c =
     let body = c.args.body.now in
     let at = c.loop-at.at in
-    let same = flaw_at body c.past.result.now c.near.result.now c.front_piece-piece.result.now at c.past.ensures.value c.near.ensures.value c.front_piece-piece.ensures in
+    let same = flaw_at body c.past.result.now c.near-before.result.now c.front_piece-piece.result.now at c.past.ensures.value c.near-before.ensures.value c.front_piece-piece.ensures in
     let told : piece_flaw (take at body) (front_piece (drop at body)) ≡ Some c.in-Some.fault = sym same ∙ sym c.piece_flaw.ensures ∙ c.in-Some.is in
     sym (c.loop-at.invariant.0 ∙ is_told body at c.in-Some.fault c.loop-at-test.true told)
 
@@ -16,7 +16,7 @@ pub loop-at-preserved : goal.loop-at-preserved
 loop-at-preserved c =
     let body = c.args.body.now in
     let at = c.loop-at.at in
-    let same = flaw_at body c.past.result.now c.near.result.now c.front_piece-piece.result.now at c.past.ensures.value c.near.ensures.value c.front_piece-piece.ensures in
+    let same = flaw_at body c.past.result.now c.near-before.result.now c.front_piece-piece.result.now at c.past.ensures.value c.near-before.ensures.value c.front_piece-piece.ensures in
     let none : piece_flaw (take at body) (front_piece (drop at body)) ≡ None = sym same ∙ sym c.piece_flaw.ensures ∙ c.in_default.is in
     let len : length c.front_piece-piece.result.now ≡ length (front_piece (drop at body)) =
     ap length c.front_piece-piece.ensures ∙ ap (λ b. length (front_piece b)) c.past.ensures.value in
