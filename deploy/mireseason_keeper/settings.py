@@ -1,6 +1,8 @@
 """The keeper's configuration, keeper.toml."""
 
+import os
 import re
+import stat
 import tomllib
 from collections.abc import Callable, Mapping
 from dataclasses import dataclass
@@ -24,6 +26,7 @@ KEYS = {
 }
 TIME = re.compile(r"([0-9]{2}):([0-9]{2})")
 VENUE = re.compile(r"[a-z][a-z0-9_]{0,30}")
+LONGEST_FILE = 1 << 20  # bytes of a file that somebody wrote by hand
 Value = TypeVar("Value")
 
 
@@ -72,8 +75,8 @@ def is_date(text: str) -> bool:
 def read_settings(path: Path) -> Settings:
     """Reads keeper.toml; Fault with the file, the key and what is wrong with it."""
     try:
-        table = tomllib.loads(path.read_text())
-    except (OSError, ValueError) as fault:
+        table = tomllib.loads(text_of(path))
+    except ValueError as fault:
         raise Fault("%s: %s" % (path, fault)) from None
     check_keys(path, table)
     part = Parts(path, table)
@@ -95,6 +98,21 @@ def read_settings(path: Path) -> Settings:
         audit=tuple(part.texts("audit", "command", ["/usr/bin/mireseason-audit"])),
         metrics=part.file("metrics", "file") if "metrics" in table else None,
     )
+
+
+def text_of(path: Path) -> str:
+    """Fault where it is no plain file, as a pipe is that nobody writes to, or a device that has no end; or is too long."""
+    try:
+        number = os.open(path, os.O_RDONLY | os.O_NONBLOCK | os.O_CLOEXEC)
+        with open(number, encoding="utf-8") as file:
+            if not stat.S_ISREG(os.fstat(number).st_mode):
+                raise Fault("%s: is no plain file" % path)
+            text = file.read(LONGEST_FILE + 1)
+    except (OSError, ValueError) as fault:
+        raise Fault("%s: %s" % (path, fault)) from None
+    if len(text) > LONGEST_FILE:
+        raise Fault("%s: is longer than %d bytes" % (path, LONGEST_FILE))
+    return text
 
 
 def check_keys(path: Path, table: Mapping[str, Any]) -> None:
@@ -184,10 +202,13 @@ def days_of(part: Parts) -> TradingDays:
     if not set(weekdays) <= set(WEEKDAYS):
         raise Fault("%s: [day] weekdays are of %s" % (part.path, ", ".join(WEEKDAYS)))
     holidays = part.text("day", "holidays", "")
+    opens, ends = time_of(part, "opens", "00:00"), time_of(part, "ends", "24:00")
+    if ends <= opens:
+        raise Fault("%s: [day] ends: a day opens before it ends" % part.path)
     return TradingDays(
         named,
-        time_of(part, "opens", "00:00"),
-        time_of(part, "ends", "24:00"),
+        opens,
+        ends,
         frozenset(map(WEEKDAYS.index, weekdays)),
         holidays_of(part.path.parent / holidays) if holidays else frozenset(),
     )
@@ -204,12 +225,8 @@ def time_of(part: Parts, key: str, usual: str) -> timedelta:
 
 def holidays_of(path: Path) -> frozenset[date]:
     """A day a line, with what stands behind a `#` left out."""
-    try:
-        lines = path.read_text().splitlines()
-    except (OSError, ValueError) as fault:
-        raise Fault("%s: %s" % (path, fault)) from None
     found = set()
-    for number, line in enumerate(lines, 1):
+    for number, line in enumerate(text_of(path).splitlines(), 1):
         text = line.split("#")[0].strip()
         if not text:
             continue

@@ -1,5 +1,6 @@
 """What keeper.toml says, and what is wrong with it."""
 
+import os
 from datetime import datetime, timezone
 from pathlib import Path
 
@@ -60,6 +61,26 @@ FAULTS = {
     "no zone": ("[copies]", '[day]\nzone = "New York"\n[copies]', "none of the tz database"),
     "no time": ("[copies]", '[day]\nends = "24:01"\n[copies]', "[day] ends is 24:01"),
     "no weekday": ("[copies]", '[day]\nweekdays = ["Sum"]\n[copies]', "weekdays are of Mon"),
+    "a day that ends as it opens": (
+        "[copies]",
+        '[day]\nopens = "00:00"\nends = "00:00"\n[copies]',
+        "[day] ends: a day opens before it ends",
+    ),
+    "a day that opens as it ends": (
+        "[copies]",
+        '[day]\nopens = "24:00"\n[copies]',
+        "a day opens before it ends",
+    ),
+    "holidays that nobody writes": (
+        "[copies]",
+        '[day]\nholidays = "pipe"\n[copies]',
+        "pipe: is no plain file",
+    ),
+    "holidays without an end": (
+        "[copies]",
+        '[day]\nholidays = "long"\n[copies]',
+        "long: is longer than",
+    ),
     "no file of holidays": ("[copies]", '[day]\nholidays = "none"\n[copies]', "No such file"),
     "no holiday": ("[copies]", '[day]\nholidays = "faulty"\n[copies]', "line 2: a holiday is"),
     "no TOML": ("[copies]", "[copies", "keeper.toml"),
@@ -111,6 +132,8 @@ FAULTS = {
 def file(place: Path) -> Path:
     (place / "holidays").write_text("\n2026-11-26   # Thanksgiving\n")
     (place / "faulty").write_text("2026-11-26\n2026-11-31\n")
+    (place / "long").write_text("# none\n" * 200_000)
+    os.mkfifo(place / "pipe")
     return place / "keeper.toml"
 
 
