@@ -5,12 +5,12 @@ venue's program ignores. A bond without `quoted` is shown in decimals.
 """
 
 import re
-import tomllib
 from collections.abc import Mapping
 from dataclasses import dataclass
 
 from .faults import Wrong
 from .records import Day
+from .toml_text import table_of
 
 BOND = re.compile(r"[A-Z0-9]{12}")
 CURRENCY = re.compile(r"[A-Z]{3}")
@@ -33,7 +33,7 @@ class Bond:
 
 def bonds_of(day: Day) -> dict[str, Bond]:
     """The bonds by their identifiers, in the order of the rows."""
-    rows = tomllib.loads(day.configuration.decode()).get("bond", [])
+    rows = table_of(day.configuration).get("bond", [])
     bonds = [bond_of(row) for row in rows if isinstance(row, dict)]
     return {bond.id: bond for bond in bonds}
 

@@ -2,12 +2,12 @@
 
 import hashlib
 import re
-import tomllib
 from collections.abc import Iterable, Sequence
 from dataclasses import dataclass, replace
 from typing import Any, NamedTuple
 
 from .faults import Wrong
+from .toml_text import table_of
 
 SOH = b"\x01"
 DIVIDER = b"%%\n"
@@ -258,11 +258,11 @@ def configured(version: str, program: str, configuration: bytes, venue: str = ""
     else is for the venue to say.
     """
     try:
-        table = tomllib.loads(configuration.decode())
+        table = table_of(configuration)
         firms = [Firm(str(row["name"]), True) for row in table.get("dealer", [])]
         firms += [Firm(str(row["name"]), False) for row in table.get("investor", [])]
         date = str(table["date"])
-    except (ValueError, KeyError, TypeError, AttributeError, RecursionError) as fault:
+    except (ValueError, KeyError, TypeError, AttributeError) as fault:
         raise Wrong("entry 0: the configuration can't be read: %s" % fault) from None
     for firm in firms:
         if not NAME.fullmatch(firm.name):

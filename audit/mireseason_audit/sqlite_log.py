@@ -47,7 +47,7 @@ class SqliteLog(SqlLog):
         try:
             self._connection = connected(source.path)
             check_tables(self._connection, source.path)
-            forms = self._connection.execute("SELECT number FROM form").fetchall()
+            forms = self._connection.execute("SELECT number FROM form LIMIT 2").fetchall()
         except sqlite3.Error as fault:
             raise Unreadable("%s is no log of the gateway: %s" % (source.path, fault)) from None
         form = form_of(str(source.path), forms, OLD_FORM)

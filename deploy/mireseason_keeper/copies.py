@@ -21,6 +21,7 @@ from .settings import Settings
 
 REPORT = "check.txt"
 LONGEST_CHECK = 6 * 3600  # seconds
+LONGEST_HEAD = 1 << 16  # bytes of entry 0 in front of its configuration
 PIECE = 1 << 20
 
 
@@ -181,7 +182,7 @@ def file_of(folder: Path, schema: str) -> Path:
 def parts_of(line: bytes | None) -> tuple[dict[str, str], bytes]:
     """What entry 0 says before its configuration, a word a line, and that configuration."""
     head, found, configuration = (line or b"").partition(b"%%\n")
-    if not found:
+    if not found or len(head) > LONGEST_HEAD:
         raise Fault("it has no entry 0")
     lines = [line.partition(" ") for line in head.decode(errors="replace").splitlines()]
     return {name: value for name, _, value in lines}, configuration

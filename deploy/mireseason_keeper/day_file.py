@@ -3,6 +3,7 @@
 import hashlib
 import os
 import sqlite3
+import time
 from collections.abc import Iterable, Iterator
 from contextlib import closing
 from itertools import islice
@@ -13,11 +14,23 @@ from .database import ROWS_AT_A_TIME, Log, Table
 from .faults import Fault
 
 Row = tuple[Any, ...]
+ENTRY_SECONDS = 60.0  # for the first entry of a log, which takes none of them
+STEPS = 100_000  # of SQLite, after each of which the time is looked at
+LONGEST_ENTRY = 17 << 20  # bytes of entry 0, whose configuration has up to 16 MiB
 
 
 def reader_of(path: Path) -> sqlite3.Connection:
     """A reader of a copy, which nobody writes: SQLite puts no file of its own beside it."""
     return sqlite3.connect(path.resolve().as_uri() + "?mode=ro&immutable=1", uri=True)
+
+
+def hasty_reader_of(path: Path) -> sqlite3.Connection:
+    """The same of one that anybody may have made: what it asks for takes a minute at most, and has no value of any length."""
+    file = reader_of(path)
+    end = time.monotonic() + ENTRY_SECONDS
+    file.setlimit(sqlite3.SQLITE_LIMIT_LENGTH, LONGEST_ENTRY)
+    file.set_progress_handler(lambda: time.monotonic() > end, STEPS)
+    return file
 
 
 def digest_of_log(log: Log) -> str:
@@ -43,12 +56,12 @@ def digest_of_file(path: Path) -> str:
 def first_line(path: Path) -> bytes | None:
     """Entry 0 of a copy; None where it has none."""
     try:
-        with closing(reader_of(path)) as file:
-            query = "SELECT CAST(line AS BLOB) FROM entry WHERE place = 0"
-            rows = file.execute(query).fetchall()
+        with closing(hasty_reader_of(path)) as file:
+            query = "SELECT CAST(line AS BLOB) FROM entry WHERE place = 0 LIMIT 1"
+            row = file.execute(query).fetchone()
     except sqlite3.Error as fault:
         raise Fault("%s: %s" % (path.name, fault)) from None
-    return bytes(rows[0][0] or b"") if rows else None
+    return bytes(row[0] or b"") if row else None
 
 
 def write_day(log: Log, path: Path) -> str:

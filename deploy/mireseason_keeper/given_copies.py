@@ -10,15 +10,15 @@ import os
 import re
 import sqlite3
 import stat
-import time
-import tomllib
 from collections.abc import Iterator
 from contextlib import closing, contextmanager
 from dataclasses import dataclass
 from pathlib import Path
 from typing import BinaryIO
 
-from .day_file import on_disk, reader_of
+from mireseason_audit.toml_text import table_of
+
+from .day_file import hasty_reader_of, on_disk
 from .faults import Fault, one_line
 
 SUMS = "SHA256SUMS"
@@ -26,8 +26,6 @@ LINE = re.compile(r"([0-9a-f]{64})  ([A-Za-z0-9][A-Za-z0-9._-]{0,99})")
 LONGEST_SUMS = 1 << 16  # bytes
 RESERVE = 256 << 20  # bytes that stay free on the disk of the keeper's own copies
 PIECE = 1 << 20
-ENTRY_SECONDS = 60.0  # for the first entry of a log, which takes none of them
-STEPS = 100_000  # of SQLite, after each of which the time is looked at
 # Views, triggers, virtual tables, and columns that are computed.
 MORE_THAN_TABLES = """SELECT
     (SELECT count(*) FROM sqlite_schema WHERE type NOT IN ('table', 'index') OR sql LIKE 'CREATE VIRTUAL%') +
@@ -104,10 +102,8 @@ def names_in(folder: Path) -> list[str]:
 
 def check_tables(log: Path) -> None:
     """Fault where a log has anything but tables: who reads it runs nothing that its writer thought of."""
-    end = time.monotonic() + ENTRY_SECONDS
     try:
-        with closing(reader_of(log)) as file:
-            file.set_progress_handler(lambda: time.monotonic() > end, STEPS)
+        with closing(hasty_reader_of(log)) as file:
             file.execute("PRAGMA trusted_schema = OFF")
             ((more,),) = file.execute(MORE_THAN_TABLES).fetchall()
     except sqlite3.Error as fault:
@@ -119,8 +115,8 @@ def check_tables(log: Path) -> None:
 def check_day(head: dict[str, str], configuration: bytes, venue: str, day: str) -> None:
     """Fault where entry 0 is not of this day of this venue."""
     try:
-        date = tomllib.loads(configuration.decode()).get("date")
-    except (UnicodeDecodeError, tomllib.TOMLDecodeError):
+        date = table_of(configuration).get("date")
+    except ValueError:
         date = None
     if date != day or head.get("venue", "-") != (venue or "-"):
         raise Fault("its entry 0 is of another day or venue")

@@ -232,6 +232,30 @@ def without_entries(kept: Place) -> None:
     told_to_sqlite(kept, "DELETE FROM entry")
 
 
+def told_in_entry_0(kept: Place, text: str) -> None:
+    """Has the configuration of entry 0 be this."""
+    told_to_sqlite(
+        kept, "UPDATE entry SET line = CAST('venue -\n%%%%\n%s' AS BLOB) WHERE place = 0" % text
+    )
+
+
+def with_brackets(kept: Place) -> None:
+    told_in_entry_0(kept, "a = " + "[" * 100_000)
+
+
+def with_dots(kept: Place) -> None:
+    told_in_entry_0(kept, ".".join(["a"] * 10_000) + " = 1")
+
+
+def with_a_long_entry(kept: Place) -> None:
+    told_to_sqlite(kept, "UPDATE entry SET line = zeroblob(18 << 20) WHERE place = 0")
+
+
+def with_a_long_head(kept: Place) -> None:
+    words = "CAST(hex(zeroblob(1 << 16)) AS BLOB)"
+    told_to_sqlite(kept, "UPDATE entry SET line = %s || line WHERE place = 0" % words)
+
+
 def as_no_database(kept: Place) -> None:
     kept.log.write_bytes(b"SQLite format 3\0" + bytes(range(256)) * 16)
     kept.write_sums()
@@ -256,6 +280,10 @@ REFUSED: list[tuple[Change, str]] = [
     (with_trigger, "has more than tables"),
     (with_computed_column, "has more than tables"),
     (without_entries, "it has no entry 0"),
+    (with_brackets, "of another day or venue"),
+    (with_dots, "of another day or venue"),
+    (with_a_long_entry, "too big"),
+    (with_a_long_head, "it has no entry 0"),
     (as_no_database, DATE + ".db"),
     (of_another_venue, "of another day or venue"),
 ]
@@ -275,6 +303,20 @@ def test_a_log_of_another_day(kept: Place) -> None:
     assert kept.run().at_fault == 1
     assert "of another day or venue" in kept.told()
     assert not list((kept.folder / "copies").glob("[0-9]" * 8))
+
+
+def test_a_copy_keeps_no_other_from_being_sealed(kept: Place) -> None:
+    """Whatever it has in the place of a configuration, and though it comes first."""
+    good = kept.folder / "good"
+    shutil.copytree(kept.given, good)
+    with_brackets(kept)
+    os.replace(kept.log, kept.given / (BEFORE + ".db"))
+    kept.write_sums()
+    kept.given.rename(kept.given.with_name(BEFORE))
+    good.rename(kept.given)
+    assert kept.run().at_fault == 1
+    assert "day is not sealed log=%s" % BEFORE in kept.told()
+    assert kept.seal.exists() and kept.receipt.exists()
 
 
 def test_no_room(kept: Place, monkeypatch: pytest.MonkeyPatch) -> None:
