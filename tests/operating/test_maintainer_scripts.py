@@ -1,0 +1,150 @@
+"""What the packages' scripts leave where they are killed, and what the next configuration makes of that."""
+
+import os
+import shutil
+import subprocess
+from collections.abc import Callable
+from dataclasses import dataclass
+from pathlib import Path
+
+import pytest
+
+from tests.gateway.wait import LONG
+from tests.harness.options import ROOT
+
+# Each command of a script, of which the one that is said is never run: the script is killed there.
+COMMANDS = ("rm", "mkdir", "openssl", "mireseason-gateway", "chown", "chmod", "mv", "rmdir")
+WRAPPER = """#!/bin/sh
+echo >>"$PLACE/calls"
+[ "$(wc -l <"$PLACE/calls")" != "$DIES_AT" ] || { kill -9 "$PPID"; exit 1; }
+exec %s "$@"
+"""
+# No user of these packages is there: what would have an owner is noted.
+CHOWN = """#!/bin/sh
+shift
+stat -c %i "$@" >>"$PLACE/owned"
+"""
+MANY = 20  # more than a script has commands
+
+
+@dataclass(frozen=True)
+class Script:
+    package: str
+    folder: str  # where its keys are
+    modes: dict[str, int]
+
+    @property
+    def text(self) -> str:
+        return (ROOT / "packaging" / "debian" / (self.package + ".postinst")).read_text()
+
+
+SCRIPTS = [
+    Script(
+        "mireseason-gateway",
+        "/etc/mireseason/keys",
+        {"seal.key": 0o640, "gateway.pem": 0o640, "gateway.pub": 0o644},
+    ),
+    Script("mireseason-keeper", "/etc/mireseason-keeper", {"seal.pem": 0o640, "seal.pub": 0o644}),
+]
+
+
+@dataclass
+class Configured:
+    """A script whose folder and commands are a test's own."""
+
+    script: Script
+    place: Path
+
+    def __post_init__(self) -> None:
+        self.folder.mkdir()
+        (self.place / "bin").mkdir()
+        (self.place / "postinst").write_text(
+            self.script.text.replace(self.script.folder, str(self.folder))
+        )
+
+    @property
+    def folder(self) -> Path:
+        return self.place / "keys"
+
+    def wrap(self, name: str, program: str) -> None:
+        file = self.place / "bin" / name
+        file.write_text(WRAPPER % program)
+        file.chmod(0o755)
+
+    def run(self, dies_at: int) -> int:
+        """The number of commands that it began."""
+        calls = self.place / "calls"
+        calls.write_text("")
+        environment = {
+            "PATH": "%s:%s" % (self.place / "bin", os.environ["PATH"]),
+            "PLACE": str(self.place),
+            "DIES_AT": str(dies_at),
+        }
+        words = ["sh", str(self.place / "postinst"), "configure"]
+        done = subprocess.run(
+            words, env=environment, capture_output=True, text=True, timeout=LONG, check=False
+        )
+        began = len(calls.read_text())
+        assert (done.returncode == 0) == (dies_at not in range(1, began + 1)), done.stderr
+        return began
+
+    def check(self) -> None:
+        """All keys are there, of their owner and mode, and nothing else is."""
+        names = {path.name for path in self.folder.iterdir() if "~" not in path.name}
+        assert names == set(self.script.modes)
+        owned = (self.place / "owned").read_text().split()
+        for name, mode in self.script.modes.items():
+            found = (self.folder / name).stat()
+            assert found.st_mode & 0o777 == mode and str(found.st_ino) in owned, name
+        private, public = (self.folder / name for name in sorted(self.script.modes)[:2])
+        assert public_half(private) == public.read_text()
+
+
+def public_half(private: Path) -> str:
+    words = ["openssl", "pkey", "-in", str(private), "-pubout"]
+    return subprocess.run(words, capture_output=True, text=True, check=True, timeout=LONG).stdout
+
+
+Configure = Callable[[Path], Configured]
+
+
+@pytest.fixture(params=SCRIPTS, ids=[script.package for script in SCRIPTS])
+def configure(request: pytest.FixtureRequest, gateway_program: Path) -> Configure:
+    def made(place: Path) -> Configured:
+        place.mkdir()
+        configured = Configured(request.param, place)
+        (place / "chown").write_text(CHOWN)
+        (place / "chown").chmod(0o755)
+        programs = {"mireseason-gateway": str(gateway_program), "chown": str(place / "chown")}
+        for name in COMMANDS:
+            configured.wrap(name, programs.get(name) or str(shutil.which(name)))
+        return configured
+
+    return made
+
+
+def test_a_script_that_is_killed_is_made_good(configure: Configure, place: Path) -> None:
+    """At each of its commands: the next configuration leaves all keys, of whom they should be."""
+    for at in range(1, MANY):
+        configured = configure(place / str(at))
+        was_killed = configured.run(at) >= at
+        configured.run(0)
+        configured.check()
+        if not was_killed:
+            return
+    raise AssertionError("it has more commands than that")
+
+
+def test_keys_that_are_there_stay(configure: Configure, place: Path) -> None:
+    """A configuration makes none anew; and a public half without a secret is kept beside the new one."""
+    configured = configure(place / "there")
+    configured.run(0)
+    before = {path.name: path.read_bytes() for path in configured.folder.iterdir()}
+    configured.run(0)
+    assert {path.name: path.read_bytes() for path in configured.folder.iterdir()} == before
+    (secret,) = {"seal.key", "seal.pem"} & before.keys()
+    (public,) = {"gateway.pub", "seal.pub"} & before.keys()
+    (configured.folder / secret).unlink()
+    configured.run(0)
+    configured.check()
+    assert (configured.folder / (public + ".~1~")).read_bytes() == before[public]
