@@ -12,8 +12,9 @@ from typing import Generic, TextIO, TypeVar
 
 Row = TypeVar("Row")
 Value = str | int | Decimal | None
-# A spreadsheet takes a text that begins so for a formula, and a firm may have chosen the text.
-FORMULA = ("=", "+", "-", "@", "\t", "\r", "'")
+# A spreadsheet takes a text that begins so for a formula, in some languages by a letter of full
+# width, and a firm may have chosen the text.
+FORMULA = (*"=+-@\t\r\n", *"\uff1d\uff0b\uff0d\uff20", "'")
 ROWS_AT_ONCE = 1000
 
 

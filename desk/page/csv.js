@@ -1,9 +1,9 @@
 // Rows as a file for a spreadsheet.
 
-// A text that a spreadsheet would take for a formula gets an apostrophe.
+// A text that a spreadsheet would take for a formula, in some languages by a letter of full width, gets an apostrophe.
 function cell(value) {
   const text = String(value ?? '');
-  const safe = typeof value === 'string' && /^[=+\-@\t\r]/.test(text) ? `'${text}` : text;
+  const safe = typeof value === 'string' && /^[=+\-@\t\r\n\uff1d\uff0b\uff0d\uff20]/.test(text) ? `'${text}` : text;
   return /[",\r\n]/.test(safe) ? `"${safe.replaceAll('"', '""')}"` : safe;
 }
 

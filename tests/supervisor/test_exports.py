@@ -9,7 +9,7 @@ from fractions import Fraction
 from pathlib import Path
 
 import pytest
-from hypothesis import given, settings
+from hypothesis import example, given, settings
 from hypothesis import strategies as st
 
 from mireseason_audit.tables import Column, Form, Table, cell_of, table_text
@@ -231,7 +231,12 @@ def test_one_line_says_what_is_missing(
 WORDS: Table[str] = Table("words", "a text", (Column("text", "", lambda row: row),))
 
 
+# Of a formula: those of full width are of spreadsheets in East Asia.
+BEGINNINGS = ("=", "+", "-", "@", "\t", "\r", "\n", "＝", "＋", "－", "＠")
+
+
 @settings(max_examples=300, deadline=None, database=None)
+@example(["%s1+1" % one for one in BEGINNINGS])
 @given(
     st.lists(
         st.text(st.characters(blacklist_categories=("Cs",), blacklist_characters="\0"), max_size=20)
@@ -246,7 +251,7 @@ def test_no_cell_is_a_formula(tmp_path_factory: pytest.TempPathFactory, texts: l
     with path.open(newline="", encoding="utf-8") as file:
         cells = [row["text"] for row in csv.DictReader(file)]
     assert [cell.removeprefix("'") for cell in cells if cell] == [text for text in texts if text]
-    assert not [cell for cell in cells if cell.startswith(("=", "+", "-", "@", "\t", "\r"))]
+    assert not [cell for cell in cells if cell.startswith(BEGINNINGS)]
 
 
 def test_numbers_are_no_texts() -> None:
