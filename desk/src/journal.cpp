@@ -1,13 +1,14 @@
 #include "journal.h"
 
+#include "../../gateway/src/descriptor.h"
+
+#include <array>
 #include <charconv>
 #include <cstdint>
 #include <cstdio>
 #include <cstdlib>
 #include <cstring>
-#include <fstream>
 #include <optional>
-#include <sstream>
 #include <stdexcept>
 #include <string_view>
 
@@ -18,6 +19,8 @@
 namespace desk {
 
 namespace {
+
+using gateway::Descriptor;
 
 std::uint32_t check_of(std::string_view bytes) {
     boost::crc_32_type check;
@@ -74,11 +77,24 @@ std::size_t read_entries(const std::string &bytes, const std::function<void(cons
     return bytes.size() - rest.size();
 }
 
-std::string bytes_of(const std::string &path) {
-    std::ifstream file(path, std::ios::binary);
-    std::ostringstream bytes;
-    bytes << file.rdbuf();
-    return bytes.str();
+[[noreturn]] void fail(const std::string &path, const char *what) {
+    throw std::runtime_error(path + what + std::strerror(errno));
+}
+
+// All that a file has. What can't be read is no end of it: it would be cut off.
+std::string bytes_of(int file, const std::string &path) {
+    std::string bytes;
+    std::array<char, 65536> some{};
+    for (;;) {
+        const ssize_t count = ::read(file, some.data(), some.size());
+        if (count < 0 && errno != EINTR) {
+            fail(path, " can't be read: ");
+        }
+        if (count == 0) {
+            return bytes;
+        }
+        bytes.append(some.data(), count < 0 ? 0 : static_cast<std::size_t>(count));
+    }
 }
 
 // Whether all was written; errno says why not.
@@ -93,19 +109,25 @@ bool write_all(int file, std::string_view bytes) {
     return true;
 }
 
+// The names in the folder of a file are safe against a power cut when it returns.
+bool synchronise_names(const std::string &path) {
+    const std::size_t end = path.rfind('/');
+    const std::string name = end == std::string::npos ? "." : path.substr(0, end + 1);
+    const Descriptor folder(::open(name.c_str(), O_RDONLY | O_DIRECTORY | O_CLOEXEC));
+    return folder.number() >= 0 && ::fsync(folder.number()) == 0;
+}
+
 // What is no whole record, or stands behind one that is none, is kept beside the journal: it may
-// be more than the end of the last one.
+// be more than the end of the last one. It is safe there before it is cut off here.
 void put_aside(const std::string &path, std::string_view rest) {
     if (rest.empty()) {
         return;
     }
     const std::string aside = path + ".cut";
-    const int file = ::open(aside.c_str(), O_WRONLY | O_CREAT | O_APPEND | O_CLOEXEC, 0600);
-    const bool is_written = file >= 0 && write_all(file, rest);
-    const std::string why = std::strerror(errno);
-    ::close(file);
-    if (!is_written) {
-        throw std::runtime_error(aside + " can't be written: " + why);
+    const Descriptor file(::open(aside.c_str(), O_WRONLY | O_CREAT | O_APPEND | O_CLOEXEC, 0600));
+    if (file.number() < 0 || !write_all(file.number(), rest) || ::fsync(file.number()) != 0 ||
+        !synchronise_names(aside)) {
+        fail(aside, " can't be written: ");
     }
     std::fprintf(stderr, "%s: its last %zu bytes are no whole record, and stand in %s\n",
                  path.c_str(), rest.size(), aside.c_str());
@@ -114,19 +136,15 @@ void put_aside(const std::string &path, std::string_view rest) {
 } // namespace
 
 Journal::Journal(const std::string &path, const std::function<void(const Entry &)> &each)
-    : path_(path) {
-    const std::string bytes = bytes_of(path);
+    : path_(path), file_(::open(path.c_str(), O_RDWR | O_CREAT | O_APPEND | O_CLOEXEC, 0600)) {
+    if (file_.number() < 0 || !synchronise_names(path)) {
+        fail(path, " can't be opened: ");
+    }
+    const std::string bytes = bytes_of(file_.number(), path);
     const std::size_t good = read_entries(bytes, each);
     put_aside(path, std::string_view(bytes).substr(good));
-    file_ = ::open(path.c_str(), O_WRONLY | O_CREAT | O_APPEND | O_CLOEXEC, 0600);
-    if (file_ < 0 || ::ftruncate(file_, static_cast<off_t>(good)) != 0) {
-        throw std::runtime_error(path + " can't be opened: " + std::strerror(errno));
-    }
-}
-
-Journal::~Journal() {
-    if (file_ >= 0) {
-        ::close(file_);
+    if (::ftruncate(file_.number(), static_cast<off_t>(good)) != 0) {
+        fail(path, " can't be cut: ");
     }
 }
 
@@ -135,13 +153,13 @@ void Journal::write(const Entry &entry) {
     checked += std::to_string(milliseconds_of(entry.moment)) + ' ';
     checked += std::to_string(entry.bytes.size()) + ' ' + entry.bytes;
     const std::string record = std::to_string(check_of(checked)) + ' ' + checked + '\n';
-    if (!write_all(file_, record)) {
+    if (!write_all(file_.number(), record)) {
         end_process(path_, "can't be written");
     }
 }
 
 void Journal::synchronise() {
-    if (::fdatasync(file_) != 0) {
+    if (::fdatasync(file_.number()) != 0) {
         end_process(path_, "can't be synchronised");
     }
 }

@@ -7,6 +7,7 @@
 #ifndef DESK_JOURNAL_H
 #define DESK_JOURNAL_H
 
+#include "../../gateway/src/descriptor.h"
 #include "moment.h"
 
 #include <functional>
@@ -32,7 +33,6 @@ class Journal {
     // before which all are whole: what stands there is put aside, into a file that ends with .cut.
     // Throws std::runtime_error where it can't.
     Journal(const std::string &path, const std::function<void(const Entry &)> &each);
-    ~Journal();
     Journal(const Journal &) = delete;
     Journal &operator=(const Journal &) = delete;
 
@@ -43,7 +43,7 @@ class Journal {
 
   private:
     const std::string path_;
-    int file_ = -1;
+    gateway::Descriptor file_;
 };
 
 } // namespace desk

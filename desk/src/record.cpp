@@ -49,11 +49,12 @@ void Record::count(const Entry &entry) {
     }
 }
 
-// What leaves is safe against a power cut first; what came is asked for again.
+// What leaves is safe against a power cut first, and so is that something never will; what came is
+// asked for again.
 void Record::append(std::unique_lock<std::mutex> &lock, Entry entry) {
     using Kind = Entry::Kind;
     journal_->write(entry);
-    if (entry.kind == Kind::sent || entry.kind == Kind::session) {
+    if (entry.kind != Kind::received) {
         journal_->synchronise();
     }
     count(entry);

@@ -143,6 +143,25 @@ TEST_CASE("no names that others try make room for one more guess of a login") {
     }
 }
 
+TEST_CASE("by no name or address can somebody take the tries of another") {
+    constexpr int enough = 4'000'000; // of 65,536 places
+    const Moment at = *moment_of("20260314-09:00:00.000");
+    Attempts known(1, "a secret that was told");
+    known.begins("victim", at);
+    std::vector<std::string> sharing;
+    for (int count = 0; count < enough && sharing.size() < 2; ++count) {
+        std::string address = "2001:db8::" + std::to_string(count);
+        if (!known.may_try(address, at)) {
+            sharing.push_back(std::move(address));
+        }
+    }
+    REQUIRE(sharing.size() == 2);
+    Attempts attempts(1);
+    attempts.begins("victim", at);
+    // That both share its place by another secret as well is one case of four thousand millions.
+    CHECK((attempts.may_try(sharing[0], at) || attempts.may_try(sharing[1], at)));
+}
+
 TEST_CASE("a page has a burst of commands, and then twenty a second") {
     const Moment at = *moment_of("20260314-09:00:00.000");
     Pace pace(at);

@@ -1,0 +1,104 @@
+// What of a journal is safe against a power cut, and when: each synchronisation is noted as it is
+// asked for.
+#include <doctest/doctest.h>
+
+#include "journal.h"
+#include "record.h"
+#include "unit.h"
+
+#include <algorithm>
+#include <filesystem>
+#include <fstream>
+#include <functional>
+#include <string>
+#include <vector>
+
+#include <sys/syscall.h>
+#include <unistd.h>
+
+using namespace desk;
+using desk_tests::entry;
+using desk_tests::Folder;
+
+namespace {
+
+// Is told the name of each file that is synchronised, before it is.
+std::function<void(const std::string &name)> listener;
+
+void note(int file) {
+    if (listener) {
+        listener(std::filesystem::read_symlink("/proc/self/fd/" + std::to_string(file)));
+    }
+}
+
+// Listens for as long as it lives.
+class Listening {
+  public:
+    explicit Listening(std::function<void(const std::string &)> to) { listener = std::move(to); }
+    ~Listening() { listener = nullptr; }
+    Listening(const Listening &) = delete;
+    Listening &operator=(const Listening &) = delete;
+};
+
+} // namespace
+
+// In the place of the system's own.
+extern "C" int fsync(int file) {
+    note(file);
+    return static_cast<int>(::syscall(SYS_fsync, file));
+}
+
+extern "C" int fdatasync(int file) {
+    note(file);
+    return static_cast<int>(::syscall(SYS_fdatasync, file));
+}
+
+TEST_CASE("what is put aside is safe, with its name, before it is cut off the journal") {
+    const Folder folder;
+    const std::string path = folder.file("journal");
+    {
+        Journal journal(path, [](const Entry &) {});
+        journal.write(entry(Entry::Kind::received, 1, "35=AI|34=1|"));
+    }
+    const auto whole = std::filesystem::file_size(path);
+    std::ofstream(path, std::ios::binary | std::ios::app) << "no record";
+    const auto length = std::filesystem::file_size(path);
+    std::vector<std::string> safe; // while the journal had all of it
+    {
+        const Listening listening([&](const std::string &name) {
+            if (std::filesystem::file_size(path) == length) {
+                safe.push_back(name);
+            }
+        });
+        const Journal journal(path, [](const Entry &) {});
+    }
+    CHECK(std::filesystem::file_size(path) == whole);
+    const auto aside = std::find(safe.begin(), safe.end(), path + ".cut");
+    REQUIRE(aside != safe.end());
+    const std::string place = std::filesystem::path(path).parent_path();
+    CHECK(std::find(aside, safe.end(), place) != safe.end());
+}
+
+TEST_CASE("that a message will never be delivered is safe once it was said, as what leaves is") {
+    const Folder folder;
+    Record record(folder.file(""), [] {});
+    const std::string journal = "journal-" + record.date();
+    int safe = 0;
+    const Listening listening([&](const std::string &name) {
+        safe += std::filesystem::path(name).filename() == journal ? 1 : 0;
+    });
+    record.keep(1, true, desk_tests::fix("35=R|34=1|"));
+    CHECK(safe == 1);
+    record.undelivered(1);
+    CHECK(safe == 2);
+    record.received(desk_tests::fix("35=AI|34=1|")); // what came is asked for again
+    CHECK(safe == 2);
+}
+
+TEST_CASE("a journal that can't be read is not cut") {
+    const Folder folder;
+    const std::string path = folder.file("journal");
+    std::filesystem::create_symlink("/proc/self/mem", path); // whose first byte can't be
+    CHECK_THROWS_WITH(Journal(path, [](const Entry &) {}),
+                      (path + " can't be read: Input/output error").c_str());
+}
