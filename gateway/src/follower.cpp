@@ -133,7 +133,15 @@ std::optional<Follower::End> Follower::catch_up() {
         return std::nullopt;
     }
     ahead_.settle(*reader);
-    End end{last_, reader->states(), reader->notes()};
+    const FedEntries fed = venue_.fed();
+    if (!fed.ends_with(last_)) {
+        throw std::runtime_error(
+            fmt::format("the log was changed while it was read: what the venue was fed does not "
+                        "end with entry {} as it is sealed",
+                        last_.place));
+    }
+    End end{last_, reader->states(), fed.notes()};
+    fed.count_in(end.states);
     comparison_.check_sent(end.states);
     check_kept(*reader, end.states);
     return end;

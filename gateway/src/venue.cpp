@@ -109,6 +109,7 @@ std::string Venue::run_once(std::stop_token stop) {
     {
         const std::lock_guard lock(mutex_);
         fed_.clear();
+        all_fed_ = {};
         last_words_.clear();
     }
     answered_lines_ = 0;
@@ -172,7 +173,13 @@ void Venue::note_fed(const std::vector<LoggedEntry> &entries) {
     const std::lock_guard lock(mutex_);
     for (const LoggedEntry &logged : entries) {
         fed_.push_back({logged.entry.place, logged.entry.number.value_or(0), logged.received});
+        all_fed_.add(logged.entry);
     }
+}
+
+FedEntries Venue::fed() {
+    const std::lock_guard lock(mutex_);
+    return all_fed_;
 }
 
 void Venue::read(Process &process) {

@@ -4,6 +4,7 @@
 
 #include "committed.h"
 #include "database.h"
+#include "fed_entries.h"
 #include "feeder.h"
 #include "metrics.h"
 #include "moment.h"
@@ -72,6 +73,8 @@ class Venue {
     void stop();
     // Kills the process, and starts no other.
     void abandon();
+    // What was fed to the process of now.
+    FedEntries fed();
 
   private:
     // The process that stop() may have to kill, for as long as it lives.
@@ -137,6 +140,7 @@ class Venue {
     std::optional<Given> last_given_;
 
     std::deque<std::chrono::steady_clock::time_point> starts_;
+    FedEntries all_fed_; // under the lock
     std::jthread thread_;
 };
 

@@ -174,6 +174,9 @@ PUT_IN = (
 )
 TAKE_OUT = "DELETE FROM outgoing WHERE firm = 'INV1' AND sent IS NULL"
 COPIES = "WHERE firm = 'DLR1' AND epoch = 1"
+COUNT_FROM = "UPDATE session SET entries_from = %d"
+EPOCH = "UPDATE session SET epoch = %d WHERE firm = '%s'"
+OF_INV1 = " WHERE firm = 'INV1'"
 
 
 @dataclass(frozen=True)
@@ -199,6 +202,11 @@ def changes(trade: str) -> list[Change]:
             "UPDATE outgoing SET bytes = (SELECT bytes FROM outgoing AS given WHERE given.firm = 'DLR1' "
             "AND given.copy = 0 AND given.sent = outgoing.sent) " + COPIES,
         ),
+        Change(
+            "INV1", COUNT_FROM % 1_000_000 + ", expected = 2 " + OF_INV1, COUNT_FROM % 0 + OF_INV1
+        ),
+        Change("DLR1", EPOCH % (2, "DLR1"), EPOCH % (1, "DLR1")),
+        Change("INV1", EPOCH % (1, "INV1"), EPOCH % (0, "INV1")),
     ]
 
 
