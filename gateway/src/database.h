@@ -223,11 +223,12 @@ inline std::string select_wrong_copy(std::string_view firm, std::string_view epo
                        firm, epoch);
 }
 
-// Drops the Rejects of a session, by its parameters firm and epoch.
-inline std::string drop_rejects(std::string_view firm, std::string_view epoch) {
-    return fmt::format("UPDATE outgoing SET dropped = 1 WHERE firm = {} AND epoch = {} AND sent IS "
-                       "NULL AND type IN ('3', 'j')",
-                       firm, epoch);
+// Drops the Rejects of a session, by its parameters firm, epoch and first number.
+inline std::string drop_rejects(std::string_view firm, std::string_view epoch,
+                                std::string_view from) {
+    return fmt::format("UPDATE outgoing SET dropped = 1 WHERE firm = {} AND epoch = {} AND number "
+                       ">= {} AND sent IS NULL AND type IN ('3', 'j')",
+                       firm, epoch, from);
 }
 
 // Copies what a session keeps of the venue's, by its parameters firm, old epoch and number.

@@ -58,6 +58,9 @@ void FirmSessions::open_firms(const States &states) {
         firm.was_left = found.session.logged_on;
         firm.epoch = found.session.epoch;
         firm.entries_from = found.session.entries_from;
+        if (found.kept > 0) {
+            firm.rejects_from = 1;
+        }
     }
 }
 

@@ -120,6 +120,9 @@ class FirmSessions final : private SessionHost {
         std::atomic<std::uint32_t> epoch{0};
         std::uint32_t entries_from = 0;
         OwnRows own_rows;
+        // The first number under which a Reject may be kept that was not dropped; nothing where
+        // none is.
+        std::optional<std::uint32_t> rejects_from;
 
         std::atomic<std::uint32_t> entries{
             0}; // messages of the firm in the log, with a number each

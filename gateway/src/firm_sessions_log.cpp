@@ -51,7 +51,9 @@ std::uint64_t FirmSessions::put(const std::string &name, const SessionEvent &eve
     const std::lock_guard lock(firm.row_mutex);
     Log::SessionChange change;
     change.row = row_of(name, firm, event);
-    change.drops_rejects = event.drops_rejects;
+    if (event.drops_rejects) {
+        change.drops_rejects_from = std::exchange(firm.rejects_from, std::nullopt);
+    }
     if (event.kept) {
         const KeptMessage &kept = *event.kept;
         Outgoing &row = change.kept.emplace();
@@ -65,6 +67,7 @@ std::uint64_t FirmSessions::put(const std::string &name, const SessionEvent &eve
     }
     if (event.kept && event.given == nullptr) {
         firm.own_rows.add();
+        firm.rejects_from = firm.rejects_from.value_or(event.kept->number);
     }
     if (const Delivery *const given = event.given) {
         change.carried = Sent{name, given->number, given->place, given->frame};
@@ -253,6 +256,7 @@ void FirmSessions::put_reset(const std::string &name, std::uint32_t behind,
     Log::SessionChange change;
     change.reset = SessionReset{name, firm.epoch, behind};
     ++firm.epoch;
+    firm.rejects_from.reset();
     firm.entries_from = log_.fence();
     change.row = row_of(name, firm, event);
     log_.put(std::move(change));

@@ -92,8 +92,8 @@ Log::Ticket Log::put(SessionChange change) {
         wait_for_room(lock);
     }
     throw_if_failed();
-    if (change.drops_rejects) {
-        drop({change.row.firm, change.row.epoch});
+    if (change.drops_rejects_from) {
+        drop({change.row.firm, change.row.epoch, *change.drops_rejects_from});
     }
     if (change.carried) {
         filling_.rows.sent.push_back(std::move(*change.carried));

@@ -142,12 +142,13 @@ class Log {
     // than the first entry that names it. Waits for nothing.
     std::uint32_t put_connection(ConnectionEvent event);
     // What an event of a session changes, in one transaction: its row; what it keeps, with the
-    // venue's message that this carries; and the Rejects that it drops first.
+    // venue's message that this carries; and the Rejects that it drops first, those from a number
+    // on.
     struct SessionChange {
         SessionRow row;
         std::optional<Outgoing> kept;
         std::optional<Sent> carried;
-        bool drops_rejects = false;
+        std::optional<std::uint32_t> drops_rejects_from;
         std::optional<SessionReset> reset;
     };
     Ticket put(SessionChange change);

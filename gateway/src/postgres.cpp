@@ -120,7 +120,7 @@ class WritingConnection {
         add_entries(work, batch.entries);
         add_sent(work, batch.sent);
         for (const DroppedRejects &row : batch.dropped) {
-            work.exec_prepared("drop", row.firm, row.epoch);
+            work.exec_prepared("drop", row.firm, row.epoch, row.from);
         }
         add_outgoing(work, batch.outgoing);
         for (const SessionReset &row : batch.resets) {
@@ -182,7 +182,7 @@ class WritingConnection {
             fmt::format("INSERT INTO session ({}) VALUES ($1, $2, $3, $4, $5, $6, $7, $8, $9, $10, "
                         "$11, $12, $13, $14, $15, $16, $17) ON CONFLICT (firm) DO UPDATE SET {}",
                         session_columns, set_session()));
-        connection_->prepare("drop", drop_rejects("$1", "$2"));
+        connection_->prepare("drop", drop_rejects("$1", "$2", "$3"));
         connection_->prepare("reset", copy_kept("$1", "$2", "$3"));
         connection_->prepare("checkpoint", "INSERT INTO checkpoint (number, term, place, event, "
                                            "signature) VALUES ($1, $2, $3, $4, $5)");

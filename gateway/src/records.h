@@ -84,10 +84,11 @@ struct SessionRow {
     SessionNumbers numbers;
 };
 
-// The Rejects of a session that are kept no longer.
+// The Rejects of a session that are kept no longer: those from a number on.
 struct DroppedRejects {
     std::string firm;
     std::uint32_t epoch = 0;
+    std::uint32_t from = 0;
 };
 
 // What a session keeps of the venue's behind a number of an epoch gets the numbers from 2 on of the

@@ -76,7 +76,7 @@ class SqliteWriter final : public LogWriter {
                    fmt::format("INSERT OR REPLACE INTO session ({}) VALUES (?, ?, ?, ?, ?, ?, ?, "
                                "?, ?, ?, ?, ?, ?, ?, ?, ?, ?)",
                                session_columns)),
-          dropped_(connection_.get(), drop_rejects("?", "?")),
+          dropped_(connection_.get(), drop_rejects("?", "?", "?")),
           reset_(connection_.get(), copy_kept("?", "?", "?")),
           seal_(connection_.get(),
                 "INSERT INTO seal (number, term, place, event, mac) VALUES (?, ?, ?, ?, ?)"),
@@ -127,7 +127,8 @@ class SqliteWriter final : public LogWriter {
     }
     void put_sessions(const Batch &batch) {
         for (const DroppedRejects &row : batch.dropped) {
-            dropped_.bind(row.firm).bind(std::int64_t{row.epoch}).run();
+            dropped_.bind(row.firm).bind(std::int64_t{row.epoch}).bind(std::int64_t{row.from});
+            dropped_.run();
         }
         for (const Outgoing &row : batch.outgoing) {
             put(row);

@@ -3,6 +3,7 @@
 from tests.gateway.ledger import rows
 from tests.gateway.stage import DEALER, Stage
 from tests.gateway.wait import LONG
+from tests.gateway.wire import Wire
 from tests.limits.flood import logged_on
 
 MOST = 1000
@@ -33,3 +34,34 @@ def test_rejects_without_end(stage: Stage) -> None:
         wire.raw(wire.message(b"4", b"DLR1", [(36, b"0")], number=1) * SENT)
         assert wire.closed_within(LONG)
     assert kept(stage) < first + 300, "%d more are kept" % (kept(stage) - first)
+
+
+def begun_again(stage: Stage) -> Wire:
+    """The dealer's connection that begins its numbers again, and has answered the TestRequest behind its Logon."""
+    wire = Wire(stage.door.port)
+    assert wire.logon(b"DLR1", DEALER.password.encode(), more=[(141, b"Y")])
+    wire.got(b"A")
+    wire.got(b"1")
+    wire.ask()
+    return wire
+
+
+def rejects(stage: Stage, is_dropped: int) -> int:
+    words = "SELECT count(*) FROM outgoing WHERE type = '3' AND dropped = %d" % is_dropped
+    found: int = rows(stage.door.database, words)[0][0]
+    return found
+
+
+def test_rejects_are_dropped_whenever_numbers_begin_again(stage: Stage) -> None:
+    """Each that was kept since the last time, and in what a gateway before has kept: the log is looked through for no more than these."""
+    stage.open()
+    for before in range(4):
+        with begun_again(stage) as wire:
+            assert (rejects(stage, 1), rejects(stage, 0)) == (before, 0)
+            assert wire.raw(wire.message(b"1", b"DLR1", []))  # without 112
+            assert wire.got(b"3").value(371) == b"112"
+        if before == 1:
+            stage.door.kill()
+            stage.door.start()
+            stage.door.wait_open()
+    assert (rejects(stage, 1), rejects(stage, 0)) == (3, 1)
