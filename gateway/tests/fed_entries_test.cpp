@@ -76,7 +76,7 @@ TEST_CASE("a firm that has no row yet is counted") {
 TEST_CASE("numbers count from the last reset on") {
     auto states = states_with(1, 4);
     fed_with(a_day).count_in(states);
-    check(states["DLR1"].entries == 6 && states["DLR1"].last_number == 3, "of the new epoch");
+    check(states["DLR1"].entries == 5 && states["DLR1"].last_number == 3, "of the new epoch");
     auto before = states_with(0, 0); // the act is committed, and is carried out by this start
     fed_with({{2, ""}, {3, ""}, {0, reset}}).count_in(before);
     check(before["DLR1"].last_number == 3, "of the old one");
