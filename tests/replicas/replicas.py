@@ -42,6 +42,7 @@ CAST = Cast.of(dealers=4, investors=2)
 NAMES = ("north", "south", "east", "west")
 USUAL_PACE = 0.1  # seconds that a message waits for an answer
 PACE = 0.4  # the same while something is damaged
+BREATH = 0.1  # seconds from one message to the next while something is damaged, at least
 STILL = 2.0  # seconds without an entry at the end of a day: longer than the shortest deadline
 LOOKS = 30  # how often the end of a day is looked at until no deadline comes in between
 FAULT = 60.0  # seconds of its day that a fault has, at most: four times what it takes
@@ -108,6 +109,14 @@ class Day:
         """The next message, at each venue in its turn."""
         self.sides[self.sent % len(self.sides)].send(wait)
 
+    def send_on(self) -> None:
+        """The next message while something is damaged. With as many as are answered the log becomes
+        so long that a slow venue reads it for minutes, and the damage lasts for as long.
+        """
+        began = time.monotonic()
+        self.send(PACE)
+        time.sleep(max(0.0, began + BREATH - time.monotonic()))
+
     def play(self) -> None:
         between = max(self.words.messages // (self.words.faults + 1), 1)
         for _ in range(self.words.faults):
@@ -121,14 +130,14 @@ class Day:
         """Goes on sending until all is as it was."""
         starts = self.starts_of(damage.silenced)
         while not damage.mended:
-            self.send(PACE)
+            self.send_on()
             damage.look()
         if damage.silenced and self.starts_of(damage.silenced) == starts:
             self.problems.append("%s: %s did not end" % (damage.what, damage.silenced))
         end = time.monotonic() + PATIENCE
         with Watch(self.hosts_are_well) as watch:
             while not (watch.well and self.all_on()):
-                self.send(PACE)
+                self.send_on()
                 if time.monotonic() > end:
                     text = "%s: not all is as it was within %g s"
                     raise TooLong(text % (damage.what, PATIENCE))
