@@ -1,6 +1,7 @@
 """What two gateways on one log keep of it outside of the database: both what the one that speaks has signed."""
 
 import re
+import shutil
 from datetime import datetime, timezone
 from pathlib import Path
 
@@ -8,7 +9,7 @@ from parts.site import ALONE
 
 from tests.lab.gateway import GatewayHost
 from tests.lab.machine import Machine
-from tests.lab.run import until
+from tests.lab.run import found_in, until
 
 ROOT = Path(__file__).resolve().parent.parent.parent
 EXAMPLE = ROOT / "examples" / "gateway"
@@ -28,10 +29,10 @@ def kept(gateway: GatewayHost) -> str:
 
 
 def test_both_gateways_keep_what_one_signs(machine: Machine) -> None:
-    """The one that follows has it before it takes over, and then signs in its own term; the other keeps that."""
+    """The one that follows has it before it takes over, and then signs in its own term; the other keeps that. One that comes
+    without a checkpoint stands by once it has one: so it can take over."""
     machine.up({ALONE: venue_text()}, (EXAMPLE / "credentials.toml").read_text())
-    speaks = machine.speaking()
-    assert speaks is not None
+    speaks = found_in("a gateway speaks", LONG, machine.speaking)
     until(
         "the other gateway stands by",
         LONG,
@@ -49,4 +50,21 @@ def test_both_gateways_keep_what_one_signs(machine: Machine) -> None:
         "it signs in its own term, and the other keeps that",
         LONG,
         lambda: all("\nterm 2\n" in kept(one) for one in machine.gateways),
+    )
+    comes_without_one(machine, speaks)
+    assert kept(speaks), "it stands by, and has no checkpoint"
+    follows.service.kill()
+    until("it takes over, and waits for no operator", LONG, lambda: machine.listens(speaks))
+
+
+def comes_without_one(machine: Machine, gateway: GatewayHost) -> None:
+    """It is started where its disk was lost, and stands by. What the other has signed before that says nothing to it."""
+    gateway.service.stop(LONG)
+    shutil.rmtree(gateway.own / "checkpoints")
+    before = len(gateway.told())
+    machine.supervisor.locked(gateway.service.start)
+    until(
+        "it stands by without a checkpoint at first",
+        LONG,
+        lambda: any(" stands by" in line for line in gateway.told()[before:]),
     )
