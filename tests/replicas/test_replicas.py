@@ -16,6 +16,7 @@ from tests.harness.options import Options
 from tests.replicas.appends import TESTS
 
 LIMIT = 14_400  # seconds of one part: each has its own limits, and ends by them
+DAYS = 3  # of the long form
 ROOM = 1_500_000_000  # bytes of memory in which the disks of hosts may be
 # However it ends, so does all that it started, and what it mounted is gone, its hosts' network namespaces too. And nobody else
 # has a disk of its hosts mounted, which then would not lose its power. The shell stays, as the first process, which takes the
@@ -117,14 +118,18 @@ def test_two_venues_behind_one_gateway(hosts: None, tools: Tools) -> None:
     assert done.returncode == 0, done.stdout[-4000:]
 
 
-def day_words(options: Options) -> list[object]:
-    short, seed = ["--days", 1, "--messages", 200, "--faults", 4], ["--seed", options.seed]
-    return (short if options.is_short else ["--days", 3, "--messages", 2000, "--faults", 30]) + seed
+def day_words(options: Options, days: int, seed: int) -> list[object]:
+    """Of so many days, the first with this seed."""
+    length = ["--messages", 200, "--faults", 4]
+    if not options.is_short:
+        length = ["--messages", 2000, "--faults", 30]
+    return [*length, "--days", days, "--seed", seed]
 
 
 def test_days_with_faults(part: Part, tools: Tools, options: Options) -> None:
     """Hosts are killed, cut off, left without power and without room: each firm has the venue's messages for the log."""
-    passed, failed, told = part("replicas", *programs(tools), *day_words(options), *venue(tools))
+    words = day_words(options, 1 if options.is_short else DAYS, options.seed)
+    passed, failed, told = part("replicas", *programs(tools), *words, *venue(tools))
     assert passed > 0 and failed == 0, told
 
 
@@ -146,11 +151,15 @@ def test_what_an_operator_does(part: Part, tools: Tools) -> None:
 @pytest.mark.long
 @pytest.mark.parametrize("wrong", ["local", "terms"])
 def test_a_wrong_set_up_fails(part: Part, tools: Tools, options: Options, wrong: str) -> None:
-    """Commits that do not wait for a standby, and a log without terms: or the days would show nothing."""
-    _, failed, _ = part(
-        "replicas", *programs(tools), *day_words(options), "--wrong", wrong, *venue(tools)
-    )
-    assert failed > 0
+    """Commits that do not wait for a standby, and a log without terms: one of the days fails, or they would show nothing."""
+    found = []
+    for seed in range(options.seed, options.seed + DAYS):
+        words = [*day_words(options, 1, seed), "--wrong", wrong]
+        _, failed, told = part("replicas", *programs(tools), *words, *venue(tools))
+        if failed:
+            found.append(told)
+            break
+    assert found
 
 
 @pytest.mark.long
