@@ -15,6 +15,7 @@ from tests.operating.test_service import asked
 WHY = "their risk desk called"
 NOT_AVAILABLE = b"4"  # BusinessRejectReason (380)
 GONE = DROPPED = b"17"  # QuoteStatus (297): to the investor, and to the dealer
+LOGGED_ON = 'mireseason_firm_logged_on{firm="DLR1"}'
 HALTED = b"the venue is halted"
 BOND_HALTED = b"this bond is halted"
 
@@ -42,13 +43,13 @@ def quoted(wire: Wire, name: bytes, request: bytes = b"R1") -> None:
 
 
 def is_refused(stage: Stage, number: int) -> None:
-    """A Logon of the dealer is refused: nothing of a session follows it."""
-    before = stage.counters()["mireseason_logons_total"]
+    """A Logon of the dealer is refused: nothing of a session follows it, and no session of the dealer is counted. Other firms may
+    be logging on meanwhile."""
     with Wire(stage.door.port) as wire:
         wire.number = number
         assert wire.logon(b"DLR1", DEALER.password.encode())
         check(wire.read_kind(b"A") is None, "a firm that is refused has its Logon answered")
-    check(stage.counters()["mireseason_logons_total"] == before, "its Logon is counted")
+        check(stage.counters()[LOGGED_ON] == 0, "a session of the dealer is counted")
 
 
 def ends_of(stage: Stage, count: int) -> list[bytes]:
