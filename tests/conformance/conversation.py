@@ -1,5 +1,6 @@
 """A definition that is played against a gateway."""
 
+from collections.abc import Callable
 from contextlib import ExitStack
 from dataclasses import dataclass, field
 from datetime import datetime, timedelta, timezone
@@ -26,6 +27,7 @@ class Conversation:
     port: int
     names: dict[str, str]
     limit: float  # seconds: the most that one message or the end of a connection may take
+    operate: Callable[[str], None]  # what an operator does
     heard: list[bytes] = field(default_factory=list)
     _began: datetime = field(default_factory=lambda: datetime.now(timezone.utc))
     _wires: dict[int, Wire] = field(default_factory=dict)
@@ -38,6 +40,8 @@ class Conversation:
                 if line.act is Act.CONNECT:
                     self._wires[line.connection] = opened.enter_context(Wire(self.port))
                     self._wires[line.connection].answers = False
+                elif line.act is Act.OPERATOR:
+                    self.operate(filled(line.text, self.names))
                 else:
                     self._play(line, self._wires[line.connection])
 

@@ -10,7 +10,7 @@ from tests.gateway.wire import framed
 from tests.model.frames import checksum
 
 SOH = b"\x01"
-LINE = re.compile(r"([iIeE])(?:(\d),)?(.*)")
+LINE = re.compile(r"([iIeEo])(?:(\d),)?(.*)")
 SHIFTED = re.compile(r"<TIME([+-]\d+)?>")
 LETTERS = re.compile(r"<FILL(\d+)>")
 JOINED = "&"  # at the end of what is said: it leaves with the next, in the same bytes
@@ -26,6 +26,7 @@ class Act(Enum):
     ENDS = "eDISCONNECT"  # the gateway ends the connection, and says nothing before
     SAY = "I"
     HEAR = "E"
+    OPERATOR = "o"  # an operator does something, or the gateway ends or is started
 
 
 @dataclass(frozen=True)
@@ -35,7 +36,7 @@ class Line:
     at: str  # FILE:LINE
     act: Act
     connection: int
-    text: str = ""  # a message, with bars
+    text: str = ""  # a message, with bars; or what the operator does
     is_joined: bool = False  # with the next that is said, in the same bytes
 
 
@@ -46,8 +47,8 @@ def line_of(at: str, text: str) -> Line:
     letter, connection, rest = found[1], int(found[2] or 1), found[3]
     if letter == "I":
         return Line(at, Act.SAY, connection, rest.removesuffix(JOINED), rest.endswith(JOINED))
-    if letter == "E":
-        return Line(at, Act.HEAR, connection, rest)
+    if letter in (Act.HEAR.value, Act.OPERATOR.value):
+        return Line(at, Act(letter), connection, rest)
     return Line(at, Act(letter + rest), connection)
 
 

@@ -3,6 +3,7 @@
 from collections.abc import Callable
 from dataclasses import dataclass
 
+from tests.conformance.house import House
 from tests.gateway.door import Door, today, venue_text
 from tests.gateway.firm import Identity
 
@@ -25,6 +26,7 @@ class DoorOfMany(Door):
 class Pair:
     """A dealer and an investor whose sessions nobody has begun, and where they log on."""
 
+    house: House
     port: int
     dealer: str
     investor: str
@@ -44,12 +46,14 @@ class Firms:
     _used: int = 0
 
     def pair(self) -> Pair:
-        """The next pair: of the gateway that runs, or of another one where its day is over or its firms are used."""
-        if self._door is None or self._used == MOST or self._day != today():
+        """The next pair: of the gateway that runs, or of another one where its day is over or its firms are used, or which a
+        definition has left ended."""
+        used = self._used == MOST or self._day != today()
+        if self._door is None or used or self._door.has_ended():
             self._day, self._used = today(), 0
             self._door = self._open()
         self._used += 1
-        return Pair(self._door.port, "D%d" % self._used, "I%d" % self._used)
+        return Pair(House(self._door), self._door.port, "D%d" % self._used, "I%d" % self._used)
 
     def close(self) -> None:
         if self._door:
@@ -61,6 +65,7 @@ class Firms:
             [identity(letter, number) for number in range(1, MOST + 1)] for letter in "DI"
         )
         door = self.make(dealers, investors)
+        door.operators = ""
         text = venue_text(dealers, investors)
         for usual in ("quotes = 4096", "requests = 1024"):  # too many for so many firms
             text = text.replace(usual, usual.split(" ")[0] + " = 64")

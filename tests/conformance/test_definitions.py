@@ -46,7 +46,8 @@ def tried(path: Path, firms: Firms, interval: int, limit: float) -> None:
     pair = firms.pair()
     names = {"DEALER": pair.dealer, "INVESTOR": pair.investor, "PASSWORD": PASSWORD}
     names["INTERVAL"] = str(interval)
-    Conversation(pair.port, names, limit + 3 * interval).play(lines_of(path))
+    limit += 3 * interval
+    Conversation(pair.port, names, limit, pair.house.does).play(lines_of(path))
 
 
 @pytest.mark.parametrize("path", DEFINITIONS, ids=[path.stem for path in DEFINITIONS])

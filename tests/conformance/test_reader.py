@@ -23,8 +23,10 @@ def test_lines() -> None:
     assert (ends.act, ends.connection) == (Act.ENDS, 1)
     joined = line_of("a.def:3", "Ix&")
     assert (joined.text, joined.is_joined, said.is_joined) == ("x", True, False)
+    does = line_of("a.def:4", "oresume <DEALER>")
+    assert (does.act, does.text) == (Act.OPERATOR, "resume <DEALER>")
     with pytest.raises(AssertionError):
-        line_of("a.def:4", "8=FIXT.1.1|35=0|")
+        line_of("a.def:5", "8=FIXT.1.1|35=0|")
 
 
 def test_length_and_sum_are_added_where_they_are_left_out() -> None:
