@@ -7,16 +7,17 @@ one side of the venue: the list of each firm there is one in both, and so are it
 steps are the same counts for nothing. `channels`: why a side is more than two investors that ask no dealer
 in common, and why no duties of the clock may be left: in two small days of each kind the lists differ.
 `threads`: as `views`, on days that `PROGRAM day` ran on threads: the list is that of an order of their
-actions that gives what was printed, which is searched as `lawful.py` does it.
+actions that gives what was printed, which `orders.py` finds.
 """
 
 from __future__ import annotations
 
 from collections.abc import Callable
 
+from .actions import message_of
 from .configuration import Configuration, read_configuration
 from .days import Day, Draw
-from .lawful import Search, Threads, Undecided, message_of, searched
+from .lawful import ran
 from .lines import LineFault, StepReader
 from .live import LiveDay
 from .prices import price_text
@@ -310,41 +311,19 @@ def channels(_seed: int) -> tuple[int, list[str]]:
 # ---------------------------------------------------------------- threads
 
 
-class Heard(Threads):
-    """A venue of threads that keeps what is due to its firms."""
-
-    def __init__(self, configuration: Configuration) -> None:
-        super().__init__(configuration)
-        self.due = {firm: [] for firm in range(len(self.desks))}
-
-
-class Found(Search):
-    """The search, which keeps the venue behind the order that it found."""
-
-    venue: Venue | None = None
-
-    def is_end(self, venue: Threads) -> bool:
-        ended = super().is_end(venue)
-        if ended:
-            self.venue = venue
-        return ended
-
-
 def threads(program: list[str], seed: int) -> tuple[int, list[str]]:
     """How many messages the investors of a day on threads were sent, and those whose view differs."""
     try:
-        configuration, search, found = searched(program, seed, Found, Heard)
-    except (ValueError, LineFault, Undecided) as fault:
+        run = ran(program, seed)
+        venue = run.venue()
+    except (ValueError, LineFault) as fault:
         return 0, [str(fault)]
-    if not found:
-        return 0, ["no order of its actions gives these messages"]
     faults, sent = [], 0
-    for firm in range(len(configuration.dealers), len(configuration.firms)):
-        assert search.venue is not None
-        desk = investor_alone(seen_by(configuration, firm), search.venue.due[firm])
+    for firm in range(len(run.configuration.dealers), len(run.configuration.firms)):
+        desk = investor_alone(seen_by(run.configuration, firm), venue.due[firm])
         sent += len(desk.sent)
-        if [message_of(fields) for fields in desk.sent] != search.wanted[firm]:
-            faults.append("the view of %s" % configuration.firms[firm].name.decode())
+        if [message_of(fields) for fields in desk.sent] != run.sent[firm]:
+            faults.append("the view of %s" % run.configuration.firms[firm].name.decode())
     return sent, faults
 
 

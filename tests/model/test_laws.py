@@ -6,7 +6,7 @@ import pytest
 
 from tests.model import investors, laws, trades
 from tests.model.days import Day, Draw
-from tests.model.lawful import held
+from tests.model.lawful import ran
 
 DAYS_FOR_A_TRADE = 20
 
@@ -22,8 +22,7 @@ def test_commands_agree(first_program: list[str], drawn: int) -> None:
 @pytest.mark.draws(short=40, long=2000)
 def test_threads_have_an_order(first_program: list[str], drawn: int) -> None:
     """For a day on threads there is an order of the actions that gives what each firm was sent."""
-    fault, _ = held(first_program, drawn)
-    assert not fault
+    ran(first_program, drawn).venue()
 
 
 def played(day: "trades.Played") -> int:

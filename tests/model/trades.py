@@ -16,11 +16,12 @@ from dataclasses import dataclass, field
 from fractions import Fraction
 from itertools import pairwise, zip_longest
 
+from .actions import Inboxes, Message
 from .compare import joined
 from .configuration import Configuration, read_configuration
 from .days import Day, Draw
 from .frames import read_frame
-from .lawful import Inboxes, Message, day_of, inboxes_of, sent_in
+from .lawful import day_of, inboxes_of, sent_in
 from .replay import CLOCK, Actor
 
 Texts = dict[int, bytes]
