@@ -23,6 +23,9 @@ from tests.lab.machine import Machine, site_here
 TESTS = ("terms_test", "log_test", "connection_log_test")
 BENCH = "log_bench"
 LIMIT = 600.0  # seconds of a test, and of a measurement beyond its own
+TRIES = 3  # on a busy machine the primary becomes another one without a damage
+# A gateway that is not answered within two seconds tries again; these programs do not.
+PATIENT = " connect_timeout=60 tcp_user_timeout=60000"
 
 
 @dataclass(frozen=True)
@@ -47,34 +50,50 @@ class Bench:
         """The host gets what configure.py writes for it."""
         self.machine.gateways[0].make_known()
 
+    @property
+    def connection(self) -> str:
+        return self.machine.gateways[0].connection + PATIENT
+
     def failures(self) -> list[str]:
         """Runs the tests; what those that failed said."""
-        connection = {**os.environ, "TEST_POSTGRES": self.machine.gateways[0].connection}
-        return list(filter(None, (self._failure(test, connection) for test in TESTS)))
+        return list(filter(None, map(self._failure, TESTS)))
 
-    def _failure(self, test: str, environment: dict[str, str]) -> str:
+    def _failure(self, test: str) -> str:
         """What a test said, where it failed."""
-        done = self._run([self.out / test], LIMIT, environment)
+        done = self._run([self.out / test], LIMIT)
         print("%s: %s" % (test, "failed" if done.returncode else "passed"), flush=True)
         return "%s: %s" % (test, done.stdout) if done.returncode else ""
 
     def measure(self, load: Load, seconds: int) -> str:
         """How many messages a second logs take, and how long one waits, in a line of words."""
-        words = [self.out / BENCH, self.machine.gateways[0].connection]
-        numbers = [load.logs, load.threads, seconds]
-        done = self._run([*words, *numbers], LIMIT + seconds, dict(os.environ))
+        words = [self.out / BENCH, self.connection, load.logs, load.threads, seconds]
+        done = self._run(words, LIMIT + seconds)
         if done.returncode != 0:
             raise RuntimeError("%s: %s" % (BENCH, done.stdout))
         return done.stdout.strip()
 
-    def _run(
-        self, words: Sequence[object], limit: float, environment: dict[str, str]
-    ) -> subprocess.CompletedProcess[str]:
+    def _run(self, words: Sequence[object], limit: float) -> subprocess.CompletedProcess[str]:
+        """Again where it failed and the primary has become another one meanwhile."""
+        for _ in range(TRIES - 1):
+            before = self._timeline()
+            done = self._run_once(words, limit)
+            if done.returncode == 0 or (before and self._timeline() == before):
+                return done
+            self.machine.cluster.wait_ready()
+        return self._run_once(words, limit)
+
+    def _timeline(self) -> str:
+        """Which primary it is, and of which promotion; nothing where there is none just now."""
+        primary = self.machine.cluster.primary()
+        place = primary.asked("SELECT pg_walfile_name(pg_current_wal_lsn())") if primary else None
+        return "%s %s" % (primary.name, place[:8]) if primary and place else ""
+
+    def _run_once(self, words: Sequence[object], limit: float) -> subprocess.CompletedProcess[str]:
         gateway = self.machine.gateways[0]
         return subprocess.run(
             [*self.machine.network.words(gateway.name), *map(str, words)],
             cwd=gateway.own,
-            env=environment,
+            env={**os.environ, "TEST_POSTGRES": self.connection},
             stdout=subprocess.PIPE,
             stderr=subprocess.STDOUT,
             text=True,
