@@ -4,6 +4,7 @@ of etcd, of Patroni's interface, of replication, or of the log. And that the kee
 
 import os
 import re
+import shutil
 import subprocess
 from collections.abc import Iterator
 from dataclasses import replace
@@ -52,6 +53,7 @@ def machine(tmp_path_factory: pytest.TempPathFactory) -> Iterator[Machine]:
     finally:
         made.down()
         remove(PREFIX, folder, folder / "images")
+        shutil.rmtree(folder, ignore_errors=True)
 
 
 def on(
