@@ -18,7 +18,8 @@ from collections import Counter
 from dataclasses import dataclass
 from pathlib import Path
 
-from tests.edits.together import Function, WrongBody, function_at
+from tests.edits.functions import Function, function_at
+from tests.edits.wrong_bodies import WrongBody, bodies_of
 
 ROOT = Path(__file__).resolve().parents[2]
 NOTE = re.compile(r'//.*|"(?:[^"\\]|\\.)*"')
@@ -31,30 +32,19 @@ CALL = re.compile(r"(\w+)\(")
 DECLARED = re.compile(r"^ *(?:(?:pub|abbrev|unfoldable|data|record) )*([^\s:(]+) .*:", re.MULTILINE)
 
 
-@dataclass(frozen=True)
+@dataclass
 class Finding:
     """A wrong body, and what proof files cite of what it takes away."""
 
-    body: Path
+    body: WrongBody
     names: tuple[str, ...]
 
     def __str__(self) -> str:
-        return f"{self.body.relative_to(ROOT)}: proof files cite {', '.join(self.names)}"
+        return f"{self.body}: proof files cite {', '.join(self.names)}"
 
 
 class Misfit(Exception):
     """A wrong body that does not fit the file which it changes."""
-
-
-def bodies_of(names: list[str]) -> list[tuple[Path, WrongBody]]:
-    """The wrong bodies in the gate and beside it, each with the folder of its crate."""
-    found = []
-    for crate in sorted((ROOT / "crates").iterdir()):
-        if names and crate.name not in names:
-            continue
-        for folder in (crate / "must-fail", ROOT / "tests" / "edits" / crate.name):
-            found += [(crate, WrongBody.read(path)) for path in sorted(folder.glob("*.edit"))]
-    return found
 
 
 def made_of(crate: Path, body: WrongBody) -> dict[str, tuple[str, str]]:
@@ -64,7 +54,7 @@ def made_of(crate: Path, body: WrongBody) -> dict[str, tuple[str, str]]:
         text = (crate / file).read_text(encoding="utf-8")
         was, now = files.get(file, (text, text))
         if now.count(old) != 1:
-            raise Misfit(f"{body.path}: {now.count(old)} times in {file}: {old}")
+            raise Misfit(f"{body}: {now.count(old)} times in {file}: {old}")
         files[file] = (was, now.replace(old, new))
     return files
 
@@ -124,8 +114,9 @@ def undeclared_of(crate: Path, was: str, now: str) -> set[str]:
 
 def findings(names: list[str]) -> tuple[int, list[Finding]]:
     """How many wrong bodies were looked at, and what was found."""
-    bodies, found = bodies_of(names), []
-    for crate, body in bodies:
+    bodies, found = [body for body in bodies_of(names) if not body.test], []
+    for body in bodies:
+        crate = ROOT / "crates" / body.crate
         gone: set[str] = set()
         for file, (was, now) in made_of(crate, body).items():
             if not file.startswith("src/"):
@@ -134,7 +125,7 @@ def findings(names: list[str]) -> tuple[int, list[Finding]]:
             for function in functions_of(crate, body, file, was):
                 gone |= gone_of(crate, body, function, was)
         if gone:
-            found.append(Finding(body.path, tuple(sorted(gone))))
+            found.append(Finding(body, tuple(sorted(gone))))
     return len(bodies), found
 
 

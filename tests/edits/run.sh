@@ -1,39 +1,13 @@
 #!/usr/bin/env bash
-# Tries the wrong bodies that the gate leaves out, on a copy of what is committed: the prover must refuse each.
-# tests/edits/run.sh [CRATE..], and all crates without a name. The crates below one are proved first, where
-# their out/ does not stand yet. Most of a crate's are then tried together, in one check (together.py); each
-# of the others takes 10 to 150 seconds. One that no goal refuses shows nothing, and fails (remarks.sh).
+# Tries wrong bodies on a copy of the crates as they stand: the prover must refuse each (trial.py).
+#     tests/edits/run.sh [CRATE..]           all of these crates, or of all crates
+#     tests/edits/run.sh --gate [CRATE..]    those alone that each landing tries
+# The copy begins with what `rt check` left in crates/*/out; what it did not is proved first. With --since FILE
+# it takes what `rt ci` built since FILE was written. Most of a crate are tried in one check; each of the
+# others takes 10 to 150 seconds.
 set -euo pipefail
-
-here=$(cd "$(dirname "$0")" && pwd)
-names=("$@")
-if [ $# -eq 0 ]; then
-    for folder in "$here"/*/; do names+=("$(basename "$folder")"); done
-fi
-
+cd "$(dirname "$0")/../.."
 room=$(mktemp -d)
 trap 'rm -rf "$room"' EXIT
-git clone -q "$here/../.." "$room/venue"
-for out in "$here"/../../crates/*/out; do
-    [ ! -d "$out" ] || cp -a "$out" "$room/venue/crates/$(basename "$(dirname "$out")")/"
-done
-cd "$room/venue"
-for name in "${names[@]}"; do
-    mkdir -p "crates/$name/must-fail"
-    rm -f "crates/$name/must-fail/"*.edit
-    cp "tests/edits/$name/"*.edit "crates/$name/must-fail/"
-done
-tests/edits/together.py "${names[@]}"
-left=()
-for name in "${names[@]}"; do
-    [ -z "$(ls "crates/$name/must-fail")" ] || left+=("$name")
-done
-[ ${#left[@]} -gt 0 ] || exit 0
-status=0
-rt must-fail "${left[@]}" | tee "$room/told" || status=$?
-if ! "$here/remarks.sh" "$room/told" >"$room/remarks"; then
-    echo "no goal refuses these wrong bodies, so they show nothing: change a value, and keep the names"
-    cat "$room/remarks"
-    exit 1
-fi
-exit "$status"
+cp -a crates crates.txt HANDLES "$room"
+python3 -m tests.edits.trial "$room" "$@"

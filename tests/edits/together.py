@@ -1,34 +1,28 @@
-#!/usr/bin/env python3
 """Tries the wrong bodies of a crate together, so that one check says of all whether they are
 refused.
 
-    tests/edits/together.py CRATE..          tries those in crates/CRATE/must-fail, in this folder
-    tests/edits/together.py --dry CRATE..    says only which can be tried so
-
 Each function that a wrong body changes is put beside the real one under a name of its own, with its
-proof files, and one `rt check` is asked for all of them and for the real ones, which have to be
-proved. What is refused is taken out of must-fail. What stays there is for `rt must-fail` to try: a
-wrong body that is proved, one that no goal refuses (a proof file names what is gone, or rewrites
-what is not there), and what can't stand beside (a definition, the clause of a law, a method of a
-trait, a change of several functions).
-Sources are as before in the end.
+proof files; and so is the right one, which has to be proved there: what refuses the others is then
+what they change. One check is asked for all of them. What can't stand beside (a definition, a
+method of a trait, a change of several functions) is tried in its place (trial.py). Sources are as
+before in the end.
 """
 
 from __future__ import annotations
 
 import re
 import shutil
-import subprocess
-import sys
 import tempfile
-from dataclasses import dataclass, field
+from dataclasses import dataclass
 from pathlib import Path
 
-FUNCTION = re.compile(
-    r"^( *)(?:pub(?:\([a-z]+\))? )?(?:const )?(?:extern \"C\" )?fn (\w+)", re.MULTILINE
-)
-OWNER = re.compile(r"^impl\b(?:<(?:[^<>]|<[^<>]*>)*>)? *(.*?) *\{$", re.MULTILINE)
-ABOVE = re.compile(r" *(///|//|#\[)")
+from tests.edits.functions import Function, function_at
+from tests.harness.kit import Libraries, ran
+from tests.edits.wrong_bodies import Change, WrongBody
+
+RIGHT = 0  # the number of a twin without a change
+REFUSED = "refused"
+NO_GOAL_REFUSES = "no goal refuses it"
 NO_GOAL = re.compile(
     r"has no field|is not in scope|has no `|was not admitted"
     r"|no occurrence of the path|rewrites nothing in the goal"
@@ -38,56 +32,33 @@ REJECTED = re.compile(r"\berror\[[\w-]+\]")
 
 
 @dataclass
-class WrongBody:
-    """A file of must-fail, and the changes that it makes: each in a file, from a text to a text."""
-
-    path: Path
-    changes: list[tuple[str, str, str]] = field(default_factory=list)
-
-    @staticmethod
-    def read(path: Path) -> WrongBody:
-        body = WrongBody(path)
-        file = old = ""
-        for line in path.read_text(encoding="utf-8").split("\n"):
-            if line.startswith("file: "):
-                file = line[len("file: ") :].strip()
-            elif line.startswith("old: "):
-                old = line[len("old: ") :]
-            elif line.startswith("new:"):
-                body.changes.append((file, old, line[len("new:") :].removeprefix(" ")))
-        return body
-
-
-@dataclass
-class Function:
-    """A function of a crate: the modules and the type that it is in, its name, and its place."""
-
-    within: list[str]
-    name: str
-    begins: int
-    ends: int
-
-    def asked(self, name: str) -> str:
-        """The path by which a check is asked for it, where it is called so."""
-        return "::".join([*self.within, name])
-
-    def proofs(self, crate: Path, name: str) -> Path:
-        """Where its proof files stand, where it is called so."""
-        return crate.joinpath("proofs", *self.within, name)
-
-
-@dataclass
 class Twin:
-    """A wrong body as a function beside the real one."""
+    """A function beside the real one, with some changes."""
 
-    body: WrongBody
+    file: str
     real: Function
-    name: str
+    number: int
+    changes: list[Change]
     lines: range = range(0)  # of its source, once it stands there
 
     @property
-    def file(self) -> str:
-        return self.body.changes[0][0]
+    def name(self) -> str:
+        return f"{self.real.name}_w{self.number}"
+
+    @property
+    def asked(self) -> str:
+        """The path by which a check is asked for it."""
+        return self.real.asked(self.name)
+
+    def right(self) -> Twin:
+        """The one without a change."""
+        return Twin(self.file, self.real, RIGHT, [])
+
+    def text(self, real: str) -> str:
+        """Its text, by that of the real function."""
+        for _, old, new in self.changes:
+            real = real.replace(old, new)
+        return re.sub(rf"\bfn {self.real.name}\b", f"fn {self.name}", real, count=1)
 
     def goals(self, told: list[str]) -> list[str]:
         """The goals in its source that a check did not prove."""
@@ -97,90 +68,41 @@ class Twin:
         ]
 
 
-def module_of(crate: Path, file: Path) -> list[str]:
-    """The module that a source file is, by its path."""
-    parts = list(file.relative_to(crate / "src").with_suffix("").parts)
-    if parts[-1] in ("lib", "main", "mod"):
-        parts.pop()
-    return parts
-
-
-def path_of_type(crate: Path, name: str) -> list[str]:
-    """The path of a type: a method has it, also where its impl stands in another file."""
-    declared = re.compile(rf"^(?:pub(?:\([a-z]+\))? )?(?:struct|enum) {name}\b", re.MULTILINE)
-    for file in sorted((crate / "src").rglob("*.rt")):
-        if declared.search(file.read_text(encoding="utf-8")):
-            return [*module_of(crate, file), name]
-    return [name]
-
-
-def begin_of(text: str, at: int) -> int:
-    """Where the comment and the attributes above a line begin."""
-    while at > 0:
-        above = text.rfind("\n", 0, at - 1) + 1
-        if not ABOVE.match(text[above:at]):
-            break
-        at = above
-    return at
-
-
-def function_at(crate: Path, file: str, text: str, at: int) -> Function | None:
-    """The function that holds this place of a file, unless it is a method of a trait."""
-    for found in FUNCTION.finditer(text):
-        end = re.compile(rf"^{found[1]}(\}}|\{{\}})\n", re.MULTILINE).search(text, found.end())
-        begins = begin_of(text, found.start())
-        if end is None or not begins <= at < end.end():
-            continue
-        owner = ""
-        for one in OWNER.finditer(text, 0, found.start()) if found[1] else ():
-            owner = one[1]
-        if " for " in f" {owner} ":
-            return None
-        owner = re.split(r"[<\s]", owner)[0]
-        within = path_of_type(crate, owner) if owner else module_of(crate, crate / file)
-        return Function(within, found[2], begins, end.end())
-    return None
-
-
 def twin_of(crate: Path, body: WrongBody, number: int) -> Twin | None:
     """A wrong body as a function of its own, where all its changes are of one function."""
-    file = body.changes[0][0] if body.changes else ""
-    if not file.startswith("src/") or any(one != file for one, _, _ in body.changes):
+    file = body.changes[0].file
+    if not file.startswith("src/") or any(change.file != file for change in body.changes):
         return None
     text = (crate / file).read_text(encoding="utf-8")
-    if any(text.count(old) != 1 for _, old, _ in body.changes):
+    if any(text.count(change.old) != 1 for change in body.changes):
         return None
-    real = function_at(crate, file, text, text.index(body.changes[0][1]))
-    if real is None:
-        return None
-    if not all(real.begins <= text.index(old) < real.ends for _, old, _ in body.changes):
+    places = [text.index(change.old) for change in body.changes]
+    real = function_at(crate, file, text, places[0])
+    if real is None or not all(real.begins <= place < real.ends for place in places):
         return None
     own = text[real.begins : real.ends].split(f"fn {real.name}", 1)[1]
     if re.search(rf"(?:\bself\.|\bSelf::|(?<![.:\w])){real.name}\(", own):
         return None  # it calls itself
-    return Twin(body, real, f"{real.name}_w{number}")
+    return Twin(file, real, number, body.changes)
 
 
 def put_twins(crate: Path, twins: list[Twin]) -> None:
     """Writes the twins beside the real functions, with their proof files."""
-    by_file: dict[str, list[Twin]] = {}
-    for twin in twins:
-        by_file.setdefault(twin.file, []).append(twin)
-    for file, some in by_file.items():
-        path = crate / file
-        text = path.read_text(encoding="utf-8")
-        # The last one first, so that the places of those above stay.
-        for twin in sorted(some, key=lambda twin: twin.real.ends, reverse=True):
-            own = text[twin.real.begins : twin.real.ends]
-            for _, old, new in twin.body.changes:
-                own = own.replace(old, new)
-            own = re.sub(rf"\bfn {twin.real.name}\b", f"fn {twin.name}", own, count=1)
-            text = f"{text[: twin.real.ends]}\n{own}{text[twin.real.ends :]}"
-        path.write_text(text, encoding="utf-8")
-        for twin in some:
-            twin.lines = lines_of(crate, text, twin)
+    for file in {twin.file for twin in twins}:
+        put_in(crate, file, [twin for twin in twins if twin.file == file])
     for twin in twins:
         put_proofs(crate, twin)
+
+
+def put_in(crate: Path, file: str, twins: list[Twin]) -> None:
+    """Writes the twins of a file, the last one first, so that the places of those above stay."""
+    text = (crate / file).read_text(encoding="utf-8")
+    for twin in sorted(twins, key=lambda twin: twin.real.ends, reverse=True):
+        begins, ends = twin.real.begins, twin.real.ends
+        text = f"{text[:ends]}\n{twin.text(text[begins:ends])}{text[ends:]}"
+    (crate / file).write_text(text, encoding="utf-8")
+    for twin in twins:
+        twin.lines = lines_of(crate, text, twin)
 
 
 def lines_of(crate: Path, text: str, twin: Twin) -> range:
@@ -219,80 +141,97 @@ def is_proved(said: str) -> bool:
 
 def verdict_of(lines: list[str], twin: Twin) -> str:
     """What a check says of a twin."""
-    real = told_of(lines, twin.real.asked(twin.real.name))
-    if not is_proved(real):
-        return f"not tried: of the real function it says {real}"
-    said = told_of(lines, twin.real.asked(twin.name))
+    right = told_of(lines, twin.right().asked)
+    if not is_proved(right):
+        return f"not tried: of the right body it says {right}"
+    said = told_of(lines, twin.asked)
     if is_proved(said):
         return "PROVED"
     if not said.startswith(("not proved", "no proof")):
         return f"not tried: {said}"
     errors = [line for line in lines if f"/{twin.name}/" in line and ": error: " in line]
     if errors and all(NO_GOAL.search(line) for line in errors) and not twin.goals(lines):
-        return "no goal refuses it"
-    return "refused"
+        return NO_GOAL_REFUSES
+    return REFUSED
 
 
-def checked(crate: Path, twins: list[Twin]) -> list[str]:
-    """What a check says of these twins and of the real functions. Sources are then as before."""
-    asked = {twin.real.asked(name) for twin in twins for name in (twin.real.name, twin.name)}
-    words = [word for one in sorted(asked) for word in ("--only", one)]
-    kept = [part for part in ("src", "proofs") if (crate / part).is_dir()]
-    with tempfile.TemporaryDirectory() as room:
-        for part in kept:
-            shutil.copytree(crate / part, Path(room) / part)
-        try:
-            put_twins(crate, twins)
-            ran = subprocess.run(
-                ["rt", "check", *words],
-                cwd=crate,
-                stdout=subprocess.PIPE,
-                stderr=subprocess.STDOUT,
-                text=True,
-                errors="replace",
-            )
-        finally:
-            for part in kept:
-                shutil.rmtree(crate / part)
-                shutil.copytree(Path(room) / part, crate / part)
-    return ran.stdout.split("\n")
+def verdict_of_whole(lines: list[str]) -> str:
+    """What a check of a whole crate says of a wrong body in its place."""
+    last = next((line for line in reversed(lines) if line), "nothing")
+    if last.startswith("logic=proved"):
+        return "PROVED"
+    if not last.startswith("logic=not-proved"):
+        return f"not tried: {last}"
+    errors = [line for line in lines if ": error: " in line or UNPROVED.match(line)]
+    if errors and all(NO_GOAL.search(line) for line in errors):
+        return NO_GOAL_REFUSES
+    return REFUSED
 
 
-def tried(crate: Path, twins: list[Twin]) -> dict[str, str]:
-    """What is said of each twin, by the name of its file. Where one does not compile, the others
-    are tried without it."""
-    lines = checked(crate, twins)
+class Checker:
+    """Checks crates of a copy of the tree: over what `rt ci` has built there since a moment, or, where it
+    did not, by `rt check`, which builds what is below first."""
+
+    def __init__(self, place: Path, since: float | None) -> None:
+        self.place, self.since = place, since
+        self.libraries = Libraries.of(place)
+
+    def is_built(self, name: str) -> bool:
+        """Whether `rt ci` has built what is below a crate since that moment."""
+        return self.since is not None and self.libraries.are_since(name, self.since)
+
+    def check_with(self, body: WrongBody) -> list[str]:
+        """What a check of the whole crate says of a wrong body in its place, where what is below is built."""
+        with tempfile.TemporaryDirectory() as folder:
+            room = Path(folder)
+            copy_parts(self.place / "crates" / body.crate, room)
+            for file, old, new in body.changes:
+                text = (room / file).read_text(encoding="utf-8")
+                (room / file).write_text(text.replace(old, new), encoding="utf-8")
+            return self.libraries.check(body.crate, room, [])
+
+    def check(self, name: str, twins: list[Twin]) -> list[str]:
+        """What a check says of a crate with these twins."""
+        crate = self.place / "crates" / name
+        words = [word for twin in twins for word in ("--only", twin.asked)]
+        with tempfile.TemporaryDirectory() as folder:
+            room = Path(folder)
+            copy_parts(crate, room)
+            if self.is_built(name):
+                put_twins(room, twins)
+                return self.libraries.check(name, room, words)
+            try:
+                put_twins(crate, twins)
+                return ran(["rt", "check", *words], crate)
+            finally:
+                copy_parts(room, crate)
+
+
+def copy_parts(crate: Path, to: Path) -> None:
+    """Copies what a check reads of a crate, and nothing else stands there then."""
+    for part in ("src", "specs", "proofs"):
+        shutil.rmtree(to / part, ignore_errors=True)
+        if (crate / part).is_dir():
+            shutil.copytree(crate / part, to / part)
+
+
+def tried(checker: Checker, crate: str, twins: dict[str, Twin]) -> dict[str, str]:
+    """What is said of each twin, by the name of its wrong body. Where one does not compile, the
+    others are tried without it."""
+    rights = {twin.right().asked: twin.right() for twin in twins.values()}
+    lines = checker.check(crate, [*rights.values(), *twins.values()])
     rejected = next((line for line in lines if REJECTED.search(line)), "")
     if not rejected:
-        return {twin.body.path.name: verdict_of(lines, twin) for twin in twins}
+        return {name: verdict_of(lines, twin) for name, twin in twins.items()}
     if len(twins) == 1:
-        return {twins[0].body.path.name: f"does not compile: {rejected}"}
-    half = len(twins) // 2
-    return tried(crate, twins[:half]) | tried(crate, twins[half:])
+        return {name: f"does not compile: {rejected}" for name in twins}
+    half = set(list(twins)[: len(twins) // 2])
+    first = {name: twin for name, twin in twins.items() if name in half}
+    second = {name: twin for name, twin in twins.items() if name not in half}
+    return tried(checker, crate, first) | tried(checker, crate, second)
 
 
-def try_crate(crate: Path, is_dry: bool) -> None:
-    """Tries the wrong bodies of a crate, and takes those that are refused out of its must-fail."""
-    bodies = [WrongBody.read(path) for path in sorted((crate / "must-fail").glob("*.edit"))]
-    made = [twin_of(crate, body, number) for number, body in enumerate(bodies, 1)]
-    twins = [twin for twin in made if twin is not None]
-    print(f"{crate.name}: {len(twins)} of {len(bodies)} wrong bodies together", flush=True)
-    if is_dry or not twins:
-        return
-    said = tried(crate, twins)
-    for twin in twins:
-        verdict = said[twin.body.path.name]
-        print(f"  {twin.body.path.stem}: {verdict}", flush=True)
-        if verdict == "refused":
-            twin.body.path.unlink()
-
-
-def main() -> None:
-    words = sys.argv[1:]
-    for name in words:
-        if name != "--dry":
-            try_crate(Path("crates") / name, "--dry" in words)
-
-
-if __name__ == "__main__":
-    main()
+def twins_of(crate: Path, bodies: list[WrongBody]) -> dict[str, Twin]:
+    """Those of a crate's wrong bodies that can stand beside the real functions."""
+    made = {body.name: twin_of(crate, body, at) for at, body in enumerate(bodies, RIGHT + 1)}
+    return {name: twin for name, twin in made.items() if twin is not None}
